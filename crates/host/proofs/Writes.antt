@@ -1,0 +1,55 @@
+-- The operations that write: what each writes fits its room, and does not depend on what the slice held.
+use Prim.Native.Nat.{ℕ}
+use mathlib.Core.Path.{_≡_, refl}
+use mathlib.Core.Bool.{Bool, true, false}
+use mathlib.Core.List.{List, _++_}
+use lib.ListN.{length, drop}
+use lib.Seq.{take-append-seam}
+use lib.Dec.{leb}
+use borrow.Author.Tests.{leb-true}
+use Rattle.pack.specs.declared.answer.Answer.{Answer}
+use Rattle.pack.specs.declared.answer.Answer.the-variants.{Given}
+use Rattle.pack.specs.Table.{pick}
+use Rattle.pack.specs.Pack.{Pack, Reading, yes, refuse, read, words}
+use Rattle.pack.specs.Operations.{answer, buffer, noRoom, rewriteAnswer, rewriteBuffer}
+use Rattle.host.specs.Bytes.{outAfter, Within}
+
+pub record Writes (answer : List ℕ → ℕ → Answer) (buffer : List ℕ → List ℕ → List ℕ) : Type 0 where
+  pub fits : (ws : List ℕ) (room : ℕ) → Within (answer ws room) room
+  pub own : (ws lent other out : List ℕ) → length lent ≡ length other
+      → outAfter (answer ws (length lent)) (buffer ws lent) out ≡ outAfter (answer ws (length lent)) (buffer ws other) out
+
+-- an operation that makes words of a pack and writes them if there is room, with a number of steps
+module _ (make : Pack → List ℕ) (steps : Pack → ℕ) where
+  abbrev made : ℕ → Pack → Answer
+  made room p = pick (leb (length (make p)) room) (Given (length (make p)) (steps p)) noRoom
+
+  abbrev after : List ℕ → Pack → List ℕ
+  after lent p = pick (leb (length (make p)) (length lent)) (make p ++ drop (length (make p)) lent) lent
+
+  made-fits : (r : Reading) (room : ℕ) → Within (answer r (made room)) room
+  made-fits (yes p) room = go (leb (length (make p)) room) refl
+    where
+      go : (b : Bool) → leb (length (make p)) room ≡ b → Within (pick b (Given (length (make p)) (steps p)) noRoom) room
+      go true e = leb-true (length (make p)) room e
+      go false e = tt
+  made-fits (refuse r) room = tt
+
+  made-own : (r : Reading) (lent other out : List ℕ) → length lent ≡ length other
+      → outAfter (answer r (made (length lent))) (buffer r (after lent) lent) out ≡ outAfter (answer r (made (length lent))) (buffer r (after other) other) out
+  unfolding outAfter
+  made-own (yes p) lent other out e = rw (← e) (go (leb (length (make p)) (length lent)))
+    where
+      go : (b : Bool)
+          → outAfter (pick b (Given (length (make p)) (steps p)) noRoom) (pick b (make p ++ drop (length (make p)) lent) lent) out
+          ≡ outAfter (pick b (Given (length (make p)) (steps p)) noRoom) (pick b (make p ++ drop (length (make p)) other) other) out
+      go true = rw (take-append-seam (make p) (drop (length (make p)) lent), take-append-seam (make p) (drop (length (make p)) other))
+      go false = refl
+  made-own (refuse r) lent other out e = refl
+
+  pub writes-made : Writes (λ ws room. answer (read ws) (made room)) (λ ws lent. buffer (read ws) (after lent) lent)
+  writes-made = record { fits = λ ws. made-fits (read ws); own = λ ws. made-own (read ws) }
+
+pub rewrite-writes : Writes rewriteAnswer rewriteBuffer
+unfolding rewriteAnswer rewriteBuffer
+rewrite-writes = writes-made words (λ p. 0)

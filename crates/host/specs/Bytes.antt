@@ -1,0 +1,82 @@
+-- The host's functions: packs and outputs as bytes, each answer as one number.
+use Prim.Native.Nat.{ℕ, _+_, _*_, _/_, _%_, _^_, _≤_, min}
+use mathlib.Core.Bool.{Bool, _&&_}
+use mathlib.Core.List.{List, [], _∷_, _++_}
+use lib.ListN.{length, take, drop}
+use lib.Dec.{eqb, leb}
+use Rattle.pack.specs.declared.answer.Answer.{Answer}
+use Rattle.pack.specs.declared.answer.Answer.the-variants.{Given, Refused}
+use Rattle.pack.specs.Table.{pick}
+use Rattle.pack.specs.Operations.{checkAnswer, rewriteAnswer, rewriteBuffer}
+
+-- "A host in Rust hands over the pack as bytes, four a word, low byte first."
+abbrev pub wordFrom : ℕ → ℕ → ℕ → ℕ → ℕ
+wordFrom a b c d = a + b * 256 + c * 65536 + d * 16777216
+
+-- the words of bytes; up to three bytes past the last whole word make none
+unfoldable pub wordsOf : List ℕ → List ℕ
+wordsOf (a ∷ b ∷ c ∷ d ∷ bytes) = wordFrom a b c d ∷ wordsOf bytes
+wordsOf (a ∷ b ∷ c ∷ []) = []
+wordsOf (a ∷ b ∷ []) = []
+wordsOf (a ∷ []) = []
+wordsOf [] = []
+
+-- the bytes of words
+unfoldable pub bytesOf : List ℕ → List ℕ
+bytesOf [] = []
+bytesOf (w ∷ ws) = w % 256 ∷ w / 256 % 256 ∷ w / 65536 % 256 ∷ w / 16777216 % 256 ∷ bytesOf ws
+
+-- "number in bits 0 to 5, place in 6 to 19, name in 20 to 51, other in 52 to 63"
+abbrev pub inBits : ℕ → ℕ → ℕ → ℕ → ℕ
+inBits number place name other = number % 2 ^ 6 + place % 2 ^ 14 * 2 ^ 6 + name * 2 ^ 20 + other % 2 ^ 12 * 2 ^ 52
+
+-- "An answer has number 0, its value in the name bits, its steps in the other bits, 0 in the rest."
+abbrev pub encode : Answer → ℕ
+encode (Given value steps) = inBits 0 0 value steps
+encode (Refused r) = inBits (r .number) (r .place) (r .name) (r .other)
+
+-- "byte counts not divisible by four, or above 32,768, give that": refused 1 0 0 0
+abbrev pub areWords : ℕ → Bool
+areWords count = eqb (count % 4) 0 && leb count 32768
+
+abbrev pub notWords : Answer
+notWords = Refused (record { number = 1; place = 0; name = 0; other = 0 })
+
+-- what an operation answers for a pack in bytes
+unfoldable pub overBytes : (List ℕ → Answer) → List ℕ → Answer
+overBytes answer bytes = pick (areWords (length bytes)) (answer (wordsOf bytes)) notWords
+
+-- "of an output of b bytes it uses the first 4 · (b div 4)", and no more than 8,192 words, since no result is longer
+abbrev pub room : ℕ → ℕ
+room b = min (b / 4) 8192
+
+abbrev pub lent : List ℕ → List ℕ
+lent out = take 8192 (wordsOf out)
+
+-- the output after an answer, whose value is the number of words written: "bytes past the words written stay", "a refusal changes no lent buffer"
+unfoldable pub outAfter : Answer → List ℕ → List ℕ → List ℕ
+outAfter (Given n steps) written out = bytesOf (take n written) ++ drop (4 * n) out
+outAfter (Refused r) written out = out
+
+-- an operation that writes: its answer for an output of b bytes, and the output afterwards
+abbrev pub inRoom : (List ℕ → ℕ → Answer) → ℕ → List ℕ → Answer
+inRoom answer b = overBytes (λ ws. answer ws (room b))
+
+abbrev pub outBytes : (List ℕ → ℕ → Answer) → (List ℕ → List ℕ → List ℕ) → List ℕ → List ℕ → List ℕ
+outBytes answer buffer bytes out = outAfter (inRoom answer (length out) bytes) (buffer (wordsOf bytes) (lent out)) out
+
+-- an answer that says no more words than so many
+abbrev pub Within : Answer → ℕ → Type 0
+Within (Given n steps) m = n ≤ m
+Within (Refused r) m = Unit {0}
+
+-- Check
+abbrev pub checkBytes : List ℕ → ℕ
+checkBytes bytes = encode (overBytes checkAnswer bytes)
+
+-- Rewrite: the answer for an output of b bytes, and the output afterwards
+abbrev pub rewriteBytes : List ℕ → ℕ → ℕ
+rewriteBytes bytes b = encode (inRoom rewriteAnswer b bytes)
+
+abbrev pub rewriteOut : List ℕ → List ℕ → List ℕ
+rewriteOut bytes out = outBytes rewriteAnswer rewriteBuffer bytes out

@@ -1,0 +1,68 @@
+// Words as bytes: four a word, low byte first.
+use pack::kinds::Pack;
+ghost use mathlib.Core.Path.{_≡_};
+ghost use mathlib.Core.List.{_++_, [], _∷_};
+ghost use Prim.Native.Nat.{_+_, _*_, _/_, _≤_};
+ghost use lib.ListN.{length, take, drop};
+ghost use Rattle.host.specs.Bytes.{wordFrom, wordsOf, bytesOf, areWords, room};
+
+// Whether so many bytes are words, and not more than a pack may have.
+pub fn are_words(count: usize) -> bool
+    ensures { λ r. ⌜ r ≡ areWords count ⌝ }
+{
+    count % 4 == 0 && count <= 4 * Pack::MOST_WORDS
+}
+
+// The words that an output of so many bytes has room for, as far as any operation writes.
+pub fn room(count: usize) -> usize
+    ensures { λ r. ⌜ r ≡ room count ⌝ }
+{
+    let n = count / 4;
+    if n < Pack::MOST_WORDS {
+        n
+    } else {
+        Pack::MOST_WORDS
+    }
+}
+
+fn word_from(a: u8, b: u8, c: u8, d: u8) -> u32
+    ensures { λ r. ⌜ r ≡ wordFrom a b c d ⌝ }
+{
+    a as u32 + b as u32 * 256 + c as u32 * 65536 + d as u32 * 16777216
+}
+
+// The words of the bytes, at the front of the slice.
+pub fn load(bytes: &[u8], words: &mut [u32])
+    requires { ⌜ length (now bytes) ≤ 4 * length (now words) ⌝ }
+    ensures { λ r. ⌜ take (length (now (bytes .entry)) / 4) (now (words .exit)) ≡ wordsOf (now (bytes .entry)) ⌝ }
+{
+    let count = bytes.len() / 4;
+    let mut i = 0;
+    while i < count {
+        let at = 4 * i;
+        words[i] = word_from(bytes[at], bytes[at + 1], bytes[at + 2], bytes[at + 3]);
+        i += 1;
+    }
+}
+
+fn store_word(w: u32, out: &mut [u8], at: usize)
+    requires { ⌜ at + 4 ≤ length (now out) ⌝ }
+    ensures { λ r. ⌜ now (out .exit) ≡ take at (now (out .entry)) ++ bytesOf (w ∷ []) ++ drop (at + 4) (now (out .entry)) ⌝ }
+{
+    out[at] = (w % 256) as u8;
+    out[at + 1] = (w / 256 % 256) as u8;
+    out[at + 2] = (w / 65536 % 256) as u8;
+    out[at + 3] = (w / 16777216 % 256) as u8;
+}
+
+// The bytes of the first n words; the bytes past them stay.
+pub fn store(words: &[u32], n: usize, out: &mut [u8])
+    requires { ⌜ (n ≤ length (now words)) × (4 * n ≤ length (now out)) ⌝ }
+    ensures { λ r. ⌜ now (out .exit) ≡ bytesOf (take n (now (words .entry))) ++ drop (4 * n) (now (out .entry)) ⌝ }
+{
+    let mut i = 0;
+    while i < n {
+        store_word(words[i], out, 4 * i);
+        i += 1;
+    }
+}

@@ -1,0 +1,10 @@
+pub mod Listed
+pub mod FormLaws
+pub mod PackLaws
+pub mod DealtLaws
+pub mod Examples
+pub mod StepLaws
+pub mod TreeLaws
+pub mod RecordLaws
+pub mod CheckLaws
+pub mod RewriteLaws

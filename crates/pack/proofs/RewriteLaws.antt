@@ -1,0 +1,99 @@
+-- Laws of Rewrite: the words written are those read.
+use Prim.Native.Nat.{ℕ, suc, _+_, _*_, _/_, _%_, _≤_, _<_}
+use native.Mathlib.Omega.{arith}
+use native.Mathlib.Numerals.{add-one}
+use mathlib.Core.Path.{_≡_, refl, ap, sym, _∙_}
+use mathlib.Core.List.{List, [], _∷_, _++_, append-assoc}
+use lib.ListN.{length, take, drop, getD, set}
+use lib.Seq.{length-take-le, take-suc, drop-cons, set-at, take-length}
+use mathlib.Core.Bool.{Bool, true, false}
+use lib.Dec.{leb}
+use borrow.Author.Tests.{le-leb, lt-leb, leb-true}
+use Rattle.pack.specs.declared.answer.Refusal.{Refusal}
+use Rattle.pack.specs.declared.answer.Answer.{Answer}
+use Rattle.pack.specs.declared.answer.Answer.the-variants.{Given, Refused}
+use Rattle.pack.specs.Table.{pick}
+use Rattle.pack.specs.Pack.{Pack, Reading, yes, refuse, read, words}
+use Rattle.pack.specs.Operations.{answer, noRoom, checkAnswer, rewriteAnswer, rewriteBuffer, writtenOf}
+use Rattle.pack.proofs.PackLaws.{words-length, words-read}
+
+-- one word more
+pub copy-next : (p o : List ℕ) (i : ℕ) {l : List ℕ} → i < length p → i < length o → l ≡ take i p ++ drop i o → set l i (getD p i 0) ≡ take (i + 1) p ++ drop (i + 1) o
+copy-next p o i {l} h k e =
+    ap (λ (m : List ℕ). set m i (getD p i 0)) (e ∙ ap (λ (m : List ℕ). take i p ++ m) (drop-cons o i 0 k))
+    ∙ set-at (take i p) (getD o i 0) (drop (suc i) o) (getD p i 0) i (length-take-le i p (omega arith))
+    ∙ rw (add-one, take-suc p i 0) (rw append-assoc refl)
+
+-- a word anew from its kind and value
+pub anew : (w : ℕ) → w / 16777216 * 16777216 + w % 16777216 ≡ w
+anew w = omega arith
+
+-- what is known of words that Check accepts: they are those of the pack read from them
+pub record Accepted (ws : List ℕ) : Type 0 where
+  pub pack : Pack
+  pub reads : read ws ≡ yes pack
+  pub same : words pack ≡ ws
+  pub short : length ws ≤ 8192
+
+no-given : {r : Refusal} {v s : ℕ} → Refused r ≡ Given v s → ⊥
+no-given e = let z : _≡_ {A = ℕ} 0 1 = cc in omega arith
+
+no-refusal : {r : Refusal} {v s : ℕ} → Given v s ≡ Refused r → ⊥
+no-refusal e = let z : _≡_ {A = ℕ} 0 1 = cc in omega arith
+
+pub accepted : (ws : List ℕ) {a : Answer} {v s : ℕ} → a ≡ checkAnswer ws → a ≡ Given v s → Accepted ws
+unfolding checkAnswer
+accepted ws {v = v} {s = s} e o = go (read ws) refl (sym e ∙ o)
+  where
+    go : (r : Reading) → read ws ≡ r → answer r (λ p. Given 1 0) ≡ Given v s → Accepted ws
+    go (yes p) h q =
+        let r = words-read ws p h in
+        record { pack = p; reads = h; same = r .same; short = rw (← r .same, words-length p) (r .fine .most) }
+    go (refuse r) h q = absurd (no-given q)
+
+-- what Rewrite answers, and that as many words as it says are written of the pack, and fit
+module _ (ws : List ℕ) (room : ℕ) where
+  pub answer-refused : {a : Answer} {r : Refusal} → a ≡ checkAnswer ws → a ≡ Refused r → a ≡ rewriteAnswer ws room
+  unfolding checkAnswer rewriteAnswer
+  answer-refused {a} {r} e o = go (read ws) refl (sym e ∙ o)
+    where
+      go : (m : Reading) → read ws ≡ m → answer m (λ p. Given 1 0) ≡ Refused r → a ≡ answer (read ws) (λ p. pick (leb (length (words p)) room) (Given (length (words p)) 0) noRoom)
+      go (yes p) h q = absurd (no-refusal q)
+      go (refuse x) h q = o ∙ sym q ∙ sym (rw h refl)
+
+  pub answer-room : Accepted ws → room < length ws → noRoom ≡ rewriteAnswer ws room
+  unfolding rewriteAnswer
+  answer-room p h = sym (simp (p .reads, p .same, lt-leb (length ws) room h))
+
+  pub answer-length : Accepted ws → length ws ≤ room → Given (length ws) 0 ≡ rewriteAnswer ws room
+  unfolding rewriteAnswer
+  answer-length p h = sym (simp (p .reads, p .same, le-leb (length ws) room h))
+
+module _ (ws lent : List ℕ) where
+  -- the words that are written, and those that stay
+  pub record Written (n : ℕ) : Type 0 where
+    pub of-pack : n ≤ length ws
+    pub fits : n ≤ length lent
+    pub leaves : take n ws ++ drop n lent ≡ rewriteBuffer ws lent
+
+  written : Written (writtenOf (rewriteAnswer ws (length lent)))
+  unfolding rewriteAnswer rewriteBuffer
+  written = go (read ws) refl
+    where
+      go : (m : Reading) → read ws ≡ m → Written (writtenOf (answer m (λ p. pick (leb (length (words p)) (length lent)) (Given (length (words p)) 0) noRoom)))
+      go (refuse r) h = record { of-pack = omega arith; fits = omega arith; leaves = sym (rw h refl) }
+      go (yes p) h = fit (leb (length (words p)) (length lent)) refl
+        where
+          fit : (b : Bool) → leb (length (words p)) (length lent) ≡ b → Written (writtenOf (pick b (Given (length (words p)) 0) noRoom))
+          fit true q =
+              let s : words p ≡ ws = words-read ws p h .same in
+              record {
+                of-pack = rw s (omega arith);
+                fits = leb-true _ _ q;
+                leaves = sym (simp (h, q) (rw s (rw take-length refl)));
+              }
+          fit false q = record { of-pack = omega arith; fits = omega arith; leaves = sym (simp (h, q)) }
+
+  -- by the code's answer and count
+  pub by-answer : {a : Answer} {n : ℕ} → n ≡ writtenOf a → a ≡ rewriteAnswer ws (length lent) → Written n
+  by-answer e o = rw (e ∙ ap writtenOf o) written

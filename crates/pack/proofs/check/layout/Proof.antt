@@ -1,0 +1,64 @@
+-- `pack::check::layout` meets its contract.
+use Rattle.pack.specs.Pack.{layout, inner}
+use Rattle.pack.proofs.StepLaws.{walks}
+use Rattle.pack.proofs.RecordLaws.{names-most}
+use Rattle.pack.proofs.CheckLaws.{from-start}
+use borrow.Author.Needs.{needs}
+use Rattle.pack.proofs.check.layout.Statement.{statement}
+use Rattle.pack.proofs.check.layout.Tie as tie
+
+table-requires : tie.Need-table-requires
+table-requires c κs = search needs
+
+start-requires : tie.Need-start-requires
+start-requires c κs = search needs
+
+skip-requires : tie.Need-skip-requires
+skip-requires c κs = search needs
+
+enum-known-f1 : tie.Need-enum-known-f1
+enum-known-f1 c = search needs
+
+enum-told : tie.Need-enum-told
+enum-told c = search needs
+
+returns : tie.Need-returns
+unfolding layout inner
+returns c = from-start _ _ (c .before .before .before .before .start .ensures) (search walks depth 12)
+
+field-requires : tie.Need-field-requires
+field-requires c κs = search needs
+
+enum-known-f2 : tie.Need-enum-known-f2
+enum-known-f2 c = search needs
+
+enum-told-2 : tie.Need-enum-told-2
+enum-told-2 c = search needs
+
+returns-2 : tie.Need-returns-2
+unfolding layout inner
+returns-2 c = from-start _ _ (c .before .before .before .before .before .before .before .before .before .start .ensures) (search walks depth 12)
+
+records-requires : tie.Need-records-requires
+records-requires c κs = (names-most _ _ _ (c .before .before .before .before .field .ensures) (c .before .before .f2 .given .1), search needs)
+
+returns-3 : tie.Need-returns-3
+unfolding layout inner
+returns-3 c = from-start _ _ (c .before .before .before .before .before .before .before .before .before .before .before .before .start .ensures) (search walks depth 12)
+
+pub layout-spec : {M : Type 1} → statement M
+layout-spec =
+    tie.close
+    (tie.spec
+    table-requires
+    start-requires
+    skip-requires
+    enum-known-f1
+    enum-told
+    returns
+    field-requires
+    enum-known-f2
+    enum-told-2
+    returns-2
+    records-requires
+    returns-3)

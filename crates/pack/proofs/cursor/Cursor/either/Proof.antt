@@ -1,0 +1,54 @@
+-- `pack::cursor::Cursor::either` meets its contract.
+use mathlib.Core.Path.{_≡_, refl, ap, sym, _∙_}
+use native.Mathlib.Omega.{arith}
+use mathlib.Core.Logic.{⊎-elim}
+use Rattle.pack.proofs.StepLaws.{word-stop, word-turned, word-value, word-on}
+use Rattle.pack.proofs.FormLaws.{either-other, either-first, either-second}
+use borrow.Author.Needs.{needs}
+use Rattle.pack.proofs.cursor.Cursor.either.Statement.{statement}
+use Rattle.pack.proofs.cursor.Cursor.either.Tie as tie
+
+word-requires : tie.Need-word-requires
+word-requires c κs = search needs
+
+enum-known-f : tie.Need-enum-known-f
+enum-known-f c = search needs
+
+enum-told : tie.Need-enum-told
+enum-told c = search needs
+
+returns : tie.Need-returns
+returns c = word-stop _ _ _ _ _ (c .before .before .word .ensures) (c .enum-told .given .1)
+
+stop-requires : tie.Need-stop-requires
+stop-requires c κs = search needs
+
+returns-2 : tie.Need-returns-2
+returns-2 c = (c .stop .ensures) ∙ word-turned _ _ _ _ _ (c .before .before .before .before .before .before .word .ensures) (c .before .before .before .before .f .given .1) (either-other _ _ _ (c .before .before .if1 .taken) (c .before .if2 .taken)) (λ h. omega arith)
+
+allowed-here-requires : tie.Need-allowed-here-requires
+allowed-here-requires c κs = search needs
+
+stop-requires-2 : tie.Need-stop-requires-2
+stop-requires-2 c κs = search needs
+
+returns-3 : tie.Need-returns-3
+returns-3 c = word-on _ _ _ _ _ (c .before .before .before .before .before .before .word .ensures) (c .before .before .before .before .f .given .1) (⊎-elim (λ w. either-second _ _ _ (w .1 .left)) (λ w. either-first _ _ _ (w .left)) (c .before .before .if1 .came)) (sym (c .before .allowed-here .ensures) ∙ (c .if3 .taken)) refl
+
+returns-4 : tie.Need-returns-4
+returns-4 c = (c .stop2 .ensures) ∙ word-value _ _ _ _ _ (c .before .before .before .before .before .before .before .word .ensures) (c .before .before .before .before .before .f .given .1) (⊎-elim (λ w. either-second _ _ _ (w .1 .left)) (λ w. either-first _ _ _ (w .left)) (c .before .before .before .if1 .came)) (sym (c .before .before .allowed-here .ensures) ∙ (c .before .if3 .left))
+
+pub either-spec : {M : Type 1} → statement M
+either-spec =
+    tie.close
+    (tie.spec
+    word-requires
+    enum-known-f
+    enum-told
+    returns
+    stop-requires
+    returns-2
+    allowed-here-requires
+    stop-requires-2
+    returns-3
+    returns-4)

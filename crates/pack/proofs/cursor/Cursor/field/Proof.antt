@@ -1,0 +1,54 @@
+-- `pack::cursor::Cursor::field` meets its contract.
+use mathlib.Core.Path.{_≡_, refl, ap, sym, _∙_}
+use native.Mathlib.Omega.{arith}
+use borrow.Author.Tests.{eq-eqb, ne-eqb}
+use Rattle.pack.proofs.StepLaws.{word-stop, word-turned, word-value, word-on, field-word}
+use Rattle.pack.proofs.FormLaws.{only-same, only-other}
+use borrow.Author.Needs.{needs}
+use Rattle.pack.proofs.cursor.Cursor.field.Statement.{statement}
+use Rattle.pack.proofs.cursor.Cursor.field.Tie as tie
+
+word-requires : tie.Need-word-requires
+word-requires c κs = search needs
+
+enum-known-f : tie.Need-enum-known-f
+enum-known-f c = search needs
+
+enum-told : tie.Need-enum-told
+enum-told c = search needs
+
+returns : tie.Need-returns
+returns c = word-stop _ _ _ _ _ (c .before .before .word .ensures) (c .enum-told .given .1) ∙ field-word _ _ _ _ _
+
+stop-requires : tie.Need-stop-requires
+stop-requires c κs = search needs
+
+returns-2 : tie.Need-returns-2
+returns-2 c = (c .stop .ensures) ∙ word-turned _ _ _ _ _ (c .before .before .before .before .before .word .ensures) (c .before .before .before .f .given .1) (only-other _ _ (c .before .if1 .taken)) (λ h. omega arith) ∙ field-word _ _ _ _ _
+
+allowed-here-requires : tie.Need-allowed-here-requires
+allowed-here-requires c κs = search needs
+
+stop-requires-2 : tie.Need-stop-requires-2
+stop-requires-2 c κs = search needs
+
+returns-3 : tie.Need-returns-3
+returns-3 c = word-on _ _ _ _ _ (c .before .before .before .before .before .before .word .ensures) (c .before .before .before .before .f .given .1) (only-same _ _ (c .before .before .if1 .left)) (rw ((c .before .before .if1 .left)) (sym (c .before .allowed-here .ensures) ∙ (c .if2 .taken))) refl ∙ field-word _ _ _ _ _
+
+returns-4 : tie.Need-returns-4
+returns-4 c = (c .stop2 .ensures) ∙ word-value _ _ _ _ _ (c .before .before .before .before .before .before .before .word .ensures) (c .before .before .before .before .before .f .given .1) (only-same _ _ (c .before .before .before .if1 .left)) (rw ((c .before .before .before .if1 .left)) (sym (c .before .before .allowed-here .ensures) ∙ (c .before .if2 .left))) ∙ field-word _ _ _ _ _
+
+pub field-spec : {M : Type 1} → statement M
+field-spec =
+    tie.close
+    (tie.spec
+    word-requires
+    enum-known-f
+    enum-told
+    returns
+    stop-requires
+    returns-2
+    allowed-here-requires
+    stop-requires-2
+    returns-3
+    returns-4)

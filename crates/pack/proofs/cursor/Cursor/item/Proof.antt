@@ -1,0 +1,54 @@
+-- `pack::cursor::Cursor::item` meets its contract.
+use Rattle.pack.specs.Pack.{item}
+use Rattle.pack.proofs.StepLaws.{walks}
+use borrow.Author.Needs.{needs}
+use Rattle.pack.proofs.cursor.Cursor.item.Statement.{statement}
+use Rattle.pack.proofs.cursor.Cursor.item.Tie as tie
+
+skip-requires : tie.Need-skip-requires
+skip-requires c κs = search needs
+
+enum-known-f1 : tie.Need-enum-known-f1
+enum-known-f1 c = search needs
+
+enum-told : tie.Need-enum-told
+enum-told c = search needs
+
+returns : tie.Need-returns
+unfolding item
+returns c = search walks depth 12
+
+skip-requires-2 : tie.Need-skip-requires-2
+skip-requires-2 c κs = search needs
+
+enum-known-f2 : tie.Need-enum-known-f2
+enum-known-f2 c = search needs
+
+enum-told-2 : tie.Need-enum-told-2
+enum-told-2 c = search needs
+
+returns-2 : tie.Need-returns-2
+unfolding item
+returns-2 c = search walks depth 12
+
+skip-requires-3 : tie.Need-skip-requires-3
+skip-requires-3 c κs = search needs
+
+returns-3 : tie.Need-returns-3
+unfolding item
+returns-3 c = search walks depth 12
+
+pub item-spec : {M : Type 1} → statement M
+item-spec =
+    tie.close
+    (tie.spec
+    skip-requires
+    enum-known-f1
+    enum-told
+    returns
+    skip-requires-2
+    enum-known-f2
+    enum-told-2
+    returns-2
+    skip-requires-3
+    returns-3)

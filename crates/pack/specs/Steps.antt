@@ -1,0 +1,55 @@
+-- What the functions that read a part of a pack answer: the forms' readers, of whose values a number is kept.
+use Prim.Native.Nat.{ℕ, _+_}
+use mathlib.Core.Bool.{Bool}
+use mathlib.Core.List.{List, [], _∷_}
+use lib.ListN.{drop, getD}
+use lib.Dec.{eqb}
+use Rattle.pack.specs.declared.cursor.Cursor.{Cursor}
+use Rattle.pack.specs.declared.cursor.Step.{Step}
+use Rattle.pack.specs.declared.cursor.Step.the-variants.{On, Refused}
+use Rattle.pack.specs.Table.{wordOf}
+use Rattle.pack.specs.Form.{Read, got, refused, Form, field, readAll, readBy}
+use Rattle.pack.specs.Pack.{Relation}
+
+-- the number that is kept of a value, and the place after it; or the refusal
+abbrev pub stepBy : {A : Type 0} → (A → ℕ) → Read A → Step
+stepBy f (got a at ws) = On (f a) (record { at = at })
+stepBy f (refused r) = Refused r
+
+-- a form that is read at a place of the words
+unfoldable pub stepOf : {A : Type 0} → (A → ℕ) → Form A → List ℕ → ℕ → Step
+stepOf f F ws at = stepBy f (readBy F at (drop at ws))
+
+-- a form that is walked over
+abbrev pub walk : {A : Type 0} → Form A → List ℕ → ℕ → Step
+walk F = stepOf (λ a. 0) F
+
+abbrev pub same : ℕ → ℕ
+same v = v
+
+-- a word of a kind: its value
+abbrev pub fieldStep : ℕ → ℕ → List ℕ → ℕ → Step
+fieldStep n kind = stepOf same (field n kind)
+
+abbrev pub nextWord : ℕ → List ℕ → Step
+nextWord at [] = Refused (record { number = 3; place = at; name = 0; other = 0 })
+nextWord at (w ∷ ws) = On w (record { at = at + 1 })
+
+-- the word at a place, whatever it is
+unfoldable pub wordStep : List ℕ → ℕ → Step
+wordStep ws at = nextWord at (drop at ws)
+
+-- a head word is kept whole
+abbrev pub wholeWord : ℕ × ℕ → ℕ
+wholeWord t = wordOf (t .0) (t .1)
+
+-- so many that follow one another
+unfoldable pub walkAll : {S A : Type 0} → (S → A → S) → (S → Form A) → ℕ → S → List ℕ → ℕ → Step
+walkAll step F n s ws at = stepBy (λ l. 0) (readAll step (λ u b vs. readBy (F u) b vs) n s at (drop at ws))
+
+-- whether a name's mark is set
+abbrev pub marked : List ℕ → ℕ → Bool
+marked marks v = eqb (getD marks v 0) 1
+
+abbrev pub nameOf : Relation → ℕ
+nameOf r = r .name

@@ -1,0 +1,63 @@
+// Check: whether a slice of words is a pack.
+use crate::answer::Answer;
+use crate::answer::Refusal;
+use crate::cursor::Step;
+use crate::kinds::Pack;
+use crate::table::table;
+ghost use mathlib.Core.Path.{_≡_};
+ghost use Prim.Native.Nat.{_≤_};
+ghost use Rattle.pack.specs.Pack.{Edition, layout};
+ghost use Rattle.pack.specs.Steps.{walk};
+ghost use Rattle.pack.specs.Operations.{checkAnswer};
+
+pub fn refuse(number: u32, place: usize) -> Answer
+    ensures { λ r. ⌜ r ≡ Answer.Refused (record { number = number; place = place; name = 0; other = 0 }) ⌝ }
+{
+    Answer::Refused(Refusal {
+        number,
+        place,
+        name: 0,
+        other: 0,
+    })
+}
+
+// All the words of a slice of so many.
+fn layout(s: &[u32], len: u32) -> Step
+    ensures { λ r. ⌜ r ≡ walk (layout Edition.undated len) (now (s .entry)) 0 ⌝ }
+{
+    let t = table();
+    let c = Pack::start();
+    let f1 = c.skip(s, &t, len, Pack::TOTAL);
+    let Step::On(_, c1) = f1 else {
+        return f1;
+    };
+    let f2 = c1.field(s, &t, 0, Pack::NAMES);
+    let Step::On(n, c2) = f2 else {
+        return f2;
+    };
+    c2.records(s, &t, n)
+}
+
+// Whether the words are a pack, or the first refusal.
+pub fn check(pack: &[u32]) -> Answer
+    ensures { λ r. ⌜ r ≡ checkAnswer (now (pack .entry)) ⌝ }
+{
+    let len = pack.len();
+    if len < Pack::LEAST_WORDS {
+        return refuse(1, 0);
+    }
+    if Pack::MOST_WORDS < len {
+        return refuse(1, 0);
+    }
+    match layout(pack, len as u32) {
+        Step::Refused(r) => Answer::Refused(r),
+        Step::On(_, c) => {
+            let at = c.at;
+            if at < len {
+                refuse(8, at)
+            } else {
+                Answer::Given(1, 0)
+            }
+        }
+    }
+}

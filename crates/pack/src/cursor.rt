@@ -1,0 +1,147 @@
+// The reading place, and the words that are read there.
+use crate::answer::Refusal;
+use crate::kinds::Pack;
+use crate::table::allows;
+use crate::table::entry_of;
+ghost use mathlib.Core.Path.{_≡_};
+ghost use Rattle.pack.specs.Packed.{Tabled};
+ghost use Prim.Native.Nat.{_<_};
+ghost use mathlib.Core.List.{[], _∷_};
+ghost use Rattle.pack.specs.Form.{allowedHere, field, word, only};
+ghost use Rattle.pack.specs.Tree.{heads};
+ghost use Rattle.pack.specs.Steps.{wordStep, fieldStep, stepOf, walk, wholeWord};
+
+// A place of the pack. It starts at word 0 and moves on by whole words.
+pub struct Cursor {
+    pub at: usize,
+}
+
+// What a reading step finds: a value and the place after it, or a refusal.
+pub enum Step {
+    On(u32, Cursor),
+    Refused(Refusal),
+}
+
+impl Pack {
+    // The place where reading starts.
+    pub fn start() -> Cursor
+        ensures { λ r. ⌜ r .at ≡ 0 ⌝ }
+    {
+        Cursor { at: 0 }
+    }
+}
+
+pub fn stop(number: u32, place: usize) -> Step
+    ensures { λ r. ⌜ r ≡ Step.Refused (record { number = number; place = place; name = 0; other = 0 }) ⌝ }
+{
+    Step::Refused(Refusal {
+        number,
+        place,
+        name: 0,
+        other: 0,
+    })
+}
+
+// Whether the table allows a word of this kind the value v.
+fn allowed_here(t: &[u32; 256], n: u32, kind: u32, v: u32) -> bool
+    requires { ⌜ (kind < 256) × Tabled (now t) ⌝ }
+    ensures { λ r. ⌜ r ≡ allowedHere n kind v ⌝ }
+{
+    let e = entry_of(t, kind);
+    let rule = e.rule;
+    allows(rule, n, v)
+}
+
+impl Cursor {
+    // The word at this place, whatever it is.
+    pub fn word(self, s: &[u32]) -> Step
+        ensures { λ r. ⌜ r ≡ wordStep (now (s .entry)) (self .at) ⌝ }
+    {
+        let at = self.at;
+        if at < s.len() {
+            Step::On(s[at], Cursor { at: at + 1 })
+        } else {
+            stop(3, at)
+        }
+    }
+
+    // A word of this kind: its value.
+    pub fn field(self, s: &[u32], t: &[u32; 256], n: u32, kind: u32) -> Step
+        requires { ⌜ Tabled (now t) ⌝ }
+        ensures { λ r. ⌜ r ≡ fieldStep n kind (now (s .entry)) (self .at) ⌝ }
+    {
+        let at = self.at;
+        let f = self.word(s);
+        let Step::On(w, c) = f else {
+            return f;
+        };
+        if w / Pack::VALUES != kind {
+            return stop(2, at);
+        }
+        let v = w % Pack::VALUES;
+        if allowed_here(t, n, kind, v) {
+            Step::On(v, c)
+        } else {
+            stop(4, at)
+        }
+    }
+
+    // A word of which only the place after it is wanted.
+    pub fn skip(self, s: &[u32], t: &[u32; 256], n: u32, kind: u32) -> Step
+        requires { ⌜ Tabled (now t) ⌝ }
+        ensures { λ r. ⌜ r ≡ walk (field n kind) (now (s .entry)) (self .at) ⌝ }
+    {
+        let f = self.field(s, t, n, kind);
+        let Step::On(_, c) = f else {
+            return f;
+        };
+        Step::On(0, c)
+    }
+
+    // A word of one of two kinds.
+    pub fn either(self, s: &[u32], t: &[u32; 256], n: u32, a: u32, b: u32) -> Step
+        requires { ⌜ Tabled (now t) ⌝ }
+        ensures { λ r. ⌜ r ≡ walk (word (only (a ∷ b ∷ [])) n) (now (s .entry)) (self .at) ⌝ }
+    {
+        let at = self.at;
+        let f = self.word(s);
+        let Step::On(w, c) = f else {
+            return f;
+        };
+        let kind = w / Pack::VALUES;
+        if kind != a {
+            if kind != b {
+                return stop(2, at);
+            }
+        }
+        if allowed_here(t, n, kind, w % Pack::VALUES) {
+            Step::On(0, c)
+        } else {
+            stop(4, at)
+        }
+    }
+
+    // The word that begins a tree of the sort, where so many levels are left.
+    pub fn head(self, s: &[u32], t: &[u32; 256], n: u32, sort: u32, left: u32) -> Step
+        requires { ⌜ Tabled (now t) ⌝ }
+        ensures { λ r. ⌜ r ≡ stepOf wholeWord (word (heads sort left) n) (now (s .entry)) (self .at) ⌝ }
+    {
+        let at = self.at;
+        let f = self.word(s);
+        let Step::On(w, c) = f else {
+            return f;
+        };
+        let e = entry_of(t, w / Pack::VALUES);
+        if e.sort != sort {
+            return stop(2, at);
+        }
+        if left == 0 {
+            return stop(5, at);
+        }
+        if allowed_here(t, n, w / Pack::VALUES, w % Pack::VALUES) {
+            Step::On(w, c)
+        } else {
+            stop(4, at)
+        }
+    }
+}

@@ -1,0 +1,456 @@
+// The records of a pack, each read after what stands before it.
+use crate::answer::Refusal;
+use crate::cursor::Cursor;
+use crate::cursor::Step;
+use crate::cursor::stop;
+use crate::kinds::Pack;
+use crate::tree::judgment;
+use crate::tree::scalar;
+ghost use mathlib.Core.Path.{_≡_};
+ghost use Rattle.pack.specs.Packed.{Tabled};
+ghost use Prim.Native.Nat.{_≤_};
+ghost use Rattle.pack.specs.Pack.{Edition, defaultedName, defaulted, nameList, hop, path, chain, member, derivation, optionalDerivation, relationTail, newName, relation, relations, body, bodies, rule, rules, item, blockItems, block, blocks, records};
+ghost use Rattle.pack.specs.Form.{repeats};
+ghost use Rattle.pack.specs.Steps.{stepOf, walk, same, marked, nameOf};
+
+// How many a count says: none is no count.
+fn repeats(count: u32) -> u32
+    ensures { λ r. ⌜ r ≡ repeats count ⌝ }
+{
+    if count == Pack::NONE { 0 } else { count }
+}
+
+// The defaulted names.
+impl Cursor {
+    // One that is at least `low`.
+    fn defaulted_name(self, s: &[u32], t: &[u32; 256], n: u32, low: u32) -> Step
+        requires { ⌜ Tabled (now t) ⌝ }
+        ensures { λ r. ⌜ r ≡ stepOf same (defaultedName n low) (now (s .entry)) (self .at) ⌝ }
+    {
+        let at = self.at;
+        let f = self.field(s, t, n, Pack::DEFAULTED);
+        let Step::On(v, c) = f else {
+            return f;
+        };
+        if v < low {
+            return stop(6, at);
+        }
+        Step::On(v, c)
+    }
+
+    pub fn defaulted(self, s: &[u32], t: &[u32; 256], n: u32) -> Step
+        requires { ⌜ Tabled (now t) ⌝ }
+        ensures { λ r. ⌜ r ≡ walk (defaulted n) (now (s .entry)) (self .at) ⌝ }
+    {
+        let f = self.field(s, t, n, Pack::DEFAULTED_COUNT);
+        let Step::On(count, first) = f else {
+            return f;
+        };
+        let mut c = first;
+        let mut left = count;
+        let mut low: u32 = 0;
+        while 0 < left {
+            let g = c.defaulted_name(s, t, n, low);
+            let Step::On(v, next) = g else {
+                return g;
+            };
+            low = v + 1;
+            c = next;
+            left -= 1;
+        }
+        Step::On(0, c)
+    }
+}
+
+// Derivations.
+impl Cursor {
+    // A count of this kind, and as many names.
+    fn name_list(self, s: &[u32], t: &[u32; 256], n: u32, kind: u32) -> Step
+        requires { ⌜ Tabled (now t) ⌝ }
+        ensures { λ r. ⌜ r ≡ walk (nameList n kind) (now (s .entry)) (self .at) ⌝ }
+    {
+        let f = self.field(s, t, n, kind);
+        let Step::On(count, first) = f else {
+            return f;
+        };
+        let mut c = first;
+        let mut left = count;
+        while 0 < left {
+            let g = c.field(s, t, n, Pack::SLOT_KIND);
+            let Step::On(_, next) = g else {
+                return g;
+            };
+            c = next;
+            left -= 1;
+        }
+        Step::On(0, c)
+    }
+
+    // A step of a path.
+    fn hop(self, s: &[u32], t: &[u32; 256], n: u32) -> Step
+        requires { ⌜ Tabled (now t) ⌝ }
+        ensures { λ r. ⌜ r ≡ walk (hop n) (now (s .entry)) (self .at) ⌝ }
+    {
+        let f1 = self.skip(s, t, n, Pack::STEP_RELATION);
+        let Step::On(_, c1) = f1 else {
+            return f1;
+        };
+        let f2 = c1.skip(s, t, n, Pack::STEP_CURRENT);
+        let Step::On(_, c2) = f2 else {
+            return f2;
+        };
+        c2.skip(s, t, n, Pack::STEP_RELATED)
+    }
+
+    fn path(self, s: &[u32], t: &[u32; 256], n: u32) -> Step
+        requires { ⌜ Tabled (now t) ⌝ }
+        ensures { λ r. ⌜ r ≡ walk (path n) (now (s .entry)) (self .at) ⌝ }
+    {
+        let f = self.field(s, t, n, Pack::PATH);
+        let Step::On(count, first) = f else {
+            return f;
+        };
+        let mut c = first;
+        let mut left = repeats(count);
+        while 0 < left {
+            let g = c.hop(s, t, n);
+            let Step::On(_, next) = g else {
+                return g;
+            };
+            c = next;
+            left -= 1;
+        }
+        Step::On(0, c)
+    }
+
+    // The source, the path and the slots.
+    fn chain(self, s: &[u32], t: &[u32; 256], n: u32) -> Step
+        requires { ⌜ Tabled (now t) ⌝ }
+        ensures { λ r. ⌜ r ≡ walk (chain n) (now (s .entry)) (self .at) ⌝ }
+    {
+        let f1 = self.skip(s, t, n, Pack::SOURCE);
+        let Step::On(_, c1) = f1 else {
+            return f1;
+        };
+        let f2 = c1.path(s, t, n);
+        let Step::On(_, c2) = f2 else {
+            return f2;
+        };
+        let f3 = c2.skip(s, t, n, Pack::CURRENT_SLOT);
+        let Step::On(_, c3) = f3 else {
+            return f3;
+        };
+        c3.skip(s, t, n, Pack::RELATED_SLOT)
+    }
+
+    // The entity, the member relation, the list and the predicate.
+    fn member(self, s: &[u32], t: &[u32; 256], n: u32) -> Step
+        requires { ⌜ Tabled (now t) ⌝ }
+        ensures { λ r. ⌜ r ≡ walk (member n) (now (s .entry)) (self .at) ⌝ }
+    {
+        let f1 = self.skip(s, t, n, Pack::ENTITY);
+        let Step::On(_, c1) = f1 else {
+            return f1;
+        };
+        let f2 = c1.skip(s, t, n, Pack::MEMBER);
+        let Step::On(_, c2) = f2 else {
+            return f2;
+        };
+        let f3 = c2.name_list(s, t, n, Pack::SLOT_ENTITIES);
+        let Step::On(_, c3) = f3 else {
+            return f3;
+        };
+        judgment(s, t, c3, n, Pack::DEPTH)
+    }
+
+    fn derivation(self, s: &[u32], t: &[u32; 256], n: u32) -> Step
+        requires { ⌜ Tabled (now t) ⌝ }
+        ensures { λ r. ⌜ r ≡ walk (derivation n) (now (s .entry)) (self .at) ⌝ }
+    {
+        let f1 = self.chain(s, t, n);
+        let Step::On(_, c1) = f1 else {
+            return f1;
+        };
+        c1.member(s, t, n)
+    }
+
+    // A flag, and a derivation where it is 1.
+    fn optional_derivation(self, s: &[u32], t: &[u32; 256], n: u32) -> Step
+        requires { ⌜ Tabled (now t) ⌝ }
+        ensures { λ r. ⌜ r ≡ walk (optionalDerivation n) (now (s .entry)) (self .at) ⌝ }
+    {
+        let f = self.field(s, t, n, Pack::DERIVATION);
+        let Step::On(flag, c) = f else {
+            return f;
+        };
+        if flag == 0 {
+            return Step::On(0, c);
+        }
+        c.derivation(s, t, n)
+    }
+}
+
+// Relations.
+impl Cursor {
+    // What follows a relation's name.
+    fn relation_tail(self, s: &[u32], t: &[u32; 256], n: u32) -> Step
+        requires { ⌜ Tabled (now t) ⌝ }
+        ensures { λ r. ⌜ r ≡ walk (relationTail n) (now (s .entry)) (self .at) ⌝ }
+    {
+        let f1 = self.skip(s, t, n, Pack::RELATION_ORIGIN);
+        let Step::On(_, c1) = f1 else {
+            return f1;
+        };
+        let f2 = c1.skip(s, t, n, Pack::ARITY);
+        let Step::On(_, c2) = f2 else {
+            return f2;
+        };
+        let f3 = c2.name_list(s, t, n, Pack::SLOT_KINDS);
+        let Step::On(_, c3) = f3 else {
+            return f3;
+        };
+        c3.optional_derivation(s, t, n)
+    }
+
+    // A name that has no mark.
+    fn new_name(self, s: &[u32], t: &[u32; 256], n: u32, marks: &[u8; 4096]) -> Step
+        requires { ⌜ (n ≤ 4096) × Tabled (now t) ⌝ }
+        ensures { λ r. ⌜ r ≡ stepOf same (newName n (marked (now (marks .entry)))) (now (s .entry)) (self .at) ⌝ }
+    {
+        let at = self.at;
+        let f = self.field(s, t, n, Pack::RELATION);
+        let Step::On(v, c) = f else {
+            return f;
+        };
+        let i = v as usize;
+        if marks[i] == 1 {
+            return Step::Refused(Refusal {
+                number: 7,
+                place: at,
+                name: v,
+                other: 0,
+            });
+        }
+        Step::On(v, c)
+    }
+
+    // A relation: its name.
+    fn relation(self, s: &[u32], t: &[u32; 256], n: u32, marks: &[u8; 4096]) -> Step
+        requires { ⌜ (n ≤ 4096) × Tabled (now t) ⌝ }
+        ensures { λ r. ⌜ r ≡ stepOf nameOf (relation n (marked (now (marks .entry)))) (now (s .entry)) (self .at) ⌝ }
+    {
+        let f1 = self.new_name(s, t, n, marks);
+        let Step::On(v, c1) = f1 else {
+            return f1;
+        };
+        let f2 = c1.relation_tail(s, t, n);
+        let Step::On(_, c2) = f2 else {
+            return f2;
+        };
+        Step::On(v, c2)
+    }
+
+    // The relations, with no name marked at first.
+    pub fn relations(self, s: &[u32], t: &[u32; 256], n: u32) -> Step
+        requires { ⌜ (n ≤ 4096) × Tabled (now t) ⌝ }
+        ensures { λ r. ⌜ r ≡ walk (relations n) (now (s .entry)) (self .at) ⌝ }
+    {
+        let f = self.field(s, t, n, Pack::RELATION_COUNT);
+        let Step::On(count, first) = f else {
+            return f;
+        };
+        let mut marks = [0u8; 4096];
+        let mut c = first;
+        let mut left = count;
+        while 0 < left {
+            let g = c.relation(s, t, n, &marks);
+            let Step::On(v, next) = g else {
+                return g;
+            };
+            let i = v as usize;
+            marks[i] = 1;
+            c = next;
+            left -= 1;
+        }
+        Step::On(0, c)
+    }
+}
+
+// Rules.
+impl Cursor {
+    // A body: the sort of its tree, and the tree.
+    fn body(self, s: &[u32], t: &[u32; 256], n: u32) -> Step
+        requires { ⌜ Tabled (now t) ⌝ }
+        ensures { λ r. ⌜ r ≡ walk (body n) (now (s .entry)) (self .at) ⌝ }
+    {
+        let f = self.field(s, t, n, Pack::BODY);
+        let Step::On(sort, c) = f else {
+            return f;
+        };
+        if sort == Pack::SCALAR {
+            scalar(s, t, c, n, Pack::DEPTH)
+        } else {
+            judgment(s, t, c, n, Pack::DEPTH)
+        }
+    }
+
+    // The semantics and the versions.
+    fn bodies(self, s: &[u32], t: &[u32; 256], n: u32) -> Step
+        requires { ⌜ Tabled (now t) ⌝ }
+        ensures { λ r. ⌜ r ≡ walk (bodies n) (now (s .entry)) (self .at) ⌝ }
+    {
+        let f = self.field(s, t, n, Pack::BODIES);
+        let Step::On(count, c0) = f else {
+            return f;
+        };
+        let f1 = c0.body(s, t, n);
+        let Step::On(_, first) = f1 else {
+            return f1;
+        };
+        let mut c = first;
+        let mut left = count - 1;
+        while 0 < left {
+            let g = c.body(s, t, n);
+            let Step::On(_, next) = g else {
+                return g;
+            };
+            c = next;
+            left -= 1;
+        }
+        Step::On(0, c)
+    }
+
+    fn rule(self, s: &[u32], t: &[u32; 256], n: u32) -> Step
+        requires { ⌜ Tabled (now t) ⌝ }
+        ensures { λ r. ⌜ r ≡ walk (rule n) (now (s .entry)) (self .at) ⌝ }
+    {
+        let f1 = self.skip(s, t, n, Pack::RULE);
+        let Step::On(_, c1) = f1 else {
+            return f1;
+        };
+        let f2 = c1.skip(s, t, n, Pack::RULE_ORIGIN);
+        let Step::On(_, c2) = f2 else {
+            return f2;
+        };
+        let f3 = c2.skip(s, t, n, Pack::RULE_ENTITY);
+        let Step::On(_, c3) = f3 else {
+            return f3;
+        };
+        c3.bodies(s, t, n)
+    }
+
+    pub fn rules(self, s: &[u32], t: &[u32; 256], n: u32) -> Step
+        requires { ⌜ Tabled (now t) ⌝ }
+        ensures { λ r. ⌜ r ≡ walk (rules n) (now (s .entry)) (self .at) ⌝ }
+    {
+        let f = self.field(s, t, n, Pack::RULE_COUNT);
+        let Step::On(count, first) = f else {
+            return f;
+        };
+        let mut c = first;
+        let mut left = count;
+        while 0 < left {
+            let g = c.rule(s, t, n);
+            let Step::On(_, next) = g else {
+                return g;
+            };
+            c = next;
+            left -= 1;
+        }
+        Step::On(0, c)
+    }
+}
+
+// Blocks.
+impl Cursor {
+    fn item(self, s: &[u32], t: &[u32; 256], n: u32) -> Step
+        requires { ⌜ Tabled (now t) ⌝ }
+        ensures { λ r. ⌜ r ≡ walk (item n) (now (s .entry)) (self .at) ⌝ }
+    {
+        let f1 = self.skip(s, t, n, Pack::ITEM);
+        let Step::On(_, c1) = f1 else {
+            return f1;
+        };
+        let f2 = c1.skip(s, t, n, Pack::ITEM_BOOLEAN);
+        let Step::On(_, c2) = f2 else {
+            return f2;
+        };
+        c2.skip(s, t, n, Pack::ITEM_ENTITY)
+    }
+
+    // A count or none, and as many items.
+    fn items(self, s: &[u32], t: &[u32; 256], n: u32) -> Step
+        requires { ⌜ Tabled (now t) ⌝ }
+        ensures { λ r. ⌜ r ≡ walk (blockItems n) (now (s .entry)) (self .at) ⌝ }
+    {
+        let f = self.field(s, t, n, Pack::ITEMS);
+        let Step::On(count, first) = f else {
+            return f;
+        };
+        let mut c = first;
+        let mut left = repeats(count);
+        while 0 < left {
+            let g = c.item(s, t, n);
+            let Step::On(_, next) = g else {
+                return g;
+            };
+            c = next;
+            left -= 1;
+        }
+        Step::On(0, c)
+    }
+
+    fn block(self, s: &[u32], t: &[u32; 256], n: u32) -> Step
+        requires { ⌜ Tabled (now t) ⌝ }
+        ensures { λ r. ⌜ r ≡ walk (block n) (now (s .entry)) (self .at) ⌝ }
+    {
+        let f1 = self.skip(s, t, n, Pack::BLOCK_ORIGIN);
+        let Step::On(_, c1) = f1 else {
+            return f1;
+        };
+        c1.items(s, t, n)
+    }
+
+    pub fn blocks(self, s: &[u32], t: &[u32; 256], n: u32) -> Step
+        requires { ⌜ Tabled (now t) ⌝ }
+        ensures { λ r. ⌜ r ≡ walk (blocks n) (now (s .entry)) (self .at) ⌝ }
+    {
+        let f = self.field(s, t, n, Pack::BLOCK_COUNT);
+        let Step::On(count, first) = f else {
+            return f;
+        };
+        let mut c = first;
+        let mut left = count;
+        while 0 < left {
+            let g = c.block(s, t, n);
+            let Step::On(_, next) = g else {
+                return g;
+            };
+            c = next;
+            left -= 1;
+        }
+        Step::On(0, c)
+    }
+}
+
+// All the records.
+impl Cursor {
+    pub fn records(self, s: &[u32], t: &[u32; 256], n: u32) -> Step
+        requires { ⌜ (n ≤ 4096) × Tabled (now t) ⌝ }
+        ensures { λ r. ⌜ r ≡ walk (records Edition.undated n) (now (s .entry)) (self .at) ⌝ }
+    {
+        let f1 = self.defaulted(s, t, n);
+        let Step::On(_, c1) = f1 else {
+            return f1;
+        };
+        let f2 = c1.relations(s, t, n);
+        let Step::On(_, c2) = f2 else {
+            return f2;
+        };
+        let f3 = c2.rules(s, t, n);
+        let Step::On(_, c3) = f3 else {
+            return f3;
+        };
+        c3.blocks(s, t, n)
+    }
+}

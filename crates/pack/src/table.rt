@@ -1,0 +1,469 @@
+// The table: for each kind of word what its value may be, whether a tree begins with it, and what follows it.
+use crate::kinds::Pack;
+ghost use mathlib.Core.Path.{_≡_};
+ghost use Prim.Native.Nat.{_<_};
+ghost use Rattle.pack.specs.Table.{allowed, howMany, entryOf};
+ghost use Rattle.pack.specs.Packed.{ruleFrom, followsFrom, Tabled};
+
+// What a word's value may be.
+pub enum Rule {
+    // No word has the kind.
+    Unused,
+    Any,
+    AtMost(u32),
+    FromOne(u32),
+    AtMostOrNone(u32),
+    // The number of words.
+    Total,
+    // A name, below N.
+    Name,
+    NameOrNone,
+}
+
+// What follows a word.
+pub enum Follows {
+    // Nothing that the word itself decides.
+    Nothing,
+    // In a record: as many as the value says.
+    Counted,
+    OneScalar,
+    TwoScalars,
+    // As many scalars as the value says.
+    Scalars,
+    // A subject and as many patterns as the value says.
+    Patterns,
+    // A scalar, and one more where the value is odd.
+    Periods,
+    OneJudgment,
+    // As many judgments as the value says.
+    Judgments,
+    // A judgment and two scalars.
+    Choice,
+    // Slots, a value, a flag, and a judgment where it is 1.
+    Aggregate,
+    // Slots, and an input's or a derived name.
+    OnlyRelated,
+    Slots,
+    // The arguments of an atom.
+    Atom,
+    // The same and a judgment.
+    Exists,
+}
+
+pub struct Entry {
+    // The sort of tree that begins with the word, or NO_TREE.
+    pub sort: u32,
+    pub rule: Rule,
+    pub follows: Follows,
+}
+
+// An entry is one number: the rule in its last digit to the base LIMIT, the rule's limit, the sort, and what follows.
+const LIMIT: u32 = 8;
+
+const SORT: u32 = 65536;
+
+const FOLLOWS: u32 = 262144;
+
+const UNUSED: u32 = SORT * Pack::NO_TREE;
+
+const WORD: u32 = SORT * Pack::NO_TREE;
+
+const SCALAR: u32 = SORT * Pack::SCALAR;
+
+const JUDGMENT: u32 = SORT * Pack::JUDGMENT;
+
+const ANY: u32 = 1;
+
+const AT_MOST: u32 = 2;
+
+const FROM_ONE: u32 = 3;
+
+const AT_MOST_OR_NONE: u32 = 4;
+
+const TOTAL: u32 = 5;
+
+const NAME: u32 = 6;
+
+const NAME_OR_NONE: u32 = 7;
+
+const ZERO: u32 = AT_MOST;
+
+const FLAG: u32 = AT_MOST + LIMIT;
+
+const COUNTED: u32 = 1;
+
+const ONE_SCALAR: u32 = 2;
+
+const TWO_SCALARS: u32 = 3;
+
+const SCALARS: u32 = 4;
+
+const PATTERNS: u32 = 5;
+
+const PERIODS: u32 = 6;
+
+const ONE_JUDGMENT: u32 = 7;
+
+const JUDGMENTS: u32 = 8;
+
+const CHOICE: u32 = 9;
+
+const AGGREGATE: u32 = 10;
+
+const ONLY_RELATED: u32 = 11;
+
+const SLOTS: u32 = 12;
+
+const ATOM: u32 = 13;
+
+const EXISTS: u32 = 14;
+
+const TABLE: [u32; 256] = [
+    UNUSED,
+    WORD + TOTAL, // 1 total
+    WORD + FROM_ONE + LIMIT * Pack::MOST_NAMES, // 2 N
+    WORD + AT_MOST + LIMIT * Pack::MOST_DEFAULTED + FOLLOWS * COUNTED, // 3 defaulted names
+    WORD + NAME, // 4 defaulted name
+    WORD + AT_MOST + LIMIT * Pack::MOST_RELATIONS + FOLLOWS * COUNTED, // 5 relations
+    WORD + NAME, // 6 relation
+    WORD + NAME_OR_NONE, // 7 origin
+    WORD + ANY, // 8 arity
+    WORD + AT_MOST + LIMIT * Pack::MOST_SLOTS + FOLLOWS * COUNTED, // 9 slot kinds
+    WORD + NAME, // 10 slot kind
+    WORD + FLAG + FOLLOWS * COUNTED, // 11 derivation
+    WORD + NAME_OR_NONE, // 12 source
+    WORD + AT_MOST_OR_NONE + LIMIT * Pack::MOST_STEPS + FOLLOWS * COUNTED, // 13 path
+    WORD + NAME, // 14 relation of a step
+    WORD + ANY, // 15 its current slot
+    WORD + ANY, // 16 its related slot
+    WORD + ANY, // 17 current slot
+    WORD + ANY, // 18 related slot
+    WORD + NAME_OR_NONE, // 19 entity
+    WORD + NAME_OR_NONE, // 20 member relation
+    WORD + AT_MOST + LIMIT * Pack::MOST_SLOTS + FOLLOWS * COUNTED, // 21 slot entities
+    WORD + AT_MOST + LIMIT * Pack::MOST_RULES + FOLLOWS * COUNTED, // 22 rules
+    WORD + NAME, // 23 citing name
+    WORD + NAME_OR_NONE, // 24 origin
+    WORD + NAME, // 25 entity
+    WORD + FROM_ONE + LIMIT * Pack::MOST_BODIES + FOLLOWS * COUNTED, // 26 bodies
+    WORD + FLAG, // 27 sort of a body
+    WORD + AT_MOST + LIMIT * Pack::MOST_BLOCKS + FOLLOWS * COUNTED, // 28 blocks
+    WORD + NAME_OR_NONE, // 29 origin
+    WORD + AT_MOST_OR_NONE + LIMIT * Pack::MOST_ITEMS + FOLLOWS * COUNTED, // 30 items
+    WORD + NAME_OR_NONE, // 31 item
+    WORD + FLAG, // 32 Boolean
+    WORD + NAME_OR_NONE, // 33 entity
+    UNUSED,
+    UNUSED,
+    UNUSED,
+    UNUSED,
+    UNUSED,
+    UNUSED,
+    UNUSED,
+    UNUSED,
+    UNUSED,
+    UNUSED,
+    UNUSED,
+    UNUSED,
+    UNUSED,
+    UNUSED,
+    UNUSED,
+    UNUSED,
+    UNUSED,
+    UNUSED,
+    UNUSED,
+    UNUSED,
+    UNUSED,
+    UNUSED,
+    UNUSED,
+    UNUSED,
+    UNUSED,
+    UNUSED,
+    UNUSED,
+    UNUSED,
+    UNUSED,
+    UNUSED,
+    SCALAR + ANY, // 64 leaf
+    SCALAR + NAME, // 65 Derived
+    SCALAR + ANY + FOLLOWS * ONE_SCALAR, // 66 one child
+    SCALAR + ANY + FOLLOWS * TWO_SCALARS, // 67 two children
+    SCALAR + ANY + FOLLOWS * SCALARS, // 68 Add
+    SCALAR + ANY + FOLLOWS * SCALARS, // 69 Min
+    SCALAR + ANY + FOLLOWS * SCALARS, // 70 Max
+    SCALAR + ZERO + FOLLOWS * CHOICE, // 71 If
+    SCALAR + ANY + FOLLOWS * PATTERNS, // 72 NoMatch
+    SCALAR + AT_MOST + LIMIT * Pack::MOST_PERIODS + FOLLOWS * PERIODS, // 73 OverPeriods
+    SCALAR + NAME + FOLLOWS * AGGREGATE, // 74 Count
+    SCALAR + NAME + FOLLOWS * AGGREGATE, // 75 Sum
+    SCALAR + NAME + FOLLOWS * AGGREGATE, // 76 Extreme
+    SCALAR + NAME + FOLLOWS * AGGREGATE, // 77 Single
+    SCALAR + NAME + FOLLOWS * ONLY_RELATED, // 78 OnlyRelated
+    UNUSED,
+    WORD + ANY, // 80 current slot
+    WORD + ANY, // 81 related slot
+    WORD + NAME, // 82 input
+    WORD + FLAG, // 83 where
+    WORD + NAME, // 84 derived
+    WORD + ANY, // 85 arguments
+    WORD + ANY, // 86 value
+    UNUSED,
+    UNUSED,
+    UNUSED,
+    UNUSED,
+    UNUSED,
+    UNUSED,
+    UNUSED,
+    UNUSED,
+    UNUSED,
+    JUDGMENT + ANY + FOLLOWS * TWO_SCALARS, // 96 Comparison
+    JUDGMENT + ANY + FOLLOWS * JUDGMENTS, // 97 And
+    JUDGMENT + ANY + FOLLOWS * JUDGMENTS, // 98 Or
+    JUDGMENT + ANY + FOLLOWS * JUDGMENTS, // 99 ExactlyOne
+    JUDGMENT + ZERO + FOLLOWS * ONE_JUDGMENT, // 100 Not
+    JUDGMENT + NAME + FOLLOWS * SLOTS, // 101 RelationMember
+    JUDGMENT + NAME + FOLLOWS * ATOM, // 102 RelationAtom
+    JUDGMENT + NAME + FOLLOWS * EXISTS, // 103 Exists
+    JUDGMENT + ANY, // 104 SameEntity
+    JUDGMENT + NAME, // 105 Derived
+    JUDGMENT + ANY, // 106 RoleDerived
+    UNUSED,
+    UNUSED,
+    UNUSED,
+    UNUSED,
+    UNUSED,
+    UNUSED,
+    UNUSED,
+    UNUSED,
+    UNUSED,
+    UNUSED,
+    UNUSED,
+    UNUSED,
+    UNUSED,
+    UNUSED,
+    UNUSED,
+    UNUSED,
+    UNUSED,
+    UNUSED,
+    UNUSED,
+    UNUSED,
+    UNUSED,
+    UNUSED,
+    UNUSED,
+    UNUSED,
+    UNUSED,
+    UNUSED,
+    UNUSED,
+    UNUSED,
+    UNUSED,
+    UNUSED,
+    UNUSED,
+    UNUSED,
+    UNUSED,
+    UNUSED,
+    UNUSED,
+    UNUSED,
+    UNUSED,
+    UNUSED,
+    UNUSED,
+    UNUSED,
+    UNUSED,
+    UNUSED,
+    UNUSED,
+    UNUSED,
+    UNUSED,
+    UNUSED,
+    UNUSED,
+    UNUSED,
+    UNUSED,
+    UNUSED,
+    UNUSED,
+    UNUSED,
+    UNUSED,
+    UNUSED,
+    UNUSED,
+    UNUSED,
+    UNUSED,
+    UNUSED,
+    UNUSED,
+    UNUSED,
+    UNUSED,
+    UNUSED,
+    UNUSED,
+    UNUSED,
+    UNUSED,
+    UNUSED,
+    UNUSED,
+    UNUSED,
+    UNUSED,
+    UNUSED,
+    UNUSED,
+    UNUSED,
+    UNUSED,
+    UNUSED,
+    UNUSED,
+    UNUSED,
+    UNUSED,
+    UNUSED,
+    UNUSED,
+    UNUSED,
+    UNUSED,
+    UNUSED,
+    UNUSED,
+    UNUSED,
+    UNUSED,
+    UNUSED,
+    UNUSED,
+    UNUSED,
+    UNUSED,
+    UNUSED,
+    UNUSED,
+    UNUSED,
+    UNUSED,
+    UNUSED,
+    UNUSED,
+    UNUSED,
+    UNUSED,
+    UNUSED,
+    UNUSED,
+    UNUSED,
+    UNUSED,
+    UNUSED,
+    UNUSED,
+    UNUSED,
+    UNUSED,
+    UNUSED,
+    UNUSED,
+    UNUSED,
+    UNUSED,
+    UNUSED,
+    UNUSED,
+    UNUSED,
+    UNUSED,
+    UNUSED,
+    UNUSED,
+    UNUSED,
+    UNUSED,
+    UNUSED,
+    UNUSED,
+    UNUSED,
+    UNUSED,
+    UNUSED,
+    UNUSED,
+    UNUSED,
+    UNUSED,
+    UNUSED,
+    UNUSED,
+    UNUSED,
+    UNUSED,
+    UNUSED,
+    UNUSED,
+    UNUSED,
+    UNUSED,
+    UNUSED,
+    UNUSED,
+    UNUSED,
+    UNUSED,
+    UNUSED,
+    UNUSED,
+    UNUSED,
+    UNUSED,
+    UNUSED,
+    UNUSED,
+    UNUSED,
+    UNUSED,
+    UNUSED,
+    UNUSED,
+    UNUSED,
+    UNUSED,
+];
+
+fn rule_from(x: u32) -> Rule
+    ensures { λ r. ⌜ r ≡ ruleFrom x ⌝ }
+{
+    let limit = x / LIMIT % 8192;
+    match x % LIMIT {
+        ANY => Rule::Any,
+        AT_MOST => Rule::AtMost(limit),
+        FROM_ONE => Rule::FromOne(limit),
+        AT_MOST_OR_NONE => Rule::AtMostOrNone(limit),
+        TOTAL => Rule::Total,
+        NAME => Rule::Name,
+        NAME_OR_NONE => Rule::NameOrNone,
+        _ => Rule::Unused,
+    }
+}
+
+fn follows_from(x: u32) -> Follows
+    ensures { λ r. ⌜ r ≡ followsFrom x ⌝ }
+{
+    match x / FOLLOWS {
+        COUNTED => Follows::Counted,
+        ONE_SCALAR => Follows::OneScalar,
+        TWO_SCALARS => Follows::TwoScalars,
+        SCALARS => Follows::Scalars,
+        PATTERNS => Follows::Patterns,
+        PERIODS => Follows::Periods,
+        ONE_JUDGMENT => Follows::OneJudgment,
+        JUDGMENTS => Follows::Judgments,
+        CHOICE => Follows::Choice,
+        AGGREGATE => Follows::Aggregate,
+        ONLY_RELATED => Follows::OnlyRelated,
+        SLOTS => Follows::Slots,
+        ATOM => Follows::Atom,
+        EXISTS => Follows::Exists,
+        _ => Follows::Nothing,
+    }
+}
+
+// The table, for an operation to lend to the functions that read by it: a constant is copied wherever it is used.
+pub fn table() -> [u32; 256]
+    ensures { λ r. ⌜ Tabled r ⌝ }
+{
+    TABLE
+}
+
+// The entry of a kind.
+pub fn entry_of(t: &[u32; 256], kind: u32) -> Entry
+    requires { ⌜ (kind < 256) × Tabled (now t) ⌝ }
+    ensures { λ r. ⌜ r ≡ entryOf kind ⌝ }
+{
+    let x = t[kind as usize];
+    Entry {
+        sort: x / SORT % 4,
+        rule: rule_from(x),
+        follows: follows_from(x),
+    }
+}
+
+// Whether a rule allows a value, which is held to n: the total to the number of words, a name to N.
+pub fn allows(rule: Rule, n: u32, v: u32) -> bool
+    ensures { λ r. ⌜ r ≡ allowed rule n v ⌝ }
+{
+    match rule {
+        Rule::Unused => false,
+        Rule::Any => true,
+        Rule::AtMost(most) => v <= most,
+        Rule::FromOne(most) => 1 <= v && v <= most,
+        Rule::AtMostOrNone(most) => v <= most || v == Pack::NONE,
+        Rule::Total => v == n,
+        Rule::Name => v < n,
+        Rule::NameOrNone => v < n || v == Pack::NONE,
+    }
+}
+
+// How many follow a word of the value v, where they are of one sort.
+pub fn how_many(follows: Follows, v: u32) -> u32
+    requires { ⌜ v < 16777216 ⌝ }
+    ensures { λ r. ⌜ r ≡ howMany follows v ⌝ }
+{
+    match follows {
+        Follows::OneScalar => 1,
+        Follows::TwoScalars => 2,
+        Follows::Scalars => v,
+        Follows::Patterns => v + 1,
+        Follows::Periods => 1 + v % 2,
+        Follows::OneJudgment => 1,
+        Follows::Judgments => v,
+        _ => 0,
+    }
+}

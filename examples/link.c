@@ -1,0 +1,33 @@
+/* Check and Rewrite from C. Build it from the repository's folder, after `rt staticlib host`:
+ *
+ *   cc -Iinclude examples/link.c target/staticlib/libhost.a -o target/link
+ */
+#include <stdio.h>
+#include <string.h>
+
+#include "cogunwa.h"
+
+static void show(const char *what, uint64_t answer)
+{
+    if (cogunwa_number(answer) == 0)
+        printf("%s: ok %u\n", what, (unsigned)cogunwa_value(answer));
+    else
+        printf("%s: refused %u %u %u %u\n", what, (unsigned)cogunwa_number(answer), (unsigned)cogunwa_place(answer),
+               (unsigned)cogunwa_name(answer), (unsigned)cogunwa_other(answer));
+}
+
+int main(void)
+{
+    /* The smallest pack: six words, one name, no records. */
+    uint8_t pack[24] = {6, 0, 0, 1, 1, 0, 0, 2, 0, 0, 0, 3, 0, 0, 0, 5, 0, 0, 0, 22, 0, 0, 0, 28};
+    uint8_t out[24] = {0};
+
+    show("check", cogunwa_check(pack, sizeof pack));
+    show("rewrite", cogunwa_rewrite(pack, sizeof pack, out, sizeof out));
+    printf("the same bytes: %s\n", memcmp(pack, out, sizeof pack) == 0 ? "yes" : "no");
+
+    pack[4] = 0; /* a pack has at least one name */
+    show("check of a damaged pack", cogunwa_check(pack, sizeof pack));
+    show("check of three bytes", cogunwa_check(pack, 3));
+    return 0;
+}

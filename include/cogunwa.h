@@ -1,0 +1,69 @@
+/* Cogunwa's operations on rule packs, for C.
+ *
+ * Link with libhost.a, which `rt staticlib host` writes to target/staticlib.
+ *
+ * A pack is handed over as bytes, four a word, low byte first. A word's kind is its high byte, its
+ * value the other three. "Place" is a word's index in the pack, from 0.
+ *
+ * Every function takes any bytes and any lengths, allocates nothing, keeps nothing between calls
+ * and may be called from several threads at once. Pointers are not null, also with a length of 0,
+ * and `out` shares no byte with `pack`.
+ *
+ * Every function returns one 64-bit number, its answer:
+ *
+ *   bits  0 to  5   number: 0, or the number of a refusal
+ *   bits  6 to 19   place
+ *   bits 20 to 51   name, or the value where the number is 0
+ *   bits 52 to 63   other, or the steps where the number is 0
+ *
+ * A refusal changes no byte of `out`. Its numbers, with the fields that they fill; all other
+ * fields are 0:
+ *
+ *    1  the byte count is not divisible by four, or there are under 6 or over 8,192 words
+ *    2  a word of the wrong kind             place: the word
+ *    3  the pack has ended                   place: its length in words
+ *    4  a value that is not allowed          place: the word
+ *    5  a tree node at depth 33              place: the node
+ *    6  a defaulted name that is not above the one before
+ *                                            place: the word
+ *    7  a relation name used before          place: the word, name: the relation
+ *    8  words left over after the last block
+ *                                            place: the first of them
+ *   16  `out` has too few words
+ *
+ * Of several that hold, 1 comes first, then the one at the leftmost word (at one word 3, 2, 5, 4, 6, 7
+ * in this order), then 8, then 16.
+ */
+#ifndef COGUNWA_H
+#define COGUNWA_H
+
+#include <stddef.h>
+#include <stdint.h>
+
+#ifdef __cplusplus
+extern "C" {
+#endif
+
+/* Check: whether the bytes are a pack. Value 1 (yes), or a refusal of 1 to 8. */
+uint64_t cogunwa_check(const uint8_t *pack, size_t pack_len);
+
+/* Rewrite: reads the pack's records and writes them again to `out`.
+ * Value: the number of words written, which is the pack's; or Check's refusal; or 16 where `out`
+ * has fewer whole words than the pack. Bytes of `out` past those words stay as they are. */
+uint64_t cogunwa_rewrite(const uint8_t *pack, size_t pack_len, uint8_t *out, size_t out_len);
+
+/* The fields of an answer. */
+static inline uint32_t cogunwa_number(uint64_t answer) { return (uint32_t)(answer & 0x3F); }
+static inline uint32_t cogunwa_place(uint64_t answer) { return (uint32_t)(answer >> 6 & 0x3FFF); }
+static inline uint32_t cogunwa_name(uint64_t answer) { return (uint32_t)(answer >> 20 & 0xFFFFFFFFu); }
+static inline uint32_t cogunwa_other(uint64_t answer) { return (uint32_t)(answer >> 52); }
+
+/* The same bits of an answer whose number is 0. Neither Check nor Rewrite counts steps: 0. */
+static inline uint32_t cogunwa_value(uint64_t answer) { return cogunwa_name(answer); }
+static inline uint32_t cogunwa_steps(uint64_t answer) { return cogunwa_other(answer); }
+
+#ifdef __cplusplus
+}
+#endif
+
+#endif

@@ -1,0 +1,97 @@
+//! Check's time per word, on flat and on deeply nested packs of about 500, 2,000 and 8,000 words:
+//!
+//!     cargo bench --offline
+//!
+//! The library takes bytes, so Check's time includes turning them into words. A plain loop that does only this, and a
+//! plain copy of the bytes, are measured beside it, in the same rounds.
+#[path = "../tests/packs/mod.rs"]
+mod packs;
+
+use std::hint::black_box;
+use std::time::{Duration, Instant};
+
+const ROUNDS: usize = 301;
+const ROUND: Duration = Duration::from_micros(500);
+
+fn main() {
+    println!(
+        "Time per word in nanoseconds: the median of {ROUNDS} rounds of about {} microseconds each.",
+        ROUND.as_micros()
+    );
+    println!("Check's time includes turning the bytes into words; the loop is plain Rust that does only this.");
+    println!("Buffers are reused and not cleared between calls.");
+    println!();
+    println!("{:8} {:>6} {:>8} {:>8} {:>8}", "pack", "words", "check", "loop", "copy");
+    for groups in [6, 24, 96] {
+        measure("flat", &packs::flat(groups));
+    }
+    for rules in [5, 21, 84] {
+        measure("nested", &packs::deep(rules));
+    }
+}
+
+fn measure(shape: &str, words: &[u32]) {
+    let pack = cogunwa::bytes_of(words);
+    assert_eq!(cogunwa::check(&pack), Ok(()));
+    let mut as_words = vec![0u32; words.len()];
+    let mut copy = vec![0u8; pack.len()];
+    let mut check = Timed::new(|| {
+        let _ = black_box(cogunwa::check(black_box(&pack)));
+    });
+    let mut to_words = Timed::new(|| {
+        for (word, b) in black_box(&mut as_words).iter_mut().zip(black_box(&pack).chunks_exact(4)) {
+            *word = u32::from_le_bytes([b[0], b[1], b[2], b[3]]);
+        }
+    });
+    let mut copying = Timed::new(|| black_box(&mut copy).copy_from_slice(black_box(&pack)));
+    for _ in 0..ROUNDS {
+        check.round();
+        to_words.round();
+        copying.round();
+    }
+    let per_word = |times: Vec<f64>| median(times) / words.len() as f64;
+    println!(
+        "{shape:8} {:>6} {:>8.3} {:>8.3} {:>8.3}",
+        words.len(),
+        per_word(check.times),
+        per_word(to_words.times),
+        per_word(copying.times)
+    );
+}
+
+/// Something timed in rounds, each of as many calls as fill about the time of a round.
+struct Timed<F: FnMut()> {
+    call: F,
+    calls: u32,
+    /// Nanoseconds a call, one for each round.
+    times: Vec<f64>,
+}
+
+impl<F: FnMut()> Timed<F> {
+    fn new(mut call: F) -> Timed<F> {
+        let mut calls = 1;
+        loop {
+            let start = Instant::now();
+            for _ in 0..calls {
+                call();
+            }
+            if start.elapsed() >= ROUND {
+                return Timed { call, calls, times: vec![] };
+            }
+            calls *= 2;
+        }
+    }
+
+    fn round(&mut self) {
+        let start = Instant::now();
+        for _ in 0..self.calls {
+            (self.call)();
+        }
+        self.times.push(start.elapsed().as_nanos() as f64 / f64::from(self.calls));
+    }
+}
+
+fn median(mut times: Vec<f64>) -> f64 {
+    times.sort_by(f64::total_cmp);
+    times[times.len() / 2]
+}

@@ -1,0 +1,52 @@
+//! Check and Rewrite of a pack in a file: eight hexadecimal digits a word, with blanks or line ends between.
+//!
+//!     cargo run --release --offline --example link -- ../examples/household.hex
+
+use std::process::ExitCode;
+
+fn main() -> ExitCode {
+    let Some(file) = std::env::args().nth(1) else {
+        eprintln!("usage: link FILE");
+        return ExitCode::from(2);
+    };
+    let words = match std::fs::read_to_string(&file) {
+        Ok(text) => cogunwa::words_of_hex(&text),
+        Err(error) => {
+            eprintln!("{file}: {error}");
+            return ExitCode::from(2);
+        }
+    };
+    let Some(words) = words else {
+        eprintln!("{file}: expected words of eight hexadecimal digits");
+        return ExitCode::from(2);
+    };
+    let pack = cogunwa::bytes_of(&words);
+    println!("pack: {} words", words.len());
+
+    match cogunwa::check(&pack) {
+        Ok(()) => println!("check: yes"),
+        Err(r) => {
+            println!("check: refused {} {} {} {}", r.number, r.place, r.name, r.other);
+            println!("  {r}");
+            if let Some(word) = words.get(r.place).filter(|_| r.number != 1) {
+                println!("  word {} is {word:08X}: kind {}, value {}", r.place, word >> 24, word & 0xFF_FFFF);
+            }
+        }
+    }
+
+    let mut out = vec![0; pack.len()];
+    match cogunwa::rewrite(&pack, &mut out) {
+        Ok(length) if out == pack => {
+            println!("rewrite: {length} words, the same as the pack's");
+            ExitCode::SUCCESS
+        }
+        Ok(length) => {
+            println!("rewrite: {length} words, NOT the pack's");
+            ExitCode::FAILURE
+        }
+        Err(r) => {
+            println!("rewrite: refused {} {} {} {}", r.number, r.place, r.name, r.other);
+            ExitCode::FAILURE
+        }
+    }
+}

@@ -1,0 +1,153 @@
+//! Safe calls of Cogunwa's operations on rule packs.
+//!
+//! The operations are proved in Rattle and linked from a static library. A pack goes over as bytes, four a word, low
+//! byte first; [`bytes_of`] makes them from words. Any bytes and any lengths may be handed over. A refusal changes no
+//! byte of an output buffer.
+//!
+//! There are two operations so far: [`check`] and [`rewrite`].
+//!
+//! ```
+//! // The smallest pack: its length, one name, and no defaulted names, relations, rules and blocks.
+//! let words = [0x01000006, 0x02000001, 0x03000000, 0x05000000, 0x16000000, 0x1C000000];
+//! let pack = cogunwa::bytes_of(&words);
+//! assert_eq!(cogunwa::check(&pack), Ok(()));
+//!
+//! let mut out = [0; 32];
+//! assert_eq!(cogunwa::rewrite(&pack, &mut out), Ok(6));
+//! assert_eq!(out[..24], pack[..]);
+//!
+//! let refusal = cogunwa::check(&pack[..3]).unwrap_err();
+//! assert_eq!(refusal.number, 1);
+//! ```
+
+use std::error::Error;
+use std::fmt;
+
+unsafe extern "C" {
+    fn cogunwa_check(pack: *const u8, pack_len: usize) -> u64;
+    fn cogunwa_rewrite(pack: *const u8, pack_len: usize, out: *mut u8, out_len: usize) -> u64;
+}
+
+/// Why an operation refused. Fields that the number does not fill are 0.
+#[derive(Clone, Copy, Debug, PartialEq, Eq)]
+pub struct Refusal {
+    pub number: u32,
+    /// The index of a word in the pack.
+    pub place: usize,
+    pub name: u32,
+    pub other: u32,
+}
+
+impl fmt::Display for Refusal {
+    fn fmt(&self, f: &mut fmt::Formatter<'_>) -> fmt::Result {
+        let Refusal { number, place, name, other } = *self;
+        match number {
+            1 => write!(f, "the bytes are not whole words, or not 6 to 8,192 of them"),
+            2 => write!(f, "word {place} is of the wrong kind"),
+            3 => write!(f, "the pack ends at word {place}, where one more is due"),
+            4 => write!(f, "word {place} has a value that is not allowed"),
+            5 => write!(f, "word {place} is a tree node at depth 33"),
+            6 => write!(f, "word {place} is a defaulted name that is not above the one before"),
+            7 => write!(f, "word {place} gives a relation the name {name}, which was used before"),
+            8 => write!(f, "words are left over after the last block, from word {place} on"),
+            16 => write!(f, "the output buffer has too few words"),
+            _ => write!(f, "refusal {number}: place {place}, name {name}, other {other}"),
+        }
+    }
+}
+
+impl Error for Refusal {}
+
+/// What an operation gives when it does not refuse.
+struct Given {
+    value: u32,
+}
+
+/// Takes an answer apart: number in bits 0 to 5, place in 6 to 19, name in 20 to 51, other in 52 to 63. With the number
+/// 0 the name is the value.
+fn take_apart(answer: u64) -> Result<Given, Refusal> {
+    let number = (answer & 0x3F) as u32;
+    let name = (answer >> 20) as u32;
+    if number == 0 {
+        return Ok(Given { value: name });
+    }
+    Err(Refusal { number, place: (answer >> 6 & 0x3FFF) as usize, name, other: (answer >> 52) as u32 })
+}
+
+/// Whether the bytes are a pack, or the first refusal.
+pub fn check(pack: &[u8]) -> Result<(), Refusal> {
+    // SAFETY: the pointer and the length are those of one slice, which is only read.
+    take_apart(unsafe { cogunwa_check(pack.as_ptr(), pack.len()) }).map(|_| ())
+}
+
+/// Reads a pack's records and writes them again. Answers the number of words written; bytes past them stay as they are,
+/// and a refusal leaves all of `out` as it is. Of `out` only whole words count.
+pub fn rewrite(pack: &[u8], out: &mut [u8]) -> Result<usize, Refusal> {
+    // SAFETY: each pointer and length are those of one slice. `out` is borrowed for writing, so `pack` shares no byte
+    // with it.
+    let answer = unsafe { cogunwa_rewrite(pack.as_ptr(), pack.len(), out.as_mut_ptr(), out.len()) };
+    take_apart(answer).map(|given| given.value as usize)
+}
+
+/// A word of this kind and value.
+///
+/// # Panics
+///
+/// If the value has more than 24 bits.
+pub fn word(kind: u8, value: u32) -> u32 {
+    assert!(value < 1 << 24, "a word's value has 24 bits");
+    u32::from(kind) << 24 | value
+}
+
+/// The words' bytes, four a word, low byte first.
+pub fn bytes_of(words: &[u32]) -> Vec<u8> {
+    words.iter().flat_map(|w| w.to_le_bytes()).collect()
+}
+
+/// The words that the bytes make; up to three bytes at the end that make no word are left out.
+pub fn words_of(bytes: &[u8]) -> Vec<u32> {
+    bytes.chunks_exact(4).map(|b| u32::from_le_bytes(b.try_into().unwrap())).collect()
+}
+
+/// The words of a text that writes each with eight hexadecimal digits, with blanks or line ends between; `None` if it
+/// has anything else.
+pub fn words_of_hex(text: &str) -> Option<Vec<u32>> {
+    let word = |digits: &str| {
+        let plain = digits.len() == 8 && digits.bytes().all(|b| b.is_ascii_hexdigit());
+        if plain { u32::from_str_radix(digits, 16).ok() } else { None }
+    };
+    text.split_whitespace().map(word).collect()
+}
+
+#[cfg(test)]
+mod tests {
+    use super::*;
+
+    #[test]
+    fn the_fields_of_an_answer() {
+        let answer = 7 | 8192 << 6 | 0xFFFF_FFFF << 20 | 4095 << 52;
+        let refusal = take_apart(answer).err();
+        assert_eq!(refusal, Some(Refusal { number: 7, place: 8192, name: 0xFFFF_FFFF, other: 4095 }));
+        assert_eq!(take_apart(8192 << 20 | 1024 << 52).ok().map(|given| given.value), Some(8192));
+    }
+
+    #[test]
+    fn refusals_in_words() {
+        let said = |number, place, name| Refusal { number, place, name, other: 0 }.to_string();
+        assert_eq!(said(2, 5, 0), "word 5 is of the wrong kind");
+        assert_eq!(said(7, 12, 9), "word 12 gives a relation the name 9, which was used before");
+        assert_eq!(said(33, 1, 2), "refusal 33: place 1, name 2, other 0");
+    }
+
+    #[test]
+    fn words_and_bytes() {
+        assert_eq!(word(255, 0xFF_FFFF), 0xFFFF_FFFF);
+        assert_eq!(bytes_of(&[0x0100_0006, 0x1CFF_FFFF]), [6, 0, 0, 1, 255, 255, 255, 28]);
+        assert_eq!(words_of(&[6, 0, 0, 1, 255, 255, 255, 28, 9, 9]), [0x0100_0006, 0x1CFF_FFFF]);
+        assert_eq!(words_of_hex("01000006\n1cFFffff "), Some(vec![0x0100_0006, 0x1CFF_FFFF]));
+        assert_eq!(words_of_hex(""), Some(vec![]));
+        for text in ["0100006", "0100000006", "+1000006", "0100000G", "01000006,"] {
+            assert_eq!(words_of_hex(text), None, "{text}");
+        }
+    }
+}

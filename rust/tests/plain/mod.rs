@@ -1,0 +1,222 @@
+//! Check once more, in plain Rust straight from the description of packs: what the linked library is compared with.
+#![allow(dead_code)]
+
+use cogunwa::Refusal;
+
+const NONE: u32 = 0xFF_FFFF;
+
+type Outcome<T> = Result<T, Refusal>;
+
+fn refuse<T>(number: u32, place: usize, name: u32) -> Outcome<T> {
+    Err(Refusal { number, place, name, other: 0 })
+}
+
+pub fn check_bytes(bytes: &[u8]) -> Outcome<()> {
+    if !bytes.len().is_multiple_of(4) {
+        return refuse(1, 0, 0);
+    }
+    check(&cogunwa::words_of(bytes))
+}
+
+pub fn check(words: &[u32]) -> Outcome<()> {
+    if words.len() < 6 || words.len() > 8192 {
+        return refuse(1, 0, 0);
+    }
+    let mut reader = Reader { words, at: 0, names: 0 };
+    reader.pack()?;
+    if reader.at < words.len() { refuse(8, reader.at, 0) } else { Ok(()) }
+}
+
+struct Reader<'a> {
+    words: &'a [u32],
+    at: usize,
+    names: u32,
+}
+
+impl Reader<'_> {
+    fn next(&mut self) -> Outcome<(u32, u32)> {
+        let Some(word) = self.words.get(self.at) else {
+            return refuse(3, self.at, 0);
+        };
+        self.at += 1;
+        Ok((word >> 24, word & NONE))
+    }
+
+    fn field(&mut self, kind: u32, allowed: impl Fn(u32) -> bool) -> Outcome<u32> {
+        let at = self.at;
+        match self.next()? {
+            (k, _) if k != kind => refuse(2, at, 0),
+            (_, value) if !allowed(value) => refuse(4, at, 0),
+            (_, value) => Ok(value),
+        }
+    }
+
+    fn any(&mut self, kind: u32) -> Outcome<u32> {
+        self.field(kind, |_| true)
+    }
+
+    fn flag(&mut self, kind: u32) -> Outcome<u32> {
+        self.field(kind, |v| v <= 1)
+    }
+
+    fn count(&mut self, kind: u32, most: u32) -> Outcome<u32> {
+        self.field(kind, |v| v <= most)
+    }
+
+    // None counts nothing.
+    fn count_or_none(&mut self, kind: u32, most: u32) -> Outcome<u32> {
+        let count = self.field(kind, |v| v <= most || v == NONE)?;
+        Ok(if count == NONE { 0 } else { count })
+    }
+
+    fn name(&mut self, kind: u32) -> Outcome<u32> {
+        let names = self.names;
+        self.field(kind, |v| v < names)
+    }
+
+    fn name_or_none(&mut self, kind: u32) -> Outcome<u32> {
+        let names = self.names;
+        self.field(kind, |v| v < names || v == NONE)
+    }
+
+    fn pack(&mut self) -> Outcome<()> {
+        let length = self.words.len() as u32;
+        self.field(1, |v| v == length)?;
+        self.names = self.field(2, |v| (1..=4096).contains(&v))?;
+
+        let mut before = None;
+        for _ in 0..self.count(3, 512)? {
+            let name = self.name(4)?;
+            if before >= Some(name) {
+                return refuse(6, self.at - 1, 0);
+            }
+            before = Some(name);
+        }
+
+        let mut used = std::collections::HashSet::new();
+        for _ in 0..self.count(5, 512)? {
+            let name = self.name(6)?;
+            if !used.insert(name) {
+                return refuse(7, self.at - 1, name);
+            }
+            self.relation()?;
+        }
+
+        for _ in 0..self.count(22, 1024)? {
+            self.name(23)?;
+            self.name_or_none(24)?;
+            self.name(25)?;
+            for _ in 0..self.field(26, |v| (1..=64).contains(&v))? {
+                let sort = self.flag(27)?;
+                self.tree(sort == 1, 1)?;
+            }
+        }
+
+        for _ in 0..self.count(28, 64)? {
+            self.name_or_none(29)?;
+            for _ in 0..self.count_or_none(30, 1024)? {
+                self.name_or_none(31)?;
+                self.flag(32)?;
+                self.name_or_none(33)?;
+            }
+        }
+        Ok(())
+    }
+
+    fn slot_kinds(&mut self, kind: u32) -> Outcome<()> {
+        for _ in 0..self.count(kind, 8)? {
+            self.name(10)?;
+        }
+        Ok(())
+    }
+
+    fn relation(&mut self) -> Outcome<()> {
+        self.name_or_none(7)?;
+        self.any(8)?;
+        self.slot_kinds(9)?;
+        if self.flag(11)? == 0 {
+            return Ok(());
+        }
+        self.name_or_none(12)?;
+        for _ in 0..self.count_or_none(13, 8)? {
+            self.name(14)?;
+            self.any(15)?;
+            self.any(16)?;
+        }
+        self.any(17)?;
+        self.any(18)?;
+        self.name_or_none(19)?;
+        self.name_or_none(20)?;
+        self.slot_kinds(21)?;
+        self.tree(true, 1)
+    }
+
+    fn tree(&mut self, judgment: bool, depth: u32) -> Outcome<()> {
+        let at = self.at;
+        let (kind, value) = self.next()?;
+        let fits = if judgment { (96..=106).contains(&kind) } else { (64..=78).contains(&kind) };
+        if !fits {
+            return refuse(2, at, 0);
+        }
+        if depth > 32 {
+            return refuse(5, at, 0);
+        }
+        let allowed = match kind {
+            65 | 74..=78 | 101..=103 | 105 => value < self.names,
+            71 | 100 => value == 0,
+            73 => value <= 7,
+            _ => true,
+        };
+        if !allowed {
+            return refuse(4, at, 0);
+        }
+        match kind {
+            66 => self.trees(false, 1, depth),
+            67 | 96 => self.trees(false, 2, depth),
+            68..=70 => self.trees(false, value, depth),
+            71 => {
+                self.trees(true, 1, depth)?;
+                self.trees(false, 2, depth)
+            }
+            72 => self.trees(false, 1 + value, depth),
+            73 => self.trees(false, 1 + value % 2, depth),
+            74..=77 => {
+                self.any(80)?;
+                self.any(81)?;
+                self.any(86)?;
+                let tests = self.flag(83)?;
+                self.trees(true, tests, depth)
+            }
+            78 => {
+                self.any(80)?;
+                self.any(81)?;
+                let at = self.at;
+                match self.next()? {
+                    (82 | 84, name) if name < self.names => Ok(()),
+                    (82 | 84, _) => refuse(4, at, 0),
+                    _ => refuse(2, at, 0),
+                }
+            }
+            97..=99 => self.trees(true, value, depth),
+            100 => self.trees(true, 1, depth),
+            101 => {
+                self.any(80)?;
+                self.any(81)?;
+                Ok(())
+            }
+            102 => self.any(85).map(|_| ()),
+            103 => {
+                self.any(85)?;
+                self.trees(true, 1, depth)
+            }
+            _ => Ok(()),
+        }
+    }
+
+    fn trees(&mut self, judgment: bool, count: u32, depth: u32) -> Outcome<()> {
+        for _ in 0..count {
+            self.tree(judgment, depth + 1)?;
+        }
+        Ok(())
+    }
+}
