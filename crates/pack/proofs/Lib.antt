@@ -8,3 +8,4 @@ pub mod TreeLaws
 pub mod RecordLaws
 pub mod CheckLaws
 pub mod RewriteLaws
+pub mod Refusals
