@@ -1,0 +1,74 @@
+-- The chain walk, for any type of answers. 01: "A walk meeting a name on its own path gives none." "a walk stops at a settled name, and its answer settles its whole path."
+use Prim.Native.Nat.{ℕ, zero, suc, _+_}
+use mathlib.Core.List.{List, [], _∷_}
+use mathlib.Core.Bool.{Bool, true, false}
+use mathlib.Core.Option.{Option, none, some}
+use lib.ListN.{length}
+use lib.Dec.{eqb}
+use Rattle.pack.specs.Table.{pick}
+use Rattle.pack.specs.Form.{among}
+
+-- what one declaration read says: the chain ends here with an answer, or it leads on to a name
+pub data Step (R : Type 0) : Type 0 where
+  end : R → Step R
+  next : ℕ → Step R
+
+-- the answers settled so far, by name
+abbrev pub Settled : Type 0 → Type 0
+Settled R = ℕ → Option R
+
+abbrev pub nothing : {R : Type 0} → Settled R
+nothing n = none
+
+abbrev pub put : {R : Type 0} → ℕ → R → Settled R → Settled R
+put n r t m = pick (eqb m n) (some r) (t m)
+
+-- a walk's answer, what is settled after it, and how many names it read
+pub record Walked (R : Type 0) : Type 0 where
+  pub answer : R
+  pub settled : Settled R
+  pub steps : ℕ
+
+-- a name that was read: its answer settles it
+abbrev pub settles : {R : Type 0} → ℕ → Walked R → Walked R
+settles n w = record { answer = w .answer; settled = put n (w .answer) (w .settled); steps = suc (w .steps) }
+
+-- `stuck` is the answer of a ring; an answer goes back over each link of the path through `along`, with along stuck ≡ stuck
+module _ {R : Type 0} (stuck : R) (along : R → R) (step : ℕ → Step R) where
+  abbrev stop : R → Settled R → Walked R
+  stop r t = record { answer = r; settled = t; steps = 0 }
+
+  abbrev back : Walked R → Walked R
+  back w = record { answer = along (w .answer); settled = w .settled; steps = w .steps }
+
+  -- the walk from the name n with `path` behind it; the fuel bounds how many names it reads
+  unfoldable pub walk : ℕ → Settled R → List ℕ → ℕ → Walked R
+  walk zero t path n = stop stuck t
+  walk (suc fuel) t path n =
+      elim (t n) [
+        | some r ↦ stop r t
+        | none ↦ elim (among n path) [
+          | true ↦ stop stuck t
+          | false ↦ elim (step n) [
+            | end r ↦ settles n (stop r t)
+            | next m ↦ settles n (back (walk fuel t (n ∷ path) m))
+          ]
+        ]
+      ]
+
+  -- "A relation's own walk starts at it with nothing settled before."
+  unfoldable pub own : List ℕ → ℕ → R
+  own declared n = walk (suc (length declared)) nothing [] n .answer
+
+-- what is settled after all walks, and how many names they read
+pub record All (R : Type 0) : Type 0 where
+  pub settled : Settled R
+  pub steps : ℕ
+
+module _ {R : Type 0} (stuck : R) (along : R → R) (step : ℕ → Step R) (declared : List ℕ) where
+  -- "All kinds starts at each relation in record order"
+  unfoldable pub walkAll : List ℕ → Settled R → ℕ → All R
+  walkAll [] t k = record { settled = t; steps = k }
+  walkAll (n ∷ starts) t k =
+      let w : Walked R = walk stuck along step (suc (length declared)) t [] n in
+      walkAll starts (w .settled) (k + w .steps)

@@ -1,0 +1,89 @@
+-- The kinds of relations. 01, "Chain walk".
+use Prim.Native.Nat.{ℕ}
+use mathlib.Core.List.{List, [], _∷_, map}
+use mathlib.Core.Bool.{Bool, true, false}
+use mathlib.Core.Option.{Option, none, some}
+use lib.Dec.{eqb}
+use Rattle.pack.specs.Table.{pick}
+use Rattle.pack.specs.Table as table
+use Rattle.pack.specs.Pack.{Hop, Derivation, Relation}
+use Rattle.chains.specs.Chain.{Step, end, next, Settled, nothing, All, walkAll, own}
+
+-- the list that settles a relation: list 9 or list 21 of its owner
+pub data Which : Type 0 where
+  list9 : Which
+  list21 : Which
+
+pub record Source : Type 0 where
+  pub owner : ℕ
+  pub which : Which
+
+-- an answer: the list, or no kinds
+abbrev pub Answer : Type 0
+Answer = Option Source
+
+abbrev from : ℕ → Which → Step Answer
+from n w = end (some (record { owner = n; which = w }))
+
+-- "a source and path none lead on to the source (it inherits); otherwise no kinds"
+abbrev pub inherits : ℕ → Option (List Hop) → Step Answer
+inherits source none = pick (eqb source table.none) (end none) (next source)
+inherits source (some hops) = end none
+
+-- "Else list 9 if non-empty, otherwise none."
+abbrev pub plain : ℕ → List ℕ → Step Answer
+plain n [] = end none
+plain n (k ∷ ks) = from n list9
+
+-- "a non-empty list 21 settles it. Else, with a derivation and list 9 empty: .."
+abbrev pub derived : ℕ → Derivation → List ℕ → List ℕ → Step Answer
+derived n d (k ∷ ks) slotKinds = from n list21
+derived n d [] (k ∷ ks) = from n list9
+derived n d [] [] = inherits (d .source) (d .path)
+
+abbrev pub declares : ℕ → List ℕ → Option Derivation → Step Answer
+declares n slotKinds none = plain n slotKinds
+declares n slotKinds (some d) = derived n d (d .slotEntities) slotKinds
+
+-- the relation of a name
+unfoldable pub find : ℕ → List Relation → Option Relation
+find n [] = none
+find n (r ∷ rs) = pick (eqb n (r .name)) (some r) (find n rs)
+
+abbrev pub readAt : Option Relation → Step Answer
+readAt none = end none
+readAt (some r) = declares (r .name) (r .slotKinds) (r .derivation)
+
+-- One declaration read at a name. "An undeclared name (no relation's 6 holds it) settles at none."
+unfoldable pub kindStep : List Relation → ℕ → Step Answer
+kindStep rs n = readAt (find n rs)
+
+abbrev pub declared : List Relation → List ℕ
+declared rs = map (λ (r : Relation). r .name) rs
+
+-- an answer goes back over a link as it is
+abbrev pub same : Answer → Answer
+same a = a
+
+abbrev pub allKinds : List Relation → All Answer
+allKinds rs = walkAll none same (kindStep rs) (declared rs) (declared rs) nothing 0
+
+abbrev pub ownAnswer : List Relation → ℕ → Answer
+ownAnswer rs n = own none same (kindStep rs) (declared rs) n
+
+-- the names that an answer stands for
+abbrev pub listOf : Which → Relation → List ℕ
+listOf list9 r = r .slotKinds
+listOf list21 r = elim (r .derivation) [ none ↦ [] | some d ↦ d .slotEntities ]
+
+abbrev pub listIn : Option Relation → Which → List ℕ
+listIn none w = []
+listIn (some r) w = listOf w r
+
+abbrev pub namesOf : List Relation → Answer → Option (List ℕ)
+namesOf rs none = none
+namesOf rs (some s) = some (listIn (find (s .owner) rs) (s .which))
+
+-- the effective kinds of a name: those of its own walk
+unfoldable pub kindsOf : List Relation → ℕ → Option (List ℕ)
+kindsOf rs n = namesOf rs (ownAnswer rs n)

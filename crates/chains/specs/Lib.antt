@@ -1,0 +1,5 @@
+pub mod Chain
+pub mod Kinds
+pub mod Reach
+pub mod Filtered
+pub mod Operations

@@ -1,0 +1,2 @@
+// The chain walks.
+pub struct Marks {}
