@@ -3,3 +3,4 @@ pub mod Kinds
 pub mod Reach
 pub mod Filtered
 pub mod Operations
+pub mod Index

@@ -1,2 +1,3 @@
-// The chain walks.
-pub struct Marks {}
+// The chain walks: what relations inherit from their sources.
+// A file per idea: the index by name (index).
+pub mod index;

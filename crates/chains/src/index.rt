@@ -1,0 +1,88 @@
+// What each relation's declaration says, by name, from one scan over the words of the relations: a word's kind tells what it is.
+use pack::kinds::Pack;
+
+ghost use mathlib.Core.Path.{_≡_};
+ghost use Prim.Native.Nat.{_<_, _≤_};
+ghost use lib.ListN.{length};
+ghost use Rattle.chains.specs.Index.{entryAfter, nameAfter, Indexed, scanFrom};
+
+// A declaration in one number: the place of the count word of the list that settles it, 0 for no kinds, or LEADS and the name that it leads on to.
+pub struct Declaration {}
+
+impl Declaration {
+    pub const LEADS: u32 = 65536;
+}
+
+// A relation's declaration after one more of its words.
+fn entry_after(x: u32, place: u32, word: u32) -> u32
+    ensures { λ r. ⌜ r ≡ entryAfter x place word ⌝ }
+{
+    let v = word % Pack::VALUES;
+    match word / Pack::VALUES {
+        Pack::SLOT_KINDS | Pack::SLOT_ENTITIES => {
+            if v == 0 {
+                return x;
+            }
+            place
+        }
+        Pack::SOURCE => {
+            if x != 0 {
+                return x;
+            }
+            if v == Pack::NONE {
+                return x;
+            }
+            Declaration::LEADS + v
+        }
+        Pack::PATH => {
+            if v == Pack::NONE {
+                return x;
+            }
+            if x < Declaration::LEADS {
+                return x;
+            }
+            0
+        }
+        _ => x,
+    }
+}
+
+// The name of the relation that the scan is in after a word.
+fn name_after(name: usize, word: u32) -> usize
+    requires { ⌜ name < 4096 ⌝ }
+    ensures { λ r. ⌜ (r ≡ nameAfter name word) × (r < 4096) ⌝ }
+{
+    if word / Pack::VALUES == Pack::RELATION {
+        (word % Pack::MOST_NAMES) as usize
+    } else {
+        name
+    }
+}
+
+// One word: the declaration of the relation that it belongs to, and that relation's name.
+fn index_word(table: &mut [u32; 4096], name: usize, place: u32, word: u32) -> usize
+    requires { ⌜ name < 4096 ⌝ }
+    ensures { λ r. ⌜ Indexed (now (table .entry)) name place word r (now (table .exit)) ⌝ }
+{
+    let here = name_after(name, word);
+    let x = table[here];
+    table[here] = entry_after(x, place, word);
+    here
+}
+
+// Every relation's declaration, from the words of a checked pack; the table holds zeros before.
+pub fn index(pack: &[u32], table: &mut [u32; 4096])
+    requires { ⌜ length (now pack) ≤ 8192 ⌝ }
+    ensures { λ r. ⌜ now (table .exit) ≡ scanFrom 0 0 (now (table .entry)) (now (pack .entry)) ⌝ }
+{
+    let mut name: usize = 0;
+    let mut i: usize = 0;
+    while i < pack.len() {
+        let w = pack[i];
+        if w / Pack::VALUES == Pack::RULE_COUNT {
+            return;
+        }
+        name = index_word(table, name, i as u32, w);
+        i += 1;
+    }
+}
