@@ -6,7 +6,16 @@ use lib.ListN.{getD, set}
 use lib.Dec.{ltb, eqb}
 use Rattle.pack.specs.Table.{pick, kindOf, valueOf}
 use Rattle.pack.specs.Table as table
+use mathlib.Core.Option.{none, some}
+use Rattle.pack.specs.Pack.{Relation}
 use Rattle.chains.specs.Chain.{Step, end, next}
+use Rattle.chains.specs.Kinds.{Answer, declares}
+use Rattle.chains.specs.Operations.{countPlace}
+
+-- the same step with its answer turned into another
+abbrev pub mapped : {R S : Type 0} → (R → S) → Step R → Step S
+mapped g (end r) = end (g r)
+mapped g (next n) = next n
 
 -- a declaration as one number: the place where its list is counted, 0 for no kinds, or 65536 and the name that it leads on to
 abbrev pub coded : Step ℕ → ℕ
@@ -38,3 +47,11 @@ pub record Indexed (t : List ℕ) (name place w name′ : ℕ) (t′ : List ℕ)
   pub here : name′ ≡ nameAfter name w
   pub held : t′ ≡ tableAfter t name place w
   pub below : name′ < 4096
+
+-- the declaration of a relation whose record starts at a place, with its list as a place
+abbrev pub placed : ℕ → Relation → Answer → ℕ
+placed start r none = 0
+placed start r (some s) = start + countPlace (s .which) r
+
+unfoldable pub declarationAt : ℕ → Relation → Step ℕ
+declarationAt start r = mapped (placed start r) (declares (r .name) (r .slotKinds) (r .derivation))
