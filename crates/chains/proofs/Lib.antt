@@ -1,3 +1,4 @@
 pub mod Worked
 pub mod IndexLaws
 pub mod Quiet
+pub mod ScanLaws
