@@ -2,3 +2,4 @@ pub mod Worked
 pub mod IndexLaws
 pub mod Quiet
 pub mod ScanLaws
+pub mod DeclarationLaws
