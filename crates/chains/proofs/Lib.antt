@@ -3,3 +3,4 @@ pub mod IndexLaws
 pub mod Quiet
 pub mod ScanLaws
 pub mod DeclarationLaws
+pub mod RelationScan

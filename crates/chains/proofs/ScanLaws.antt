@@ -173,7 +173,7 @@ module _ (n : ℕ) where
         }
 
     -- what follows a relation's name
-    scans-tail : (r : Relation) (at : ℕ) → Fine (relationTail n) (r .origin, (r .arity, (r .slotKinds, r .derivation)))
+    pub scans-tail : (r : Relation) (at : ℕ) → Fine (relationTail n) (r .origin, (r .arity, (r .slotKinds, r .derivation)))
         → Scans t v inside (relationTail n) (r .origin, (r .arity, (r .slotKinds, r .derivation))) at 0 (afterTail r at)
     unfolding relationTail Fine
     scans-tail r at f =

@@ -1,0 +1,103 @@
+-- The scan over all relations, and over a whole pack: at each name its declaration.
+use Prim.Native.Nat.{ℕ, zero, suc, _+_, _*_, _/_, _%_, _<_, _≤_}
+use native.Mathlib.Omega.{arith}
+use native.Mathlib.Nat.{add-assoc, add-zero}
+use mathlib.Core.Path.{_≡_, refl, ap, sym, _∙_}
+use mathlib.Core.List.{List, [], _∷_, _++_, append-assoc}
+use mathlib.Core.Bool.{Bool, true, false, _||_, not}
+use mathlib.Core.Option.{Option, none, some}
+use lib.ListN.{length, getD, set, length-append, length-set, replicate, length-replicate, getD-replicate}
+use lib.Seq.{getD-set-same, getD-set-other}
+use lib.Dec.{eqb, ltb}
+use borrow.Author.Tests.{eq-eqb, ne-eqb, eqb-true, eqb-false, ltb-true, not-true}
+use Rattle.pack.specs.declared.table.Rule.the-variants.{Name}
+use Rattle.pack.specs.Table.{pick, kindOf, valueOf, wordOf, entryOf, table}
+use Rattle.pack.specs.Form.{among, allowedHere, wordsAll, FineAll, says, count, items, listOrNone, Form, field, guarded, _▹_, via, wordsBy, Fine}
+use Rattle.pack.specs.Pack.{Hop, Derivation, Relation, newName, nameList, path, chain, member, derivation, optionalDerivation, relationTail, relation, nextUsed, relations}
+use Rattle.chains.specs.Chain.{Step, end, next}
+use Rattle.chains.specs.Operations.{relationWords}
+use Rattle.chains.specs.Index.{coded, entryAfter, nameAfter, tableAfter, scanFrom, declarationAt}
+use Rattle.chains.proofs.Quiet.{kind-word}
+use Rattle.chains.proofs.ScanLaws.{afterTail, Scans, scans-tail}
+use Rattle.chains.proofs.DeclarationLaws.{Fitting, tail-declares}
+
+-- a relation's first word
+scan-name : (at name v : ℕ) (t vs : List ℕ) → v < 4096 → getD t v 0 ≡ 0 → scanFrom at name t (wordOf 6 v ∷ vs) ≡ scanFrom (at + 1) v (set t v 0) vs
+unfolding scanFrom nameAfter tableAfter entryAfter
+scan-name at name v t vs l z =
+    let k : kindOf (wordOf 6 v) ≡ 6 = omega arith in
+    let m : wordOf 6 v % 4096 ≡ v = omega arith in
+    let s : suc at ≡ at + 1 = omega arith in
+    simp (k, m, z, s)
+
+-- the words of a relation do not depend on the names before it
+same-words : (n : ℕ) (used : ℕ → Bool) (r : Relation) → wordsBy (relation n used) r ≡ relationWords n r
+unfolding relation newName wordsBy
+same-words n used r = refl
+
+-- what a relation that keeps to its form has
+pub record Kept (n : ℕ) (used : ℕ → Bool) (r : Relation) : Type 0 where
+  pub below : r .name < n
+  pub fresh : used (r .name) ≡ false
+  pub tail : Fine (relationTail n) (r .origin, (r .arity, (r .slotKinds, r .derivation)))
+  pub kinds : length (r .slotKinds) < 16777216
+  pub derived : (d : Derivation) → r .derivation ≡ some d → Fitting d
+
+-- a path's length is no none
+short-path : (n : ℕ) (p : Option (List Hop)) → Fine (path n) p → (l : List Hop) → p ≡ some l → length l < 16777215
+unfolding path Fine count says items
+short-path n none f l e = let z : _≡_ {A = ℕ} 0 1 = cc in absurd (omega arith)
+short-path n (some m) f l e = go (eqb (length m) 16777215) refl (f .1)
+  where
+    same : m ≡ l
+    same = cc
+
+    go : (b : Bool) → eqb (length m) 16777215 ≡ b → pick b 0 (length m) ≡ length m → length l < 16777215
+    go true h q = let z = eqb-true (length m) 16777215 h in absurd (omega arith)
+    go false h q = let z = eqb-false (length m) 16777215 h in rw (← same) (omega (arith, f .0 .0))
+
+path-counts : (n : ℕ) (p : Option (List Hop)) → Fine (path n) p → count listOrNone p < 16777216
+unfolding path Fine
+path-counts n p f = f .0 .0
+
+fitting : (n : ℕ) (d : Derivation) → Fine (derivation n) d → Fitting d
+unfolding derivation chain member nameList Fine count
+fitting n d f =
+    record {
+      source = f .0 .0 .0;
+      path = path-counts n (d .path) (f .0 .1 .0);
+      steps = short-path n (d .path) (f .0 .1 .0);
+      entities = f .1 .1 .1 .0 .0 .0;
+    }
+
+name-below : (n v : ℕ) → allowedHere n 6 v ≡ true → v < n
+unfolding allowedHere entryOf table
+name-below n v e = ltb-true v n e
+
+option-fits : (n : ℕ) (o : Option Derivation) → Fine (optionalDerivation n) o → (d : Derivation) → o ≡ some d → Fitting d
+unfolding optionalDerivation Fine items
+option-fits n none f d e = let z : _≡_ {A = ℕ} 0 1 = cc in absurd (omega arith)
+option-fits n (some b) f d e = let s : b ≡ d = cc in rw (← s) (fitting n b (f .2 .0))
+
+tail-fits : (n : ℕ) (r : Relation) → Fine (relationTail n) (r .origin, (r .arity, (r .slotKinds, r .derivation)))
+    → (length (r .slotKinds) < 16777216) × ((d : Derivation) → r .derivation ≡ some d → Fitting d)
+unfolding relationTail nameList Fine count
+tail-fits n r f = (f .1 .1 .0 .0 .0, option-fits n (r .derivation) (f .1 .1 .1))
+
+pub kept : (n : ℕ) (used : ℕ → Bool) (r : Relation) → Fine (relation n used) r → Kept n used r
+unfolding relation newName Fine
+kept n used r f =
+    let g = tail-fits n r (f .1) in
+    record { below = name-below n (r .name) (f .0 .0 .1); fresh = not-true (used (r .name)) (f .0 .1); tail = f .1; kinds = g .0; derived = g .1 }
+
+-- one relation
+scan-relation : (n : ℕ) (used : ℕ → Bool) (r : Relation) (at name : ℕ) (t vs : List ℕ) → n ≤ 4096 → length t ≡ 4096 → at + 3 < 65536 → getD t (r .name) 0 ≡ 0 → Kept n used r
+    → scanFrom at name t (wordsBy (relation n used) r ++ vs) ≡ scanFrom (at + length (wordsBy (relation n used) r)) (r .name) (set t (r .name) (coded (declarationAt at r))) vs
+unfolding relation newName wordsBy
+scan-relation n used r at name t vs m l b z k =
+    let tailWords : List ℕ = wordsBy (relationTail n) (r .origin, (r .arity, (r .slotKinds, r .derivation))) in
+    let i : r .name < length t = omega (arith, k .below) in
+    let e : at + 1 + length tailWords ≡ at + length (wordOf 6 (r .name) ∷ tailWords) = omega arith in
+    scan-name at name (r .name) t (tailWords ++ vs) (omega (arith, k .below)) z
+    ∙ scans-tail n t (r .name) i r (at + 1) (k .tail) .over vs
+    ∙ rw (e, tail-declares at r b (k .kinds) (k .derived)) refl
