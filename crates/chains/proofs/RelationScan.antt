@@ -101,3 +101,47 @@ scan-relation n used r at name t vs m l b z k =
     scan-name at name (r .name) t (tailWords ++ vs) (omega (arith, k .below)) z
     ∙ scans-tail n t (r .name) i r (at + 1) (k .tail) .over vs
     ∙ rw (e, tail-declares at r b (k .kinds) (k .derived)) refl
+
+-- ---- all relations
+
+-- the table after the relations of a list, of which the first starts at a place
+pub declarations : ℕ → ℕ → List Relation → List ℕ → List ℕ
+declarations n at [] t = t
+declarations n at (r ∷ rs) t = declarations n (at + length (relationWords n r)) rs (set t (r .name) (coded (declarationAt at r)))
+
+-- the name of the last relation
+lastName : ℕ → List Relation → ℕ
+lastName name [] = name
+lastName name (r ∷ rs) = lastName (r .name) rs
+
+abbrev relationsWords : ℕ → List ℕ → List Relation → List ℕ
+relationsWords n used rs = wordsAll nextUsed (λ used r. wordsBy (relation n (λ v. among v used)) r) used rs
+
+abbrev RelationsFine : ℕ → List ℕ → List Relation → Type 0
+RelationsFine n used rs = FineAll nextUsed (λ used r. Fine (relation n (λ v. among v used)) r) used rs
+
+-- the table holds nothing for names that are not used yet
+abbrev Blank : List ℕ → List ℕ → Type 0
+Blank used t = (v : ℕ) → among v used ≡ false → getD t v 0 ≡ 0
+
+or-false : (a b : Bool) → (a || b) ≡ false → (a ≡ false) × (b ≡ false)
+or-false true b e = let z : _≡_ {A = ℕ} 0 1 = cc in absurd (omega arith)
+or-false false b e = (refl, e)
+
+blank-next : (used t : List ℕ) (v x : ℕ) → Blank used t → Blank (v ∷ used) (set t v x)
+blank-next used t v x h u e = let o = or-false (eqb u v) (among u used) e in getD-set-other t v u x 0 (eqb-false u v (o .0)) ∙ h u (o .1)
+
+scan-relations : (n : ℕ) → n ≤ 4096 → (rs : List Relation) (used : List ℕ) (at name : ℕ) (t vs : List ℕ) → length t ≡ 4096 → at + length (relationsWords n used rs) + 3 < 65536 → Blank used t
+    → RelationsFine n used rs → scanFrom at name t (relationsWords n used rs ++ vs) ≡ scanFrom (at + length (relationsWords n used rs)) (lastName name rs) (declarations n at rs t) vs
+unfolding declarations lastName
+scan-relations n m [] used at name t vs l b h f = rw add-zero refl
+scan-relations n m (r ∷ rs) used at name t vs l b h f =
+    let k = kept n (λ v. among v used) r (f .0) in
+    let w : List ℕ = wordsBy (relation n (λ v. among v used)) r in
+    let rest : List ℕ = relationsWords n (r .name ∷ used) rs in
+    let s : length (w ++ rest) ≡ length w + length rest = length-append w rest in
+    let t′ : List ℕ = set t (r .name) (coded (declarationAt at r)) in
+    ap (λ (ws : List ℕ). scanFrom at name t ws) (append-assoc w rest vs)
+    ∙ scan-relation n (λ v. among v used) r at name t (rest ++ vs) m l (omega arith) (h (r .name) (k .fresh)) k
+    ∙ scan-relations n m rs (r .name ∷ used) (at + length w) (r .name) t′ vs (rw length-set l) (omega arith) (blank-next used t (r .name) _ h) (f .1)
+    ∙ rw (s, add-assoc, same-words n (λ v. among v used) r) refl
