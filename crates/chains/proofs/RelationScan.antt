@@ -15,7 +15,8 @@ use Rattle.pack.specs.Table.{pick, kindOf, valueOf, wordOf, entryOf, table}
 use Rattle.pack.specs.Form.{among, allowedHere, wordsAll, FineAll, says, count, items, listOrNone, Form, field, guarded, _▹_, via, wordsBy, Fine}
 use Rattle.pack.specs.Pack.{Hop, Derivation, Relation, newName, nameList, path, chain, member, derivation, optionalDerivation, relationTail, relation, nextUsed, relations}
 use Rattle.chains.specs.Chain.{Step, end, next}
-use Rattle.chains.specs.Operations.{relationWords}
+use Rattle.chains.specs.Kinds.{find}
+use Rattle.chains.specs.Operations.{relationWords, startOf}
 use Rattle.chains.specs.Index.{coded, entryAfter, nameAfter, tableAfter, scanFrom, declarationAt}
 use Rattle.chains.proofs.Quiet.{kind-word}
 use Rattle.chains.proofs.ScanLaws.{afterTail, Scans, scans-tail}
@@ -145,3 +146,50 @@ scan-relations n m (r ∷ rs) used at name t vs l b h f =
     ∙ scan-relation n (λ v. among v used) r at name t (rest ++ vs) m l (omega arith) (h (r .name) (k .fresh)) k
     ∙ scan-relations n m rs (r .name ∷ used) (at + length w) (r .name) t′ vs (rw length-set l) (omega arith) (blank-next used t (r .name) _ h) (f .1)
     ∙ rw (s, add-assoc, same-words n (λ v. among v used) r) refl
+
+-- what stands at a name that was used before the list
+untouched : (n : ℕ) (rs : List Relation) (used : List ℕ) (at m : ℕ) (t : List ℕ) → RelationsFine n used rs → among m used ≡ true → getD (declarations n at rs t) m 0 ≡ getD t m 0
+unfolding declarations
+untouched n [] used at m t f e = refl
+untouched n (r ∷ rs) used at m t f e =
+    untouched n rs (r .name ∷ used) (at + length (relationWords n r)) m (set t (r .name) (coded (declarationAt at r))) (f .1) (later (eqb m (r .name)) e)
+    ∙ getD-set-other t (r .name) m (coded (declarationAt at r)) 0 (λ q. other q)
+  where
+    later : (b : Bool) → among m used ≡ true → (b || among m used) ≡ true
+    later true e = refl
+    later false e = e
+
+    other : m ≡ r .name → ⊥
+    other q =
+        let z : among m used ≡ false = rw q (kept n (λ v. among v used) r (f .0) .fresh) in
+        let y : _≡_ {A = ℕ} 0 1 = cc in
+        omega arith
+
+-- the declaration that a name's relation leaves
+abbrev pub left : ℕ → ℕ → Option Relation → ℕ
+left x start none = x
+left x start (some r) = coded (declarationAt start r)
+
+pub declared-at : (n : ℕ) (rs : List Relation) (used : List ℕ) (at m : ℕ) (t : List ℕ) → n ≤ 4096 → length t ≡ 4096 → RelationsFine n used rs
+    → getD (declarations n at rs t) m 0 ≡ left (getD t m 0) (startOf n m at rs) (find m rs)
+unfolding declarations startOf find
+declared-at n [] used at m t b l f = refl
+declared-at n (r ∷ rs) used at m t b l f =
+    go (declared-at n rs (r .name ∷ used) (at + length (relationWords n r)) m (set t (r .name) (coded (declarationAt at r))) b (rw length-set l) (f .1)) (eqb m (r .name)) refl
+  where
+    t′ : List ℕ
+    t′ = set t (r .name) (coded (declarationAt at r))
+
+    inside : r .name < length t
+    inside = omega (arith, kept n (λ v. among v used) r (f .0) .below)
+
+    go : getD (declarations n (at + length (relationWords n r)) rs t′) m 0 ≡ left (getD t′ m 0) (startOf n m (at + length (relationWords n r)) rs) (find m rs)
+        → (c : Bool) → eqb m (r .name) ≡ c
+        → getD (declarations n (at + length (relationWords n r)) rs t′) m 0
+        ≡ left (getD t m 0) (pick c at (startOf n m (at + length (relationWords n r)) rs)) (pick c (some r) (find m rs))
+    go ih true e =
+        let q : m ≡ r .name = eqb-true m (r .name) e in
+        untouched n rs (r .name ∷ used) (at + length (relationWords n r)) m t′ (f .1) (rw e refl)
+        ∙ rw q (getD-set-same t (r .name) (coded (declarationAt at r)) 0 inside)
+    go ih false e =
+        ih ∙ ap (λ (x : ℕ). left x (startOf n m (at + length (relationWords n r)) rs) (find m rs)) (getD-set-other t (r .name) m (coded (declarationAt at r)) 0 (eqb-false m (r .name) e))
