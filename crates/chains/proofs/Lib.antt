@@ -4,3 +4,4 @@ pub mod Quiet
 pub mod ScanLaws
 pub mod DeclarationLaws
 pub mod RelationScan
+pub mod PackIndex

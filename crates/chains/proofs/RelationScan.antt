@@ -111,18 +111,18 @@ declarations n at [] t = t
 declarations n at (r ∷ rs) t = declarations n (at + length (relationWords n r)) rs (set t (r .name) (coded (declarationAt at r)))
 
 -- the name of the last relation
-lastName : ℕ → List Relation → ℕ
+pub lastName : ℕ → List Relation → ℕ
 lastName name [] = name
 lastName name (r ∷ rs) = lastName (r .name) rs
 
-abbrev relationsWords : ℕ → List ℕ → List Relation → List ℕ
+abbrev pub relationsWords : ℕ → List ℕ → List Relation → List ℕ
 relationsWords n used rs = wordsAll nextUsed (λ used r. wordsBy (relation n (λ v. among v used)) r) used rs
 
-abbrev RelationsFine : ℕ → List ℕ → List Relation → Type 0
+abbrev pub RelationsFine : ℕ → List ℕ → List Relation → Type 0
 RelationsFine n used rs = FineAll nextUsed (λ used r. Fine (relation n (λ v. among v used)) r) used rs
 
 -- the table holds nothing for names that are not used yet
-abbrev Blank : List ℕ → List ℕ → Type 0
+abbrev pub Blank : List ℕ → List ℕ → Type 0
 Blank used t = (v : ℕ) → among v used ≡ false → getD t v 0 ≡ 0
 
 or-false : (a b : Bool) → (a || b) ≡ false → (a ≡ false) × (b ≡ false)
@@ -132,7 +132,7 @@ or-false false b e = (refl, e)
 blank-next : (used t : List ℕ) (v x : ℕ) → Blank used t → Blank (v ∷ used) (set t v x)
 blank-next used t v x h u e = let o = or-false (eqb u v) (among u used) e in getD-set-other t v u x 0 (eqb-false u v (o .0)) ∙ h u (o .1)
 
-scan-relations : (n : ℕ) → n ≤ 4096 → (rs : List Relation) (used : List ℕ) (at name : ℕ) (t vs : List ℕ) → length t ≡ 4096 → at + length (relationsWords n used rs) + 3 < 65536 → Blank used t
+pub scan-relations : (n : ℕ) → n ≤ 4096 → (rs : List Relation) (used : List ℕ) (at name : ℕ) (t vs : List ℕ) → length t ≡ 4096 → at + length (relationsWords n used rs) + 3 < 65536 → Blank used t
     → RelationsFine n used rs → scanFrom at name t (relationsWords n used rs ++ vs) ≡ scanFrom (at + length (relationsWords n used rs)) (lastName name rs) (declarations n at rs t) vs
 unfolding declarations lastName
 scan-relations n m [] used at name t vs l b h f = rw add-zero refl

@@ -61,9 +61,11 @@ module _ (t : List ℕ) (v : ℕ) (inside : v < length t) where
       let e : kindOf (wordOf kind (count H c)) ≡ kind = kind-word kind (count H c) (f .0 .0) in
       let r : List ℕ = wordsAll step (λ u a. wordsBy (F u) a) s (items H c) in
       let m : at + 1 + length r ≡ at + length (wordOf kind (count H c) ∷ r) = omega arith in
-      record { over = λ vs. scan-entry t v inside at x (wordOf kind (count H c)) (r ++ vs) (λ h. k (sym e ∙ h)) (λ h. q (sym e ∙ h))
-      ∙ scan-quiet r vs (at + 1) v (set t v (entryAfter x at (wordOf kind (count H c)))) (all-hushed step F h s (items H c) (f .2))
-      ∙ rw m refl }
+      record {
+        over = λ vs. scan-entry t v inside at x (wordOf kind (count H c)) (r ++ vs) (λ h. k (sym e ∙ h)) (λ h. q (sym e ∙ h))
+            ∙ scan-quiet r vs (at + 1) v (set t v (entryAfter x at (wordOf kind (count H c)))) (all-hushed step F h s (items H c) (f .2))
+            ∙ rw m refl;
+      }
 
 -- ---- the parts of a relation
 
@@ -121,9 +123,16 @@ module _ (n : ℕ) where
   chain-length : (d : Derivation) → length (wordsBy (chain n) (d .source, (d .path, (d .current, d .related)))) ≡ 4 + 3 * hops (d .path)
   unfolding chain
   chain-length d =
-      omega
-      (arith, then-length {B = Option (List Hop) × (ℕ × ℕ)} (field n 12) (λ _. path n ▹ λ _. field n 17 ▹ λ _. field n 18) (d .source) (d .path, (d .current, d .related)), then-length {B = ℕ × ℕ} (path n) (λ _. field n 17 ▹ λ _. field n 18) (d .path) (d .current, d .related),
-      then-length (field n 17) (λ _. field n 18) (d .current) (d .related), field-length 12 (d .source), field-length 17 (d .current), field-length 18 (d .related), path-length (d .path))
+      omega (
+        arith,
+        then-length {B = Option (List Hop) × (ℕ × ℕ)} (field n 12) (λ _. path n ▹ λ _. field n 17 ▹ λ _. field n 18) (d .source) (d .path, (d .current, d .related)),
+        then-length {B = ℕ × ℕ} (path n) (λ _. field n 17 ▹ λ _. field n 18) (d .path) (d .current, d .related),
+        then-length (field n 17) (λ _. field n 18) (d .current) (d .related),
+        field-length 12 (d .source),
+        field-length 17 (d .current),
+        field-length 18 (d .related),
+        path-length (d .path),
+      )
 
   module _ (t : List ℕ) (v : ℕ) (inside : v < length t) where
     scans-names : (kind : ℕ) (ks : List ℕ) (at x : ℕ) → (kind ≡ 6 → ⊥) → (kind ≡ 22 → ⊥) → Fine (nameList n kind) ks → Scans t v inside (nameList n kind) ks at x (entryAfter x at (wordOf kind (length ks)))

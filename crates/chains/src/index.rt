@@ -1,6 +1,5 @@
 // What each relation's declaration says, by name, from one scan over the words of the relations: a word's kind tells what it is.
 use pack::kinds::Pack;
-
 ghost use mathlib.Core.Path.{_≡_};
 ghost use Prim.Native.Nat.{_<_, _≤_};
 ghost use lib.ListN.{length};

@@ -1,0 +1,180 @@
+-- The index of a checked pack: at each name, what one declaration read there says, with its list as a place.
+use Prim.Native.Nat.{ℕ, zero, suc, _+_, _*_, _<_, _≤_}
+use native.Mathlib.Omega.{arith}
+use mathlib.Core.Path.{_≡_, refl, ap, sym, _∙_}
+use mathlib.Core.List.{List, [], _∷_, _++_, append-assoc}
+use mathlib.Core.Bool.{Bool, true, false, _&&_}
+use mathlib.Core.Option.{Option, none, some}
+use lib.ListN.{length, getD, length-append, replicate, length-replicate, getD-replicate}
+use lib.Dec.{eqb, leb}
+use borrow.Author.Tests.{eqb-true, leb-true}
+use Rattle.pack.specs.Table.{pick, kindOf, wordOf, entryOf, table}
+use Rattle.pack.specs.Table as table
+use Rattle.pack.specs.Form.{among, allowedHere, wordsAll, FineAll, count, items, Form, field, _▹_, wordsBy, Fine}
+use Rattle.pack.specs.Pack.{Hop, Derivation, Relation, Edition, undated, firstKind, above, nextUsed, relation, rule, defaultedName, defaulted, relations, rules, blocks, records, inner, layout, Pack, toRow, total, words, WellFormed}
+use Rattle.chains.specs.Chain.{Step, end, next}
+use Rattle.chains.specs.Kinds.{Which, list9, list21, Source, Answer, inherits, plain, derived, declares, find, readAt, kindStep}
+use Rattle.chains.specs.Operations.{relationWords, startOf, firstRelation, countPlace, placeOf}
+use Rattle.chains.specs.Index.{mapped, coded, scanFrom, placed, declarationAt}
+use Rattle.pack.proofs.PackLaws.{words-length}
+use Rattle.chains.proofs.Quiet.{Quiet, quiet-word, kind-word, scan-quiet}
+use Rattle.chains.proofs.RelationScan.{declarations, left, declared-at, lastName, relationsWords, RelationsFine, Blank, scan-relations}
+
+-- ---- the words before the relations
+
+defaulted-quiet : (n : ℕ) (ds : List ℕ) (low : ℕ) → FineAll above (λ low v. Fine (defaultedName n low) v) low ds → Quiet (wordsAll above (λ low v. wordsBy (defaultedName n low) v) low ds)
+unfolding defaultedName Fine wordsBy
+defaulted-quiet n [] low f = tt
+defaulted-quiet n (d ∷ ds) low f = (quiet-word 4 d (f .0 .0 .0) refl .0, defaulted-quiet n ds (above low d) (f .1))
+
+defaulted-length : (n : ℕ) (ds : List ℕ) (low : ℕ) → length (wordsAll above (λ low v. wordsBy (defaultedName n low) v) low ds) ≡ length ds
+unfolding defaultedName wordsBy
+defaulted-length n [] low = refl
+defaulted-length n (d ∷ ds) low = ap suc (defaulted-length n ds (above low d))
+
+both : (a b : Bool) → (a && b) ≡ true → b ≡ true
+both true b e = e
+both false b e = let z : _≡_ {A = ℕ} 0 1 = cc in absurd (omega arith)
+
+names-most : (v : ℕ) → allowedHere 0 2 v ≡ true → v ≤ 4096
+unfolding allowedHere entryOf table
+names-most v e = leb-true v 4096 (both (leb 1 v) (leb v 4096) e)
+
+-- ---- a pack's parts
+
+first-kind : (e : Edition) → firstKind e ≡ 1
+first-kind undated = refl
+
+abbrev opening : Pack → List ℕ
+opening p = wordOf 1 (total p) ∷ wordOf 2 (p .names) ∷ wordOf 3 (length (p .defaulted)) ∷ wordsAll above (λ low v. wordsBy (defaultedName (p .names) low) v) 0 (p .defaulted)
+
+abbrev relationsPart : Pack → List ℕ
+relationsPart p = wordsAll nextUsed (λ used r. wordsBy (relation (p .names) (λ v. among v used)) r) [] (p .relations)
+
+-- the words of a pack: the opening, the count of relations, the relations, the count of rules, and more
+pub record Split (p : Pack) : Type 0 where
+  pub more : List ℕ
+  pub same : words p ≡ opening p ++ (wordOf 5 (length (p .relations)) ∷ (relationsPart p ++ (wordOf 22 (length (p .rules)) ∷ more)))
+
+split : (p : Pack) → Split p
+unfolding words layout inner records defaulted relations rules wordsBy count items
+split p =
+    record {
+      more = wordsAll {S = Unit {0}} (λ s a. s) (λ s a. wordsBy (rule (p .names)) a) tt (p .rules) ++ wordsBy (blocks (p .names)) (p .blocks);
+      same = rw (first-kind (p .edition)) refl;
+    }
+
+-- what is known of a checked pack's parts
+pub record Parts (p : Pack) : Type 0 where
+  pub names : p .names < 16777216
+  pub most : p .names ≤ 4096
+  pub defaulted-count : length (p .defaulted) < 16777216
+  pub defaulted-fine : FineAll above (λ low v. Fine (defaultedName (p .names) low) v) 0 (p .defaulted)
+  pub relation-count : length (p .relations) < 16777216
+  pub relations-fine : RelationsFine (p .names) [] (p .relations)
+  pub rule-count : length (p .rules) < 16777216
+
+pub parts : (p : Pack) → WellFormed p → Parts p
+unfolding inner records defaulted relations rules Fine count items
+parts p w =
+    let f = w .parts in
+    record {
+      names = f .0 .0;
+      most = names-most (p .names) (f .0 .1);
+      defaulted-count = f .1 .0 .0 .0;
+      defaulted-fine = f .1 .0 .2;
+      relation-count = f .1 .1 .0 .0 .0;
+      relations-fine = f .1 .1 .0 .2;
+      rule-count = f .1 .1 .1 .0 .0 .0;
+    }
+
+abbrev pub zeros : List ℕ
+zeros = replicate 4096 0
+
+zero-at : (m v : ℕ) → _≡_ {A = ℕ} (getD (replicate m 0) v 0) 0
+zero-at zero v = refl
+zero-at (suc m) zero = refl
+zero-at (suc m) (suc v) = zero-at m v
+
+opening-quiet : (p : Pack) → total p ≤ 8192 → Parts p → Quiet (opening p)
+opening-quiet p m h = (
+  quiet-word 1 (total p) (omega arith) refl .0,
+  (
+    quiet-word 2 (p .names) (h .names) refl .0,
+    (quiet-word 3 (length (p .defaulted)) (h .defaulted-count) refl .0, defaulted-quiet (p .names) (p .defaulted) 0 (h .defaulted-fine)),
+  ),
+)
+
+opening-length : (p : Pack) → length (opening p) ≡ 3 + length (p .defaulted)
+opening-length p = let e = defaulted-length (p .names) (p .defaulted) 0 in omega arith
+
+-- the count of rules ends the scan
+scan-rules : (at name v : ℕ) (t vs : List ℕ) → v < 16777216 → scanFrom at name t (wordOf 22 v ∷ vs) ≡ t
+unfolding scanFrom
+scan-rules at name v t vs h = simp (kind-word 22 v h)
+
+-- the whole scan
+scan-pack : (p : Pack) → WellFormed p → scanFrom 0 0 zeros (words p) ≡ declarations (p .names) (firstRelation p) (p .relations) zeros
+scan-pack p w =
+    let h = parts p w in
+    let s = split p in
+    let rest : List ℕ = wordOf 22 (length (p .rules)) ∷ s .more in
+    let five : List ℕ = wordOf 5 (length (p .relations)) ∷ (relationsPart p ++ rest) in
+    let l : length (words p) ≡ length (opening p) + (1 + (length (relationsPart p) + (1 + length (s .more)))) =
+    ap length (s .same) ∙ length-append (opening p) five ∙ ap (λ (m : ℕ). length (opening p) + m) (let e = length-append (relationsPart p) rest in omega arith) in
+    let o = opening-length p in
+    let at : 0 + length (opening p) + 1 ≡ firstRelation p = omega arith in
+    ap (λ (ws : List ℕ). scanFrom 0 0 zeros ws) (s .same)
+    ∙ scan-quiet (opening p) five 0 0 zeros (opening-quiet p (w .most) h)
+    ∙ scan-quiet (wordOf 5 (length (p .relations)) ∷ []) (relationsPart p ++ rest) (0 + length (opening p)) 0 zeros (quiet-word 5 (length (p .relations)) (h .relation-count) refl)
+    ∙ ap (λ (a : ℕ). scanFrom a 0 zeros (relationsPart p ++ rest)) at
+    ∙ scan-relations (p .names) (h .most) (p .relations) [] (firstRelation p) 0 zeros rest (length-replicate {A = ℕ} 4096 0) (omega (arith, l, words-length p, w .most)) (λ v e. zero-at 4096 v) (h .relations-fine)
+    ∙ scan-rules _ _ (length (p .rules)) _ (s .more) (h .rule-count)
+
+-- ---- places
+
+-- a declaration's answers are those of its own relation
+mapped-alike : {S : Type 0} (g h : Answer → S) (n : ℕ) → g none ≡ h none → ((w : Which) → g (some (record { owner = n; which = w })) ≡ h (some (record { owner = n; which = w })))
+    → (ks : List ℕ) (o : Option Derivation) → mapped g (declares n ks o) ≡ mapped h (declares n ks o)
+mapped-alike g h n a b [] none = ap end a
+mapped-alike g h n a b (k ∷ ks) none = ap end (b list9)
+mapped-alike {S} g h n a b ks (some d) = go (d .slotEntities) ks
+  where
+    sourced : (c : Bool) → mapped g (pick c (end none) (next (d .source))) ≡ mapped h (pick c (end none) (next (d .source)))
+    sourced true = ap end a
+    sourced false = refl
+
+    pathed : (p : Option (List Hop)) → mapped g (inherits (d .source) p) ≡ mapped h (inherits (d .source) p)
+    pathed none = sourced (eqb (d .source) table.none)
+    pathed (some l) = ap end a
+
+    go : (es ks : List ℕ) → mapped g (derived n d es ks) ≡ mapped h (derived n d es ks)
+    go (e ∷ es) ks = ap end (b list21)
+    go [] (k ∷ ks) = ap end (b list9)
+    go [] [] = pathed (d .path)
+
+find-name : (rs : List Relation) (m : ℕ) (r : Relation) → find m rs ≡ some r → m ≡ r .name
+unfolding find
+find-name [] m r e = let z : _≡_ {A = ℕ} 0 1 = cc in absurd (omega arith)
+find-name (s ∷ rs) m r e = go (find-name rs m r) (eqb m (s .name)) refl e
+  where
+    go : (find m rs ≡ some r → m ≡ r .name) → (b : Bool) → eqb m (s .name) ≡ b → pick b (some s) (find m rs) ≡ some r → m ≡ r .name
+    go ih true h e = let q : s ≡ r = cc in eqb-true m (s .name) h ∙ ap (λ (x : Relation). x .name) q
+    go ih false h e = ih e
+
+-- at each name the index holds what one declaration read there says, with its list as the place of its count word
+pub index-declares : (p : Pack) → WellFormed p → (m : ℕ) → getD (scanFrom 0 0 zeros (words p)) m 0 ≡ coded (mapped (placeOf p) (kindStep (p .relations) m))
+unfolding kindStep declarationAt placeOf
+index-declares p w m =
+    let h = parts p w in
+    ap (λ (t : List ℕ). getD t m 0) (scan-pack p w)
+    ∙ declared-at (p .names) (p .relations) [] (firstRelation p) m zeros (h .most) (length-replicate {A = ℕ} 4096 0) (h .relations-fine)
+    ∙ ap (λ (x : ℕ). left x (startOf (p .names) m (firstRelation p) (p .relations)) (find m (p .relations))) (zero-at 4096 m)
+    ∙ go (find m (p .relations)) refl
+  where
+    go : (o : Option Relation) → find m (p .relations) ≡ o → left 0 (startOf (p .names) m (firstRelation p) (p .relations)) o ≡ coded (mapped (placeOf p) (readAt o))
+    go none e = refl
+    go (some r) e =
+        let q : m ≡ r .name = find-name (p .relations) m r e in
+        let f : find (r .name) (p .relations) ≡ some r = ap (λ (v : ℕ). find v (p .relations)) (sym q) ∙ e in
+        ap coded (mapped-alike (placed (startOf (p .names) m (firstRelation p) (p .relations)) r) (placeOf p) (r .name) refl (λ c. rw (q, f) refl) (r .slotKinds) (r .derivation))
