@@ -1,1 +1,4 @@
 pub mod Worked
+pub mod Names
+pub mod Walks
+pub mod ChainLaws
