@@ -12,6 +12,7 @@ use Rattle.pack.specs.Table.{pick}
 use Rattle.pack.specs.Form.{among}
 use Rattle.pack.specs.Dealt.{nil, cons, swap, trans, InAnyOrder}
 use Rattle.chains.specs.Chain.{Distinct}
+use Rattle.chains.specs.Reach.{any}
 
 -- tests
 pub apart : {A : Type 0} {b : Bool} → b ≡ true → b ≡ false → A
@@ -60,6 +61,23 @@ distinct-append (n ∷ ns) ms d e h = (
   among-append n ns ms ∙ ap (λ b. b || among n ms) (d .0) ∙ h n (or-left (among n ns) (eq-eqb n n refl)),
   distinct-append ns ms (d .1) e (λ m i. h m (or-right (eqb m n) i)),
 )
+
+-- some name of a list passes a test
+pub any-of : (f : ℕ → Bool) (n : ℕ) (ns : List ℕ) → among n ns ≡ true → f n ≡ true → any f ns ≡ true
+any-of f n [] i h = i
+any-of f n (x ∷ ns) i h = go (or-cases (eqb n x) (among n ns) i) (any-of f n ns)
+  where
+    go : (eqb n x ≡ true) ⊎ (among n ns ≡ true) → (among n ns ≡ true → f n ≡ true → any f ns ≡ true) → (f x || any f ns) ≡ true
+    go (inl e) rest = or-left (any f ns) (subst (λ y. f y ≡ true) (eqb-true n x e) h)
+    go (inr j) rest = or-right (f x) (rest j h)
+
+pub of-any : (f : ℕ → Bool) (ns : List ℕ) → any f ns ≡ true → (n : ℕ) × (among n ns ≡ true) × (f n ≡ true)
+of-any f [] h = apart h refl
+of-any f (x ∷ ns) h = go (or-cases (f x) (any f ns) h) (of-any f ns)
+  where
+    go : (f x ≡ true) ⊎ (any f ns ≡ true) → (any f ns ≡ true → (n : ℕ) × (among n ns ≡ true) × (f n ≡ true)) → (n : ℕ) × (among n (x ∷ ns) ≡ true) × (f n ≡ true)
+    go (inl e) rest = (x, or-left (among x ns) (eq-eqb x x refl), e)
+    go (inr e) rest = let r = rest e in (r .0, or-right (eqb (r .0) x) (r .1), r .2)
 
 -- a list without the first of a name
 without : ℕ → List ℕ → List ℕ

@@ -97,6 +97,10 @@ module _ {R : Type 0} (along : R → R) (step : ℕ → Step R) where
       none-ends s (here f) = let z : _≡_ {A = ℕ} 0 1 = cc in omega arith
       none-ends s (further {m = k} {r = u} f d _) = let i : k ≡ m = cc in h u (subst (λ x. Ends x u) i d)
 
+-- a test that goes along with every step
+abbrev pub Kept : {R : Type 0} → (ℕ → Step R) → (ℕ → Bool) → Type 0
+Kept step P = (n m : ℕ) → step n ≡ next m → P n ≡ true → P m ≡ true
+
 module _ {R : Type 0} (stuck : R) (along : R → R) (step : ℕ → Step R) where
   -- what is settled for a name: its answer where it was read, else nothing
   abbrev pub Entry : ℕ → Bool → Option R → Type 0
@@ -114,16 +118,12 @@ module _ {R : Type 0} (stuck : R) (along : R → R) (step : ℕ → Step R) wher
       go true e = (r, refl, subst (λ x. Answer along step stuck x r) (sym (eqb-true m n e)) a)
       go false e = h m
 
-  -- a test that goes along with every step
-  abbrev pub Kept : (ℕ → Bool) → Type 0
-  Kept P = (n m : ℕ) → step n ≡ next m → P n ≡ true → P m ≡ true
-
   -- the names `read` by a walk from n, with the path p behind it and the names ns settled before it
   record Trail (ns p : List ℕ) (n : ℕ) (read : List ℕ) : Type 0 where
     distinct : Distinct (read ++ ns)
     off : (x : ℕ) → among x read ≡ true → among x p ≡ false
     closed : (x m : ℕ) → among x read ≡ true → step x ≡ next m → (among m read || (among m p || among m ns)) ≡ true
-    least : (P : ℕ → Bool) → Kept P → P n ≡ true → (x : ℕ) → among x read ≡ true → P x ≡ true
+    least : (P : ℕ → Bool) → Kept step P → P n ≡ true → (x : ℕ) → among x read ≡ true → P x ≡ true
 
   no-trail : (ns p : List ℕ) (n : ℕ) → Distinct ns → Trail ns p n []
   no-trail ns p n d = record { distinct = d; off = λ x i. apart i refl; closed = λ x m i e. apart i refl; least = λ P k h x i. apart i refl }
@@ -155,7 +155,7 @@ module _ {R : Type 0} (stuck : R) (along : R → R) (step : ℕ → Step R) wher
       at-closed x m true e i f = moved m (leads m (subst (λ y. step y ≡ next m) (eqb-true x n e) f))
       at-closed x m false e i f = moved m (t .closed x m i f)
 
-      at-least : (P : ℕ → Bool) → Kept P → P n ≡ true → (x : ℕ) (b : Bool) → eqb x n ≡ b → (b || among x read) ≡ true → P x ≡ true
+      at-least : (P : ℕ → Bool) → Kept step P → P n ≡ true → (x : ℕ) (b : Bool) → eqb x n ≡ b → (b || among x read) ≡ true → P x ≡ true
       at-least P k h x true e i = subst (λ y. P y ≡ true) (sym (eqb-true x n e)) h
       at-least P k h x false e i = t .least P k h x i
 
@@ -232,15 +232,15 @@ module _ {R : Type 0} (stuck : R) (along : R → R) (step : ℕ → Step R) wher
     pub distinct : Distinct names
     pub counts : a .steps ≡ length names
     pub holds : Holds names (a .settled)
-    pub closed : Kept (λ n. among n names)
+    pub closed : Kept step (λ n. among n names)
     pub begun : (n : ℕ) → (among n starts || among n ns) ≡ true → among n names ≡ true
-    pub least : (P : ℕ → Bool) → Kept P → ((n : ℕ) → (among n starts || among n ns) ≡ true → P n ≡ true) → (n : ℕ) → among n names ≡ true → P n ≡ true
+    pub least : (P : ℕ → Bool) → Kept step P → ((n : ℕ) → (among n starts || among n ns) ≡ true → P n ≡ true) → (n : ℕ) → among n names ≡ true → P n ≡ true
 
   module _ (back : along stuck ≡ stuck) (declared : List ℕ) (leads : Leads step declared) where
     from-start : (n : ℕ) (ns : List ℕ) (t : Settled R) → Distinct ns → Holds ns t → Went ns [] n (walk stuck along step (suc (length declared)) t [] n)
     from-start n ns t once held = went back declared leads ns once t held (suc (length declared)) [] n (omega (arith, unseen-all declared)) tt
 
-    reads-all : (starts : List ℕ) (ns : List ℕ) (t : Settled R) (k : ℕ) → Distinct ns → k ≡ length ns → Holds ns t → Kept (λ n. among n ns)
+    reads-all : (starts : List ℕ) (ns : List ℕ) (t : Settled R) (k : ℕ) → Distinct ns → k ≡ length ns → Holds ns t → Kept step (λ n. among n ns)
         → Read ns starts (walkAll stuck along step declared starts t k)
     unfolding walkAll
     reads-all [] ns t k once count held kept =
@@ -263,7 +263,7 @@ module _ {R : Type 0} (stuck : R) (along : R → R) (step : ℕ → Step R) wher
         counted : (j : ℕ) (read : List ℕ) → j ≡ length read → k + j ≡ length (read ++ ns)
         counted j read e = rw length-append (omega arith)
 
-        onward : (read : List ℕ) → ((n m : ℕ) → among n read ≡ true → step n ≡ next m → (among m read || among m ns) ≡ true) → Kept (λ n. among n (read ++ ns))
+        onward : (read : List ℕ) → ((n m : ℕ) → among n read ≡ true → step n ≡ next m → (among m read || among m ns) ≡ true) → Kept step (λ n. among n (read ++ ns))
         onward read closed n m e i = among-append m read ns ∙ go (or-cases (among n read) (among n ns) (sym (among-append n read ns) ∙ i))
           where
             go : (among n read ≡ true) ⊎ (among n ns ≡ true) → (among m read || among m ns) ≡ true
@@ -281,8 +281,8 @@ module _ {R : Type 0} (stuck : R) (along : R → R) (step : ℕ → Step R) wher
             go true e j = or-right (among n starts) (subst (λ y. among y (read ++ ns) ≡ true) (sym (eqb-true n s e)) (among-append s read ns ∙ found))
             go false e j = later (or-cases (among n starts) (among n ns) j)
 
-        only : (P : ℕ → Bool) → Kept P → ((n : ℕ) → (among n (s ∷ starts) || among n ns) ≡ true → P n ≡ true) → (read : List ℕ)
-            → ((Q : ℕ → Bool) → Kept Q → Q s ≡ true → (n : ℕ) → among n read ≡ true → Q n ≡ true)
+        only : (P : ℕ → Bool) → Kept step P → ((n : ℕ) → (among n (s ∷ starts) || among n ns) ≡ true → P n ≡ true) → (read : List ℕ)
+            → ((Q : ℕ → Bool) → Kept step Q → Q s ≡ true → (n : ℕ) → among n read ≡ true → Q n ≡ true)
             → (n : ℕ) → (among n starts || among n (read ++ ns)) ≡ true → P n ≡ true
         only P c h read least n i = go (or-cases (among n starts) (among n (read ++ ns)) i)
           where
