@@ -1,7 +1,7 @@
 -- The laws of the chain walk, for any type of answers.
 use Prim.Native.Nat.{ℕ, _+_}
 use native.Mathlib.Omega.{arith}
-use mathlib.Core.Path.{_≡_, refl, sym, ap, _∙_, subst}
+use mathlib.Core.Path.{fun-ext, _≡_, refl, sym, ap, _∙_, subst}
 use mathlib.Core.Logic.{_⊎_, inl, inr}
 use mathlib.Core.List.{List, [], _∷_, _++_}
 use mathlib.Core.Bool.{Bool, true, false, _||_, _&&_, not, or-false}
@@ -11,9 +11,10 @@ use lib.Dec.{eqb}
 use borrow.Author.Tests.{eqb-true, eq-eqb}
 use Rattle.pack.specs.Table.{pick}
 use Rattle.pack.specs.Form.{among}
+use Rattle.pack.specs.Dealt.{InAnyOrder}
 use Rattle.chains.specs.Chain.{Step, end, next, nothing, own, All, walkAll, Distinct, Leads, withNext, outside}
 use Rattle.chains.specs.Reach.{any}
-use Rattle.chains.proofs.Names.{apart, or-cases, or-left, nor-right, both-ways, false-of, among-append, distinct-append, same-number, any-of, of-any}
+use Rattle.chains.proofs.Names.{shuffled-among, apart, or-cases, or-left, nor-right, both-ways, false-of, among-append, distinct-append, same-number, any-of, of-any}
 use Rattle.chains.proofs.Walks.{answer-alike, Entry, Kept, Read, reads, own-answer}
 
 module _ {R : Type 0} (stuck : R) (along : R → R) (back : along stuck ≡ stuck) (step : ℕ → Step R) (declared : List ℕ) (leads : Leads step declared) where
@@ -142,3 +143,53 @@ module _ {R : Type 0} (stuck : R) (along : R → R) (back : along stuck ≡ stuc
       found n (inr i) =
           let l = led n i in
           read stuck along back step declared leads declared .closed (l .0) n (l .2) (read stuck along back step declared leads declared .begun (l .0) (or-left false (l .1)))
+
+-- what two walks have in common
+pub record WalksAlike {R : Type 0} (stuck : R) (along : R → R) (step step′ : ℕ → Step R) (declared declared′ starts starts′ : List ℕ) : Type 0 where
+  pub settled : (n : ℕ) → walkAll stuck along step declared starts nothing 0 .settled n ≡ walkAll stuck along step′ declared′ starts′ nothing 0 .settled n
+  pub steps : walkAll stuck along step declared starts nothing 0 .steps ≡ walkAll stuck along step′ declared′ starts′ nothing 0 .steps
+  pub own-walks : (n : ℕ) → own stuck along step declared n ≡ own stuck along step′ declared′ n
+
+module _ {R : Type 0} (stuck : R) (along : R → R) (back : along stuck ≡ stuck) where
+  -- a name's own walk goes by no list: any that holds all names that lead on will do
+  pub own-alike : (step : ℕ → Step R) (declared declared′ : List ℕ) → Leads step declared → Leads step declared′ → (n : ℕ) → own stuck along step declared n ≡ own stuck along step declared′ n
+  own-alike step declared declared′ leads leads′ n =
+      answer-alike along step (own-answer stuck along step back declared leads n) (own-answer stuck along step back declared′ leads′ n)
+
+  -- nor do all walks by the order of the starts
+  module _ (step : ℕ → Step R) (declared declared′ : List ℕ) (leads : Leads step declared) (leads′ : Leads step declared′) (starts starts′ : List ℕ) (same : (n : ℕ) → among n starts ≡ among n starts′) where
+    names-alike : (n : ℕ) → among n (read stuck along back step declared leads starts .names) ≡ among n (read stuck along back step declared′ leads′ starts′ .names)
+    names-alike n =
+        let r = read stuck along back step declared leads starts in
+        let r′ = read stuck along back step declared′ leads′ starts′ in
+        both-ways (among n (r .names)) (among n (r′ .names))
+        (r .least (λ m. among m (r′ .names)) (r′ .closed) (λ m i. r′ .begun m (ap (λ b. b || false) (sym (same m)) ∙ i)) n)
+        (r′ .least (λ m. among m (r .names)) (r .closed) (λ m i. r .begun m (ap (λ b. b || false) (same m) ∙ i)) n)
+
+    starts-alike : WalksAlike stuck along step step declared declared′ starts starts′
+    starts-alike =
+        let r = read stuck along back step declared leads starts in
+        let r′ = read stuck along back step declared′ leads′ starts′ in
+        record {
+          settled = λ n.
+              settled-entry stuck along back step declared leads starts n
+              ∙ ap (λ b. pick b (some (own stuck along step declared n)) none) (names-alike n)
+              ∙ ap (λ a. pick (among n (r′ .names)) (some a) none) (own-alike step declared declared′ leads leads′ n)
+              ∙ sym (settled-entry stuck along back step declared′ leads′ starts′ n);
+          steps = r .counts ∙ same-number (r .names) (r′ .names) (r .distinct) (r′ .distinct) names-alike ∙ sym (r′ .counts);
+          own-walks = own-alike step declared declared′ leads leads′;
+        }
+
+  -- steps that agree at each name, any lists that hold what leads on, and the same starts
+  pub walks-alike : (step step′ : ℕ → Step R) → ((n : ℕ) → step n ≡ step′ n) → (declared declared′ : List ℕ) → Leads step declared → Leads step′ declared′
+      → (starts starts′ : List ℕ) → ((n : ℕ) → among n starts ≡ among n starts′) → WalksAlike stuck along step step′ declared declared′ starts starts′
+  walks-alike step step′ alike declared declared′ leads leads′ starts starts′ same =
+      let e : step ≡ step′ = fun-ext alike in
+      subst (λ s. WalksAlike stuck along step s declared declared′ starts starts′) e
+      (starts-alike step declared declared′ leads (λ n m f. leads′ n m (sym (alike n) ∙ f)) starts starts′ same)
+
+  -- the same in any order
+  pub walks-shuffled : (step step′ : ℕ → Step R) → ((n : ℕ) → step n ≡ step′ n) → (declared declared′ : List ℕ) → Leads step declared → InAnyOrder declared declared′
+      → (starts starts′ : List ℕ) → InAnyOrder starts starts′ → WalksAlike stuck along step step′ declared declared′ starts starts′
+  walks-shuffled step step′ alike declared declared′ leads p starts starts′ q =
+      walks-alike step step′ alike declared declared′ leads (λ n m f. sym (shuffled-among p n) ∙ leads n m (alike n ∙ f)) starts starts′ (shuffled-among q)
