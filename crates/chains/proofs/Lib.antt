@@ -2,3 +2,4 @@ pub mod Worked
 pub mod Names
 pub mod Walks
 pub mod ChainLaws
+pub mod KindLaws

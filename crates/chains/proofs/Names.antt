@@ -3,7 +3,7 @@ use Prim.Native.Nat.{ℕ, suc, _+_, _≤_}
 use native.Mathlib.Omega.{arith}
 use mathlib.Core.Path.{_≡_, refl, sym, ap, _∙_, subst}
 use mathlib.Core.Logic.{_⊎_, inl, inr}
-use mathlib.Core.List.{List, [], _∷_, _++_}
+use mathlib.Core.List.{map, List, [], _∷_, _++_}
 use mathlib.Core.Bool.{Bool, true, false, _||_, or-assoc}
 use lib.ListN.{length}
 use lib.Dec.{eqb}
@@ -123,6 +123,12 @@ shuffled-among nil n = refl
 shuffled-among (cons e p) n = cc (e, shuffled-among p n)
 shuffled-among (swap {a = a} {b = b} {l = l}) n = or-swap (eqb n a) (eqb n b) (among n l)
 shuffled-among (trans p q) n = shuffled-among p n ∙ shuffled-among q n
+
+pub shuffled-map : {A B : Type 0} (f : A → B) {l m : List A} → InAnyOrder l m → InAnyOrder (map f l) (map f m)
+shuffled-map f nil = nil
+shuffled-map f (cons e p) = cons (ap f e) (shuffled-map f p)
+shuffled-map f swap = swap
+shuffled-map f (trans p q) = trans (shuffled-map f p) (shuffled-map f q)
 
 pub shuffled-distinct : {ns ms : List ℕ} → InAnyOrder ns ms → Distinct ns → Distinct ms
 shuffled-distinct nil d = tt
