@@ -3,3 +3,4 @@ pub mod Names
 pub mod Walks
 pub mod ChainLaws
 pub mod KindLaws
+pub mod MappedLaws
