@@ -12,12 +12,12 @@ use borrow.Author.Tests.{eqb-true, eq-eqb}
 use Rattle.pack.specs.Table.{pick}
 use Rattle.pack.specs.Form.{among}
 use Rattle.pack.specs.Dealt.{InAnyOrder}
-use Rattle.chains.specs.Chain.{Step, end, next, nothing, own, All, walkAll, Distinct, Leads, withNext, outside}
+use Rattle.chains.specs.Chain.{Step, end, next, nothing, own, All, walkAll, Distinct, OnlyDeclaredLead, withNext, outside}
 use Rattle.chains.specs.Reach.{any}
 use Rattle.chains.proofs.Names.{shuffled-among, apart, or-cases, or-left, nor-right, both-ways, false-of, among-append, distinct-append, same-number, any-of, of-any}
 use Rattle.chains.proofs.Walks.{answer-alike, Entry, Kept, Read, reads, own-answer}
 
-module _ {R : Type 0} (stuck : R) (along : R → R) (back : along stuck ≡ stuck) (step : ℕ → Step R) (declared : List ℕ) (leads : Leads step declared) where
+module _ {R : Type 0} (stuck : R) (along : R → R) (back : along stuck ≡ stuck) (step : ℕ → Step R) (declared : List ℕ) (leads : OnlyDeclaredLead step declared) where
   abbrev ownOf : ℕ → R
   ownOf = own stuck along step declared
 
@@ -111,7 +111,7 @@ module _ {R : Type 0} (step : ℕ → Step R) (declared : List ℕ) where
   outside-among m [] = refl
   outside-among m (n ∷ ns) = with-among m (step n) (outside step declared ns) ∙ ap (λ b. leadsOut m (step n) || b) (outside-among m ns)
 
-module _ {R : Type 0} (stuck : R) (along : R → R) (back : along stuck ≡ stuck) (step : ℕ → Step R) (declared : List ℕ) (leads : Leads step declared) where
+module _ {R : Type 0} (stuck : R) (along : R → R) (back : along stuck ≡ stuck) (step : ℕ → Step R) (declared : List ℕ) (leads : OnlyDeclaredLead step declared) where
   -- "relations + distinct undeclared sources that inheriting relations name": each declared name is read once, and each undeclared one they lead to
   pub steps-sum : Distinct declared → walkAll stuck along step declared declared nothing 0 .steps ≡ length declared + length (outside step declared declared)
   steps-sum d =
@@ -152,12 +152,12 @@ pub record WalksAlike {R : Type 0} (stuck : R) (along : R → R) (step step′ :
 
 module _ {R : Type 0} (stuck : R) (along : R → R) (back : along stuck ≡ stuck) where
   -- a name's own walk goes by no list: any that holds all names that lead on will do
-  pub own-alike : (step : ℕ → Step R) (declared declared′ : List ℕ) → Leads step declared → Leads step declared′ → (n : ℕ) → own stuck along step declared n ≡ own stuck along step declared′ n
+  pub own-alike : (step : ℕ → Step R) (declared declared′ : List ℕ) → OnlyDeclaredLead step declared → OnlyDeclaredLead step declared′ → (n : ℕ) → own stuck along step declared n ≡ own stuck along step declared′ n
   own-alike step declared declared′ leads leads′ n =
       answer-alike along step (own-answer stuck along step back declared leads n) (own-answer stuck along step back declared′ leads′ n)
 
   -- nor do all walks by the order of the starts
-  module _ (step : ℕ → Step R) (declared declared′ : List ℕ) (leads : Leads step declared) (leads′ : Leads step declared′) (starts starts′ : List ℕ) (same : (n : ℕ) → among n starts ≡ among n starts′) where
+  module _ (step : ℕ → Step R) (declared declared′ : List ℕ) (leads : OnlyDeclaredLead step declared) (leads′ : OnlyDeclaredLead step declared′) (starts starts′ : List ℕ) (same : (n : ℕ) → among n starts ≡ among n starts′) where
     names-alike : (n : ℕ) → among n (read stuck along back step declared leads starts .names) ≡ among n (read stuck along back step declared′ leads′ starts′ .names)
     names-alike n =
         let r = read stuck along back step declared leads starts in
@@ -181,7 +181,7 @@ module _ {R : Type 0} (stuck : R) (along : R → R) (back : along stuck ≡ stuc
         }
 
   -- steps that agree at each name, any lists that hold what leads on, and the same starts
-  pub walks-alike : (step step′ : ℕ → Step R) → ((n : ℕ) → step n ≡ step′ n) → (declared declared′ : List ℕ) → Leads step declared → Leads step′ declared′
+  pub walks-alike : (step step′ : ℕ → Step R) → ((n : ℕ) → step n ≡ step′ n) → (declared declared′ : List ℕ) → OnlyDeclaredLead step declared → OnlyDeclaredLead step′ declared′
       → (starts starts′ : List ℕ) → ((n : ℕ) → among n starts ≡ among n starts′) → WalksAlike stuck along step step′ declared declared′ starts starts′
   walks-alike step step′ alike declared declared′ leads leads′ starts starts′ same =
       let e : step ≡ step′ = fun-ext alike in
@@ -189,7 +189,7 @@ module _ {R : Type 0} (stuck : R) (along : R → R) (back : along stuck ≡ stuc
       (starts-alike step declared declared′ leads (λ n m f. leads′ n m (sym (alike n) ∙ f)) starts starts′ same)
 
   -- the same in any order
-  pub walks-shuffled : (step step′ : ℕ → Step R) → ((n : ℕ) → step n ≡ step′ n) → (declared declared′ : List ℕ) → Leads step declared → InAnyOrder declared declared′
+  pub walks-shuffled : (step step′ : ℕ → Step R) → ((n : ℕ) → step n ≡ step′ n) → (declared declared′ : List ℕ) → OnlyDeclaredLead step declared → InAnyOrder declared declared′
       → (starts starts′ : List ℕ) → InAnyOrder starts starts′ → WalksAlike stuck along step step′ declared declared′ starts starts′
   walks-shuffled step step′ alike declared declared′ leads p starts starts′ q =
       walks-alike step step′ alike declared declared′ leads (λ n m f. sym (shuffled-among p n) ∙ leads n m (alike n ∙ f)) starts starts′ (shuffled-among q)

@@ -12,13 +12,13 @@ use Rattle.pack.specs.Table.{pick}
 use Rattle.pack.specs.Form.{among, items, Fine, FineAll}
 use Rattle.pack.specs.Pack.{Relation, Pack, WellFormed, newName, relation, nextUsed, relations, records, inner}
 use Rattle.pack.specs.Dealt.{nil, cons, swap, trans, InAnyOrder}
-use Rattle.chains.specs.Chain.{next, Distinct, Leads}
+use Rattle.chains.specs.Chain.{next, Distinct, OnlyDeclaredLead}
 use Rattle.chains.specs.Kinds.{find, readAt, kindStep, declared, same, Answer, allKinds, ownAnswer, undeclaredSources, listIn, namesOf, kindsOf}
 use Rattle.chains.proofs.Names.{apart, or-left, or-right, shuffled-map, shuffled-distinct}
 use Rattle.chains.proofs.ChainLaws.{settled-own, steps-sum, walks-shuffled}
 
 -- only relations lead on
-pub kind-leads : (rs : List Relation) → Leads (kindStep rs) (declared rs)
+pub kind-leads : (rs : List Relation) → OnlyDeclaredLead (kindStep rs) (declared rs)
 unfolding kindStep find
 kind-leads [] n m e = let z : _≡_ {A = ℕ} 0 1 = cc in absurd (omega arith)
 kind-leads (r ∷ rs) n m e = go (eqb n (r .name)) e (kind-leads rs n m)

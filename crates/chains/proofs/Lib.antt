@@ -4,3 +4,4 @@ pub mod Walks
 pub mod ChainLaws
 pub mod KindLaws
 pub mod MappedLaws
+pub mod LeanLaws

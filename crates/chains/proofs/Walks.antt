@@ -11,7 +11,7 @@ use lib.Dec.{eqb}
 use borrow.Author.Tests.{eqb-true, eqb-false, eq-eqb, ne-eqb}
 use Rattle.pack.specs.Table.{pick}
 use Rattle.pack.specs.Form.{among}
-use Rattle.chains.specs.Chain.{Step, end, next, Settled, nothing, put, Walked, walk, own, All, walkAll, Distinct, Leads}
+use Rattle.chains.specs.Chain.{Step, end, next, Settled, nothing, put, Walked, walk, own, All, walkAll, Distinct, OnlyDeclaredLead}
 use Rattle.chains.proofs.Names.{apart, or-cases, or-left, or-right, nor-right, or-swap, false-of, among-append}
 
 -- how many names of a list are not on a path: with more fuel than that a walk goes on
@@ -168,7 +168,7 @@ module _ {R : Type 0} (stuck : R) (along : R → R) (step : ℕ → Step R) wher
     holds : Holds (read ++ ns) (w .settled)
     found : (among n read || (among n p || among n ns)) ≡ true
 
-  module _ (back : along stuck ≡ stuck) (declared : List ℕ) (leads : Leads step declared) (ns : List ℕ) (once : Distinct ns) (t : Settled R) (held : Holds ns t) where
+  module _ (back : along stuck ≡ stuck) (declared : List ℕ) (leads : OnlyDeclaredLead step declared) (ns : List ℕ) (once : Distinct ns) (t : Settled R) (held : Holds ns t) where
     went : (fuel : ℕ) (p : List ℕ) (n : ℕ) → unseen p declared < fuel → Behind along step p n → Went ns p n (walk stuck along step fuel t p n)
     unfolding walk
     went zero p n h b = absurd (omega arith)
@@ -236,7 +236,7 @@ module _ {R : Type 0} (stuck : R) (along : R → R) (step : ℕ → Step R) wher
     pub begun : (n : ℕ) → (among n starts || among n ns) ≡ true → among n names ≡ true
     pub least : (P : ℕ → Bool) → Kept step P → ((n : ℕ) → (among n starts || among n ns) ≡ true → P n ≡ true) → (n : ℕ) → among n names ≡ true → P n ≡ true
 
-  module _ (back : along stuck ≡ stuck) (declared : List ℕ) (leads : Leads step declared) where
+  module _ (back : along stuck ≡ stuck) (declared : List ℕ) (leads : OnlyDeclaredLead step declared) where
     from-start : (n : ℕ) (ns : List ℕ) (t : Settled R) → Distinct ns → Holds ns t → Went ns [] n (walk stuck along step (suc (length declared)) t [] n)
     from-start n ns t once held = went back declared leads ns once t held (suc (length declared)) [] n (omega (arith, unseen-all declared)) tt
 

@@ -86,8 +86,8 @@ withNext declared (next m) ms = pick (among m declared || among m ms) ms (m ∷ 
 
 module _ {R : Type 0} (step : ℕ → Step R) (declared : List ℕ) where
   -- only declared names lead on
-  abbrev pub Leads : Type 0
-  Leads = (n m : ℕ) → step n ≡ next m → among n declared ≡ true
+  abbrev pub OnlyDeclaredLead : Type 0
+  OnlyDeclaredLead = (n m : ℕ) → step n ≡ next m → among n declared ≡ true
 
   -- the undeclared names to which names of a list lead, each once: all walks read these and the declared names
   unfoldable pub outside : List ℕ → List ℕ
