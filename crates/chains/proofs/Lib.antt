@@ -5,3 +5,4 @@ pub mod ChainLaws
 pub mod KindLaws
 pub mod MappedLaws
 pub mod LeanLaws
+pub mod FilteredLaws

@@ -118,6 +118,29 @@ pub same-number : (ns ms : List ℕ) → Distinct ns → Distinct ms → ((n : �
 same-number ns ms d e h = omega (arith, no-more ns ms d (λ n i. sym (h n) ∙ i), no-more ms ns e (λ n i. h n ∙ i))
 
 -- in any order
+pub shuffled-same : {A : Type 0} (l : List A) → InAnyOrder l l
+shuffled-same [] = nil
+shuffled-same (a ∷ l) = cons refl (shuffled-same l)
+
+pub shuffled-after : {A : Type 0} (k : List A) {l m : List A} → InAnyOrder l m → InAnyOrder (k ++ l) (k ++ m)
+shuffled-after [] p = p
+shuffled-after (a ∷ k) p = cons refl (shuffled-after k p)
+
+shuffled-between : {A : Type 0} (a : A) (k l : List A) → InAnyOrder (a ∷ k ++ l) (k ++ (a ∷ l))
+shuffled-between a [] l = shuffled-same (a ∷ l)
+shuffled-between a (b ∷ k) l = trans swap (cons refl (shuffled-between a k l))
+
+-- two lists in a row change places
+pub shuffled-rows : {A : Type 0} (k l m : List A) → InAnyOrder (k ++ (l ++ m)) (l ++ (k ++ m))
+shuffled-rows [] l m = shuffled-same (l ++ m)
+shuffled-rows (a ∷ k) l m = trans (cons refl (shuffled-rows k l m)) (shuffled-between a l (k ++ m))
+
+pub shuffled-any : {A : Type 0} (f : A → Bool) {l m : List A} → InAnyOrder l m → any f l ≡ any f m
+shuffled-any f nil = refl
+shuffled-any f (cons {a = a} {m = m} e p) = ap (λ b. f a || b) (shuffled-any f p) ∙ ap (λ x. f x || any f m) e
+shuffled-any f (swap {a = a} {b = b} {l = l}) = or-swap (f a) (f b) (any f l)
+shuffled-any f (trans p q) = shuffled-any f p ∙ shuffled-any f q
+
 pub shuffled-among : {ns ms : List ℕ} → InAnyOrder ns ms → (n : ℕ) → among n ns ≡ among n ms
 shuffled-among nil n = refl
 shuffled-among (cons e p) n = cc (e, shuffled-among p n)
