@@ -1,5 +1,5 @@
 -- The laws of the chain walk, cited for the kinds of relations.
-use Prim.Native.Nat.{ℕ, _+_}
+use Prim.Native.Nat.{ℕ, _+_, _≤_}
 use native.Mathlib.Omega.{arith}
 use mathlib.Core.Path.{_≡_, refl, sym, ap, _∙_, subst}
 use mathlib.Core.List.{List, [], _∷_, map}
@@ -15,6 +15,8 @@ use Rattle.pack.specs.Dealt.{nil, cons, swap, trans, InAnyOrder}
 use Rattle.chains.specs.Chain.{next, Distinct, OnlyDeclaredLead}
 use Rattle.chains.specs.Kinds.{find, readAt, kindStep, declared, same, Answer, allKinds, ownAnswer, undeclaredSources, listIn, namesOf, kindsOf}
 use Rattle.chains.proofs.Names.{apart, or-left, or-right, shuffled-map, shuffled-distinct}
+use Rattle.chains.specs.Operations.{placeOf, settledOf, allKindsWords}
+use Rattle.chains.proofs.Outside.{outside-is}
 use Rattle.chains.proofs.ChainLaws.{settled-own, steps-sum, walks-shuffled}
 
 -- only relations lead on
@@ -45,11 +47,21 @@ kinds-own rs =
     let s = settled-own none same refl (kindStep rs) (declared rs) (kind-leads rs) (declared rs) in
     record { each = s .each; in-order = in-row (allKinds rs .settled) (λ n. some (ownAnswer rs n)) rs (s .each); whatever = s .whatever }
 
+-- so All kinds writes the places of the own walks' lists
+pub words-own : (p : Pack) → allKindsWords p ≡ map (λ (r : Relation). placeOf p (ownAnswer (p .relations) (r .name))) (p .relations)
+unfolding allKindsWords
+words-own p =
+    let rs : List Relation = p .relations in
+    in-row (λ n. placeOf p (settledOf (allKinds rs .settled n))) (λ n. placeOf p (ownAnswer rs n)) rs (λ n i. ap (λ o. placeOf p (settledOf o)) (kinds-own rs .each n i))
+
 -- "relations + distinct undeclared sources that inheriting relations name"
 pub kinds-steps : (rs : List Relation) → Distinct (declared rs) → allKinds rs .steps ≡ length rs + length (undeclaredSources rs)
 kinds-steps rs d =
     steps-sum none same refl (kindStep rs) (declared rs) (kind-leads rs) d
     ∙ ap (λ k. k + length (undeclaredSources rs)) (length-map rs (λ (r : Relation). r .name))
+
+pub sources-short : (rs : List Relation) → length (undeclaredSources rs) ≤ length rs
+sources-short rs = let e : length (declared rs) ≡ length rs = length-map rs (λ (r : Relation). r .name) in omega (arith, outside-is (kindStep rs) (declared rs) (declared rs) .short)
 
 -- relations in any other order
 pub record KindsAlike (rs rs′ : List Relation) : Type 0 where

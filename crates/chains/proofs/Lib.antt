@@ -1,8 +1,9 @@
 pub mod Worked
 pub mod Names
 pub mod Walks
+pub mod Outside
 pub mod ChainLaws
-pub mod KindLaws
 pub mod MappedLaws
+pub mod KindLaws
 pub mod LeanLaws
 pub mod FilteredLaws

@@ -88,8 +88,11 @@ module _ {R : Type 0} (along : R → R) (step : ℕ → Step R) where
   answer-alike {s = s} (endless h e) (ended d) = absurd (h s d)
   answer-alike (endless h e) (endless h′ e′) = e ∙ sym e′
 
+  pub answer-end : (stuck : R) {n : ℕ} {r : R} → step n ≡ end r → Answer stuck n r
+  answer-end stuck e = ended (here e)
+
   -- it comes back over a link
-  answer-back : (stuck : R) → along stuck ≡ stuck → {n m : ℕ} {r : R} → step n ≡ next m → Answer stuck m r → Answer stuck n (along r)
+  pub answer-back : (stuck : R) → along stuck ≡ stuck → {n m : ℕ} {r : R} → step n ≡ next m → Answer stuck m r → Answer stuck n (along r)
   answer-back stuck a e (ended d) = ended (further e d refl)
   answer-back stuck a {n} {m} e (endless h q) = endless none-ends (ap along q ∙ a)
     where
