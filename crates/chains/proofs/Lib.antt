@@ -1,4 +1,12 @@
 pub mod Worked
+pub mod Names
+pub mod Walks
+pub mod Outside
+pub mod ChainLaws
+pub mod MappedLaws
+pub mod KindLaws
+pub mod LeanLaws
+pub mod FilteredLaws
 pub mod IndexLaws
 pub mod Quiet
 pub mod ScanLaws

@@ -1,7 +1,8 @@
 -- The chain walk, for any type of answers. 01: "A walk meeting a name on its own path gives none." "a walk stops at a settled name, and its answer settles its whole path."
 use Prim.Native.Nat.{ℕ, zero, suc, _+_}
+use mathlib.Core.Path.{_≡_}
 use mathlib.Core.List.{List, [], _∷_}
-use mathlib.Core.Bool.{Bool, true, false}
+use mathlib.Core.Bool.{Bool, true, false, _||_}
 use mathlib.Core.Option.{Option, none, some}
 use lib.ListN.{length}
 use lib.Dec.{eqb}
@@ -72,3 +73,23 @@ module _ {R : Type 0} (stuck : R) (along : R → R) (step : ℕ → Step R) (dec
   walkAll (n ∷ starts) t k =
       let w : Walked R = walk stuck along step (suc (length declared)) t [] n in
       walkAll starts (w .settled) (k + w .steps)
+
+-- a list in which no name stands twice
+abbrev pub Distinct : List ℕ → Type 0
+Distinct [] = Unit {0}
+Distinct (n ∷ ns) = (among n ns ≡ false) × Distinct ns
+
+-- the name to which a step leads, put before some that are there, if it is neither declared nor among them
+abbrev pub withNext : {R : Type 0} → List ℕ → Step R → List ℕ → List ℕ
+withNext declared (end r) ms = ms
+withNext declared (next m) ms = pick (among m declared || among m ms) ms (m ∷ ms)
+
+module _ {R : Type 0} (step : ℕ → Step R) (declared : List ℕ) where
+  -- only declared names lead on
+  abbrev pub OnlyDeclaredLead : Type 0
+  OnlyDeclaredLead = (n m : ℕ) → step n ≡ next m → among n declared ≡ true
+
+  -- the undeclared names to which names of a list lead, each once: all walks read these and the declared names
+  unfoldable pub outside : List ℕ → List ℕ
+  outside [] = []
+  outside (n ∷ ns) = withNext declared (step n) (outside ns)

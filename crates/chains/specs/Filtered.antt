@@ -59,16 +59,23 @@ abbrev pub innerAt : ℕ → Option ℕ → Step (Option ℕ)
 innerAt n none = end (some n)
 innerAt n (some m) = pick (eqb m n) (end (some n)) (next m)
 
+-- the names are those below N
 abbrev pub upTo : ℕ → List ℕ
 upTo zero = []
 upTo (suc n) = n ∷ upTo n
+
+abbrev pub below : ℕ → (ℕ → Option ℕ) → ℕ → Option ℕ
+below names d n = pick (ltb n names) (d n) none
+
+abbrev pub innerStep : ℕ → (ℕ → Option ℕ) → ℕ → Step (Option ℕ)
+innerStep names d n = innerAt n (below names d n)
 
 abbrev pub keep : Option ℕ → Option ℕ
 keep a = a
 
 -- "longer rings and all leading there are none; a name that itself has no direct gets none"
 abbrev pub innermostBy : (ℕ → Option ℕ) → ℕ → ℕ → Option ℕ
-innermostBy d names e = elim (d e) [ none ↦ none | some m ↦ own none keep (λ n. innerAt n (d n)) (upTo names) e ]
+innermostBy d names e = elim (below names d e) [ none ↦ none | some m ↦ own none keep (innerStep names d) (upTo names) e ]
 
 unfoldable pub innermost : List Relation → ℕ → ℕ → Option ℕ
 innermost rs names e = innermostBy (direct rs) names e

@@ -7,7 +7,7 @@ use lib.Dec.{eqb}
 use Rattle.pack.specs.Table.{pick}
 use Rattle.pack.specs.Table as table
 use Rattle.pack.specs.Pack.{Hop, Derivation, Relation}
-use Rattle.chains.specs.Chain.{Step, end, next, Settled, nothing, All, walkAll, own}
+use Rattle.chains.specs.Chain.{Step, end, next, Settled, nothing, All, walkAll, own, outside}
 
 -- the list that settles a relation: list 9 or list 21 of its owner
 pub data Which : Type 0 where
@@ -67,6 +67,10 @@ same a = a
 
 abbrev pub allKinds : List Relation → All Answer
 allKinds rs = walkAll none same (kindStep rs) (declared rs) (declared rs) nothing 0
+
+-- the undeclared sources that inheriting relations name, each once
+abbrev pub undeclaredSources : List Relation → List ℕ
+undeclaredSources rs = outside (kindStep rs) (declared rs) (declared rs)
 
 abbrev pub ownAnswer : List Relation → ℕ → Answer
 ownAnswer rs n = own none same (kindStep rs) (declared rs) n
