@@ -11,10 +11,10 @@ use borrow.Author.Tests.{eq-eqb, ne-eqb, eqb-true, eqb-false, lt-ltb, le-ltb}
 use Rattle.pack.specs.Table.{pick, kindOf, valueOf, wordOf}
 use Rattle.pack.specs.Form.{count, listOrNone}
 use Rattle.pack.specs.Pack.{Hop, Derivation, Relation}
-use Rattle.chains.specs.Chain.{Step, end, next}
+use Rattle.chains.specs.Chain.{Step, end, next, mapped}
 use Rattle.chains.specs.Kinds.{list9, list21, inherits, plain, derived, declares}
 use Rattle.chains.specs.Operations.{countPlace}
-use Rattle.chains.specs.Index.{mapped, coded, entryAfter, placed, declarationAt}
+use Rattle.chains.specs.Index.{coded, entryAfter, placed, declarationAt}
 use Rattle.chains.proofs.Quiet.{kind-word}
 use Rattle.chains.proofs.ScanLaws.{hops, afterDerivation, afterOption, afterTail}
 

@@ -8,13 +8,9 @@ use lib.ListN.{length}
 use lib.Dec.{eqb}
 use Rattle.pack.specs.Table.{pick}
 use Rattle.pack.specs.Form.{among}
-use Rattle.chains.specs.Chain.{Step, end, next, Settled, nothing, put, Walked, walk, own, All, walkAll}
+use Rattle.chains.specs.Chain.{Step, end, next, mapped, Settled, nothing, put, Walked, walk, own, All, walkAll}
 
 module _ {R S : Type 0} (g : R → S) where
-  abbrev pub mapped : Step R → Step S
-  mapped (end r) = end (g r)
-  mapped (next n) = next n
-
   abbrev mappedSettled : Settled R → Settled S
   mappedSettled t n = Option·map g (t n)
 
@@ -33,7 +29,7 @@ module _ {R S : Type 0} (g : R → S) where
 
   module _ (stuck : R) (along : R → R) (along′ : S → S) (links : (r : R) → g (along r) ≡ along′ (g r)) (step : ℕ → Step R) where
     abbrev step′ : ℕ → Step S
-    step′ n = mapped (step n)
+    step′ n = mapped g (step n)
 
     walk-mapped : (fuel : ℕ) (t : Settled R) (p : List ℕ) (n : ℕ) → walk (g stuck) along′ step′ fuel (mappedSettled t) p n ≡ mappedWalk (walk stuck along step fuel t p n)
     unfolding walk

@@ -12,10 +12,10 @@ use Rattle.pack.specs.Table.{pick, kindOf, wordOf, entryOf, table}
 use Rattle.pack.specs.Table as table
 use Rattle.pack.specs.Form.{among, allowedHere, wordsAll, FineAll, count, items, Form, field, _▹_, wordsBy, Fine}
 use Rattle.pack.specs.Pack.{Hop, Derivation, Relation, Edition, undated, firstKind, above, nextUsed, relation, rule, defaultedName, defaulted, relations, rules, blocks, records, inner, layout, Pack, toRow, total, words, WellFormed}
-use Rattle.chains.specs.Chain.{Step, end, next}
+use Rattle.chains.specs.Chain.{Step, end, next, mapped}
 use Rattle.chains.specs.Kinds.{Which, list9, list21, Source, Answer, inherits, plain, derived, declares, find, readAt, kindStep}
 use Rattle.chains.specs.Operations.{relationWords, startOf, firstRelation, countPlace, placeOf}
-use Rattle.chains.specs.Index.{mapped, coded, scanFrom, placed, declarationAt}
+use Rattle.chains.specs.Index.{coded, scanFrom, placed, declarationAt}
 use Rattle.pack.proofs.PackLaws.{words-length}
 use Rattle.chains.proofs.Quiet.{Quiet, quiet-word, kind-word, scan-quiet}
 use Rattle.chains.proofs.RelationScan.{declarations, left, declared-at, lastName, relationsWords, RelationsFine, Blank, scan-relations}

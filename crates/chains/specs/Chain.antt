@@ -14,6 +14,11 @@ pub data Step (R : Type 0) : Type 0 where
   end : R → Step R
   next : ℕ → Step R
 
+-- the same step with its answer turned into another
+abbrev pub mapped : {R S : Type 0} → (R → S) → Step R → Step S
+mapped g (end r) = end (g r)
+mapped g (next n) = next n
+
 -- the answers settled so far, by name
 abbrev pub Settled : Type 0 → Type 0
 Settled R = ℕ → Option R

@@ -8,14 +8,9 @@ use Rattle.pack.specs.Table.{pick, kindOf, valueOf}
 use Rattle.pack.specs.Table as table
 use mathlib.Core.Option.{none, some}
 use Rattle.pack.specs.Pack.{Relation}
-use Rattle.chains.specs.Chain.{Step, end, next}
+use Rattle.chains.specs.Chain.{Step, end, next, mapped}
 use Rattle.chains.specs.Kinds.{Answer, declares}
 use Rattle.chains.specs.Operations.{countPlace}
-
--- the same step with its answer turned into another
-abbrev pub mapped : {R S : Type 0} → (R → S) → Step R → Step S
-mapped g (end r) = end (g r)
-mapped g (next n) = next n
 
 -- a declaration as one number: the place where its list is counted, 0 for no kinds, or 65536 and the name that it leads on to
 abbrev pub coded : Step ℕ → ℕ
