@@ -13,3 +13,4 @@ pub mod ScanLaws
 pub mod DeclarationLaws
 pub mod RelationScan
 pub mod PackIndex
+pub mod SettleLaws

@@ -4,3 +4,4 @@ pub mod Reach
 pub mod Filtered
 pub mod Operations
 pub mod Index
+pub mod Settle

@@ -1,0 +1,62 @@
+-- The chain walk over the index by name: answers are places, and marks say which names are settled or on the path.
+use Prim.Native.Nat.{ℕ, _+_, _-_, _<_, _≤_}
+use mathlib.Core.Path.{_≡_}
+use mathlib.Core.List.{List}
+use mathlib.Core.Bool.{Bool}
+use mathlib.Core.Option.{Option, none, some}
+use lib.ListN.{length, getD}
+use lib.Dec.{ltb, leb, eqb}
+use Rattle.pack.specs.Table.{pick}
+use Rattle.pack.specs.Form.{among}
+use Rattle.chains.specs.Chain.{Step, end, next, Settled, Walked, walk}
+
+-- what one entry of the index says
+unfoldable pub stepAt : List ℕ → ℕ → Step ℕ
+stepAt table n = pick (ltb (getD table n 0) 65536) (end (getD table n 0)) (next (getD table n 0 - 65536))
+
+-- every entry is a place or leads to a name below 4,096
+unfoldable pub Leading : List ℕ → Type 0
+Leading table = (n : ℕ) → getD table n 0 < 69632
+
+-- what the marks say is settled: 2 and the answer
+unfoldable pub settledIn : List ℕ → Settled ℕ
+settledIn marks n = pick (ltb (getD marks n 0) 2) none (some (getD marks n 0 - 2))
+
+-- the names on the path have the mark 1
+unfoldable pub OnPath : List ℕ → List ℕ → Type 0
+OnPath marks path = (n : ℕ) → among n path ≡ eqb (getD marks n 0) 1
+
+abbrev pub same : ℕ → ℕ
+same r = r
+
+-- a walk in which every name's answer is a place, 0 in a ring
+abbrev pub walkIn : List ℕ → ℕ → Settled ℕ → List ℕ → ℕ → Walked ℕ
+walkIn table fuel t path n = walk 0 same (stepAt table) fuel t path n
+
+-- one name read adds one to the steps
+pub record ReadOne (table : List ℕ) (n steps r steps′ : ℕ) : Type 0 where
+  pub says : r ≡ getD table n 0
+  pub counts : steps′ ≡ steps + 1
+
+-- every settled answer is a place
+unfoldable pub Marked : List ℕ → Type 0
+Marked marks = (n : ℕ) → getD marks n 0 < 65538
+
+-- what a walk asks for: a name, an index and marks, and room for as many more steps as there is fuel
+pub record Walkable (table marks : List ℕ) (steps n fuel : ℕ) : Type 0 where
+  pub name : n < 4096
+  pub leading : Leading table
+  pub marked : Marked marks
+  pub long : length marks ≡ 4096
+  pub room : steps + fuel < 4294967295
+
+-- what a walk leaves: its answer, what is settled, the steps, and the path's marks as they were
+pub record WalkedHere (table marks : List ℕ) (steps n fuel r : ℕ) (marks′ : List ℕ) (steps′ : ℕ) : Type 0 where
+  pub answers : (path : List ℕ) → OnPath marks path → r ≡ walkIn table fuel (settledIn marks) path n .answer
+  pub settles : (path : List ℕ) → OnPath marks path → settledIn marks′ ≡ walkIn table fuel (settledIn marks) path n .settled
+  pub counts : (path : List ℕ) → OnPath marks path → steps′ ≡ steps + walkIn table fuel (settledIn marks) path n .steps
+  pub path : (m : ℕ) → eqb (getD marks′ m 0) 1 ≡ eqb (getD marks m 0) 1
+  pub long : length marks′ ≡ 4096
+  pub marked : Marked marks′
+  pub small : r < 65536
+  pub fits : steps′ ≤ steps + fuel

@@ -1,0 +1,58 @@
+// The chain walk over the index: each name's answer is the place of the list that settles it, 0 for no kinds.
+// Marks by name say what is known: unseen, on the path of the walk that is going on, or settled.
+use crate::index::Declaration;
+ghost use mathlib.Core.Path.{_≡_};
+ghost use Prim.Native.Nat.{_+_, _<_, _≤_};
+ghost use Rattle.chains.specs.Settle.{ReadOne, Walkable, WalkedHere};
+
+pub struct Mark {}
+
+impl Mark {
+    pub const UNSEEN: u32 = 0;
+
+    pub const ON_PATH: u32 = 1;
+
+    // A settled name's mark is this and its answer.
+    pub const SETTLED: u32 = 2;
+}
+
+// One declaration read at a name: the only place that adds to the steps.
+fn read_name(table: &[u32; 4096], n: usize, steps: &mut u32) -> u32
+    requires { ⌜ (n < 4096) × (now steps < 4294967295) ⌝ }
+    ensures { λ r. ⌜ ReadOne (now (table .entry)) n (now (steps .entry)) r (now (steps .exit)) ⌝ }
+{
+    *steps += 1;
+    table[n]
+}
+
+// The walk from a name: its answer. A name on the path is a ring.
+fn walk(table: &[u32; 4096], marks: &mut [u32; 4096], steps: &mut u32, n: usize, fuel: u32) -> u32
+    requires { ⌜ Walkable (now table) (now marks) (now steps) n fuel ⌝ }
+    ensures { λ r. ⌜ WalkedHere (now (table .entry)) (now (marks .entry)) (now (steps .entry)) n fuel r (now (marks .exit)) (now (steps .exit)) ⌝ }
+{
+    if fuel == 0 {
+        return 0;
+    }
+    let m = marks[n];
+    if Mark::SETTLED <= m {
+        return m - Mark::SETTLED;
+    }
+    if m == Mark::ON_PATH {
+        return 0;
+    }
+    marks[n] = Mark::ON_PATH;
+    let x = read_name(table, n, steps);
+    if x < Declaration::LEADS {
+        marks[n] = Mark::SETTLED + x;
+        return x;
+    }
+    let r = walk(
+        table,
+        marks,
+        steps,
+        (x - Declaration::LEADS) as usize,
+        fuel - 1,
+    );
+    marks[n] = Mark::SETTLED + r;
+    r
+}
