@@ -15,7 +15,7 @@ use Rattle.chains.specs.Chain.{Step, end, next, mapped}
 use Rattle.chains.specs.Kinds.{list9, list21, inherits, plain, derived, declares}
 use Rattle.chains.specs.Operations.{countPlace}
 use Rattle.chains.specs.Index.{coded, entryAfter, placed, declarationAt}
-use Rattle.chains.proofs.Quiet.{kind-word}
+use Rattle.chains.proofs.Hushed.{kind-word}
 use Rattle.chains.proofs.ScanLaws.{hops, afterDerivation, afterOption, afterTail}
 
 value-word : (k v : ℕ) → v < 16777216 → valueOf (wordOf k v) ≡ v

@@ -8,6 +8,7 @@ pub mod KindLaws
 pub mod LeanLaws
 pub mod FilteredLaws
 pub mod IndexLaws
+pub mod Hushed
 pub mod Quiet
 pub mod ScanLaws
 pub mod DeclarationLaws

@@ -17,15 +17,16 @@ use Rattle.chains.specs.Kinds.{Which, list9, list21, Source, Answer, inh
 use Rattle.chains.specs.Operations.{relationWords, startOf, firstRelation, countPlace, placeOf}
 use Rattle.chains.specs.Index.{coded, scanFrom, placed, declarationAt}
 use Rattle.pack.proofs.PackLaws.{words-length}
-use Rattle.chains.proofs.Quiet.{Quiet, quiet-word, kind-word, scan-quiet}
+use Rattle.chains.proofs.Hushed.{Quiet, quiet-word, kind-word}
+use Rattle.chains.proofs.Quiet.{loud, scan-quiet}
 use Rattle.chains.proofs.RelationScan.{declarations, left, declared-at, lastName, relationsWords, RelationsFine, Blank, scan-relations}
 
 -- ---- the words before the relations
 
-defaulted-quiet : (n : ℕ) (ds : List ℕ) (low : ℕ) → FineAll above (λ low v. Fine (defaultedName n low) v) low ds → Quiet (wordsAll above (λ low v. wordsBy (defaultedName n low) v) low ds)
+defaulted-quiet : (n : ℕ) (ds : List ℕ) (low : ℕ) → FineAll above (λ low v. Fine (defaultedName n low) v) low ds → Quiet loud (wordsAll above (λ low v. wordsBy (defaultedName n low) v) low ds)
 unfolding defaultedName Fine wordsBy
 defaulted-quiet n [] low f = tt
-defaulted-quiet n (d ∷ ds) low f = (quiet-word 4 d (f .0 .0 .0) refl .0, defaulted-quiet n ds (above low d) (f .1))
+defaulted-quiet n (d ∷ ds) low f = (quiet-word loud 4 d (f .0 .0 .0) refl .0, defaulted-quiet n ds (above low d) (f .1))
 
 defaulted-length : (n : ℕ) (ds : List ℕ) (low : ℕ) → length (wordsAll above (λ low v. wordsBy (defaultedName n low) v) low ds) ≡ length ds
 unfolding defaultedName wordsBy
@@ -96,12 +97,12 @@ zero-at zero v = refl
 zero-at (suc m) zero = refl
 zero-at (suc m) (suc v) = zero-at m v
 
-opening-quiet : (p : Pack) → total p ≤ 8192 → Parts p → Quiet (opening p)
+opening-quiet : (p : Pack) → total p ≤ 8192 → Parts p → Quiet loud (opening p)
 opening-quiet p m h = (
-  quiet-word 1 (total p) (omega arith) refl .0,
+  quiet-word loud 1 (total p) (omega arith) refl .0,
   (
-    quiet-word 2 (p .names) (h .names) refl .0,
-    (quiet-word 3 (length (p .defaulted)) (h .defaulted-count) refl .0, defaulted-quiet (p .names) (p .defaulted) 0 (h .defaulted-fine)),
+    quiet-word loud 2 (p .names) (h .names) refl .0,
+    (quiet-word loud 3 (length (p .defaulted)) (h .defaulted-count) refl .0, defaulted-quiet (p .names) (p .defaulted) 0 (h .defaulted-fine)),
   ),
 )
 
@@ -126,7 +127,7 @@ scan-pack p w =
     let at : 0 + length (opening p) + 1 ≡ firstRelation p = omega arith in
     ap (λ (ws : List ℕ). scanFrom 0 0 zeros ws) (s .same)
     ∙ scan-quiet (opening p) five 0 0 zeros (opening-quiet p (w .most) h)
-    ∙ scan-quiet (wordOf 5 (length (p .relations)) ∷ []) (relationsPart p ++ rest) (0 + length (opening p)) 0 zeros (quiet-word 5 (length (p .relations)) (h .relation-count) refl)
+    ∙ scan-quiet (wordOf 5 (length (p .relations)) ∷ []) (relationsPart p ++ rest) (0 + length (opening p)) 0 zeros (quiet-word loud 5 (length (p .relations)) (h .relation-count) refl)
     ∙ ap (λ (a : ℕ). scanFrom a 0 zeros (relationsPart p ++ rest)) at
     ∙ scan-relations (p .names) (h .most) (p .relations) [] (firstRelation p) 0 zeros rest (length-replicate {A = ℕ} 4096 0) (omega (arith, l, words-length p, w .most)) (λ v e. zero-at 4096 v) (h .relations-fine)
     ∙ scan-rules _ _ (length (p .rules)) _ (s .more) (h .rule-count)

@@ -18,7 +18,7 @@ use Rattle.chains.specs.Chain.{Step, end, next}
 use Rattle.chains.specs.Kinds.{find}
 use Rattle.chains.specs.Operations.{relationWords, startOf}
 use Rattle.chains.specs.Index.{coded, entryAfter, nameAfter, tableAfter, scanFrom, declarationAt}
-use Rattle.chains.proofs.Quiet.{kind-word}
+use Rattle.chains.proofs.Hushed.{kind-word}
 use Rattle.chains.proofs.ScanLaws.{afterTail, Scans, scans-tail}
 use Rattle.chains.proofs.DeclarationLaws.{Fitting, tail-declares}
 

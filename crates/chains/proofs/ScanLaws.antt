@@ -15,7 +15,8 @@ use Rattle.pack.specs.Form.{wordsAll, FineAll, Holder, listOrNone, option, coun
 use Rattle.pack.specs.Tree.{root}
 use Rattle.pack.specs.Pack.{Hop, Derivation, Relation, newName, nameList, hop, path, chain, member, derivation, optionalDerivation, relationTail, relation}
 use Rattle.chains.specs.Index.{entryAfter, nameAfter, tableAfter, scanFrom}
-use Rattle.chains.proofs.Quiet.{Quiet, quiet-append, quiet-word, kind-word, scan-quiet, Hushed, field-hushed, then-hushed, via-hushed, tree-hushed}
+use Rattle.chains.proofs.Hushed.{Quiet, quiet-append, quiet-word, kind-word, Hushed, field-hushed, then-hushed, via-hushed, tree-hushed}
+use Rattle.chains.proofs.Quiet.{loud, high, scan-quiet}
 
 -- a word of a relation whose name is known
 module _ (t : List ℕ) (v : ℕ) (inside : v < length t) where
@@ -29,7 +30,7 @@ module _ (t : List ℕ) (v : ℕ) (inside : v < length t) where
   pub record Scans {A : Type 0} (F : Form A) (a : A) (at x y : ℕ) : Type 0 where
     pub over : (vs : List ℕ) → scanFrom at v (set t v x) (wordsBy F a ++ vs) ≡ scanFrom (at + length (wordsBy F a)) v (set t v y) vs
 
-  scans-hushed : {A : Type 0} (F : Form A) (a : A) (at x : ℕ) → Hushed F → Fine F a → Scans F a at x x
+  scans-hushed : {A : Type 0} (F : Form A) (a : A) (at x : ℕ) → Hushed loud F → Fine F a → Scans F a at x x
   scans-hushed F a at x h f = record { over = λ vs. scan-quiet (wordsBy F a) vs at v (set t v x) (h a f) }
 
   scans-field : (n kind : ℕ) (a at x : ℕ) → (kind ≡ 6 → ⊥) → (kind ≡ 22 → ⊥) → Fine (field n kind) a → Scans (field n kind) a at x (entryAfter x at (wordOf kind a))
@@ -47,14 +48,14 @@ module _ (t : List ℕ) (v : ℕ) (inside : v < length t) where
   unfolding wordsBy
   scans-via to from tf ft F b at x y p = record { over = p .over }
 
-all-hushed : {S A : Type 0} (step : S → A → S) (F : S → Form A) → ((s : S) → Hushed (F s)) → (s : S) (l : List A) → FineAll step (λ u a. Fine (F u) a) s l → Quiet (wordsAll step (λ u a. wordsBy (F u) a) s l)
+all-hushed : {S A : Type 0} (step : S → A → S) (F : S → Form A) → ((s : S) → Hushed loud (F s)) → (s : S) (l : List A) → FineAll step (λ u a. Fine (F u) a) s l → Quiet loud (wordsAll step (λ u a. wordsBy (F u) a) s l)
 all-hushed step F h s [] f = tt
-all-hushed step F h s (a ∷ l) f = quiet-append (wordsBy (F s) a) _ (h s a (f .0)) (all-hushed step F h (step s a) l (f .1))
+all-hushed step F h s (a ∷ l) f = quiet-append loud (wordsBy (F s) a) _ (h s a (f .0)) (all-hushed step F h (step s a) l (f .1))
 
 module _ (t : List ℕ) (v : ℕ) (inside : v < length t) where
   -- a count word and quiet elements
   scans-counted : {S A C : Type 0} (H : Holder A C) (n kind : ℕ) (suits : Suits H (entryOf kind .rule)) (step : S → A → S) (F : S → Form A) (s : S) (c : C) (at x : ℕ)
-      → (kind ≡ 6 → ⊥) → (kind ≡ 22 → ⊥) → ((u : S) → Hushed (F u)) → Fine (countedFrom H n kind suits step F s) c
+      → (kind ≡ 6 → ⊥) → (kind ≡ 22 → ⊥) → ((u : S) → Hushed loud (F u)) → Fine (countedFrom H n kind suits step F s) c
       → Scans t v inside (countedFrom H n kind suits step F s) c at x (entryAfter x at (wordOf kind (count H c)))
   unfolding Fine wordsBy
   scans-counted H n kind suits step F s c at x k q h f =
@@ -96,12 +97,12 @@ module _ (n : ℕ) where
       go [] = refl
       go (a ∷ l) = ap suc (go l)
 
-  hop-hushed : Hushed (hop n)
+  hop-hushed : Hushed loud (hop n)
   unfolding hop
-  hop-hushed = via-hushed _ _ _ _ _ (then-hushed _ _ (field-hushed n 14 refl) (λ _. then-hushed _ _ (field-hushed n 15 refl) (λ _. field-hushed n 16 refl)))
+  hop-hushed = via-hushed loud _ _ _ _ _ (then-hushed loud _ _ (field-hushed loud n 14 refl) (λ _. then-hushed loud _ _ (field-hushed loud n 15 refl) (λ _. field-hushed loud n 16 refl)))
 
-  slots-hushed : Hushed (field n 17 ▹ λ _. field n 18)
-  slots-hushed = then-hushed _ _ (field-hushed n 17 refl) (λ _. field-hushed n 18 refl)
+  slots-hushed : Hushed loud (field n 17 ▹ λ _. field n 18)
+  slots-hushed = then-hushed loud _ _ (field-hushed loud n 17 refl) (λ _. field-hushed loud n 18 refl)
 
   path-length : (p : Option (List Hop)) → length (wordsBy (path n) p) ≡ 1 + 3 * hops p
   unfolding path hop wordsBy items
@@ -137,7 +138,7 @@ module _ (n : ℕ) where
   module _ (t : List ℕ) (v : ℕ) (inside : v < length t) where
     scans-names : (kind : ℕ) (ks : List ℕ) (at x : ℕ) → (kind ≡ 6 → ⊥) → (kind ≡ 22 → ⊥) → Fine (nameList n kind) ks → Scans t v inside (nameList n kind) ks at x (entryAfter x at (wordOf kind (length ks)))
     unfolding nameList count
-    scans-names kind ks at x k q f = scans-counted t v inside _ n kind _ _ _ _ ks at x k q (λ u. field-hushed n 10 refl) f
+    scans-names kind ks at x k q f = scans-counted t v inside _ n kind _ _ _ _ ks at x k q (λ u. field-hushed loud n 10 refl) f
 
     scans-path : (p : Option (List Hop)) (at x : ℕ) → Fine (path n) p → Scans t v inside (path n) p at x (entryAfter x at (wordOf 13 (count listOrNone p)))
     unfolding path
@@ -155,10 +156,10 @@ module _ (n : ℕ) where
         → Scans t v inside (member n) (d .entity, (d .member, (d .slotEntities, d .predicate))) at x (entryAfter x (at + 1 + 1) (wordOf 21 (length (d .slotEntities))))
     unfolding member root Fine wordsBy
     scans-member d at x f =
-        scans-then t v inside _ _ _ _ at _ _ _ refl (scans-hushed t v inside (field n 19) (d .entity) at x (field-hushed n 19 refl) (f .0))
-        (scans-then t v inside _ _ _ _ (at + 1) _ _ _ refl (scans-hushed t v inside (field n 20) (d .member) (at + 1) x (field-hushed n 20 refl) (f .1 .0))
+        scans-then t v inside _ _ _ _ at _ _ _ refl (scans-hushed t v inside (field n 19) (d .entity) at x (field-hushed loud n 19 refl) (f .0))
+        (scans-then t v inside _ _ _ _ (at + 1) _ _ _ refl (scans-hushed t v inside (field n 20) (d .member) (at + 1) x (field-hushed loud n 20 refl) (f .1 .0))
         (scans-then t v inside _ _ _ _ (at + 1 + 1) _ _ _ refl (scans-names 21 (d .slotEntities) (at + 1 + 1) x (λ e. omega arith) (λ e. omega arith) (f .1 .1 .0))
-        (scans-hushed t v inside _ (d .predicate) _ _ (tree-hushed n 32 judgment (omega arith)) (f .1 .1 .1))))
+        (scans-hushed t v inside _ (d .predicate) _ _ (tree-hushed loud high n 32 judgment (omega arith)) (f .1 .1 .1))))
 
     scans-derivation : (d : Derivation) (at x : ℕ) → Fine (derivation n) d → Scans t v inside (derivation n) d at x (afterDerivation d at x)
     unfolding derivation Fine
@@ -170,14 +171,14 @@ module _ (n : ℕ) where
     -- a flag, and a derivation where it is 1
     scans-option : (o : Option Derivation) (at x : ℕ) → Fine (optionalDerivation n) o → Scans t v inside (optionalDerivation n) o at x (afterOption o (at + 1) x)
     unfolding optionalDerivation Fine wordsBy items count
-    scans-option none at x f = record { over = λ vs. scan-quiet (wordOf 11 0 ∷ []) vs at v (set t v x) (quiet-word 11 0 (omega arith) refl) }
+    scans-option none at x f = record { over = λ vs. scan-quiet (wordOf 11 0 ∷ []) vs at v (set t v x) (quiet-word loud 11 0 (omega arith) refl) }
     scans-option (some d) at x f =
         let s = scans-derivation d (at + 1) x (f .2 .0) in
         let ws : List ℕ = wordsBy (derivation n) d in
         let m : at + 1 + length ws ≡ at + length (wordOf 11 1 ∷ (ws ++ [])) = omega (arith, ap length (append-nil ws)) in
         record {
           over = λ vs.
-              scan-quiet (wordOf 11 1 ∷ []) ((ws ++ []) ++ vs) at v (set t v x) (quiet-word 11 1 (omega arith) refl)
+              scan-quiet (wordOf 11 1 ∷ []) ((ws ++ []) ++ vs) at v (set t v x) (quiet-word loud 11 1 (omega arith) refl)
               ∙ ap (λ (l : List ℕ). scanFrom (at + 1) v (set t v x) (l ++ vs)) (append-nil ws) ∙ s .over vs ∙ ap (λ (m : ℕ). scanFrom m v (set t v (afterDerivation d (at + 1) x)) vs) m;
         }
 
@@ -191,7 +192,7 @@ module _ (n : ℕ) where
         let b : at + 2 ≡ at + 1 + length (wordsBy (field n 8) (r .arity)) = omega (arith, field-length 8 (r .arity)) in
         let c : at + 3 + length (r .slotKinds) ≡ at + 2 + length (wordsBy (nameList n 9) (r .slotKinds)) = omega arith in
         let e : at + 4 + length (r .slotKinds) ≡ at + 3 + length (r .slotKinds) + 1 = omega arith in
-        scans-then t v inside _ _ _ _ at _ _ _ a (scans-hushed t v inside (field n 7) (r .origin) at 0 (field-hushed n 7 refl) (f .0))
-        (scans-then t v inside _ _ _ _ (at + 1) _ _ _ b (scans-hushed t v inside (field n 8) (r .arity) (at + 1) 0 (field-hushed n 8 refl) (f .1 .0))
+        scans-then t v inside _ _ _ _ at _ _ _ a (scans-hushed t v inside (field n 7) (r .origin) at 0 (field-hushed loud n 7 refl) (f .0))
+        (scans-then t v inside _ _ _ _ (at + 1) _ _ _ b (scans-hushed t v inside (field n 8) (r .arity) (at + 1) 0 (field-hushed loud n 8 refl) (f .1 .0))
         (scans-then t v inside _ _ _ _ (at + 2) _ _ _ c (scans-names 9 (r .slotKinds) (at + 2) 0 (λ e. omega arith) (λ e. omega arith) (f .1 .1 .0))
         (rw e (scans-option (r .derivation) (at + 3 + length (r .slotKinds)) _ (f .1 .1 .1)))))
