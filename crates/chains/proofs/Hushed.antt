@@ -11,7 +11,7 @@ use borrow.Author.Tests.{eq-eqb, ne-eqb, eqb-true, ltb-true, ltb-false}
 use Rattle.pack.specs.declared.table.Follows.{Follows}
 use Rattle.pack.specs.declared.table.Follows.the-variants.{Nothing, Counted, OneScalar, TwoScalars, Scalars, Patterns, Periods, OneJudgment, Judgments, Choice, Aggregate, OnlyRelated, Slots, Atom, Exists}
 use Rattle.pack.specs.Table.{pick, kindOf, valueOf, wordOf, scalar, judgment, table, entryOf, fieldsOf, childrenOf}
-use Rattle.pack.specs.Form.{among, only, wordsAll, wordsEach, FineAll, FineEach, Form, field, word, empty, each, _▹_, via, wordsBy, Fine}
+use Rattle.pack.specs.Form.{among, only, wordsAll, wordsEach, FineAll, FineEach, Holder, count, items, Suits, countedFrom, Form, field, word, empty, each, _▹_, via, wordsBy, Fine}
 use Rattle.pack.specs.Tree.{heads, lastField, fields, follow, tree}
 use Rattle.pack.proofs.Listed.{listed, in-range}
 
@@ -164,6 +164,14 @@ module _ (loud : ℕ → Bool) where
   each-hushed : {X A : Type 0} (F : X → Form A) (P : X → Type 0) (xs : List X) → AllOf P xs → ((x : X) → P x → Hushed (F x)) → Hushed (each F xs)
   unfolding Fine wordsBy
   each-hushed F P xs h q l f = each-quiet F P (λ x a p g. q x p a g) xs l h f
+
+  pub all-hushed : {S A : Type 0} (step : S → A → S) (F : S → Form A) → ((s : S) → Hushed (F s)) → (s : S) (l : List A) → FineAll step (λ u a. Fine (F u) a) s l → Quiet (wordsAll step (λ u a. wordsBy (F u) a) s l)
+  all-hushed step F h s [] f = tt
+  all-hushed step F h s (a ∷ l) f = quiet-append (wordsBy (F s) a) _ (h s a (f .0)) (all-hushed step F h (step s a) l (f .1))
+
+  pub counted-hushed : {S A C : Type 0} (H : Holder A C) (n kind : ℕ) (suits : Suits H (entryOf kind .rule)) (step : S → A → S) (F : S → Form A) (s : S) → loud kind ≡ false → ((u : S) → Hushed (F u)) → Hushed (countedFrom H n kind suits step F s)
+  unfolding Fine wordsBy
+  counted-hushed H n kind suits step F s q h c f = (quiet-word kind (count H c) (f .0 .0) q .0, all-hushed step F h s (items H c) (f .2))
 
   module _ (high : (k : ℕ) → 64 ≤ k → loud k ≡ false) where
     kind-quiet : (ks : List ℕ) → High ks → QuietKinds ks

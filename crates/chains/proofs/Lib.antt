@@ -14,4 +14,5 @@ pub mod ScanLaws
 pub mod DeclarationLaws
 pub mod RelationScan
 pub mod PackIndex
+pub mod StartLaws
 pub mod SettleLaws

@@ -46,10 +46,10 @@ names-most v e = leb-true v 4096 (both (leb 1 v) (leb v 4096) e)
 first-kind : (e : Edition) → firstKind e ≡ 1
 first-kind undated = refl
 
-abbrev opening : Pack → List ℕ
+abbrev pub opening : Pack → List ℕ
 opening p = wordOf 1 (total p) ∷ wordOf 2 (p .names) ∷ wordOf 3 (length (p .defaulted)) ∷ wordsAll above (λ low v. wordsBy (defaultedName (p .names) low) v) 0 (p .defaulted)
 
-abbrev relationsPart : Pack → List ℕ
+abbrev pub relationsPart : Pack → List ℕ
 relationsPart p = wordsAll nextUsed (λ used r. wordsBy (relation (p .names) (λ v. among v used)) r) [] (p .relations)
 
 -- the words of a pack: the opening, the count of relations, the relations, the count of rules, and more
@@ -57,7 +57,7 @@ pub record Split (p : Pack) : Type 0 where
   pub more : List ℕ
   pub same : words p ≡ opening p ++ (wordOf 5 (length (p .relations)) ∷ (relationsPart p ++ (wordOf 22 (length (p .rules)) ∷ more)))
 
-split : (p : Pack) → Split p
+pub split : (p : Pack) → Split p
 unfolding words layout inner records defaulted relations rules wordsBy count items
 split p =
     record {

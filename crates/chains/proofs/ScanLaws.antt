@@ -15,7 +15,7 @@ use Rattle.pack.specs.Form.{wordsAll, FineAll, Holder, listOrNone, option, coun
 use Rattle.pack.specs.Tree.{root}
 use Rattle.pack.specs.Pack.{Hop, Derivation, Relation, newName, nameList, hop, path, chain, member, derivation, optionalDerivation, relationTail, relation}
 use Rattle.chains.specs.Index.{entryAfter, nameAfter, tableAfter, scanFrom}
-use Rattle.chains.proofs.Hushed.{Quiet, quiet-append, quiet-word, kind-word, Hushed, field-hushed, then-hushed, via-hushed, tree-hushed}
+use Rattle.chains.proofs.Hushed.{all-hushed, Quiet, quiet-append, quiet-word, kind-word, Hushed, field-hushed, then-hushed, via-hushed, tree-hushed}
 use Rattle.chains.proofs.Quiet.{loud, high, scan-quiet}
 
 -- a word of a relation whose name is known
@@ -48,10 +48,6 @@ module _ (t : List ℕ) (v : ℕ) (inside : v < length t) where
   unfolding wordsBy
   scans-via to from tf ft F b at x y p = record { over = p .over }
 
-all-hushed : {S A : Type 0} (step : S → A → S) (F : S → Form A) → ((s : S) → Hushed loud (F s)) → (s : S) (l : List A) → FineAll step (λ u a. Fine (F u) a) s l → Quiet loud (wordsAll step (λ u a. wordsBy (F u) a) s l)
-all-hushed step F h s [] f = tt
-all-hushed step F h s (a ∷ l) f = quiet-append loud (wordsBy (F s) a) _ (h s a (f .0)) (all-hushed step F h (step s a) l (f .1))
-
 module _ (t : List ℕ) (v : ℕ) (inside : v < length t) where
   -- a count word and quiet elements
   scans-counted : {S A C : Type 0} (H : Holder A C) (n kind : ℕ) (suits : Suits H (entryOf kind .rule)) (step : S → A → S) (F : S → Form A) (s : S) (c : C) (at x : ℕ)
@@ -64,7 +60,7 @@ module _ (t : List ℕ) (v : ℕ) (inside : v < length t) where
       let m : at + 1 + length r ≡ at + length (wordOf kind (count H c) ∷ r) = omega arith in
       record {
         over = λ vs. scan-entry t v inside at x (wordOf kind (count H c)) (r ++ vs) (λ h. k (sym e ∙ h)) (λ h. q (sym e ∙ h))
-            ∙ scan-quiet r vs (at + 1) v (set t v (entryAfter x at (wordOf kind (count H c)))) (all-hushed step F h s (items H c) (f .2))
+            ∙ scan-quiet r vs (at + 1) v (set t v (entryAfter x at (wordOf kind (count H c)))) (all-hushed loud step F h s (items H c) (f .2))
             ∙ rw m refl;
       }
 

@@ -50,3 +50,8 @@ placed start r (some s) = start + countPlace (s .which) r
 
 unfoldable pub declarationAt : ℕ → Relation → Step ℕ
 declarationAt start r = mapped (placed start r) (declares (r .name) (r .slotKinds) (r .derivation))
+
+-- the names of the relations, in record order
+unfoldable pub startsIn : List ℕ → List ℕ
+startsIn [] = []
+startsIn (w ∷ ws) = pick (eqb (kindOf w) 22) [] (pick (eqb (kindOf w) 6) (valueOf w ∷ startsIn ws) (startsIn ws))
