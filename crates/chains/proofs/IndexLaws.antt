@@ -4,14 +4,14 @@ use native.Mathlib.Omega.{arith}
 use native.Mathlib.Numerals.{add-one}
 use mathlib.Core.Path.{_≡_, refl, ap, sym, _∙_}
 use mathlib.Core.Logic.{_⊎_, inl, inr}
-use mathlib.Core.List.{List, [], _∷_}
+use mathlib.Core.List.{List, [], _∷_, _++_, append-assoc, append-nil}
 use mathlib.Core.Bool.{Bool, true, false}
-use lib.ListN.{length, drop, getD, drop-of-length-le}
-use lib.Seq.{drop-cons}
+use lib.ListN.{length, drop, getD, set, length-set, length-append, drop-of-length-le}
+use lib.Seq.{drop-cons, set-at}
 use lib.Dec.{ltb, eqb}
-use borrow.Author.Tests.{eq-eqb, ne-eqb, lt-ltb, le-ltb}
+use borrow.Author.Tests.{eq-eqb, ne-eqb, eqb-true, eqb-false, lt-ltb, le-ltb}
 use Rattle.pack.specs.Table.{pick, kindOf, valueOf}
-use Rattle.chains.specs.Index.{entryAfter, nameAfter, tableAfter, scanFrom, Indexed}
+use Rattle.chains.specs.Index.{entryAfter, nameAfter, tableAfter, scanFrom, Indexed, startsIn, Started}
 
 module _ (x place w : ℕ) where
   pub list-none : (kindOf w ≡ 9) ⊎ (kindOf w ≡ 21) → valueOf w ≡ 0 → x ≡ entryAfter x place w
@@ -75,3 +75,79 @@ name-same name w k = sym (simp (ne-eqb (kindOf w) 6 k))
 pub name-new : (name w : ℕ) → kindOf w ≡ 6 → w % 4096 ≡ nameAfter name w
 unfolding nameAfter
 name-new name w k = sym (simp (eq-eqb (kindOf w) 6 k))
+
+-- ---- starts
+
+module _ (ws out₀ : List ℕ) where
+  -- the starts so far stand in the slice, and those of the words from i on are still to come
+  pub record Starting (out : List ℕ) (k i : ℕ) : Type 0 where
+    pub within : i ≤ length ws
+    pub done : List ℕ
+    pub counted : k ≡ length done
+    pub whole : startsIn ws ≡ done ++ startsIn (drop i ws)
+    pub holds : out ≡ done ++ drop k out₀
+    pub long : length out ≡ length out₀
+
+  pub begin : Starting out₀ 0 0
+  begin = record { within = omega arith; done = []; counted = refl; whole = refl; holds = refl; long = refl }
+
+  module _ (room : length (startsIn ws) ≤ length out₀) {out : List ℕ} {k i : ℕ} (s : Starting out k i) where
+    starts-at : i < length ws → startsIn (drop i ws) ≡ pick (eqb (kindOf (getD ws i 0)) 22) [] (pick (eqb (kindOf (getD ws i 0)) 6) (valueOf (getD ws i 0) ∷ startsIn (drop (suc i) ws)) (startsIn (drop (suc i) ws)))
+    unfolding startsIn
+    starts-at h = rw (drop-cons ws i 0 h, startsIn) refl
+
+    rest-length : length (startsIn ws) ≡ length (s .done) + length (startsIn (drop i ws))
+    rest-length = ap length (s .whole) ∙ length-append (s .done) (startsIn (drop i ws))
+
+    -- a name to come has room
+    pub room-left : i < length ws → (kindOf (getD ws i 0) ≡ 22 → ⊥) → kindOf (getD ws i 0) ≡ 6 → k < length out
+    room-left h z e =
+        let c : startsIn (drop i ws) ≡ valueOf (getD ws i 0) ∷ startsIn (drop (suc i) ws) = starts-at h ∙ simp (e) in
+        let l : length (startsIn (drop i ws)) ≡ suc (length (startsIn (drop (suc i) ws))) = ap length c in
+        omega (arith, rest-length, l, s .counted, s .long)
+
+    pub next-start : i < length ws → (kindOf (getD ws i 0) ≡ 22 → ⊥) → {k′ : ℕ} {out′ : List ℕ} → Started out k (getD ws i 0) k′ out′ → Starting out′ k′ (i + 1)
+    next-start h z {k′} {out′} t = go (eqb (kindOf (getD ws i 0)) 6) refl
+      where
+        w : ℕ
+        w = getD ws i 0
+
+        go : (b : Bool) → eqb (kindOf w) 6 ≡ b → Starting out′ k′ (i + 1)
+        go false e =
+            let o = t .other (eqb-false (kindOf w) 6 e) in
+            record {
+              within = omega arith;
+              done = s .done;
+              counted = o .0 ∙ s .counted;
+              whole = s .whole ∙ ap (λ (l : List ℕ). s .done ++ l) (starts-at h ∙ rw (add-one i) (simp (ne-eqb (kindOf w) 22 z, e)));
+              holds = o .1 ∙ s .holds ∙ ap (λ (m : ℕ). s .done ++ drop m out₀) (sym (o .0));
+              long = ap length (o .1) ∙ s .long;
+            }
+        go true e =
+            let q : kindOf w ≡ 6 = eqb-true (kindOf w) 6 e in
+            let n = t .name q in
+            let r : k < length out₀ = omega (arith, room-left h z q, s .long) in
+            record {
+              within = omega arith;
+              done = s .done ++ (valueOf w ∷ []);
+              counted = n .0 ∙ (let l = length-append (s .done) (valueOf w ∷ []) in omega (arith, s .counted));
+              whole = s .whole ∙ ap (λ (l : List ℕ). s .done ++ l) (starts-at h ∙ rw (add-one i) (simp (ne-eqb (kindOf w) 22 z, e))) ∙ sym (append-assoc (s .done) (valueOf w ∷ []) (startsIn (drop (i + 1) ws)));
+              holds = n .1 ∙ ap (λ (l : List ℕ). set l k (valueOf w)) (s .holds ∙ ap (λ (l : List ℕ). s .done ++ l) (drop-cons out₀ k 0 r))
+                  ∙ set-at (s .done) (getD out₀ k 0) (drop (suc k) out₀) (valueOf w) k (sym (s .counted))
+                  ∙ rw (n .0, add-one k) (sym (append-assoc (s .done) (valueOf w ∷ []) (drop (suc k) out₀)));
+              long = ap length (n .1) ∙ length-set out k (valueOf w) ∙ s .long;
+            }
+
+    -- all are there
+    pub all-started : startsIn (drop i ws) ≡ [] → (k ≡ length (startsIn ws)) × (out ≡ startsIn ws ++ drop (length (startsIn ws)) out₀)
+    all-started e =
+        let d : startsIn ws ≡ s .done = s .whole ∙ ap (λ (l : List ℕ). s .done ++ l) e ∙ append-nil (s .done) in
+        let c : k ≡ length (startsIn ws) = s .counted ∙ sym (ap length d) in
+        (c, s .holds ∙ rw (d, ← s .counted) refl)
+
+    pub ended-22 : i < length ws → kindOf (getD ws i 0) ≡ 22 → startsIn (drop i ws) ≡ []
+    ended-22 h e = starts-at h ∙ simp (e)
+
+    pub ended-words : length ws ≤ i → startsIn (drop i ws) ≡ []
+    unfolding startsIn
+    ended-words h = rw (drop-of-length-le ws h) refl

@@ -55,3 +55,8 @@ declarationAt start r = mapped (placed start r) (declares (r .name) (r .slotKind
 unfoldable pub startsIn : List ℕ → List ℕ
 startsIn [] = []
 startsIn (w ∷ ws) = pick (eqb (kindOf w) 22) [] (pick (eqb (kindOf w) 6) (valueOf w ∷ startsIn ws) (startsIn ws))
+
+-- what one word adds to the starts
+pub record Started (out : List ℕ) (k w k′ : ℕ) (out′ : List ℕ) : Type 0 where
+  pub name : kindOf w ≡ 6 → (k′ ≡ k + 1) × (out′ ≡ set out k (valueOf w))
+  pub other : (kindOf w ≡ 6 → ⊥) → (k′ ≡ k) × (out′ ≡ out)

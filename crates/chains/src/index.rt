@@ -2,8 +2,10 @@
 use pack::kinds::Pack;
 ghost use mathlib.Core.Path.{_≡_};
 ghost use Prim.Native.Nat.{_<_, _≤_};
-ghost use lib.ListN.{length};
-ghost use Rattle.chains.specs.Index.{entryAfter, nameAfter, Indexed, scanFrom};
+ghost use mathlib.Core.List.{_++_};
+ghost use lib.ListN.{length, drop};
+ghost use Rattle.pack.specs.Table.{kindOf};
+ghost use Rattle.chains.specs.Index.{entryAfter, nameAfter, Indexed, scanFrom, Started, startsIn};
 
 // A declaration in one number: the place of the count word of the list that settles it, 0 for no kinds, or LEADS and the name that it leads on to.
 pub struct Declaration {}
@@ -84,4 +86,34 @@ pub fn index(pack: &[u32], table: &mut [u32; 4096])
         name = index_word(table, name, i as u32, w);
         i += 1;
     }
+}
+
+// One more start, where the word is a relation's name.
+fn start_word(out: &mut [u32], k: usize, word: u32) -> usize
+    requires { ⌜ (kindOf word ≡ 6 → k < length (now out)) ⌝ }
+    ensures { λ r. ⌜ Started (now (out .entry)) k word r (now (out .exit)) ⌝ }
+{
+    if word / Pack::VALUES != Pack::RELATION {
+        return k;
+    }
+    out[k] = word % Pack::VALUES;
+    k + 1
+}
+
+// The names of the relations in record order, from the words of a checked pack: how many there are.
+pub fn starts(pack: &[u32], out: &mut [u32]) -> usize
+    requires { ⌜ length (startsIn (now pack)) ≤ length (now out) ⌝ }
+    ensures { λ r. ⌜ (r ≡ length (startsIn (now (pack .entry)))) × (now (out .exit) ≡ startsIn (now (pack .entry)) ++ drop (length (startsIn (now (pack .entry)))) (now (out .entry))) ⌝ }
+{
+    let mut k: usize = 0;
+    let mut i: usize = 0;
+    while i < pack.len() {
+        let w = pack[i];
+        if w / Pack::VALUES == Pack::RULE_COUNT {
+            return k;
+        }
+        k = start_word(out, k, w);
+        i += 1;
+    }
+    k
 }
