@@ -1,19 +1,20 @@
 -- Laws of the walk over the index: each way in which it stops or goes on, on plain lists.
-use Prim.Native.Nat.{ℕ, zero, suc, _+_, _-_, _<_, _≤_}
+use Prim.Native.Nat.{ℕ, zero, suc, _+_, _-_, _*_, _<_, _≤_}
 use native.Mathlib.Omega.{arith}
-use native.Mathlib.Nat.{add-zero}
+use native.Mathlib.Nat.{add-zero, suc-mul, mul-le-mul-right}
+use native.Mathlib.Numerals.{add-one}
 use mathlib.Core.Path.{_≡_, refl, ap, sym, _∙_, fun-ext}
 use mathlib.Core.List.{List, [], _∷_}
 use mathlib.Core.Bool.{Bool, true, false, _||_}
 use mathlib.Core.Option.{Option, none, some}
-use lib.ListN.{length, getD, set, length-set}
-use lib.Seq.{getD-set-same, getD-set-other, set-set}
+use lib.ListN.{length, getD, drop, set, length-set, drop-of-length-le}
+use lib.Seq.{drop-cons, getD-set-same, getD-set-other, set-set}
 use lib.Dec.{ltb, eqb}
 use borrow.Author.Tests.{eq-eqb, ne-eqb, eqb-true, eqb-false, lt-ltb, le-ltb}
 use Rattle.pack.specs.Table.{pick}
 use Rattle.pack.specs.Form.{among}
-use Rattle.chains.specs.Chain.{Step, end, next, Settled, put, Walked, walk}
-use Rattle.chains.specs.Settle.{stepAt, Leading, settledIn, OnPath, same, walkIn, Marked, Walkable, WalkedHere}
+use Rattle.chains.specs.Chain.{Step, end, next, Settled, put, Walked, walk, All}
+use Rattle.chains.specs.Settle.{stepAt, Leading, settledIn, OnPath, same, walkIn, Marked, Walkable, WalkedHere, walksIn, Settleable, SettledAll}
 
 -- a store at a name, by the name that is looked at
 module _ (l : List ℕ) (n x : ℕ) (inside : n < length l) where
@@ -179,3 +180,61 @@ walkable-next {table} {marks} {steps} {n} {fuel} w z e l s =
       long = length-set marks n 1 ∙ w .long;
       room = omega (arith, w .room);
     }
+
+-- ---- all starts
+
+module _ (table marks₀ starts : List ℕ) (steps₀ fuel : ℕ) where
+  abbrev goal : All ℕ
+  goal = walksIn table fuel starts (settledIn marks₀) steps₀
+
+  pub record Settling (marks : List ℕ) (steps j : ℕ) : Type 0 where
+    pub within : j ≤ length starts
+    pub marked : Marked marks
+    pub long : length marks ≡ 4096
+    pub idle : OnPath marks []
+    pub bound : steps ≤ steps₀ + j * fuel
+    pub todo : goal ≡ walksIn table fuel (drop j starts) (settledIn marks) steps
+
+  module _ (asked : Settleable table marks₀ starts steps₀ fuel) where
+    pub begin : Settling marks₀ steps₀ 0
+    begin = record { within = omega arith; marked = asked .marked; long = asked .long; idle = asked .idle; bound = omega arith; todo = refl }
+
+    module _ {marks : List ℕ} {steps j : ℕ} (s : Settling marks steps j) where
+      pub name-here : getD starts j 0 < 4096
+      name-here = asked .names j
+
+      module _ (h : j < length starts) where
+        once-more : steps + fuel ≤ steps₀ + suc j * fuel
+        once-more = let b = s .bound in let e : suc j * fuel ≡ j * fuel + fuel = suc-mul j fuel in omega arith
+
+        pub walkable : Walkable table marks steps (getD starts j 0) fuel
+        walkable =
+            record {
+              name = name-here;
+              leading = asked .leading;
+              marked = s .marked;
+              long = s .long;
+              room =
+                  let o = once-more in
+                  let a = asked .room in
+                  let m : suc j * fuel ≤ length starts * fuel = mul-le-mul-right fuel (omega arith) in
+                  omega arith;
+            }
+
+        pub walk-on : {r : ℕ} {marks′ : List ℕ} {steps′ : ℕ} → WalkedHere table marks steps (getD starts j 0) fuel r marks′ steps′ → Settling marks′ steps′ (j + 1)
+        unfolding walksIn OnPath
+        walk-on w =
+            record {
+              within = omega arith;
+              marked = w .marked;
+              long = w .long;
+              idle = λ n. s .idle n ∙ sym (w .path n);
+              bound = let o = once-more in let f = w .fits in let e : j + 1 ≡ suc j = add-one j in rw e (omega arith);
+              todo = s .todo ∙ rw (drop-cons starts j 0 h, add-one j, w .settles [] (s .idle), w .counts [] (s .idle)) refl;
+            }
+
+      pub all-settled : length starts ≤ j → SettledAll table marks₀ starts steps₀ fuel marks steps
+      unfolding walksIn
+      all-settled h =
+          let e : goal ≡ walksIn table fuel [] (settledIn marks) steps = s .todo ∙ rw (drop-of-length-le starts h) refl in
+          record { settles = sym (ap (λ (a : All ℕ). a .settled) e); counts = sym (ap (λ (a : All ℕ). a .steps) e); marked = s .marked; long = s .long }

@@ -1,14 +1,14 @@
 -- The chain walk over the index by name: answers are places, and marks say which names are settled or on the path.
-use Prim.Native.Nat.{ℕ, _+_, _-_, _<_, _≤_}
+use Prim.Native.Nat.{ℕ, _+_, _-_, _*_, _<_, _≤_}
 use mathlib.Core.Path.{_≡_}
-use mathlib.Core.List.{List}
+use mathlib.Core.List.{List, [], _∷_}
 use mathlib.Core.Bool.{Bool}
 use mathlib.Core.Option.{Option, none, some}
 use lib.ListN.{length, getD}
 use lib.Dec.{ltb, leb, eqb}
 use Rattle.pack.specs.Table.{pick}
 use Rattle.pack.specs.Form.{among}
-use Rattle.chains.specs.Chain.{Step, end, next, Settled, Walked, walk}
+use Rattle.chains.specs.Chain.{Step, end, next, Settled, Walked, walk, All}
 
 -- what one entry of the index says
 unfoldable pub stepAt : List ℕ → ℕ → Step ℕ
@@ -60,3 +60,26 @@ pub record WalkedHere (table marks : List ℕ) (steps n fuel r : ℕ) (marks′ 
   pub marked : Marked marks′
   pub small : r < 65536
   pub fits : steps′ ≤ steps + fuel
+
+-- walks from each start in order, with so much fuel each
+unfoldable pub walksIn : List ℕ → ℕ → List ℕ → Settled ℕ → ℕ → All ℕ
+walksIn table fuel [] t k = record { settled = t; steps = k }
+walksIn table fuel (n ∷ starts) t k =
+    let w : Walked ℕ = walkIn table fuel t [] n in
+    walksIn table fuel starts (w .settled) (k + w .steps)
+
+-- what walks from all starts ask for
+pub record Settleable (table marks starts : List ℕ) (steps fuel : ℕ) : Type 0 where
+  pub names : (j : ℕ) → getD starts j 0 < 4096
+  pub leading : Leading table
+  pub marked : Marked marks
+  pub long : length marks ≡ 4096
+  pub idle : OnPath marks []
+  pub room : steps + length starts * fuel < 4294967295
+
+-- and what they leave
+pub record SettledAll (table marks starts : List ℕ) (steps fuel : ℕ) (marks′ : List ℕ) (steps′ : ℕ) : Type 0 where
+  pub settles : settledIn marks′ ≡ walksIn table fuel starts (settledIn marks) steps .settled
+  pub counts : steps′ ≡ walksIn table fuel starts (settledIn marks) steps .steps
+  pub marked : Marked marks′
+  pub long : length marks′ ≡ 4096

@@ -3,7 +3,7 @@
 use crate::index::Declaration;
 ghost use mathlib.Core.Path.{_≡_};
 ghost use Prim.Native.Nat.{_+_, _<_, _≤_};
-ghost use Rattle.chains.specs.Settle.{ReadOne, Walkable, WalkedHere};
+ghost use Rattle.chains.specs.Settle.{ReadOne, Walkable, WalkedHere, Settleable, SettledAll};
 
 pub struct Mark {}
 
@@ -55,4 +55,22 @@ fn walk(table: &[u32; 4096], marks: &mut [u32; 4096], steps: &mut u32, n: usize,
     );
     marks[n] = Mark::SETTLED + r;
     r
+}
+
+// The walks from all starts in order.
+pub fn settle_all(
+    table: &[u32; 4096],
+    marks: &mut [u32; 4096],
+    steps: &mut u32,
+    starts: &[u32],
+    fuel: u32,
+)
+    requires { ⌜ Settleable (now table) (now marks) (now starts) (now steps) fuel ⌝ }
+    ensures { λ r. ⌜ SettledAll (now (table .entry)) (now (marks .entry)) (now (starts .entry)) (now (steps .entry)) fuel (now (marks .exit)) (now (steps .exit)) ⌝ }
+{
+    let mut j: usize = 0;
+    while j < starts.len() {
+        walk(table, marks, steps, starts[j] as usize, fuel);
+        j += 1;
+    }
 }
