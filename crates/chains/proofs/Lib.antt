@@ -16,3 +16,4 @@ pub mod RelationScan
 pub mod PackIndex
 pub mod StartLaws
 pub mod SettleLaws
+pub mod PlaceLaws

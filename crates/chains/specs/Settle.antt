@@ -1,7 +1,7 @@
 -- The chain walk over the index by name: answers are places, and marks say which names are settled or on the path.
 use Prim.Native.Nat.{ℕ, _+_, _-_, _*_, _<_, _≤_}
 use mathlib.Core.Path.{_≡_}
-use mathlib.Core.List.{List, [], _∷_}
+use mathlib.Core.List.{List, [], _∷_, map}
 use mathlib.Core.Bool.{Bool}
 use mathlib.Core.Option.{Option, none, some}
 use lib.ListN.{length, getD}
@@ -83,3 +83,12 @@ pub record SettledAll (table marks starts : List ℕ) (steps fuel : ℕ) (marks�
   pub counts : steps′ ≡ walksIn table fuel starts (settledIn marks) steps .steps
   pub marked : Marked marks′
   pub long : length marks′ ≡ 4096
+
+-- each name's settled place
+unfoldable pub placesIn : List ℕ → List ℕ → List ℕ
+placesIn marks names = map (λ n. getD marks n 0 - 2) names
+
+-- every name of a list is settled
+pub record Placeable (marks names : List ℕ) : Type 0 where
+  pub names-below : (j : ℕ) → getD names j 0 < 4096
+  pub settled : (j : ℕ) → j < length names → 2 ≤ getD marks (getD names j 0) 0

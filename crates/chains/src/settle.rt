@@ -3,7 +3,7 @@
 use crate::index::Declaration;
 ghost use mathlib.Core.Path.{_≡_};
 ghost use Prim.Native.Nat.{_+_, _<_, _≤_};
-ghost use Rattle.chains.specs.Settle.{ReadOne, Walkable, WalkedHere, Settleable, SettledAll};
+ghost use Rattle.chains.specs.Settle.{ReadOne, Walkable, WalkedHere, Settleable, SettledAll, Placeable, placesIn};
 
 pub struct Mark {}
 
@@ -71,6 +71,19 @@ pub fn settle_all(
     let mut j: usize = 0;
     while j < starts.len() {
         walk(table, marks, steps, starts[j] as usize, fuel);
+        j += 1;
+    }
+}
+
+// Each name of a slice gives way to the place of its list.
+pub fn places(marks: &[u32; 4096], out: &mut [u32])
+    requires { ⌜ Placeable (now marks) (now out) ⌝ }
+    ensures { λ r. ⌜ now (out .exit) ≡ placesIn (now (marks .entry)) (now (out .entry)) ⌝ }
+{
+    let mut j: usize = 0;
+    while j < out.len() {
+        let n = out[j] as usize;
+        out[j] = marks[n] - Mark::SETTLED;
         j += 1;
     }
 }
