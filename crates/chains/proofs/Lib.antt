@@ -17,3 +17,4 @@ pub mod PackIndex
 pub mod StartLaws
 pub mod SettleLaws
 pub mod PlaceLaws
+pub mod PlaceBounds

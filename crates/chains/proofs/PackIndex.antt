@@ -13,7 +13,7 @@ use Rattle.pack.specs.Table as table
 use Rattle.pack.specs.Form.{among, allowedHere, wordsAll, FineAll, count, items, Form, field, _▹_, wordsBy, Fine}
 use Rattle.pack.specs.Pack.{Hop, Derivation, Relation, Edition, undated, firstKind, above, nextUsed, relation, rule, defaultedName, defaulted, relations, rules, blocks, records, inner, layout, Pack, toRow, total, words, WellFormed}
 use Rattle.chains.specs.Chain.{Step, end, next, mapped}
-use Rattle.chains.specs.Kinds.{Which, list9, list21, Source, Answer, inherits, plain, derived, declares, find, readAt, kindStep}
+use Rattle.chains.specs.Kinds.{Which, list9, list21, Source, Answer, from, inherits, plain, derived, declares, find, readAt, kindStep}
 use Rattle.chains.specs.Operations.{relationWords, startOf, firstRelation, countPlace, placeOf}
 use Rattle.chains.specs.Index.{coded, scanFrom, placed, declarationAt}
 use Rattle.pack.proofs.PackLaws.{words-length}
@@ -114,6 +114,16 @@ scan-rules : (at name v : ℕ) (t vs : List ℕ) → v < 16777216 → scanFrom a
 unfolding scanFrom
 scan-rules at name v t vs h = simp (kind-word 22 v h)
 
+-- the relations end before the pack does
+pub relations-room : (p : Pack) → WellFormed p → firstRelation p + length (relationsPart p) ≤ 8192
+relations-room p w =
+    let s = split p in
+    let rest : List ℕ = wordOf 22 (length (p .rules)) ∷ s .more in
+    let five : List ℕ = wordOf 5 (length (p .relations)) ∷ (relationsPart p ++ rest) in
+    let l : length (words p) ≡ length (opening p) + (1 + (length (relationsPart p) + (1 + length (s .more)))) =
+    ap length (s .same) ∙ length-append (opening p) five ∙ ap (λ (m : ℕ). length (opening p) + m) (let e = length-append (relationsPart p) rest in omega arith) in
+    omega (arith, l, opening-length p, words-length p, w .most)
+
 -- the whole scan
 scan-pack : (p : Pack) → WellFormed p → scanFrom 0 0 zeros (words p) ≡ declarations (p .names) (firstRelation p) (p .relations) zeros
 scan-pack p w =
@@ -121,40 +131,43 @@ scan-pack p w =
     let s = split p in
     let rest : List ℕ = wordOf 22 (length (p .rules)) ∷ s .more in
     let five : List ℕ = wordOf 5 (length (p .relations)) ∷ (relationsPart p ++ rest) in
-    let l : length (words p) ≡ length (opening p) + (1 + (length (relationsPart p) + (1 + length (s .more)))) =
-    ap length (s .same) ∙ length-append (opening p) five ∙ ap (λ (m : ℕ). length (opening p) + m) (let e = length-append (relationsPart p) rest in omega arith) in
     let o = opening-length p in
     let at : 0 + length (opening p) + 1 ≡ firstRelation p = omega arith in
     ap (λ (ws : List ℕ). scanFrom 0 0 zeros ws) (s .same)
     ∙ scan-quiet (opening p) five 0 0 zeros (opening-quiet p (w .most) h)
     ∙ scan-quiet (wordOf 5 (length (p .relations)) ∷ []) (relationsPart p ++ rest) (0 + length (opening p)) 0 zeros (quiet-word loud 5 (length (p .relations)) (h .relation-count) refl)
     ∙ ap (λ (a : ℕ). scanFrom a 0 zeros (relationsPart p ++ rest)) at
-    ∙ scan-relations (p .names) (h .most) (p .relations) [] (firstRelation p) 0 zeros rest (length-replicate {A = ℕ} 4096 0) (omega (arith, l, words-length p, w .most)) (λ v e. zero-at 4096 v) (h .relations-fine)
+    ∙ scan-relations (p .names) (h .most) (p .relations) [] (firstRelation p) 0 zeros rest (length-replicate {A = ℕ} 4096 0) (omega (arith, relations-room p w)) (λ v e. zero-at 4096 v) (h .relations-fine)
     ∙ scan-rules _ _ (length (p .rules)) _ (s .more) (h .rule-count)
 
 -- ---- places
 
+-- what holds of each way in which a declaration goes holds of the declaration
+module _ (P : Step Answer → Type 0) (n : ℕ) (nowhere : P (end none)) (here : (w : Which) → P (from n w)) where
+  pub each-way : (ks : List ℕ) (o : Option Derivation) → ((d : Derivation) → o ≡ some d → eqb (d .source) table.none ≡ false → P (next (d .source))) → P (declares n ks o)
+  each-way [] none leads = nowhere
+  each-way (k ∷ ks) none leads = here list9
+  each-way ks (some d) leads = go (d .slotEntities) ks
+    where
+      sourced : (c : Bool) → eqb (d .source) table.none ≡ c → P (pick c (end none) (next (d .source)))
+      sourced true e = nowhere
+      sourced false e = leads d refl e
+
+      pathed : (p : Option (List Hop)) → P (inherits (d .source) p)
+      pathed none = sourced (eqb (d .source) table.none) refl
+      pathed (some l) = nowhere
+
+      go : (es ks : List ℕ) → P (derived n d es ks)
+      go (e ∷ es) ks = here list21
+      go [] (k ∷ ks) = here list9
+      go [] [] = pathed (d .path)
+
 -- a declaration's answers are those of its own relation
 mapped-alike : {S : Type 0} (g h : Answer → S) (n : ℕ) → g none ≡ h none → ((w : Which) → g (some (record { owner = n; which = w })) ≡ h (some (record { owner = n; which = w })))
     → (ks : List ℕ) (o : Option Derivation) → mapped g (declares n ks o) ≡ mapped h (declares n ks o)
-mapped-alike g h n a b [] none = ap end a
-mapped-alike g h n a b (k ∷ ks) none = ap end (b list9)
-mapped-alike {S} g h n a b ks (some d) = go (d .slotEntities) ks
-  where
-    sourced : (c : Bool) → mapped g (pick c (end none) (next (d .source))) ≡ mapped h (pick c (end none) (next (d .source)))
-    sourced true = ap end a
-    sourced false = refl
+mapped-alike g h n a b ks o = each-way (λ s. mapped g s ≡ mapped h s) n (ap end a) (λ w. ap end (b w)) ks o (λ d e f. refl)
 
-    pathed : (p : Option (List Hop)) → mapped g (inherits (d .source) p) ≡ mapped h (inherits (d .source) p)
-    pathed none = sourced (eqb (d .source) table.none)
-    pathed (some l) = ap end a
-
-    go : (es ks : List ℕ) → mapped g (derived n d es ks) ≡ mapped h (derived n d es ks)
-    go (e ∷ es) ks = ap end (b list21)
-    go [] (k ∷ ks) = ap end (b list9)
-    go [] [] = pathed (d .path)
-
-find-name : (rs : List Relation) (m : ℕ) (r : Relation) → find m rs ≡ some r → m ≡ r .name
+pub find-name : (rs : List Relation) (m : ℕ) (r : Relation) → find m rs ≡ some r → m ≡ r .name
 unfolding find
 find-name [] m r e = let z : _≡_ {A = ℕ} 0 1 = cc in absurd (omega arith)
 find-name (s ∷ rs) m r e = go (find-name rs m r) (eqb m (s .name)) refl e

@@ -45,7 +45,7 @@ pub record Kept (n : ℕ) (used : ℕ → Bool) (r : Relation) : Type 0 where
   pub derived : (d : Derivation) → r .derivation ≡ some d → Fitting d
 
 -- a path's length is no none
-short-path : (n : ℕ) (p : Option (List Hop)) → Fine (path n) p → (l : List Hop) → p ≡ some l → length l < 16777215
+pub short-path : (n : ℕ) (p : Option (List Hop)) → Fine (path n) p → (l : List Hop) → p ≡ some l → length l < 16777215
 unfolding path Fine count says items
 short-path n none f l e = let z : _≡_ {A = ℕ} 0 1 = cc in absurd (omega arith)
 short-path n (some m) f l e = go (eqb (length m) 16777215) refl (f .1)

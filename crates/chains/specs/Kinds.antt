@@ -22,7 +22,7 @@ pub record Source : Type 0 where
 abbrev pub Answer : Type 0
 Answer = Option Source
 
-abbrev from : ℕ → Which → Step Answer
+abbrev pub from : ℕ → Which → Step Answer
 from n w = end (some (record { owner = n; which = w }))
 
 -- "a source and path none lead on to the source (it inherits); otherwise no kinds"

@@ -31,7 +31,7 @@ startOf n name at (r ∷ rs) = pick (eqb name (r .name)) at (startOf n name (at 
 abbrev pub firstRelation : Pack → ℕ
 firstRelation p = 4 + length (p .defaulted)
 
-abbrev hops : Option (List Hop) → ℕ
+abbrev pub hops : Option (List Hop) → ℕ
 hops none = 0
 hops (some l) = length l
 
