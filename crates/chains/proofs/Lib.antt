@@ -18,3 +18,4 @@ pub mod StartLaws
 pub mod SettleLaws
 pub mod PlaceLaws
 pub mod PlaceBounds
+pub mod AllKindsLaws

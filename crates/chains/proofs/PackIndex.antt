@@ -92,7 +92,7 @@ parts p w =
 abbrev pub zeros : List ℕ
 zeros = replicate 4096 0
 
-zero-at : (m v : ℕ) → _≡_ {A = ℕ} (getD (replicate m 0) v 0) 0
+pub zero-at : (m v : ℕ) → _≡_ {A = ℕ} (getD (replicate m 0) v 0) 0
 zero-at zero v = refl
 zero-at (suc m) zero = refl
 zero-at (suc m) (suc v) = zero-at m v

@@ -1,0 +1,93 @@
+-- The walks over the index from all relations give what All kinds writes.
+use Prim.Native.Nat.{ℕ, zero, suc, _+_, _-_, _<_, _≤_}
+use native.Mathlib.Omega.{arith}
+use mathlib.Core.Path.{_≡_, refl, ap, sym, _∙_, fun-ext}
+use mathlib.Core.List.{List, [], _∷_, map}
+use mathlib.Core.Bool.{Bool, true, false}
+use mathlib.Core.Option.{Option, none, some, Option·map}
+use lib.ListN.{length, getD, replicate}
+use lib.Dec.{eqb, ltb}
+use borrow.Author.Tests.{ltb-false, eq-eqb}
+use Rattle.pack.specs.Table.{pick}
+use Rattle.pack.specs.Form.{among}
+use Rattle.pack.specs.Pack.{Relation, Pack, WellFormed, words}
+use Rattle.chains.specs.Chain.{Step, Settled, nothing, Walked, All, walkAll}
+use Rattle.chains.specs.Kinds.{declared, kindStep, allKinds, ownAnswer}
+use Rattle.chains.specs.Kinds as kinds
+use Rattle.chains.specs.Operations.{placeOf, settledOf, allKindsWords}
+use Rattle.chains.specs.Index.{scanFrom}
+use Rattle.chains.specs.Settle.{stepAt, settledIn, same, walkIn, walksIn, SettledAll, placesIn, Placeable}
+use Rattle.chains.proofs.Names.{or-left, or-right}
+use Rattle.chains.proofs.MappedLaws.{AnswersMapped, answers-mapped}
+use Rattle.chains.proofs.KindLaws.{in-row, kinds-own, words-own}
+use Rattle.chains.proofs.PackIndex.{zeros, zero-at}
+use Rattle.chains.proofs.PlaceBounds.{Indexes, indexes}
+
+-- walks from the starts in order, as defined and as they run
+walks-all : (table ds starts : List ℕ) (t : Settled ℕ) (k : ℕ) → walksIn table (suc (length ds)) starts t k ≡ walkAll 0 same (stepAt table) ds starts t k
+unfolding walksIn walkAll
+walks-all table ds [] t k = refl
+walks-all table ds (n ∷ starts) t k =
+    let w : Walked ℕ = walkIn table (suc (length ds)) t [] n in
+    walks-all table ds starts (w .settled) (k + w .steps)
+
+-- at first nothing is settled
+zeros-nothing : settledIn zeros ≡ nothing
+unfolding settledIn
+zeros-nothing = fun-ext (λ n. rw (zero-at 4096 n) refl)
+
+-- a settled name's mark
+settled-mark : (marks : List ℕ) (n x : ℕ) → settledIn marks n ≡ some x → (2 ≤ getD marks n 0) × (getD marks n 0 - 2 ≡ x)
+unfolding settledIn
+settled-mark marks n x e = go (ltb (getD marks n 0) 2) refl e
+  where
+    go : (b : Bool) → ltb (getD marks n 0) 2 ≡ b → pick b none (some (getD marks n 0 - 2)) ≡ some x → (2 ≤ getD marks n 0) × (getD marks n 0 - 2 ≡ x)
+    go true h e = let z : _≡_ {A = ℕ} 0 1 = cc in absurd (omega arith)
+    go false h e = (ltb-false (getD marks n 0) 2 h, cc)
+
+-- names of a list are among it
+among-at : (l : List ℕ) (j : ℕ) → j < length l → among (getD l j 0) l ≡ true
+among-at [] j h = absurd (omega arith)
+among-at (n ∷ l) zero h = or-left (among n l) (eq-eqb n n refl)
+among-at (n ∷ l) (suc j) h = or-right (eqb (getD l j 0) n) (among-at l j (omega arith))
+
+map-names : {B : Type 0} (f : ℕ → B) (rs : List Relation) → map f (declared rs) ≡ map (λ (r : Relation). f (r .name)) rs
+map-names f [] = refl
+map-names f (r ∷ rs) = ap (λ (l : List _). f (r .name) ∷ l) (map-names f rs)
+
+-- what the walks leave
+pub record KindsFound (p : Pack) (marks : List ℕ) (steps : ℕ) : Type 0 where
+  pub counts : steps ≡ allKinds (p .relations) .steps
+  pub places : placesIn marks (declared (p .relations)) ≡ allKindsWords p
+  pub settled : (j : ℕ) → j < length (declared (p .relations)) → 2 ≤ getD marks (getD (declared (p .relations)) j 0) 0
+
+module _ (p : Pack) (w : WellFormed p) (marks : List ℕ) (steps : ℕ) where
+  abbrev rs : List Relation
+  rs = p .relations
+
+  abbrev index : List ℕ
+  index = scanFrom 0 0 zeros (words p)
+
+  place-none : placeOf p none ≡ 0
+  unfolding placeOf
+  place-none = refl
+
+  pub kinds-found : SettledAll index zeros (declared rs) 0 (suc (length (declared rs))) marks steps → KindsFound p marks steps
+  unfolding placesIn
+  kinds-found s =
+      record {
+        counts = s .counts ∙ ap (λ (a : All ℕ). a .steps) over ∙ m .steps;
+        places = map-names (λ n. getD marks n 0 - 2) rs ∙ in-row (λ n. getD marks n 0 - 2) (λ n. placeOf p (ownAnswer rs n)) rs (λ n i. mark n i .1) ∙ sym (words-own p);
+        settled = λ j h. mark (getD (declared rs) j 0) (among-at (declared rs) j h) .0;
+      }
+    where
+      over : walksIn index (suc (length (declared rs))) (declared rs) (settledIn zeros) 0 ≡ walkAll 0 same (stepAt index) (declared rs) (declared rs) nothing 0
+      over = walks-all index (declared rs) (declared rs) (settledIn zeros) 0 ∙ ap (λ (t : Settled ℕ). walkAll 0 same (stepAt index) (declared rs) (declared rs) t 0) zeros-nothing
+
+      m : AnswersMapped (placeOf p) none kinds.same (kindStep rs) 0 same (stepAt index) (declared rs) (declared rs)
+      m = answers-mapped (placeOf p) none 0 place-none kinds.same same (λ r. refl) (kindStep rs) (stepAt index) (indexes p w .says) (declared rs) (declared rs)
+
+      mark : (n : ℕ) → among n (declared rs) ≡ true → (2 ≤ getD marks n 0) × (getD marks n 0 - 2 ≡ placeOf p (ownAnswer rs n))
+      mark n i =
+          settled-mark marks n (placeOf p (ownAnswer rs n))
+          (ap (λ (t : Settled ℕ). t n) (s .settles ∙ ap (λ (a : All ℕ). a .settled) over) ∙ m .settled n ∙ ap (Option·map (placeOf p)) (kinds-own rs .each n i))
