@@ -19,3 +19,4 @@ pub mod SettleLaws
 pub mod PlaceLaws
 pub mod PlaceBounds
 pub mod AllKindsLaws
+pub mod CheckedLaws

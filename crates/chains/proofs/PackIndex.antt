@@ -41,6 +41,10 @@ names-most : (v : ℕ) → allowedHere 0 2 v ≡ true → v ≤ 4096
 unfolding allowedHere entryOf table
 names-most v e = leb-true v 4096 (both (leb 1 v) (leb v 4096) e)
 
+relations-most : (n v : ℕ) → allowedHere n 5 v ≡ true → v ≤ 512
+unfolding allowedHere entryOf table
+relations-most n v e = leb-true v 512 e
+
 -- ---- a pack's parts
 
 first-kind : (e : Edition) → firstKind e ≡ 1
@@ -72,6 +76,7 @@ pub record Parts (p : Pack) : Type 0 where
   pub defaulted-count : length (p .defaulted) < 16777216
   pub defaulted-fine : FineAll above (λ low v. Fine (defaultedName (p .names) low) v) 0 (p .defaulted)
   pub relation-count : length (p .relations) < 16777216
+  pub few-relations : length (p .relations) ≤ 512
   pub relations-fine : RelationsFine (p .names) [] (p .relations)
   pub rule-count : length (p .rules) < 16777216
 
@@ -85,6 +90,7 @@ parts p w =
       defaulted-count = f .1 .0 .0 .0;
       defaulted-fine = f .1 .0 .2;
       relation-count = f .1 .1 .0 .0 .0;
+      few-relations = relations-most (p .names) (length (p .relations)) (f .1 .1 .0 .0 .1);
       relations-fine = f .1 .1 .0 .2;
       rule-count = f .1 .1 .1 .0 .0 .0;
     }
@@ -106,7 +112,7 @@ opening-quiet p m h = (
   ),
 )
 
-opening-length : (p : Pack) → length (opening p) ≡ 3 + length (p .defaulted)
+pub opening-length : (p : Pack) → length (opening p) ≡ 3 + length (p .defaulted)
 opening-length p = let e = defaulted-length (p .names) (p .defaulted) 0 in omega arith
 
 -- the count of rules ends the scan

@@ -5,3 +5,4 @@ pub mod Filtered
 pub mod Operations
 pub mod Index
 pub mod Settle
+pub mod AllKinds

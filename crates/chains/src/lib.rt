@@ -1,4 +1,5 @@
 // The chain walks: what relations inherit from their sources.
-// A file per idea: the index by name (index), the walk (settle).
+// A file per idea: the index by name (index), the walk (settle), the kinds of all relations (all_kinds).
+pub mod all_kinds;
 pub mod index;
 pub mod settle;

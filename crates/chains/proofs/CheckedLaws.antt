@@ -1,0 +1,140 @@
+-- The parts of All kinds, of words that Check accepts.
+use Prim.Native.Nat.{ℕ, zero, suc, _+_, _-_, _*_, _%_, _<_, _≤_}
+use native.Mathlib.Omega.{arith}
+use native.Mathlib.Nat.{mul-le-mul-right}
+use native.Mathlib.Numerals.{add-one}
+use mathlib.Core.Path.{_≡_, refl, ap, sym, _∙_, subst}
+use mathlib.Core.List.{List, [], _∷_, _++_, append-nil}
+use lib.ListN.{length, getD, drop, length-append, length-map, length-replicate, drop-of-length-le}
+use lib.Seq.{getD-at}
+use lib.Dec.{eqb}
+use Rattle.pack.specs.Table.{wordOf}
+use Rattle.pack.specs.Form.{among}
+use Rattle.pack.specs.Pack.{Relation, Pack, WellFormed, yes, read, words}
+use Rattle.pack.proofs.PackLaws.{words-read, words-length}
+use Rattle.chains.specs.Kinds.{declared, allKinds}
+use Rattle.chains.specs.Operations.{allKindsWords}
+use Rattle.chains.specs.Index.{scanFrom, startsIn}
+use Rattle.chains.specs.Settle.{Leading, Marked, OnPath, Settleable, SettledAll, placesIn, Placeable}
+use Rattle.chains.specs.AllKinds.{Checked, Counted, KindsAsked, KindsLeft}
+use Rattle.chains.proofs.RelationScan.{RelationsFine, kept}
+use Rattle.chains.proofs.PackIndex.{zeros, zero-at, parts, split, opening, opening-length, relationsPart}
+use Rattle.chains.proofs.StartLaws.{starts-pack}
+use Rattle.chains.proofs.PlaceBounds.{indexes}
+use Rattle.chains.proofs.AllKindsLaws.{KindsFound, kinds-found}
+
+-- ---- the number of relations
+
+module _ (ws : List ℕ) (p : Pack) (h : read ws ≡ yes p) where
+  abbrev tail : List ℕ
+  tail = relationsPart p ++ (wordOf 22 (length (p .rules)) ∷ split p .more)
+
+  opened : ws ≡ opening p ++ (wordOf 5 (length (p .relations)) ∷ tail)
+  opened = sym (words-read ws p h .same) ∙ split p .same
+
+  defaulted-word : getD ws 2 0 % 16777216 ≡ length (p .defaulted)
+  defaulted-word = ap (λ (l : List ℕ). getD l 2 0 % 16777216) opened ∙ omega (arith, parts p (words-read ws p h .fine) .defaulted-count)
+
+  count-word : getD ws (length (p .defaulted) + 3) 0 % 16777216 ≡ length (p .relations)
+  count-word =
+      ap (λ (l : List ℕ). getD l (length (p .defaulted) + 3) 0 % 16777216) opened
+      ∙ ap (λ (w : ℕ). w % 16777216) (getD-at (opening p) (wordOf 5 (length (p .relations))) tail 0 (length (p .defaulted) + 3) (omega (arith, opening-length p)))
+      ∙ omega (arith, parts p (words-read ws p h .fine) .relation-count)
+
+  long-enough : length (p .defaulted) + 3 < length ws
+  long-enough = let l = ap length opened ∙ length-append (opening p) (wordOf 5 (length (p .relations)) ∷ tail) in omega (arith, l, opening-length p)
+
+pub record CountWord (ws : List ℕ) : Type 0 where
+  pub first : 2 < length ws
+  pub second : getD ws 2 0 % 16777216 + 3 < length ws
+  pub counted : Counted ws (getD ws (getD ws 2 0 % 16777216 + 3) 0 % 16777216)
+
+pub count-word-of : (ws : List ℕ) → Checked ws → CountWord ws
+count-word-of ws c =
+    let l = long-enough ws (c .pack) (c .reads) in
+    record {
+      first = omega arith;
+      second = omega (arith, defaulted-word ws (c .pack) (c .reads));
+      counted = record { relations = λ p h. ap (λ (d : ℕ). getD ws (d + 3) 0 % 16777216) (defaulted-word ws p h) ∙ count-word ws p h };
+    }
+
+-- ---- the kinds
+
+names-below : (n : ℕ) → n ≤ 4096 → (used : List ℕ) (rs : List Relation) → RelationsFine n used rs → (j : ℕ) → getD (declared rs) j 0 < 4096
+names-below n m used [] f j = omega arith
+names-below n m used (r ∷ rs) f zero = omega (arith, kept n (λ v. among v used) r (f .0) .below)
+names-below n m used (r ∷ rs) f (suc j) = names-below n m (r .name ∷ used) rs (f .1) j
+
+-- what the walks from the relations of a pack ask for
+settleable-pack : (p : Pack) → WellFormed p → Settleable (scanFrom 0 0 zeros (words p)) zeros (declared (p .relations)) 0 (suc (length (declared (p .relations))))
+unfolding Marked OnPath
+settleable-pack p w =
+    let h = parts p w in
+    let l : length (declared (p .relations)) ≡ length (p .relations) = length-map (p .relations) (λ (r : Relation). r .name) in
+    let k : ℕ = length (declared (p .relations)) in
+    let b : k ≤ 512 = omega (arith, h .few-relations) in
+    record {
+      names = names-below (p .names) (h .most) [] (p .relations) (h .relations-fine);
+      leading = indexes p w .leading;
+      marked = λ n. rw (zero-at 4096 n) (omega arith);
+      long = length-replicate {A = ℕ} 4096 0;
+      idle = λ n. rw (zero-at 4096 n) refl;
+      room = let m : k * suc k ≤ 512 * suc k = mul-le-mul-right (suc k) b in omega arith;
+    }
+
+same-pack : (ws : List ℕ) {p q : Pack} → read ws ≡ yes p → read ws ≡ yes q → p ≡ q
+same-pack ws e f = cc
+
+module _ {ws out₀ : List ℕ} (asked : KindsAsked ws out₀) where
+  abbrev p : Pack
+  p = asked .checked .pack
+
+  abbrev rs : List Relation
+  rs = p .relations
+
+  fine : WellFormed p
+  fine = words-read ws p (asked .checked .reads) .fine
+
+  same : words p ≡ ws
+  same = words-read ws p (asked .checked .reads) .same
+
+  pub short-words : length ws ≤ 8192
+  short-words = let l : length (words p) ≡ length ws = ap length same in omega (arith, words-length p, fine .most)
+
+  starts-are : startsIn ws ≡ declared rs
+  starts-are = ap startsIn (sym same) ∙ starts-pack p fine
+
+  one-each : length out₀ ≡ length (declared rs)
+  one-each = asked .fits .relations p (asked .checked .reads) ∙ sym (length-map rs (λ (r : Relation). r .name))
+
+  pub starts-fit : length (startsIn ws) ≤ length out₀
+  starts-fit = rw starts-are (omega (arith, one-each))
+
+  module _ {out₁ table : List ℕ} {count : ℕ} (indexed : table ≡ scanFrom 0 0 zeros ws) (counted : count ≡ length (startsIn ws)) (started : out₁ ≡ startsIn ws ++ drop (length (startsIn ws)) out₀) where
+    names : out₁ ≡ declared rs
+    names =
+        let l : length out₀ ≤ length (startsIn ws) = rw starts-are (omega (arith, one-each)) in
+        started ∙ rw (drop-of-length-le out₀ l) (append-nil (startsIn ws) ∙ starts-are)
+
+    fuel : count + 1 ≡ suc (length (declared rs))
+    fuel = add-one count ∙ ap suc (counted ∙ ap length starts-are)
+
+    pub count-small : count < 4096
+    count-small = let h = parts p fine .few-relations in let l : length (declared rs) ≡ length rs = length-map rs (λ (r : Relation). r .name) in omega (arith, fuel)
+
+    pub settleable : Settleable table zeros out₁ 0 (count + 1)
+    settleable = rw (indexed, names, fuel) (subst (λ (v : List ℕ). Settleable (scanFrom 0 0 zeros v) zeros (declared rs) 0 (suc (length (declared rs)))) same (settleable-pack p fine))
+
+    module _ {marks : List ℕ} {steps : ℕ} (s : SettledAll table zeros out₁ 0 (count + 1) marks steps) where
+      found : KindsFound p marks steps
+      found = kinds-found p fine marks steps (rw (same, ← indexed, ← fuel, ← names) s)
+
+      pub placeable : Placeable marks out₁
+      placeable = rw names (record { names-below = settleable-pack p fine .names; settled = found .settled })
+
+      pub kinds-left : {out₂ : List ℕ} → out₂ ≡ placesIn marks out₁ → KindsLeft ws steps out₂
+      kinds-left {out₂} e =
+          record {
+            counts = λ q h. found .counts ∙ ap (λ (p : Pack). allKinds (p .relations) .steps) (same-pack ws (asked .checked .reads) h);
+            holds = λ q h. e ∙ ap (placesIn marks) names ∙ found .places ∙ ap allKindsWords (same-pack ws (asked .checked .reads) h);
+          }

@@ -1,0 +1,33 @@
+-- What the parts of All kinds promise each other, of words that Check accepts.
+use Prim.Native.Nat.{ℕ}
+use mathlib.Core.Path.{_≡_}
+use mathlib.Core.List.{List}
+use lib.ListN.{length}
+use Rattle.pack.specs.declared.answer.Answer.{Answer}
+use Rattle.pack.specs.Pack.{Pack, yes, read}
+use Rattle.chains.specs.Kinds.{allKinds}
+use Rattle.chains.specs.Operations.{allKindsWords, allKindsAnswer, allKindsBuffer}
+
+-- words that Check accepts, and the pack read from them
+pub record Checked (ws : List ℕ) : Type 0 where
+  pub pack : Pack
+  pub reads : read ws ≡ yes pack
+
+-- the number of relations
+pub record Counted (ws : List ℕ) (count : ℕ) : Type 0 where
+  pub relations : (p : Pack) → read ws ≡ yes p → count ≡ length (p .relations)
+
+-- a slice with one word for each relation
+pub record KindsAsked (ws out : List ℕ) : Type 0 where
+  pub checked : Checked ws
+  pub fits : Counted ws (length out)
+
+-- the places, and the number of declarations read
+pub record KindsLeft (ws : List ℕ) (steps : ℕ) (out : List ℕ) : Type 0 where
+  pub counts : (p : Pack) → read ws ≡ yes p → steps ≡ allKinds (p .relations) .steps
+  pub holds : (p : Pack) → read ws ≡ yes p → out ≡ allKindsWords p
+
+-- what holds of All kinds' answer and of the lent slice after it
+pub record KindsAnswered (ws lent : List ℕ) (a : Answer) (left : List ℕ) : Type 0 where
+  pub answers : a ≡ allKindsAnswer ws (length lent)
+  pub leaves : left ≡ allKindsBuffer ws lent

@@ -1,0 +1,35 @@
+// All kinds: the effective kinds of every relation, as places, and how many declarations were read for them.
+use crate::index::index;
+use crate::index::starts;
+use crate::settle::places;
+use crate::settle::settle_all;
+use pack::answer::Answer;
+use pack::check::check;
+use pack::check::refuse;
+use pack::kinds::Pack;
+ghost use Rattle.chains.specs.AllKinds.{Checked, Counted, KindsAsked, KindsLeft, KindsAnswered};
+
+// How many relations a checked pack has: the value of its word 5, which follows the defaulted names.
+fn relation_count(pack: &[u32]) -> usize
+    requires { ⌜ Checked (now pack) ⌝ }
+    ensures { λ r. ⌜ Counted (now (pack .entry)) r ⌝ }
+{
+    let defaulted = (pack[2] % Pack::VALUES) as usize;
+    let at = defaulted + 3;
+    (pack[at] % Pack::VALUES) as usize
+}
+
+// The kinds of every relation of a checked pack, into a slice with one word for each; the answer is the number of declarations read.
+fn settle_kinds(pack: &[u32], out: &mut [u32]) -> u32
+    requires { ⌜ KindsAsked (now pack) (now out) ⌝ }
+    ensures { λ r. ⌜ KindsLeft (now (pack .entry)) r (now (out .exit)) ⌝ }
+{
+    let mut table = [0u32; 4096];
+    let mut marks = [0u32; 4096];
+    let mut steps: u32 = 0;
+    index(pack, &mut table);
+    let count = starts(pack, out);
+    settle_all(&table, &mut marks, &mut steps, out, count as u32 + 1);
+    places(&marks, out);
+    steps
+}
