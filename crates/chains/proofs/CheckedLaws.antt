@@ -138,3 +138,8 @@ module _ {ws out₀ : List ℕ} (asked : KindsAsked ws out₀) where
             counts = λ q h. found .counts ∙ ap (λ (p : Pack). allKinds (p .relations) .steps) (same-pack ws (asked .checked .reads) h);
             holds = λ q h. e ∙ ap (placesIn marks) names ∙ found .places ∙ ap allKindsWords (same-pack ws (asked .checked .reads) h);
           }
+
+-- ---- a checked pack has few relations
+
+pub few-counted : (ws : List ℕ) → Checked ws → {count : ℕ} → Counted ws count → count ≤ 512
+few-counted ws c k = omega (arith, k .relations (c .pack) (c .reads), parts (c .pack) (words-read ws (c .pack) (c .reads) .fine) .few-relations)

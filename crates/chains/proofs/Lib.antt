@@ -20,3 +20,4 @@ pub mod PlaceLaws
 pub mod PlaceBounds
 pub mod AllKindsLaws
 pub mod CheckedLaws
+pub mod OperationLaws

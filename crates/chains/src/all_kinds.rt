@@ -33,3 +33,19 @@ fn settle_kinds(pack: &[u32], out: &mut [u32]) -> u32
     places(&marks, out);
     steps
 }
+
+// Each relation's kinds in record order, as the place of the list that settles it, 0 for none; the steps are the declarations read.
+pub fn all_kinds(pack: &[u32], out: &mut [u32]) -> Answer
+    ensures { λ r. ⌜ KindsAnswered (now (pack .entry)) (now (out .entry)) r (now (out .exit)) ⌝ }
+{
+    let a = check(pack);
+    let Answer::Given(_, _) = a else {
+        return a;
+    };
+    let count = relation_count(pack);
+    if out.len() < count {
+        return refuse(16, 0);
+    }
+    let steps = settle_kinds(pack, &mut out[0..count]);
+    Answer::Given(count as u32, steps)
+}

@@ -1,0 +1,69 @@
+-- Operations that read first: what they answer and leave where Check refuses, and where it accepts.
+use Prim.Native.Nat.{ℕ, _-_, _+_, _<_, _≤_}
+use native.Mathlib.Omega.{arith}
+use mathlib.Core.Path.{_≡_, refl, ap, sym, _∙_}
+use mathlib.Core.List.{List, [], _∷_, _++_, map}
+use lib.ListN.{length, take, drop, length-map}
+use lib.Seq.{length-take-le}
+use lib.Dec.{leb}
+use borrow.Author.Tests.{le-leb, lt-leb}
+use borrow.Rule.Slice.PartMut.{midOf, putMid}
+use Rattle.pack.specs.declared.answer.Refusal.{Refusal}
+use Rattle.pack.specs.declared.answer.Answer.{Answer}
+use Rattle.pack.specs.declared.answer.Answer.the-variants.{Given, Refused}
+use Rattle.pack.specs.Table.{pick}
+use Rattle.pack.specs.Pack.{Relation, Pack, Reading, yes, refuse, read}
+use Rattle.pack.specs.Operations.{answer, buffer, noRoom, checkAnswer}
+use Rattle.pack.proofs.RewriteLaws.{accepted}
+use Rattle.chains.specs.Kinds.{allKinds}
+use Rattle.chains.specs.Operations.{allKindsWords, allKindsAnswer, allKindsBuffer, writeAnswer, writeBuffer}
+use Rattle.chains.specs.AllKinds.{Checked, Counted, KindsAsked, KindsLeft, KindsAnswered}
+
+-- an answer of Check's
+pub checked : (ws : List ℕ) {a : Answer} {v s : ℕ} → a ≡ checkAnswer ws → a ≡ Given v s → Checked ws
+checked ws e o = let c = accepted ws e o in record { pack = c .pack; reads = c .reads }
+
+-- a refusal of Check's is the operation's, and changes nothing
+module _ (ws lent : List ℕ) {a : Answer} {r : Refusal} (e : a ≡ checkAnswer ws) (o : a ≡ Refused r) (f : Pack → Answer) (g : Pack → List ℕ) where
+  pub turned-away : (a ≡ answer (read ws) f) × (lent ≡ buffer (read ws) g lent)
+  unfolding checkAnswer
+  turned-away = go (read ws) (sym e ∙ o)
+    where
+      go : (m : Reading) → answer m (λ p. Given 1 0) ≡ Refused r → (a ≡ answer m f) × (lent ≡ buffer m g lent)
+      go (yes p) q = let z : _≡_ {A = ℕ} 0 1 = cc in absurd (omega arith)
+      go (refuse x) q = (o ∙ sym q, refl)
+
+-- ---- All kinds
+
+pub kinds-refused : (ws lent : List ℕ) {a : Answer} {r : Refusal} → a ≡ checkAnswer ws → a ≡ Refused r → KindsAnswered ws lent a lent
+unfolding allKindsAnswer allKindsBuffer
+kinds-refused ws lent e o =
+    let t = turned-away ws lent e o (λ p. writeAnswer (allKindsWords p) (allKinds (p .relations) .steps) (length lent)) (λ p. writeBuffer (allKindsWords p) lent) in
+    record { answers = t .0; leaves = t .1 }
+
+module _ (ws lent : List ℕ) (c : Checked ws) {count : ℕ} (k : Counted ws count) where
+  abbrev p : Pack
+  p = c .pack
+
+  one-each : length (allKindsWords p) ≡ count
+  unfolding allKindsWords
+  one-each = length-map (p .relations) _ ∙ sym (k .relations p (c .reads))
+
+  pub kinds-room : length lent < count → {a : Answer} → a ≡ noRoom → KindsAnswered ws lent a lent
+  unfolding allKindsAnswer allKindsBuffer
+  kinds-room h e = record { answers = e ∙ sym (simp (c .reads, one-each, lt-leb count (length lent) h)); leaves = sym (simp (c .reads, one-each, lt-leb count (length lent) h)) }
+
+  whole : count - 0 ≡ count
+  whole = omega arith
+
+  pub kinds-asked : count ≤ length lent → KindsAsked ws (midOf 0 (count - 0) lent)
+  kinds-asked h = record { checked = c; fits = rw (whole, length-take-le count lent h) k }
+
+  pub kinds-done : count ≤ length lent → {steps : ℕ} {out : List ℕ} → KindsLeft ws steps out → KindsAnswered ws lent (Given count steps) (putMid 0 (count - 0) lent out)
+  unfolding allKindsAnswer allKindsBuffer
+  kinds-done h l =
+      rw whole
+      record {
+        answers = sym (simp (c .reads, one-each, le-leb count (length lent) h, l .counts p (c .reads)));
+        leaves = sym (simp (c .reads, one-each, le-leb count (length lent) h, l .holds p (c .reads)));
+      }
