@@ -11,7 +11,7 @@ use borrow.Author.Tests.{ltb-false, eq-eqb}
 use Rattle.pack.specs.Table.{pick}
 use Rattle.pack.specs.Form.{among}
 use Rattle.pack.specs.Pack.{Relation, Pack, WellFormed, words}
-use Rattle.chains.specs.Chain.{Step, Settled, nothing, Walked, All, walkAll}
+use Rattle.chains.specs.Chain.{Step, Settled, nothing, Walked, own, All, walkAll}
 use Rattle.chains.specs.Kinds.{declared, kindStep, allKinds, ownAnswer}
 use Rattle.chains.specs.Kinds as kinds
 use Rattle.chains.specs.Operations.{placeOf, settledOf, allKindsWords}
@@ -61,7 +61,7 @@ pub record KindsFound (p : Pack) (marks : List ℕ) (steps : ℕ) : Type 0 where
   pub places : placesIn marks (declared (p .relations)) ≡ allKindsWords p
   pub settled : (j : ℕ) → j < length (declared (p .relations)) → 2 ≤ getD marks (getD (declared (p .relations)) j 0) 0
 
-module _ (p : Pack) (w : WellFormed p) (marks : List ℕ) (steps : ℕ) where
+module _ (p : Pack) (w : WellFormed p) where
   abbrev rs : List Relation
   rs = p .relations
 
@@ -72,11 +72,19 @@ module _ (p : Pack) (w : WellFormed p) (marks : List ℕ) (steps : ℕ) where
   unfolding placeOf
   place-none = refl
 
-  pub kinds-found : SettledAll index zeros (declared rs) 0 (suc (length (declared rs))) marks steps → KindsFound p marks steps
+  over-index : AnswersMapped (placeOf p) none kinds.same (kindStep rs) 0 same (stepAt index) (declared rs) (declared rs)
+  over-index = answers-mapped (placeOf p) none 0 place-none kinds.same same (λ r. refl) (kindStep rs) (stepAt index) (indexes p w .says) (declared rs) (declared rs)
+
+  -- one name's own walk
+  pub own-found : (n : ℕ) → walkIn index (suc (length (declared rs))) (settledIn zeros) [] n .answer ≡ placeOf p (ownAnswer rs n)
+  unfolding own
+  own-found n = ap (λ (t : Settled ℕ). walkIn index (suc (length (declared rs))) t [] n .answer) zeros-nothing ∙ over-index .own-walks n
+
+  pub kinds-found : (marks : List ℕ) (steps : ℕ) → SettledAll index zeros (declared rs) 0 (suc (length (declared rs))) marks steps → KindsFound p marks steps
   unfolding placesIn
-  kinds-found s =
+  kinds-found marks steps s =
       record {
-        counts = s .counts ∙ ap (λ (a : All ℕ). a .steps) over ∙ m .steps;
+        counts = s .counts ∙ ap (λ (a : All ℕ). a .steps) over ∙ over-index .steps;
         places = map-names (λ n. getD marks n 0 - 2) rs ∙ in-row (λ n. getD marks n 0 - 2) (λ n. placeOf p (ownAnswer rs n)) rs (λ n i. mark n i .1) ∙ sym (words-own p);
         settled = λ j h. mark (getD (declared rs) j 0) (among-at (declared rs) j h) .0;
       }
@@ -84,10 +92,7 @@ module _ (p : Pack) (w : WellFormed p) (marks : List ℕ) (steps : ℕ) where
       over : walksIn index (suc (length (declared rs))) (declared rs) (settledIn zeros) 0 ≡ walkAll 0 same (stepAt index) (declared rs) (declared rs) nothing 0
       over = walks-all index (declared rs) (declared rs) (settledIn zeros) 0 ∙ ap (λ (t : Settled ℕ). walkAll 0 same (stepAt index) (declared rs) (declared rs) t 0) zeros-nothing
 
-      m : AnswersMapped (placeOf p) none kinds.same (kindStep rs) 0 same (stepAt index) (declared rs) (declared rs)
-      m = answers-mapped (placeOf p) none 0 place-none kinds.same same (λ r. refl) (kindStep rs) (stepAt index) (indexes p w .says) (declared rs) (declared rs)
-
       mark : (n : ℕ) → among n (declared rs) ≡ true → (2 ≤ getD marks n 0) × (getD marks n 0 - 2 ≡ placeOf p (ownAnswer rs n))
       mark n i =
           settled-mark marks n (placeOf p (ownAnswer rs n))
-          (ap (λ (t : Settled ℕ). t n) (s .settles ∙ ap (λ (a : All ℕ). a .settled) over) ∙ m .settled n ∙ ap (Option·map (placeOf p)) (kinds-own rs .each n i))
+          (ap (λ (t : Settled ℕ). t n) (s .settles ∙ ap (λ (a : All ℕ). a .settled) over) ∙ over-index .settled n ∙ ap (Option·map (placeOf p)) (kinds-own rs .each n i))

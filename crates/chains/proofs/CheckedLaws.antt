@@ -12,16 +12,16 @@ use Rattle.pack.specs.Table.{wordOf}
 use Rattle.pack.specs.Form.{among}
 use Rattle.pack.specs.Pack.{Relation, Pack, WellFormed, yes, read, words}
 use Rattle.pack.proofs.PackLaws.{words-read, words-length}
-use Rattle.chains.specs.Kinds.{declared, allKinds}
-use Rattle.chains.specs.Operations.{allKindsWords}
+use Rattle.chains.specs.Kinds.{declared, allKinds, ownAnswer}
+use Rattle.chains.specs.Operations.{placeOf, allKindsWords}
 use Rattle.chains.specs.Index.{scanFrom, startsIn}
-use Rattle.chains.specs.Settle.{Leading, Marked, OnPath, Settleable, SettledAll, placesIn, Placeable}
-use Rattle.chains.specs.AllKinds.{Checked, Counted, KindsAsked, KindsLeft}
+use Rattle.chains.specs.Settle.{Leading, Marked, OnPath, settledIn, walkIn, Walkable, WalkedHere, Settleable, SettledAll, placesIn, Placeable}
+use Rattle.chains.specs.AllKinds.{Checked, Counted, Named, OwnPlace, KindsAsked, KindsLeft}
 use Rattle.chains.proofs.RelationScan.{RelationsFine, kept}
 use Rattle.chains.proofs.PackIndex.{zeros, zero-at, parts, split, opening, opening-length, relationsPart}
 use Rattle.chains.proofs.StartLaws.{starts-pack}
 use Rattle.chains.proofs.PlaceBounds.{indexes}
-use Rattle.chains.proofs.AllKindsLaws.{KindsFound, kinds-found}
+use Rattle.chains.proofs.AllKindsLaws.{KindsFound, own-found, kinds-found}
 
 -- ---- the number of relations
 
@@ -34,6 +34,9 @@ module _ (ws : List ℕ) (p : Pack) (h : read ws ≡ yes p) where
 
   defaulted-word : getD ws 2 0 % 16777216 ≡ length (p .defaulted)
   defaulted-word = ap (λ (l : List ℕ). getD l 2 0 % 16777216) opened ∙ omega (arith, parts p (words-read ws p h .fine) .defaulted-count)
+
+  names-word : getD ws 1 0 % 16777216 ≡ p .names
+  names-word = ap (λ (l : List ℕ). getD l 1 0 % 16777216) opened ∙ omega (arith, parts p (words-read ws p h .fine) .names)
 
   count-word : getD ws (length (p .defaulted) + 3) 0 % 16777216 ≡ length (p .relations)
   count-word =
@@ -57,6 +60,15 @@ count-word-of ws c =
       second = omega (arith, defaulted-word ws (c .pack) (c .reads));
       counted = record { relations = λ p h. ap (λ (d : ℕ). getD ws (d + 3) 0 % 16777216) (defaulted-word ws p h) ∙ count-word ws p h };
     }
+
+-- ---- the number of names
+
+pub record NamesWord (ws : List ℕ) : Type 0 where
+  pub first : 1 < length ws
+  pub named : Named ws (getD ws 1 0 % 16777216)
+
+pub names-word-of : (ws : List ℕ) → Checked ws → NamesWord ws
+names-word-of ws c = record { first = omega (arith, long-enough ws (c .pack) (c .reads)); named = record { names = names-word ws } }
 
 -- ---- the kinds
 
@@ -97,9 +109,6 @@ module _ {ws out₀ : List ℕ} (asked : KindsAsked ws out₀) where
 
   same : words p ≡ ws
   same = words-read ws p (asked .checked .reads) .same
-
-  pub short-words : length ws ≤ 8192
-  short-words = let l : length (words p) ≡ length ws = ap length same in omega (arith, words-length p, fine .most)
 
   starts-are : startsIn ws ≡ declared rs
   starts-are = ap startsIn (sym same) ∙ starts-pack p fine
@@ -143,3 +152,39 @@ module _ {ws out₀ : List ℕ} (asked : KindsAsked ws out₀) where
 
 pub few-counted : (ws : List ℕ) → Checked ws → {count : ℕ} → Counted ws count → count ≤ 512
 few-counted ws c k = omega (arith, k .relations (c .pack) (c .reads), parts (c .pack) (words-read ws (c .pack) (c .reads) .fine) .few-relations)
+
+-- ---- one name
+
+module _ {ws : List ℕ} (c : Checked ws) where
+  abbrev the-pack : Pack
+  the-pack = c .pack
+
+  its-words : words the-pack ≡ ws
+  its-words = words-read ws the-pack (c .reads) .same
+
+  is-fine : WellFormed the-pack
+  is-fine = words-read ws the-pack (c .reads) .fine
+
+  pub short-checked : length ws ≤ 8192
+  short-checked = let l : length (words the-pack) ≡ length ws = ap length its-words in omega (arith, words-length the-pack, is-fine .most)
+
+  pub below-most : {n : ℕ} → Named ws n → n ≤ 4096
+  below-most k = omega (arith, k .names the-pack (c .reads), parts the-pack is-fine .most)
+
+  module _ {table : List ℕ} {count : ℕ} (indexed : table ≡ scanFrom 0 0 zeros ws) (k : Counted ws count) where
+    its-index : table ≡ scanFrom 0 0 zeros (words the-pack)
+    its-index = indexed ∙ ap (scanFrom 0 0 zeros) (sym its-words)
+
+    its-fuel : count + 1 ≡ suc (length (declared (the-pack .relations)))
+    its-fuel = add-one count ∙ ap suc (k .relations the-pack (c .reads) ∙ sym (length-map (the-pack .relations) (λ (r : Relation). r .name)))
+
+    pub walkable-own : {name : ℕ} → name < 4096 → Walkable table zeros 0 name (count + 1)
+    walkable-own h =
+        let s = settleable-pack the-pack is-fine in
+        record { name = h; leading = rw its-index (s .leading); marked = s .marked; long = s .long; room = omega (arith, few-counted ws c k) }
+
+    pub own-place : {name r steps : ℕ} {marks : List ℕ} → WalkedHere table zeros 0 name (count + 1) r marks steps → OwnPlace ws name r
+    own-place {name} {r} w =
+        let e : r ≡ placeOf the-pack (ownAnswer (the-pack .relations) name) =
+        w .answers [] (settleable-pack the-pack is-fine .idle) ∙ rw (its-index, its-fuel) (own-found the-pack is-fine name) in
+        record { says = λ q h. e ∙ ap (λ (p : Pack). placeOf p (ownAnswer (p .relations) name)) (same-pack ws (c .reads) h) }

@@ -5,8 +5,8 @@ use mathlib.Core.Path.{_≡_, refl, ap, sym, _∙_}
 use mathlib.Core.List.{List, [], _∷_, _++_, map}
 use lib.ListN.{length, take, drop, length-map}
 use lib.Seq.{length-take-le}
-use lib.Dec.{leb}
-use borrow.Author.Tests.{le-leb, lt-leb}
+use lib.Dec.{ltb, leb}
+use borrow.Author.Tests.{le-leb, lt-leb, le-ltb, lt-ltb}
 use borrow.Rule.Slice.PartMut.{midOf, putMid}
 use Rattle.pack.specs.declared.answer.Refusal.{Refusal}
 use Rattle.pack.specs.declared.answer.Answer.{Answer}
@@ -15,9 +15,9 @@ use Rattle.pack.specs.Table.{pick}
 use Rattle.pack.specs.Pack.{Relation, Pack, Reading, yes, refuse, read}
 use Rattle.pack.specs.Operations.{answer, buffer, noRoom, checkAnswer}
 use Rattle.pack.proofs.RewriteLaws.{accepted}
-use Rattle.chains.specs.Kinds.{allKinds}
-use Rattle.chains.specs.Operations.{allKindsWords, allKindsAnswer, allKindsBuffer, writeAnswer, writeBuffer}
-use Rattle.chains.specs.AllKinds.{Checked, Counted, KindsAsked, KindsLeft, KindsAnswered}
+use Rattle.chains.specs.Kinds.{allKinds, ownAnswer}
+use Rattle.chains.specs.Operations.{placeOf, unknown, kindsOfAnswer, allKindsWords, allKindsAnswer, allKindsBuffer, writeAnswer, writeBuffer}
+use Rattle.chains.specs.AllKinds.{Checked, Counted, Named, OwnPlace, KindsAsked, KindsLeft, KindsAnswered}
 
 -- an answer of Check's
 pub checked : (ws : List ℕ) {a : Answer} {v s : ℕ} → a ≡ checkAnswer ws → a ≡ Given v s → Checked ws
@@ -67,3 +67,19 @@ module _ (ws lent : List ℕ) (c : Checked ws) {count : ℕ} (k : Counted ws cou
         answers = sym (simp (c .reads, one-each, le-leb count (length lent) h, l .counts p (c .reads)));
         leaves = sym (simp (c .reads, one-each, le-leb count (length lent) h, l .holds p (c .reads)));
       }
+
+-- ---- Kinds of one name
+
+module _ (ws : List ℕ) (name : ℕ) where
+  pub name-refused : {a : Answer} {r : Refusal} → a ≡ checkAnswer ws → a ≡ Refused r → a ≡ kindsOfAnswer ws name
+  unfolding kindsOfAnswer
+  name-refused e o = turned-away ws [] e o (λ p. pick (ltb name (p .names)) (Given (placeOf p (ownAnswer (p .relations) name)) 0) (unknown name)) (λ p. []) .0
+
+  module _ (c : Checked ws) {n : ℕ} (k : Named ws n) where
+    pub name-unknown : n ≤ name → unknown name ≡ kindsOfAnswer ws name
+    unfolding kindsOfAnswer
+    name-unknown h = sym (simp (c .reads, ← k .names (c .pack) (c .reads), le-ltb name n h))
+
+    pub name-place : name < n → {place : ℕ} → OwnPlace ws name place → Given place 0 ≡ kindsOfAnswer ws name
+    unfolding kindsOfAnswer
+    name-place h o = sym (simp (c .reads, ← k .names (c .pack) (c .reads), lt-ltb name n h, ← o .says (c .pack) (c .reads)))

@@ -1,12 +1,12 @@
--- What the parts of All kinds promise each other, of words that Check accepts.
+-- What the parts of All kinds and of Kinds of one name promise each other, of words that Check accepts.
 use Prim.Native.Nat.{ℕ}
 use mathlib.Core.Path.{_≡_}
 use mathlib.Core.List.{List}
 use lib.ListN.{length}
 use Rattle.pack.specs.declared.answer.Answer.{Answer}
 use Rattle.pack.specs.Pack.{Pack, yes, read}
-use Rattle.chains.specs.Kinds.{allKinds}
-use Rattle.chains.specs.Operations.{allKindsWords, allKindsAnswer, allKindsBuffer}
+use Rattle.chains.specs.Kinds.{allKinds, ownAnswer}
+use Rattle.chains.specs.Operations.{placeOf, allKindsWords, allKindsAnswer, allKindsBuffer}
 
 -- words that Check accepts, and the pack read from them
 pub record Checked (ws : List ℕ) : Type 0 where
@@ -16,6 +16,14 @@ pub record Checked (ws : List ℕ) : Type 0 where
 -- the number of relations
 pub record Counted (ws : List ℕ) (count : ℕ) : Type 0 where
   pub relations : (p : Pack) → read ws ≡ yes p → count ≡ length (p .relations)
+
+-- the number of names
+pub record Named (ws : List ℕ) (n : ℕ) : Type 0 where
+  pub names : (p : Pack) → read ws ≡ yes p → n ≡ p .names
+
+-- the place of the list that settles a name
+pub record OwnPlace (ws : List ℕ) (name place : ℕ) : Type 0 where
+  pub says : (p : Pack) → read ws ≡ yes p → place ≡ placeOf p (ownAnswer (p .relations) name)
 
 -- a slice with one word for each relation
 pub record KindsAsked (ws out : List ℕ) : Type 0 where

@@ -10,7 +10,7 @@ use pack::kinds::Pack;
 ghost use Rattle.chains.specs.AllKinds.{Checked, Counted, KindsAsked, KindsLeft, KindsAnswered};
 
 // How many relations a checked pack has: the value of its word 5, which follows the defaulted names.
-fn relation_count(pack: &[u32]) -> usize
+pub fn relation_count(pack: &[u32]) -> usize
     requires { ⌜ Checked (now pack) ⌝ }
     ensures { λ r. ⌜ Counted (now (pack .entry)) r ⌝ }
 {

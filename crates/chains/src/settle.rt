@@ -26,7 +26,13 @@ fn read_name(table: &[u32; 4096], n: usize, steps: &mut u32) -> u32
 }
 
 // The walk from a name: its answer. A name on the path is a ring.
-fn walk(table: &[u32; 4096], marks: &mut [u32; 4096], steps: &mut u32, n: usize, fuel: u32) -> u32
+pub fn walk(
+    table: &[u32; 4096],
+    marks: &mut [u32; 4096],
+    steps: &mut u32,
+    n: usize,
+    fuel: u32,
+) -> u32
     requires { ⌜ Walkable (now table) (now marks) (now steps) n fuel ⌝ }
     ensures { λ r. ⌜ WalkedHere (now (table .entry)) (now (marks .entry)) (now (steps .entry)) n fuel r (now (marks .exit)) (now (steps .exit)) ⌝ }
 {

@@ -1,12 +1,12 @@
 -- `chains::all_kinds::settle_kinds` meets its contract.
 use native.Mathlib.Omega.{arith}
-use Rattle.chains.proofs.CheckedLaws.{short-words, starts-fit, count-small, settleable, placeable, kinds-left}
+use Rattle.chains.proofs.CheckedLaws.{short-checked, starts-fit, count-small, settleable, placeable, kinds-left}
 use borrow.Author.Needs.{needs}
 use Rattle.chains.proofs.all_kinds.settle_kinds.Statement.{statement}
 use Rattle.chains.proofs.all_kinds.settle_kinds.Tie as tie
 
 index-requires : tie.Need-index-requires
-index-requires c κs = short-words (c .before .before .before .pre)
+index-requires c κs = short-checked ((c .before .before .before .pre) .checked)
 
 starts-requires : tie.Need-starts-requires
 starts-requires c κs = starts-fit (c .before .before .before .before .before .pre)

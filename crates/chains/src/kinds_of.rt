@@ -1,0 +1,59 @@
+// Kinds of one name: those of its own walk.
+use crate::all_kinds::relation_count;
+use crate::index::index;
+use crate::settle::walk;
+use pack::answer::Answer;
+use pack::answer::Refusal;
+use pack::check::check;
+use pack::kinds::Pack;
+ghost use mathlib.Core.Path.{_≡_};
+ghost use Prim.Native.Nat.{_<_};
+ghost use Rattle.chains.specs.Operations.{unknown, kindsOfAnswer};
+ghost use Rattle.chains.specs.AllKinds.{Checked, Named, OwnPlace};
+
+// N of a checked pack.
+pub fn name_count(pack: &[u32]) -> u32
+    requires { ⌜ Checked (now pack) ⌝ }
+    ensures { λ r. ⌜ Named (now (pack .entry)) r ⌝ }
+{
+    pack[1] % Pack::VALUES
+}
+
+// The refusal of a name that is not below N.
+pub fn unknown_name(name: u32) -> Answer
+    ensures { λ r. ⌜ r ≡ unknown name ⌝ }
+{
+    Answer::Refused(Refusal {
+        number: 17,
+        place: 0,
+        name,
+        other: 0,
+    })
+}
+
+// The place of the list that settles a name in its own walk.
+fn own_place(pack: &[u32], name: usize) -> u32
+    requires { ⌜ Checked (now pack) × (name < 4096) ⌝ }
+    ensures { λ r. ⌜ OwnPlace (now (pack .entry)) name r ⌝ }
+{
+    let mut table = [0u32; 4096];
+    let mut marks = [0u32; 4096];
+    let mut steps: u32 = 0;
+    index(pack, &mut table);
+    let count = relation_count(pack);
+    walk(&table, &mut marks, &mut steps, name, count as u32 + 1)
+}
+
+// The place of the list that settles a name, 0 for none.
+pub fn kinds_of(pack: &[u32], name: u32) -> Answer
+    ensures { λ r. ⌜ r ≡ kindsOfAnswer (now (pack .entry)) name ⌝ }
+{
+    let a = check(pack);
+    let Answer::Given(_, _) = a else {
+        return a;
+    };
+    if name_count(pack) <= name {
+        return unknown_name(name);
+    }
+    Answer::Given(own_place(pack, name as usize), 0)
+}
