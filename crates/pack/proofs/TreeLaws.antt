@@ -129,6 +129,19 @@ pub judgment-row : (v k : ℕ) → 97 ≤ k → k < 101 → Row k v judgment
 unfolding entryOf table fieldsOf childrenOf
 judgment-row v k lo hi = row 97 4 judgment v refl refl k lo hi
 
+-- the children of the kinds 66 to 70
+pub child-one : (k v : ℕ) → k ≡ 66 → 1 ≡ howMany (entryOf k .follows) v
+unfolding entryOf table
+child-one k v e = rw e refl
+
+pub child-two : (k v : ℕ) → k ≡ 67 → 2 ≡ howMany (entryOf k .follows) v
+unfolding entryOf table
+child-two k v e = rw e refl
+
+pub child-many : (k v : ℕ) → 66 ≤ k → k ≤ 70 → (k ≡ 66 → ⊥) → (k ≡ 67 → ⊥) → v ≡ howMany (entryOf k .follows) v
+unfolding entryOf table
+child-many k v lo hi y z = agree (λ k. v) (λ k. howMany (entryOf k .follows) v) 68 3 refl k (omega arith) (omega arith)
+
 -- a kind that nothing follows
 pub record Leaf (k v : ℕ) : Type 0 where
   pub bare : fieldsOf (entryOf k .follows) ≡ []
