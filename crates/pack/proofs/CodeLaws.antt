@@ -137,9 +137,9 @@ unfolding stepOf
 kept turned n f ws at s = rw (s .found)
 
 -- a head word that was read
-pub record Turn (left : ℕ) (ws : List ℕ) (at x : ℕ) : Type 0 where
+pub record Turn (left : ℕ) (ws : List ℕ) (at : ℕ) : Type 0 where
   pub inside : at < length ws
-  pub on : x ≡ at + 1
+  pub past : at + 1 ≤ length ws
   pub level : 1 ≤ left
 
 -- a row that is being walked: its place, the levels left, and what is left answers the whole
@@ -152,11 +152,13 @@ module _ (n sort left : ℕ) (ws : List ℕ) (at : ℕ) {x : ℕ} (e : x ≡ cod
   abbrev begin : Form (ℕ × ℕ)
   begin = word (heads sort left) n
 
-  whole-head : at ≤ length ws → x < 65536 → stepOf wholeWord begin ws at ≡ On (getD ws at 0) (record { at = x })
-  whole-head l h = kept (heads sort left) n wholeWord ws at (code-stands (heads sort left) n ws at e l h) ∙ ap (λ (w : ℕ). On w (record { at = x })) (whole-word (getD ws at 0))
+  whole-head : at ≤ length ws → x < 65536 → stepOf wholeWord begin ws at ≡ On (getD ws at 0) (record { at = at + 1 })
+  whole-head l h =
+      let s = code-stands (heads sort left) n ws at e l h in
+      kept (heads sort left) n wholeWord ws at s ∙ rw (whole-word (getD ws at 0), s .on) refl
 
-  pub turn : at ≤ length ws → x < 65536 → Turn left ws at x
-  turn l h = let s = code-stands (heads sort left) n ws at e l h in record { inside = s .inside; on = s .on; level = level-left n sort ws at left refl (whole-head l h) }
+  pub turn : at ≤ length ws → x < 65536 → Turn left ws at
+  turn l h = let s = code-stands (heads sort left) n ws at e l h in record { inside = s .inside; past = omega (arith, s .inside); level = level-left n sort ws at left refl (whole-head l h) }
 
   -- a row of trees from its first head word on
   module _ (most : length ws ≤ 8192) (l : at ≤ length ws) (m : ℕ) (more : 0 < m) where
@@ -173,26 +175,26 @@ module _ (n sort left : ℕ) (ws : List ℕ) (at : ℕ) {x : ℕ} (e : x ≡ cod
       abbrev after : Form (List (ℕ × ℕ) × List Tree)
       after = follow n (tree n (left - 1)) (entryOf (kindOf (getD ws at 0)) .follows) (valueOf (getD ws at 0))
 
-      goes : {y : Step} → y ≡ walk after ws x → y ≡ walk (tree n left sort) ws at
+      goes : {y : Step} → y ≡ walk after ws (at + 1) → y ≡ walk (tree n left sort) ws at
       goes = tree-rest n sort ws at left refl (whole-head l h)
 
-      pub row-leaf : Leaf (kindOf (getD ws at 0)) (valueOf (getD ws at 0)) → walk (row-of left m) ws at ≡ walk (row-of left (m - 1)) ws x
+      pub row-leaf : Leaf (kindOf (getD ws at 0)) (valueOf (getD ws at 0)) → walk (row-of left m) ws at ≡ walk (row-of left (m - 1)) ws (at + 1)
       row-leaf f =
           many-next (tree n left) sort ws at m more (λ a. 0) refl
-          (sym (goes (by-leaf n (tree n (left - 1)) (valueOf (getD ws at 0)) ws x (kindOf (getD ws at 0)) f (each-done (tree n (left - 1)) ws x 0))))
+          (sym (goes (by-leaf n (tree n (left - 1)) (valueOf (getD ws at 0)) ws (at + 1) (kindOf (getD ws at 0)) f (each-done (tree n (left - 1)) ws (at + 1) 0))))
 
       pub row-last : m ≡ 1 → {k : ℕ} → Row (kindOf (getD ws at 0)) (valueOf (getD ws at 0)) sort → k ≡ howMany (entryOf (kindOf (getD ws at 0)) .follows) (valueOf (getD ws at 0))
-          → walk (row-of left m) ws at ≡ walk (row-of (left - 1) k) ws x
-      row-last o r q = rw o (sym (each-last (tree n left) ws at sort (λ a. 0) (λ a. 0) (λ a. refl) (goes (by-row n (tree n (left - 1)) (valueOf (getD ws at 0)) ws x (kindOf (getD ws at 0)) sort r q refl))))
+          → walk (row-of left m) ws at ≡ walk (row-of (left - 1) k) ws (at + 1)
+      row-last o r q = rw o (sym (each-last (tree n left) ws at sort (λ a. 0) (λ a. 0) (λ a. refl) (goes (by-row n (tree n (left - 1)) (valueOf (getD ws at 0)) ws (at + 1) (kindOf (getD ws at 0)) sort r q refl))))
 
-      module _ {y : ℕ} (q : y ≡ coded (walk after ws x)) where
+      module _ {y : ℕ} (q : y ≡ coded (walk after ws (at + 1))) where
         pub node-stop : 65536 ≤ y → y ≡ coded (walk (row-of left m) ws at)
         node-stop z =
-            let o = code-stop after ws x q (code-within begin ws at e l h) most z .1 in
+            let o = code-stop after ws (at + 1) q (turn l h .past) most z .1 in
             code-as q (goes refl ∙ many-stop (tree n left) sort ws at m more (λ a. 0) refl (sym (goes refl) ∙ o))
 
         pub node-on : y < 65536 → walk (row-of left m) ws at ≡ walk (row-of left (m - 1)) ws y
-        node-on z = many-next (tree n left) sort ws at m more (λ a. 0) refl (sym (goes refl) ∙ code-on after ws x q z)
+        node-on z = many-next (tree n left) sort ws at m more (λ a. 0) refl (sym (goes refl) ∙ code-on after ws (at + 1) q z)
 
 -- one for each entry of a list, where the first one's code is known
 module _ {X A : Type 0} (F : X → Form A) (x : X) (xs : List X) (ws : List ℕ) (at : ℕ) {v : ℕ} (e : v ≡ coded (walk (F x) ws at)) where

@@ -127,14 +127,14 @@ fn scalars(s: &[u32], t: &[u32; 256], start: usize, n: u32, count: u32, levels: 
         }
         let w = s[at];
         let kind = w / Pack::VALUES;
-        at = next;
+        at += 1;
         k -= 1;
         if Pack::ONE_CHILD <= kind {
             if k == 0 && kind <= Pack::MAX {
                 k = children(kind, w % Pack::VALUES);
                 left -= 1;
             } else {
-                at = rest(s, t, next, n, w, left - 1);
+                at = rest(s, t, at, n, w, left - 1);
                 if Pack::CODES <= at {
                     return at;
                 }
@@ -157,10 +157,10 @@ fn judgments(s: &[u32], t: &[u32; 256], start: usize, n: u32, count: u32, left: 
             return next;
         }
         let w = s[at];
-        at = next;
+        at += 1;
         k -= 1;
         if w / Pack::VALUES <= Pack::EXISTS {
-            at = rest(s, t, next, n, w, left - 1);
+            at = rest(s, t, at, n, w, left - 1);
             if Pack::CODES <= at {
                 return at;
             }

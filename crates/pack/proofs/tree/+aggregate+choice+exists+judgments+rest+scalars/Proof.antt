@@ -211,6 +211,9 @@ judgments-mul-w t c = let u = turn _ _ _ _ _ (c .before .head .ensures) (c .befo
 judgments-shared-slice-read-w : (t : ℕ) → judgments-lts.Need-shared-slice-read-w (judgments-calls t) (judgments-at t) judgments.Post judgments-Inv-loop judgments-μ-loop
 judgments-shared-slice-read-w t c = (turn _ _ _ _ _ (c .before .before .head .ensures) (c .before .before .before .before .loop .inv .there) (c .before .if1 .left)) .inside
 
+judgments-add-at : (t : ℕ) → judgments-lts.Need-add-at (judgments-calls t) (judgments-at t) judgments.Post judgments-Inv-loop judgments-μ-loop
+judgments-add-at t c = search needs
+
 judgments-sub-k : (t : ℕ) → judgments-lts.Need-sub-k (judgments-calls t) (judgments-at t) judgments.Post judgments-Inv-loop judgments-μ-loop
 judgments-sub-k t c = search needs
 
@@ -218,22 +221,22 @@ judgments-sub-rest : (t : ℕ) → judgments-lts.Need-sub-rest (judgments-calls 
 judgments-sub-rest t c = (turn _ _ _ _ _ (c .before .before .before .head .ensures) (c .before .before .before .before .before .loop .inv .there) (c .before .before .if1 .left)) .level
 
 judgments-rest-requires : (t : ℕ) → judgments-lts.Need-rest-requires (judgments-calls t) (judgments-at t) judgments.Post judgments-Inv-loop judgments-μ-loop
-judgments-rest-requires t c κs = let u = turn _ _ _ _ _ (c .before .before .before .head .ensures) (c .before .before .before .before .before .loop .inv .there) (c .before .before .if1 .left) in (omega (arith, u .level, (c .before .before .before .before .before .loop .inv .deep)), ((c .before .before .before .before .before .before .before .pre .1 .0), omega (arith, u .inside, u .on)))
+judgments-rest-requires t c κs = let u = turn _ _ _ _ _ (c .before .before .before .head .ensures) (c .before .before .before .before .before .loop .inv .there) (c .before .before .if1 .left) in (omega (arith, u .level, (c .before .before .before .before .before .loop .inv .deep)), ((c .before .before .before .before .before .before .before .pre .1 .0), omega (arith, u .inside)))
 
 judgments-returns-2 : (t : ℕ) → judgments-lts.Need-returns-2 (judgments-calls t) (judgments-at t) judgments.Post judgments-Inv-loop judgments-μ-loop
 judgments-returns-2 t c = code-as (node-stop _ _ _ _ _ (c .before .before .before .before .before .head .ensures) (c .before .before .before .before .before .before .before .before .before .pre .1 .0 .most) (c .before .before .before .before .before .before .before .loop .inv .there) (c .before .before .before .before .before .before .before .loop .k) (omega arith) (c .before .before .before .before .if1 .left) (c .before .rest .ensures) (c .if3 .taken)) (sym (c .before .before .before .before .before .before .before .loop .inv .same))
 
 judgments-loop-less : (t : ℕ) → judgments-lts.Need-loop-less (judgments-calls t) (judgments-at t) judgments.Post judgments-Inv-loop judgments-μ-loop
-judgments-loop-less t c = let u = turn _ _ _ _ _ (c .before .before .before .before .before .head .ensures) (c .before .before .before .before .before .before .before .loop .inv .there) (c .before .before .before .before .if1 .left) in omega (arith, u .inside, u .on, code-forward _ _ _ (c .before .rest .ensures) (c .if3 .left))
+judgments-loop-less t c = let u = turn _ _ _ _ _ (c .before .before .before .before .before .head .ensures) (c .before .before .before .before .before .before .before .loop .inv .there) (c .before .before .before .before .if1 .left) in omega (arith, u .inside, code-forward _ _ _ (c .before .rest .ensures) (c .if3 .left))
 
 judgments-loop-again : (t : ℕ) → judgments-lts.Need-loop-again (judgments-calls t) (judgments-at t) judgments.Post judgments-Inv-loop judgments-μ-loop
-judgments-loop-again t c = record { there = code-within _ _ _ (c .before .rest .ensures) (code-within _ _ _ (c .before .before .before .before .before .head .ensures) (c .before .before .before .before .before .before .before .loop .inv .there) (c .before .before .before .before .if1 .left)) (c .if3 .left); deep = (c .before .before .before .before .before .before .before .loop .inv .deep); same = (c .before .before .before .before .before .before .before .loop .inv .same) ∙ node-on _ _ _ _ _ (c .before .before .before .before .before .head .ensures) (c .before .before .before .before .before .before .before .before .before .pre .1 .0 .most) (c .before .before .before .before .before .before .before .loop .inv .there) (c .before .before .before .before .before .before .before .loop .k) (omega arith) (c .before .before .before .before .if1 .left) (c .before .rest .ensures) (c .if3 .left) }
+judgments-loop-again t c = record { there = code-within _ _ _ (c .before .rest .ensures) ((turn _ _ _ _ _ (c .before .before .before .before .before .head .ensures) (c .before .before .before .before .before .before .before .loop .inv .there) (c .before .before .before .before .if1 .left)) .past) (c .if3 .left); deep = (c .before .before .before .before .before .before .before .loop .inv .deep); same = (c .before .before .before .before .before .before .before .loop .inv .same) ∙ node-on _ _ _ _ _ (c .before .before .before .before .before .head .ensures) (c .before .before .before .before .before .before .before .before .before .pre .1 .0 .most) (c .before .before .before .before .before .before .before .loop .inv .there) (c .before .before .before .before .before .before .before .loop .k) (omega arith) (c .before .before .before .before .if1 .left) (c .before .rest .ensures) (c .if3 .left) }
 
 judgments-loop-less-2 : (t : ℕ) → judgments-lts.Need-loop-less-2 (judgments-calls t) (judgments-at t) judgments.Post judgments-Inv-loop judgments-μ-loop
-judgments-loop-less-2 t c = let u = turn _ _ _ _ _ (c .before .before .before .head .ensures) (c .before .before .before .before .before .loop .inv .there) (c .before .before .if1 .left) in omega (arith, u .inside, u .on)
+judgments-loop-less-2 t c = let u = turn _ _ _ _ _ (c .before .before .before .head .ensures) (c .before .before .before .before .before .loop .inv .there) (c .before .before .if1 .left) in omega (arith, u .inside)
 
 judgments-loop-again-2 : (t : ℕ) → judgments-lts.Need-loop-again-2 (judgments-calls t) (judgments-at t) judgments.Post judgments-Inv-loop judgments-μ-loop
-judgments-loop-again-2 t c = record { there = code-within _ _ _ (c .before .before .before .head .ensures) (c .before .before .before .before .before .loop .inv .there) (c .before .before .if1 .left); deep = (c .before .before .before .before .before .loop .inv .deep); same = (c .before .before .before .before .before .loop .inv .same) ∙ row-leaf _ _ _ _ _ (c .before .before .before .head .ensures) (c .before .before .before .before .before .before .before .pre .1 .0 .most) (c .before .before .before .before .before .loop .inv .there) (c .before .before .before .before .before .loop .k) (omega arith) (c .before .before .if1 .left) (leaf-last (valueOf (getD (c .before .before .before .before .before .before .before .args .s .now) (c .before .before .before .before .before .loop .at) 0)) (kindOf (getD (c .before .before .before .before .before .before .before .args .s .now) (c .before .before .before .before .before .loop .at) 0)) (c .if2 .left) (omega (arith, (c .before .shared-slice-known2 .given) (c .before .before .before .before .before .loop .at)))) }
+judgments-loop-again-2 t c = record { there = (turn _ _ _ _ _ (c .before .before .before .head .ensures) (c .before .before .before .before .before .loop .inv .there) (c .before .before .if1 .left)) .past; deep = (c .before .before .before .before .before .loop .inv .deep); same = (c .before .before .before .before .before .loop .inv .same) ∙ row-leaf _ _ _ _ _ (c .before .before .before .head .ensures) (c .before .before .before .before .before .before .before .pre .1 .0 .most) (c .before .before .before .before .before .loop .inv .there) (c .before .before .before .before .before .loop .k) (omega arith) (c .before .before .if1 .left) (leaf-last (valueOf (getD (c .before .before .before .before .before .before .before .args .s .now) (c .before .before .before .before .before .loop .at) 0)) (kindOf (getD (c .before .before .before .before .before .before .before .args .s .now) (c .before .before .before .before .before .loop .at) 0)) (c .if2 .left) (omega (arith, (c .before .shared-slice-known2 .given) (c .before .before .before .before .before .loop .at)))) }
 
 judgments-returns-3 : (t : ℕ) → judgments-lts.Need-returns-3 (judgments-calls t) (judgments-at t) judgments.Post judgments-Inv-loop judgments-μ-loop
 judgments-returns-3 t c = row-done _ _ _ _ (c .before .loop .k) (omega arith) (c .before .loop .inv .same)
@@ -332,6 +335,9 @@ scalars-mul-w t c = let u = turn _ _ _ _ _ (c .before .head .ensures) (c .before
 scalars-shared-slice-read-w : (t : ℕ) → scalars-lts.Need-shared-slice-read-w (scalars-calls t) (scalars-at t) scalars.Post scalars-Inv-loop scalars-μ-loop
 scalars-shared-slice-read-w t c = (turn _ _ _ _ _ (c .before .before .head .ensures) (c .before .before .before .before .loop .inv .there) (c .before .if1 .left)) .inside
 
+scalars-add-at : (t : ℕ) → scalars-lts.Need-add-at (scalars-calls t) (scalars-at t) scalars.Post scalars-Inv-loop scalars-μ-loop
+scalars-add-at t c = search needs
+
 scalars-sub-k : (t : ℕ) → scalars-lts.Need-sub-k (scalars-calls t) (scalars-at t) scalars.Post scalars-Inv-loop scalars-μ-loop
 scalars-sub-k t c = search needs
 
@@ -342,31 +348,31 @@ scalars-sub-left : (t : ℕ) → scalars-lts.Need-sub-left (scalars-calls t) (sc
 scalars-sub-left t c = (turn _ _ _ _ _ (c .before .before .before .before .before .before .head .ensures) (c .before .before .before .before .before .before .before .before .loop .inv .there) (c .before .before .before .before .before .if1 .left)) .level
 
 scalars-loop-less : (t : ℕ) → scalars-lts.Need-loop-less (scalars-calls t) (scalars-at t) scalars.Post scalars-Inv-loop scalars-μ-loop
-scalars-loop-less t c = let u = turn _ _ _ _ _ (c .before .before .before .before .before .before .head .ensures) (c .before .before .before .before .before .before .before .before .loop .inv .there) (c .before .before .before .before .before .if1 .left) in omega (arith, u .inside, u .on)
+scalars-loop-less t c = let u = turn _ _ _ _ _ (c .before .before .before .before .before .before .head .ensures) (c .before .before .before .before .before .before .before .before .loop .inv .there) (c .before .before .before .before .before .if1 .left) in omega (arith, u .inside)
 
 scalars-loop-again : (t : ℕ) → scalars-lts.Need-loop-again (scalars-calls t) (scalars-at t) scalars.Post scalars-Inv-loop scalars-μ-loop
-scalars-loop-again t c = let u = turn _ _ _ _ _ (c .before .before .before .before .before .before .head .ensures) (c .before .before .before .before .before .before .before .before .loop .inv .there) (c .before .before .before .before .before .if1 .left) in record { there = omega (arith, u .inside, u .on); deep = omega (arith, (c .before .before .before .before .before .before .before .before .loop .inv .deep)); same = (c .before .before .before .before .before .before .before .before .loop .inv .same) ∙ row-last _ _ _ _ _ (c .before .before .before .before .before .before .head .ensures) (c .before .before .before .before .before .before .before .before .before .before .pre .1 .0 .most) (c .before .before .before .before .before .before .before .before .loop .inv .there) (c .before .before .before .before .before .before .before .before .loop .k) (omega arith) (c .before .before .before .before .before .if1 .left) (omega arith) (scalar-row (valueOf (getD (c .before .before .before .before .before .before .before .before .before .before .args .s .now) (c .before .before .before .before .before .before .before .before .loop .at) 0)) (kindOf (getD (c .before .before .before .before .before .before .before .before .before .before .args .s .now) (c .before .before .before .before .before .before .before .before .loop .at) 0)) (omega arith) (omega (arith, leb-true (kindOf (getD (c .before .before .before .before .before .before .before .before .before .before .args .s .now) (c .before .before .before .before .before .before .before .before .loop .at) 0)) 70 (c .before .if4 .taken))) (λ z. omega (arith, leb-true (kindOf (getD (c .before .before .before .before .before .before .before .before .before .before .args .s .now) (c .before .before .before .before .before .before .before .before .loop .at) 0)) 70 (c .before .if4 .taken)))) (c .children .ensures) }
+scalars-loop-again t c = let u = turn _ _ _ _ _ (c .before .before .before .before .before .before .head .ensures) (c .before .before .before .before .before .before .before .before .loop .inv .there) (c .before .before .before .before .before .if1 .left) in record { there = omega (arith, u .inside); deep = omega (arith, (c .before .before .before .before .before .before .before .before .loop .inv .deep)); same = (c .before .before .before .before .before .before .before .before .loop .inv .same) ∙ row-last _ _ _ _ _ (c .before .before .before .before .before .before .head .ensures) (c .before .before .before .before .before .before .before .before .before .before .pre .1 .0 .most) (c .before .before .before .before .before .before .before .before .loop .inv .there) (c .before .before .before .before .before .before .before .before .loop .k) (omega arith) (c .before .before .before .before .before .if1 .left) (omega arith) (scalar-row (valueOf (getD (c .before .before .before .before .before .before .before .before .before .before .args .s .now) (c .before .before .before .before .before .before .before .before .loop .at) 0)) (kindOf (getD (c .before .before .before .before .before .before .before .before .before .before .args .s .now) (c .before .before .before .before .before .before .before .before .loop .at) 0)) (omega arith) (omega (arith, leb-true (kindOf (getD (c .before .before .before .before .before .before .before .before .before .before .args .s .now) (c .before .before .before .before .before .before .before .before .loop .at) 0)) 70 (c .before .if4 .taken))) (λ z. omega (arith, leb-true (kindOf (getD (c .before .before .before .before .before .before .before .before .before .before .args .s .now) (c .before .before .before .before .before .before .before .before .loop .at) 0)) 70 (c .before .if4 .taken)))) (c .children .ensures) }
 
 scalars-sub-rest : (t : ℕ) → scalars-lts.Need-sub-rest (scalars-calls t) (scalars-at t) scalars.Post scalars-Inv-loop scalars-μ-loop
 scalars-sub-rest t c = (turn _ _ _ _ _ (c .before .before .before .before .head .ensures) (c .before .before .before .before .before .before .loop .inv .there) (c .before .before .before .if1 .left)) .level
 
 scalars-rest-requires : (t : ℕ) → scalars-lts.Need-rest-requires (scalars-calls t) (scalars-at t) scalars.Post scalars-Inv-loop scalars-μ-loop
-scalars-rest-requires t c κs = let u = turn _ _ _ _ _ (c .before .before .before .before .head .ensures) (c .before .before .before .before .before .before .loop .inv .there) (c .before .before .before .if1 .left) in (omega (arith, u .level, (c .before .before .before .before .before .before .loop .inv .deep)), ((c .before .before .before .before .before .before .before .before .pre .1 .0), omega (arith, u .inside, u .on)))
+scalars-rest-requires t c κs = let u = turn _ _ _ _ _ (c .before .before .before .before .head .ensures) (c .before .before .before .before .before .before .loop .inv .there) (c .before .before .before .if1 .left) in (omega (arith, u .level, (c .before .before .before .before .before .before .loop .inv .deep)), ((c .before .before .before .before .before .before .before .before .pre .1 .0), omega (arith, u .inside)))
 
 scalars-returns-2 : (t : ℕ) → scalars-lts.Need-returns-2 (scalars-calls t) (scalars-at t) scalars.Post scalars-Inv-loop scalars-μ-loop
 scalars-returns-2 t c = code-as (node-stop _ _ _ _ _ (c .before .before .before .before .before .before .head .ensures) (c .before .before .before .before .before .before .before .before .before .before .pre .1 .0 .most) (c .before .before .before .before .before .before .before .before .loop .inv .there) (c .before .before .before .before .before .before .before .before .loop .k) (omega arith) (c .before .before .before .before .before .if1 .left) (c .before .rest .ensures) (c .if5 .taken)) (sym (c .before .before .before .before .before .before .before .before .loop .inv .same))
 
 scalars-loop-less-2 : (t : ℕ) → scalars-lts.Need-loop-less-2 (scalars-calls t) (scalars-at t) scalars.Post scalars-Inv-loop scalars-μ-loop
-scalars-loop-less-2 t c = let u = turn _ _ _ _ _ (c .before .before .before .before .before .before .head .ensures) (c .before .before .before .before .before .before .before .before .loop .inv .there) (c .before .before .before .before .before .if1 .left) in omega (arith, u .inside, u .on, code-forward _ _ _ (c .before .rest .ensures) (c .if5 .left))
+scalars-loop-less-2 t c = let u = turn _ _ _ _ _ (c .before .before .before .before .before .before .head .ensures) (c .before .before .before .before .before .before .before .before .loop .inv .there) (c .before .before .before .before .before .if1 .left) in omega (arith, u .inside, code-forward _ _ _ (c .before .rest .ensures) (c .if5 .left))
 
 scalars-loop-again-2 : (t : ℕ) → scalars-lts.Need-loop-again-2 (scalars-calls t) (scalars-at t) scalars.Post scalars-Inv-loop scalars-μ-loop
-scalars-loop-again-2 t c = record { there = code-within _ _ _ (c .before .rest .ensures) (code-within _ _ _ (c .before .before .before .before .before .before .head .ensures) (c .before .before .before .before .before .before .before .before .loop .inv .there) (c .before .before .before .before .before .if1 .left)) (c .if5 .left); deep = (c .before .before .before .before .before .before .before .before .loop .inv .deep); same = (c .before .before .before .before .before .before .before .before .loop .inv .same) ∙ node-on _ _ _ _ _ (c .before .before .before .before .before .before .head .ensures) (c .before .before .before .before .before .before .before .before .before .before .pre .1 .0 .most) (c .before .before .before .before .before .before .before .before .loop .inv .there) (c .before .before .before .before .before .before .before .before .loop .k) (omega arith) (c .before .before .before .before .before .if1 .left) (c .before .rest .ensures) (c .if5 .left) }
+scalars-loop-again-2 t c = record { there = code-within _ _ _ (c .before .rest .ensures) ((turn _ _ _ _ _ (c .before .before .before .before .before .before .head .ensures) (c .before .before .before .before .before .before .before .before .loop .inv .there) (c .before .before .before .before .before .if1 .left)) .past) (c .if5 .left); deep = (c .before .before .before .before .before .before .before .before .loop .inv .deep); same = (c .before .before .before .before .before .before .before .before .loop .inv .same) ∙ node-on _ _ _ _ _ (c .before .before .before .before .before .before .head .ensures) (c .before .before .before .before .before .before .before .before .before .before .pre .1 .0 .most) (c .before .before .before .before .before .before .before .before .loop .inv .there) (c .before .before .before .before .before .before .before .before .loop .k) (omega arith) (c .before .before .before .before .before .if1 .left) (c .before .rest .ensures) (c .if5 .left) }
 
 scalars-loop-less-3 : (t : ℕ) → scalars-lts.Need-loop-less-3 (scalars-calls t) (scalars-at t) scalars.Post scalars-Inv-loop scalars-μ-loop
-scalars-loop-less-3 t c = let u = turn _ _ _ _ _ (c .before .before .before .head .ensures) (c .before .before .before .before .before .loop .inv .there) (c .before .before .if1 .left) in omega (arith, u .inside, u .on)
+scalars-loop-less-3 t c = let u = turn _ _ _ _ _ (c .before .before .before .head .ensures) (c .before .before .before .before .before .loop .inv .there) (c .before .before .if1 .left) in omega (arith, u .inside)
 
 scalars-loop-again-3 : (t : ℕ) → scalars-lts.Need-loop-again-3 (scalars-calls t) (scalars-at t) scalars.Post scalars-Inv-loop scalars-μ-loop
-scalars-loop-again-3 t c = record { there = code-within _ _ _ (c .before .before .before .head .ensures) (c .before .before .before .before .before .loop .inv .there) (c .before .before .if1 .left); deep = (c .before .before .before .before .before .loop .inv .deep); same = (c .before .before .before .before .before .loop .inv .same) ∙ row-leaf _ _ _ _ _ (c .before .before .before .head .ensures) (c .before .before .before .before .before .before .before .pre .1 .0 .most) (c .before .before .before .before .before .loop .inv .there) (c .before .before .before .before .before .loop .k) (omega arith) (c .before .before .if1 .left) (leaf-low (valueOf (getD (c .before .before .before .before .before .before .before .args .s .now) (c .before .before .before .before .before .loop .at) 0)) (kindOf (getD (c .before .before .before .before .before .before .before .args .s .now) (c .before .before .before .before .before .loop .at) 0)) (c .if2 .left)) }
+scalars-loop-again-3 t c = record { there = (turn _ _ _ _ _ (c .before .before .before .head .ensures) (c .before .before .before .before .before .loop .inv .there) (c .before .before .if1 .left)) .past; deep = (c .before .before .before .before .before .loop .inv .deep); same = (c .before .before .before .before .before .loop .inv .same) ∙ row-leaf _ _ _ _ _ (c .before .before .before .head .ensures) (c .before .before .before .before .before .before .before .pre .1 .0 .most) (c .before .before .before .before .before .loop .inv .there) (c .before .before .before .before .before .loop .k) (omega arith) (c .before .before .if1 .left) (leaf-low (valueOf (getD (c .before .before .before .before .before .before .before .args .s .now) (c .before .before .before .before .before .loop .at) 0)) (kindOf (getD (c .before .before .before .before .before .before .before .args .s .now) (c .before .before .before .before .before .loop .at) 0)) (c .if2 .left)) }
 
 scalars-returns-3 : (t : ℕ) → scalars-lts.Need-returns-3 (scalars-calls t) (scalars-at t) scalars.Post scalars-Inv-loop scalars-μ-loop
 scalars-returns-3 t c = row-done _ _ _ _ (c .before .loop .k) (omega arith) (c .before .loop .inv .same)
@@ -408,6 +414,7 @@ pub +aggregate+choice+exists+judgments+rest+scalars-spec : {M : Type 1} → stat
     (judgments-returns t)
     (judgments-mul-w t)
     (judgments-shared-slice-read-w t)
+    (judgments-add-at t)
     (judgments-sub-k t)
     (judgments-sub-rest t)
     (judgments-rest-requires t)
@@ -450,6 +457,7 @@ pub +aggregate+choice+exists+judgments+rest+scalars-spec : {M : Type 1} → stat
     (scalars-returns t)
     (scalars-mul-w t)
     (scalars-shared-slice-read-w t)
+    (scalars-add-at t)
     (scalars-sub-k t)
     (scalars-children-requires t)
     (scalars-sub-left t)
