@@ -22,7 +22,7 @@ use Rattle.pack.specs.Tree.{Tree, heads, lastField, fields, follow, tree
 use Rattle.pack.specs.Steps.{stepBy, stepOf, walk, wholeWord, coded, decoded}
 use Rattle.pack.proofs.FormLaws.{Took, Lawful, lawful}
 use Rattle.pack.proofs.StepLaws.{Went, went, word-ended, word-there, word-stop, word-turned, word-value, word-on, step-no, last-stop, each-done, each-stop, by-each, each-last, then-stop, by-then, by-kept, many-done, many-stop, many-next}
-use Rattle.pack.proofs.TreeLaws.{whole-word, tree-stop, tree-rest, level-left, Row, by-row, Leaf, by-leaf}
+use Rattle.pack.proofs.TreeLaws.{whole-word, head-sort, tree-stop, tree-rest, level-left, Row, by-row, Leaf, by-leaf}
 
 -- what was read stood among the words
 stood-there : {A : Type 0} (F : Form A) (at : ℕ) (ws : List ℕ) {a : A} {at′ : ℕ} {rest : List ℕ} → readBy F at ws ≡ got a at′ rest → at′ + length rest ≡ at + length ws
@@ -132,15 +132,28 @@ code-stands turned n ws at {x} e l h =
     let g : valueOf (getD ws at 0) ≡ t .value .1 = omega (arith, v, t .fine .1 .0) in
     record { inside = i; on = b .on; found = rw (f, g) (t .found) }
 
+-- the place after it, as the code counts on
+pub record Moved (turned : ℕ → ℕ) (n : ℕ) (ws : List ℕ) (at to : ℕ) : Type 0 where
+  pub same : to ≡ coded (walk (word turned n) ws at)
+  pub small : to < 65536
+  pub there : to ≤ length ws
+
+pub moved : (turned : ℕ → ℕ) (n : ℕ) (ws : List ℕ) (at : ℕ) {x : ℕ} → x ≡ coded (walk (word turned n) ws at) → length ws ≤ 8192 → at ≤ length ws → x < 65536 → (to : ℕ) → to ≡ at + 1 → Moved turned n ws at to
+moved turned n ws at e most l h to q =
+    let s = code-stands turned n ws at e l h in
+    let z : to ≤ length ws = omega (arith, s .inside) in
+    record { same = q ∙ sym (s .on) ∙ e; small = omega arith; there = z }
+
 pub kept : (turned : ℕ → ℕ) (n : ℕ) (f : ℕ × ℕ → ℕ) (ws : List ℕ) (at : ℕ) {x : ℕ} → Stands turned n ws at x → stepOf f (word turned n) ws at ≡ On (f (kindOf (getD ws at 0), valueOf (getD ws at 0))) (record { at = x })
 unfolding stepOf
 kept turned n f ws at s = rw (s .found)
 
 -- a head word that was read
-pub record Turn (left : ℕ) (ws : List ℕ) (at : ℕ) : Type 0 where
+pub record Turn (sort left : ℕ) (ws : List ℕ) (at : ℕ) : Type 0 where
   pub inside : at < length ws
   pub past : at + 1 ≤ length ws
   pub level : 1 ≤ left
+  pub kind : entryOf (kindOf (getD ws at 0)) .sort ≡ sort
 
 -- a row that is being walked: its place, the levels left, and what is left answers the whole
 pub record Going (ws : List ℕ) (at left levels : ℕ) (all rest : Step) : Type 0 where
@@ -157,8 +170,17 @@ module _ (n sort left : ℕ) (ws : List ℕ) (at : ℕ) {x : ℕ} (e : x ≡ cod
       let s = code-stands (heads sort left) n ws at e l h in
       kept (heads sort left) n wholeWord ws at s ∙ rw (whole-word (getD ws at 0), s .on) refl
 
-  pub turn : at ≤ length ws → x < 65536 → Turn left ws at
-  turn l h = let s = code-stands (heads sort left) n ws at e l h in record { inside = s .inside; past = omega (arith, s .inside); level = level-left n sort ws at left refl (whole-head l h) }
+  pub turn : at ≤ length ws → x < 65536 → Turn sort left ws at
+  unfolding Fine
+  turn l h =
+      let s = code-stands (heads sort left) n ws at e l h in
+      let b = lawful begin .back at (drop at ws) (kindOf (getD ws at 0), valueOf (getD ws at 0)) x (drop x ws) (s .found) in
+      record {
+        inside = s .inside;
+        past = omega (arith, s .inside);
+        level = level-left n sort ws at left refl (whole-head l h);
+        kind = head-sort sort left (kindOf (getD ws at 0)) (b .fine .0);
+      }
 
   -- a row of trees from its first head word on
   module _ (most : length ws ≤ 8192) (l : at ≤ length ws) (m : ℕ) (more : 0 < m) where

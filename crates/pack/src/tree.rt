@@ -134,7 +134,7 @@ fn scalars(s: &[u32], t: &[u32; 256], start: usize, n: u32, count: u32, levels: 
                 k = children(kind, w % Pack::VALUES);
                 left -= 1;
             } else {
-                at = rest(s, t, at, n, w, left - 1);
+                at = after_scalar(s, t, at, n, w, left - 1);
                 if Pack::CODES <= at {
                     return at;
                 }
@@ -160,7 +160,7 @@ fn judgments(s: &[u32], t: &[u32; 256], start: usize, n: u32, count: u32, left: 
         at += 1;
         k -= 1;
         if w / Pack::VALUES <= Pack::EXISTS {
-            at = rest(s, t, at, n, w, left - 1);
+            at = after_judgment(s, t, at, n, w, left - 1);
             if Pack::CODES <= at {
                 return at;
             }
@@ -190,19 +190,19 @@ fn aggregate(s: &[u32], t: &[u32; 256], at: usize, n: u32, left: u32) -> usize
     if Pack::CODES <= a1 {
         return a1;
     }
-    let a2 = up_to(s, a1, Pack::RELATED, Pack::NONE);
+    let a2 = up_to(s, at + 1, Pack::RELATED, Pack::NONE);
     if Pack::CODES <= a2 {
         return a2;
     }
-    let a3 = up_to(s, a2, Pack::VALUE, Pack::NONE);
+    let a3 = up_to(s, at + 2, Pack::VALUE, Pack::NONE);
     if Pack::CODES <= a3 {
         return a3;
     }
-    let next = up_to(s, a3, Pack::WHERE, 1);
-    if Pack::CODES <= next {
-        return next;
+    let a4 = up_to(s, at + 3, Pack::WHERE, 1);
+    if Pack::CODES <= a4 {
+        return a4;
     }
-    judgments(s, t, next, n, s[a3] % Pack::VALUES, left)
+    judgments(s, t, at + 4, n, s[at + 3] % Pack::VALUES, left)
 }
 
 // The arguments of an Exists, and its body.
@@ -217,22 +217,41 @@ fn exists(s: &[u32], t: &[u32; 256], at: usize, n: u32, left: u32) -> usize
     judgments(s, t, next, n, 1, left)
 }
 
-// What follows the head word w.
-fn rest(s: &[u32], t: &[u32; 256], at: usize, n: u32, w: u32, left: u32) -> usize
-    requires { ⌜ Lent (now s) (now t) × (at ≤ length (now s)) ⌝ }
+// What follows the head word w of a scalar.
+fn after_scalar(s: &[u32], t: &[u32; 256], at: usize, n: u32, w: u32, left: u32) -> usize
+    requires { ⌜ Lent (now s) (now t) × (at ≤ length (now s)) × (kindOf w ≤ 95) ⌝ }
     ensures { λ r. ⌜ r ≡ coded (walk (follow n (tree n left) (entryOf (kindOf w) .follows) (valueOf w)) (now (s .entry)) at) ⌝ }
 {
     let kind = w / Pack::VALUES;
     let e = entry_of(t, kind);
     let follows = e.follows;
-    let v = w % Pack::VALUES;
     match kind {
-        Pack::ONE_CHILD..=Pack::MAX | Pack::NO_MATCH..=Pack::OVER_PERIODS | Pack::COMPARISON =>
-            scalars(s, t, at, n, how_many(follows, v), left),
+        Pack::ONE_CHILD..=Pack::MAX | Pack::NO_MATCH..=Pack::OVER_PERIODS => scalars(
+            s,
+            t,
+            at,
+            n,
+            how_many(follows, w % Pack::VALUES),
+            left,
+        ),
         Pack::IF => choice(s, t, at, n, left),
         Pack::COUNT..=Pack::SINGLE => aggregate(s, t, at, n, left),
         Pack::ONLY_RELATED => only_related(s, t, at, n),
-        Pack::AND..=Pack::NOT => judgments(s, t, at, n, how_many(follows, v), left),
+        _ => at,
+    }
+}
+
+// What follows the head word w of a judgment.
+fn after_judgment(s: &[u32], t: &[u32; 256], at: usize, n: u32, w: u32, left: u32) -> usize
+    requires { ⌜ Lent (now s) (now t) × (at ≤ length (now s)) × (96 ≤ kindOf w) ⌝ }
+    ensures { λ r. ⌜ r ≡ coded (walk (follow n (tree n left) (entryOf (kindOf w) .follows) (valueOf w)) (now (s .entry)) at) ⌝ }
+{
+    let kind = w / Pack::VALUES;
+    let e = entry_of(t, kind);
+    let follows = e.follows;
+    match kind {
+        Pack::COMPARISON => scalars(s, t, at, n, 2, left),
+        Pack::AND..=Pack::NOT => judgments(s, t, at, n, how_many(follows, w % Pack::VALUES), left),
         Pack::RELATION_MEMBER => slots(s, at),
         Pack::RELATION_ATOM => up_to(s, at, Pack::ARGUMENTS, Pack::NONE),
         Pack::EXISTS => exists(s, t, at, n, left),
