@@ -78,7 +78,7 @@ fn slots(s: &[u32], at: usize) -> usize
     if Pack::CODES <= a1 {
         return a1;
     }
-    up_to(s, a1, Pack::RELATED, Pack::NONE)
+    up_to(s, at + 1, Pack::RELATED, Pack::NONE)
 }
 
 // The slots of an OnlyRelated, and its input's or derived name.
@@ -90,11 +90,11 @@ fn only_related(s: &[u32], t: &[u32; 256], at: usize, n: u32) -> usize
     if Pack::CODES <= a1 {
         return a1;
     }
-    let a2 = up_to(s, a1, Pack::RELATED, Pack::NONE);
+    let a2 = up_to(s, at + 1, Pack::RELATED, Pack::NONE);
     if Pack::CODES <= a2 {
         return a2;
     }
-    let c = Cursor { at: a2 };
+    let c = Cursor { at: at + 2 };
     match c.either(s, t, n, Pack::INPUT, Pack::DERIVED) {
         Step::On(_, next) => next.at,
         Step::Refused(r) => refused(r.number, r.place),
@@ -210,11 +210,11 @@ fn exists(s: &[u32], t: &[u32; 256], at: usize, n: u32, left: u32) -> usize
     requires { ⌜ Lent (now s) (now t) × (at ≤ length (now s)) ⌝ }
     ensures { λ r. ⌜ r ≡ coded (walk (follow n (tree n left) Exists 0) (now (s .entry)) at) ⌝ }
 {
-    let next = up_to(s, at, Pack::ARGUMENTS, Pack::NONE);
-    if Pack::CODES <= next {
-        return next;
+    let a1 = up_to(s, at, Pack::ARGUMENTS, Pack::NONE);
+    if Pack::CODES <= a1 {
+        return a1;
     }
-    judgments(s, t, next, n, 1, left)
+    judgments(s, t, at + 1, n, 1, left)
 }
 
 // What follows the head word w of a scalar.

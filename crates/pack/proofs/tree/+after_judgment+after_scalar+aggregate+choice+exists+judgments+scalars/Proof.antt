@@ -317,12 +317,15 @@ exists-returns : (t : ℕ) → exists-lts.Need-returns (exists-calls t) (exists-
 unfolding follow fields fieldsOf
 exists-returns t c = then-code _ _ _ _ (last-code _ _ _ _ ((c .before .up-to .ensures) _)) (c .before .before .before .pre .1 .0 .most) (c .before .before .before .pre .1 .1) (c .if1 .taken)
 
+exists-add-judgments : (t : ℕ) → exists-lts.Need-add-judgments (exists-calls t) (exists-at t) exists.Post
+exists-add-judgments t c = omega (arith, (c .before .before .before .pre .1 .0 .most), (c .before .before .before .pre .1 .1))
+
 exists-judgments-requires : (t : ℕ) → exists-lts.Need-judgments-requires (exists-calls t) (exists-at t) exists.Post
-exists-judgments-requires t c κs = (omega arith, ((c .before .before .before .pre .1 .0), (code-within _ _ _ ((c .before .up-to .ensures) 0) (c .before .before .before .pre .1 .1) (c .if1 .left))))
+exists-judgments-requires t c κs = let m1 = moved _ _ _ _ ((c .before .up-to .ensures) (c .before .before .before .args .n)) (c .before .before .before .pre .1 .0 .most) (c .before .before .before .pre .1 .1) (c .if1 .left) ((c .before .before .before .args .at) + 1) refl in (omega arith, ((c .before .before .before .pre .1 .0), m1 .there))
 
 exists-returns-2 : (t : ℕ) → exists-lts.Need-returns-2 (exists-calls t) (exists-at t) exists.Post
 unfolding follow fields fieldsOf childrenOf
-exists-returns-2 t c = then-next _ _ _ _ (last-code _ _ _ _ ((c .before .before .up-to .ensures) _)) (c .before .if1 .left) (c .judgments .ensures)
+exists-returns-2 t c = let m1 = moved _ _ _ _ ((c .before .before .up-to .ensures) (c .before .before .before .before .args .n)) (c .before .before .before .before .pre .1 .0 .most) (c .before .before .before .before .pre .1 .1) (c .before .if1 .left) ((c .before .before .before .before .args .at) + 1) refl in then-next _ _ _ _ (last-code _ _ _ _ (m1 .same)) (m1 .small) (c .judgments .ensures)
 
 abbrev judgments-Inv-loop : judgments-lts.InvT-loop
 judgments-Inv-loop s t start n count left at₀ k₀ at k = Going s at left left (walk (each (tree n left) (replicate count judgment-sort)) s start) (walk (each (tree n left) (replicate k judgment-sort)) s at)
@@ -508,6 +511,7 @@ pub +after-judgment+after-scalar+aggregate+choice+exists+judgments+scalars-spec 
     exists.Post
     (exists-up-to-requires t)
     (exists-returns t)
+    (exists-add-judgments t)
     (exists-judgments-requires t)
     (exists-returns-2 t))
     (λ t. judgments-lts.spec (judgments-calls t) (judgments-at t)
