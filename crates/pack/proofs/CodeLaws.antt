@@ -19,7 +19,7 @@ use Rattle.pack.specs.Table.{pick, kindOf, valueOf, wordOf, allowed, ent
 use Rattle.pack.specs.Packed.{UpTo}
 use Rattle.pack.specs.Form.{Read, got, refused, because, bind, mapRead, allowedHere, readWord, among, only, readEach, Form, field, word, empty, each, _▹_, via, wordsBy, Fine, readBy}
 use Rattle.pack.specs.Tree.{Tree, heads, lastField, fields, follow, tree}
-use Rattle.pack.specs.Steps.{stepBy, stepOf, walk, wholeWord, coded, decoded}
+use Rattle.pack.specs.Steps.{stepBy, stepOf, walk, wholeWord, coded, fault, decoded}
 use Rattle.pack.proofs.FormLaws.{Took, Lawful, lawful}
 use Rattle.pack.proofs.StepLaws.{Went, went, word-ended, word-there, word-stop, word-turned, word-value, word-on, step-no, last-stop, each-done, each-stop, by-each, each-last, then-stop, by-then, by-kept, many-done, many-stop, many-next}
 use Rattle.pack.proofs.TreeLaws.{whole-word, head-sort, tree-stop, tree-rest, level-left, Row, by-row, Leaf, by-leaf}
@@ -81,24 +81,56 @@ step-within f F ws at {k = k} l e o =
 pub code-as : {x : ℕ} {y z : Step} → x ≡ coded y → y ≡ z → x ≡ coded z
 code-as e h = e ∙ ap coded h
 
+pub fault-as : {x : ℕ} {r : Refusal} {z : Step} → x ≡ coded (Refused r) → Refused r ≡ z → x ≡ fault z
+unfolding coded fault
+fault-as e h = e ∙ ap fault h
+
 -- a word that stands there: what the code's tests on it come to
 module _ (turned : ℕ → ℕ) (n : ℕ) (ws : List ℕ) (at : ℕ) {x : ℕ} where
-  pub code-ended : length ws ≤ at → x ≡ coded (Refused (record { number = 3; place = at; name = 0; other = 0 })) → x ≡ coded (walk (word turned n) ws at)
-  code-ended h e = code-as e (word-stop turned n (λ a. 0) ws at (word-ended ws at h) refl)
+  pub fault-ended : length ws ≤ at → x ≡ coded (Refused (record { number = 3; place = at; name = 0; other = 0 })) → x ≡ fault (walk (word turned n) ws at)
+  fault-ended h e = fault-as e (word-stop turned n (λ a. 0) ws at (word-ended ws at h) refl)
 
   module _ (h : at < length ws) where
-    pub code-turned : {number : ℕ} → x ≡ coded (Refused (record { number = number; place = at; name = 0; other = 0 })) → turned (kindOf (getD ws at 0)) ≡ number → (number ≡ 0 → ⊥)
-        → x ≡ coded (walk (word turned n) ws at)
-    code-turned e t z = code-as e (word-turned turned n (λ a. 0) ws at (word-there ws at h) refl t z)
+    pub fault-turned : {number : ℕ} → x ≡ coded (Refused (record { number = number; place = at; name = 0; other = 0 })) → turned (kindOf (getD ws at 0)) ≡ number → (number ≡ 0 → ⊥)
+        → x ≡ fault (walk (word turned n) ws at)
+    fault-turned e t z = fault-as e (word-turned turned n (λ a. 0) ws at (word-there ws at h) refl t z)
 
-    pub code-value : x ≡ coded (Refused (record { number = 4; place = at; name = 0; other = 0 })) → turned (kindOf (getD ws at 0)) ≡ 0 → allowedHere n (kindOf (getD ws at 0)) (valueOf (getD ws at 0)) ≡ false
-        → x ≡ coded (walk (word turned n) ws at)
-    code-value e t v = code-as e (word-value turned n (λ a. 0) ws at (word-there ws at h) refl t v)
+    pub fault-value : x ≡ coded (Refused (record { number = 4; place = at; name = 0; other = 0 })) → turned (kindOf (getD ws at 0)) ≡ 0 → allowedHere n (kindOf (getD ws at 0)) (valueOf (getD ws at 0)) ≡ false
+        → x ≡ fault (walk (word turned n) ws at)
+    fault-value e t v = fault-as e (word-value turned n (λ a. 0) ws at (word-there ws at h) refl t v)
 
-pub code-read : (turned : ℕ → ℕ) (n : ℕ) (ws : List ℕ) (at : ℕ) → at < length ws → turned (kindOf (getD ws at 0)) ≡ 0 → allowedHere n (kindOf (getD ws at 0)) (valueOf (getD ws at 0)) ≡ true
-    → at + 1 ≡ coded (walk (word turned n) ws at)
-unfolding coded
-code-read turned n ws at h t v = ap coded (word-on turned n (λ a. 0) ws at (word-there ws at h) refl {x = 0} t v refl)
+pub fault-read : (turned : ℕ → ℕ) (n : ℕ) (ws : List ℕ) (at : ℕ) → at < length ws → turned (kindOf (getD ws at 0)) ≡ 0 → allowedHere n (kindOf (getD ws at 0)) (valueOf (getD ws at 0)) ≡ true
+    → 0 ≡ fault (walk (word turned n) ws at)
+unfolding fault
+fault-read turned n ws at h t v = ap fault (word-on turned n (λ a. 0) ws at (word-there ws at h) refl {x = 0} t v refl)
+
+-- what such a number says
+module _ (turned : ℕ → ℕ) (n : ℕ) (ws : List ℕ) (at : ℕ) {x : ℕ} (e : x ≡ fault (walk (word turned n) ws at)) where
+  module _ (z : x ≡ 0 → ⊥) where
+    faulted : (x ≡ coded (walk (word turned n) ws at)) × (65536 ≤ x)
+    unfolding stepOf fault coded
+    faulted = go (readBy (word turned n) at (drop at ws)) e
+      where
+        go : (m : Read (ℕ × ℕ)) → x ≡ fault (stepBy (λ a. 0) m) → (x ≡ coded (stepBy (λ a. 0) m)) × (65536 ≤ x)
+        go (got a at′ ws′) q = absurd (z q)
+        go (refused r) q = (q, omega arith)
+
+    pub fault-code : x ≡ coded (walk (word turned n) ws at)
+    fault-code = faulted .0
+
+    pub fault-large : 65536 ≤ x
+    fault-large = faulted .1
+
+  pub fault-on : x ≡ 0 → at + 1 ≡ coded (walk (word turned n) ws at)
+  unfolding stepOf fault coded wordsBy
+  fault-on z = go (readBy (word turned n) at (drop at ws)) refl e
+    where
+      go : (m : Read (ℕ × ℕ)) → readBy (word turned n) at (drop at ws) ≡ m → x ≡ fault (stepBy (λ a. 0) m) → at + 1 ≡ coded (stepBy (λ a. 0) m)
+      go (got a at′ ws′) g q = sym (lawful (word turned n) .back at (drop at ws) a at′ ws′ g .on)
+      go (refused r) g q = absurd (omega arith)
+
+pub small-next : {words at : ℕ} → words ≤ 8192 → at ≤ words → at + 1 < 65536
+small-next m l = omega arith
 
 -- what the code's tests say of an entry's rule
 pub allow-by : (n kind v : ℕ) {x : Entry} {b d : Bool} → x ≡ entryOf kind → b ≡ allowed (x .rule) n v → b ≡ d → allowedHere n kind v ≡ d
@@ -138,11 +170,14 @@ pub record Moved (turned : ℕ → ℕ) (n : ℕ) (ws : List ℕ) (at to : ℕ) 
   pub small : to < 65536
   pub there : to ≤ length ws
 
-pub moved : (turned : ℕ → ℕ) (n : ℕ) (ws : List ℕ) (at : ℕ) {x : ℕ} → x ≡ coded (walk (word turned n) ws at) → length ws ≤ 8192 → at ≤ length ws → x < 65536 → (to : ℕ) → to ≡ at + 1 → Moved turned n ws at to
+moved : (turned : ℕ → ℕ) (n : ℕ) (ws : List ℕ) (at : ℕ) {x : ℕ} → x ≡ coded (walk (word turned n) ws at) → length ws ≤ 8192 → at ≤ length ws → x < 65536 → (to : ℕ) → to ≡ at + 1 → Moved turned n ws at to
 moved turned n ws at e most l h to q =
     let s = code-stands turned n ws at e l h in
     let z : to ≤ length ws = omega (arith, s .inside) in
     record { same = q ∙ sym (s .on) ∙ e; small = omega arith; there = z }
+
+pub passed : (turned : ℕ → ℕ) (n : ℕ) (ws : List ℕ) (at : ℕ) {x : ℕ} → x ≡ fault (walk (word turned n) ws at) → length ws ≤ 8192 → at ≤ length ws → x ≡ 0 → (to : ℕ) → to ≡ at + 1 → Moved turned n ws at to
+passed turned n ws at e most l z to q = moved turned n ws at (fault-on turned n ws at e z) most l (omega arith) to q
 
 pub kept : (turned : ℕ → ℕ) (n : ℕ) (f : ℕ × ℕ → ℕ) (ws : List ℕ) (at : ℕ) {x : ℕ} → Stands turned n ws at x → stepOf f (word turned n) ws at ≡ On (f (kindOf (getD ws at 0), valueOf (getD ws at 0))) (record { at = x })
 unfolding stepOf

@@ -48,6 +48,11 @@ unfoldable pub coded : Step → ℕ
 coded (On v k) = k .at
 coded (Refused r) = 65536 * (r .number + 1) + r .place
 
+-- the same of a word that is only tested: 0 where it was read
+unfoldable pub fault : Step → ℕ
+fault (On v k) = 0
+fault (Refused r) = 65536 * (r .number + 1) + r .place
+
 -- the step of a number
 unfoldable pub decoded : ℕ → Step
 decoded c = pick (ltb c 65536) (On 0 (record { at = c })) (Refused (record { number = c / 65536 - 1; place = c % 65536; name = 0; other = 0 }))

@@ -12,12 +12,12 @@ ghost use Prim.Native.Nat.{ℕ, _≤_};
 ghost use mathlib.Core.List.{[], _∷_};
 ghost use lib.ListN.{length, replicate};
 ghost use Rattle.pack.specs.declared.cursor.Step.the-variants.{Refused};
-ghost use Rattle.pack.specs.declared.table.Follows.the-variants.{Aggregate, OnlyRelated, Slots, Exists};
+ghost use Rattle.pack.specs.declared.table.Follows.the-variants.{Aggregate, OnlyRelated, Slots, Atom, Exists};
 ghost use Rattle.pack.specs.Table.{scalar, judgment, kindOf, valueOf, entryOf, howMany, fieldsOf};
 ghost use Rattle.pack.specs.Packed.{Lent, UpTo};
 ghost use Rattle.pack.specs.Form.{word, only, each};
 ghost use Rattle.pack.specs.Tree.{heads, fields, follow, tree};
-ghost use Rattle.pack.specs.Steps.{walk, coded, decoded};
+ghost use Rattle.pack.specs.Steps.{walk, coded, fault, decoded};
 
 // The code of a refusal.
 fn refused(number: u32, at: usize) -> usize
@@ -27,10 +27,10 @@ fn refused(number: u32, at: usize) -> usize
     Pack::CODES * (number as usize + 1) + at
 }
 
-// The word that begins a tree of the sort, where so many levels are left.
+// The word that begins a tree of the sort, where so many levels are left: 0, or a refusal's code.
 fn head(s: &[u32], t: &[u32; 256], at: usize, n: u32, sort: u32, left: u32) -> usize
     requires { ⌜ Lent (now s) (now t) × (at ≤ length (now s)) ⌝ }
-    ensures { λ r. ⌜ r ≡ coded (walk (word (heads sort left) n) (now (s .entry)) at) ⌝ }
+    ensures { λ r. ⌜ r ≡ fault (walk (word (heads sort left) n) (now (s .entry)) at) ⌝ }
 {
     if s.len() <= at {
         return refused(3, at);
@@ -45,16 +45,16 @@ fn head(s: &[u32], t: &[u32; 256], at: usize, n: u32, sort: u32, left: u32) -> u
         return refused(5, at);
     }
     if allows(rule, n, w % Pack::VALUES) {
-        at + 1
+        0
     } else {
         refused(4, at)
     }
 }
 
-// A word of this kind, with any value up to a most.
+// A word of this kind, with any value up to a most: 0, or a refusal's code.
 fn up_to(s: &[u32], at: usize, kind: u32, most: u32) -> usize
     requires { ⌜ (length (now s) ≤ 8192) × (at ≤ length (now s)) × UpTo kind most ⌝ }
-    ensures { λ r. ⌜ ((n : ℕ) → r ≡ coded (walk (word (only (kind ∷ [])) n) (now (s .entry)) at)) ⌝ }
+    ensures { λ r. ⌜ ((n : ℕ) → r ≡ fault (walk (word (only (kind ∷ [])) n) (now (s .entry)) at)) ⌝ }
 {
     if s.len() <= at {
         return refused(3, at);
@@ -66,7 +66,7 @@ fn up_to(s: &[u32], at: usize, kind: u32, most: u32) -> usize
     if most < w % Pack::VALUES {
         return refused(4, at);
     }
-    at + 1
+    0
 }
 
 // The slots of a RelationMember.
@@ -74,11 +74,27 @@ fn slots(s: &[u32], at: usize) -> usize
     requires { ⌜ (length (now s) ≤ 8192) × (at ≤ length (now s)) ⌝ }
     ensures { λ r. ⌜ ((n : ℕ) → r ≡ coded (walk (fields n (fieldsOf Slots)) (now (s .entry)) at)) ⌝ }
 {
-    let a1 = up_to(s, at, Pack::CURRENT, Pack::NONE);
-    if Pack::CODES <= a1 {
-        return a1;
+    let f1 = up_to(s, at, Pack::CURRENT, Pack::NONE);
+    if f1 != 0 {
+        return f1;
     }
-    up_to(s, at + 1, Pack::RELATED, Pack::NONE)
+    let f2 = up_to(s, at + 1, Pack::RELATED, Pack::NONE);
+    if f2 != 0 {
+        return f2;
+    }
+    at + 2
+}
+
+// The arguments of a RelationAtom.
+fn atom(s: &[u32], at: usize) -> usize
+    requires { ⌜ (length (now s) ≤ 8192) × (at ≤ length (now s)) ⌝ }
+    ensures { λ r. ⌜ ((n : ℕ) → r ≡ coded (walk (fields n (fieldsOf Atom)) (now (s .entry)) at)) ⌝ }
+{
+    let f1 = up_to(s, at, Pack::ARGUMENTS, Pack::NONE);
+    if f1 != 0 {
+        return f1;
+    }
+    at + 1
 }
 
 // The slots of an OnlyRelated, and its input's or derived name.
@@ -86,13 +102,13 @@ fn only_related(s: &[u32], t: &[u32; 256], at: usize, n: u32) -> usize
     requires { ⌜ Lent (now s) (now t) × (at ≤ length (now s)) ⌝ }
     ensures { λ r. ⌜ r ≡ coded (walk (fields n (fieldsOf OnlyRelated)) (now (s .entry)) at) ⌝ }
 {
-    let a1 = up_to(s, at, Pack::CURRENT, Pack::NONE);
-    if Pack::CODES <= a1 {
-        return a1;
+    let f1 = up_to(s, at, Pack::CURRENT, Pack::NONE);
+    if f1 != 0 {
+        return f1;
     }
-    let a2 = up_to(s, at + 1, Pack::RELATED, Pack::NONE);
-    if Pack::CODES <= a2 {
-        return a2;
+    let f2 = up_to(s, at + 1, Pack::RELATED, Pack::NONE);
+    if f2 != 0 {
+        return f2;
     }
     let c = Cursor { at: at + 2 };
     match c.either(s, t, n, Pack::INPUT, Pack::DERIVED) {
@@ -121,9 +137,9 @@ fn scalars(s: &[u32], t: &[u32; 256], start: usize, n: u32, count: u32, levels: 
     let mut k = count;
     let mut left = levels;
     while 0 < k {
-        let next = head(s, t, at, n, Pack::SCALAR, left);
-        if Pack::CODES <= next {
-            return next;
+        let f = head(s, t, at, n, Pack::SCALAR, left);
+        if f != 0 {
+            return f;
         }
         let w = s[at];
         let kind = w / Pack::VALUES;
@@ -152,9 +168,9 @@ fn judgments(s: &[u32], t: &[u32; 256], start: usize, n: u32, count: u32, left: 
     let mut at = start;
     let mut k = count;
     while 0 < k {
-        let next = head(s, t, at, n, Pack::JUDGMENT, left);
-        if Pack::CODES <= next {
-            return next;
+        let f = head(s, t, at, n, Pack::JUDGMENT, left);
+        if f != 0 {
+            return f;
         }
         let w = s[at];
         at += 1;
@@ -186,21 +202,21 @@ fn aggregate(s: &[u32], t: &[u32; 256], at: usize, n: u32, left: u32) -> usize
     requires { ⌜ Lent (now s) (now t) × (at ≤ length (now s)) ⌝ }
     ensures { λ r. ⌜ r ≡ coded (walk (follow n (tree n left) Aggregate 0) (now (s .entry)) at) ⌝ }
 {
-    let a1 = up_to(s, at, Pack::CURRENT, Pack::NONE);
-    if Pack::CODES <= a1 {
-        return a1;
+    let f1 = up_to(s, at, Pack::CURRENT, Pack::NONE);
+    if f1 != 0 {
+        return f1;
     }
-    let a2 = up_to(s, at + 1, Pack::RELATED, Pack::NONE);
-    if Pack::CODES <= a2 {
-        return a2;
+    let f2 = up_to(s, at + 1, Pack::RELATED, Pack::NONE);
+    if f2 != 0 {
+        return f2;
     }
-    let a3 = up_to(s, at + 2, Pack::VALUE, Pack::NONE);
-    if Pack::CODES <= a3 {
-        return a3;
+    let f3 = up_to(s, at + 2, Pack::VALUE, Pack::NONE);
+    if f3 != 0 {
+        return f3;
     }
-    let a4 = up_to(s, at + 3, Pack::WHERE, 1);
-    if Pack::CODES <= a4 {
-        return a4;
+    let f4 = up_to(s, at + 3, Pack::WHERE, 1);
+    if f4 != 0 {
+        return f4;
     }
     judgments(s, t, at + 4, n, s[at + 3] % Pack::VALUES, left)
 }
@@ -210,9 +226,9 @@ fn exists(s: &[u32], t: &[u32; 256], at: usize, n: u32, left: u32) -> usize
     requires { ⌜ Lent (now s) (now t) × (at ≤ length (now s)) ⌝ }
     ensures { λ r. ⌜ r ≡ coded (walk (follow n (tree n left) Exists 0) (now (s .entry)) at) ⌝ }
 {
-    let a1 = up_to(s, at, Pack::ARGUMENTS, Pack::NONE);
-    if Pack::CODES <= a1 {
-        return a1;
+    let f1 = up_to(s, at, Pack::ARGUMENTS, Pack::NONE);
+    if f1 != 0 {
+        return f1;
     }
     judgments(s, t, at + 1, n, 1, left)
 }
@@ -253,7 +269,7 @@ fn after_judgment(s: &[u32], t: &[u32; 256], at: usize, n: u32, w: u32, left: u3
         Pack::COMPARISON => scalars(s, t, at, n, 2, left),
         Pack::AND..=Pack::NOT => judgments(s, t, at, n, how_many(follows, w % Pack::VALUES), left),
         Pack::RELATION_MEMBER => slots(s, at),
-        Pack::RELATION_ATOM => up_to(s, at, Pack::ARGUMENTS, Pack::NONE),
+        Pack::RELATION_ATOM => atom(s, at),
         Pack::EXISTS => exists(s, t, at, n, left),
         _ => at,
     }

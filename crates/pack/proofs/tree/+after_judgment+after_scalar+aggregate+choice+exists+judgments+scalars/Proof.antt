@@ -13,7 +13,7 @@ use Rattle.pack.specs.Form.{each}
 use Rattle.pack.specs.Tree.{fields, follow, tree}
 use Rattle.pack.specs.Steps.{walk}
 use Rattle.pack.proofs.TreeLaws.{followed, no-fields, only-fields, aggregate-kind, scalar-row, comparison-row, judgment-row, above, leaf-low, leaf-last, leaf-between, leaf-high, by-row, compared, scalar-kind, judgment-kind}
-use Rattle.pack.proofs.CodeLaws.{code-within, code-forward, code-as, moved, Going, turn, row-stop, row-leaf, row-last, node-stop, node-on, row-done, one-row, none-code, first-code, next-code, last-code, then-code, then-next, by-where, up-to-any, up-to-most}
+use Rattle.pack.proofs.CodeLaws.{code-within, code-forward, code-as, passed, fault-code, fault-large, fault-on, small-next, Going, turn, row-stop, row-leaf, row-last, node-stop, node-on, row-done, one-row, none-code, first-code, next-code, last-code, then-code, then-next, by-where, up-to-any, up-to-most}
 use borrow.Fn.Kinds.{In}
 use borrow.Fn.PlainCycle.{Measures, is, falls, and}
 use Rattle.pack.proofs.tree.after_judgment.Reads as after-judgment
@@ -39,6 +39,7 @@ use Rattle.pack.proofs.tree.scalars.Kinds as scalars-kinds
 use Rattle.pack.proofs.tree.+after_judgment+after_scalar+aggregate+choice+exists+judgments+scalars.Lts-scalars as scalars-lts
 use Rattle.pack.proofs.table.entry_of.Reads as entry-of-reads
 use Rattle.pack.proofs.table.how_many.Reads as how-many-reads
+use Rattle.pack.proofs.tree.atom.Reads as atom-reads
 use Rattle.pack.proofs.tree.children.Reads as children-reads
 use Rattle.pack.proofs.tree.head.Reads as head-reads
 use Rattle.pack.proofs.tree.only_related.Reads as only-related-reads
@@ -133,7 +134,7 @@ abbrev scalars-below : ℕ → In 2 scalars-kinds.ps
 scalars-below t = and 2 scalars-kinds.ps (falls 2 scalars-kinds.ps _<_ μ-scalars t) scalars.Pre
 
 abbrev after-judgment-calls : ℕ → after-judgment-lts.Claims
-after-judgment-calls t = (entry-of-reads.Asked, entry-of-reads.Learnt, scalars-below t, scalars.Post, slots-reads.Asked, slots-reads.Learnt, up-to-reads.Asked, up-to-reads.Learnt, exists-below t, exists.Post, how-many-reads.Asked, how-many-reads.Learnt, judgments-below t, judgments.Post)
+after-judgment-calls t = (entry-of-reads.Asked, entry-of-reads.Learnt, scalars-below t, scalars.Post, slots-reads.Asked, slots-reads.Learnt, atom-reads.Asked, atom-reads.Learnt, exists-below t, exists.Post, how-many-reads.Asked, how-many-reads.Learnt, judgments-below t, judgments.Post)
 
 abbrev after-scalar-calls : ℕ → after-scalar-lts.Claims
 after-scalar-calls t = (entry-of-reads.Asked, entry-of-reads.Learnt, choice-below t, choice.Post, only-related-reads.Asked, only-related-reads.Learnt, how-many-reads.Asked, how-many-reads.Learnt, scalars-below t, scalars.Post, aggregate-below t, aggregate.Post)
@@ -162,9 +163,8 @@ after-judgment-scalars-requires t c κs = (omega arith, ((c .before .before .bef
 after-judgment-slots-requires : (t : ℕ) → after-judgment-lts.Need-slots-requires (after-judgment-calls t) (after-judgment-at t) after-judgment.Post
 after-judgment-slots-requires t c κs = ((c .before .before .before .pre .1 .0 .most), (c .before .before .before .pre .1 .1))
 
-after-judgment-up-to-requires : (t : ℕ) → after-judgment-lts.Need-up-to-requires (after-judgment-calls t) (after-judgment-at t) after-judgment.Post
-unfolding entryOf table
-after-judgment-up-to-requires t c κs = ((c .before .before .before .pre .1 .0 .most), (c .before .before .before .pre .1 .1), up-to-any 85 refl)
+after-judgment-atom-requires : (t : ℕ) → after-judgment-lts.Need-atom-requires (after-judgment-calls t) (after-judgment-at t) after-judgment.Post
+after-judgment-atom-requires t c κs = ((c .before .before .before .pre .1 .0 .most), (c .before .before .before .pre .1 .1))
 
 after-judgment-exists-requires : (t : ℕ) → after-judgment-lts.Need-exists-requires (after-judgment-calls t) (after-judgment-at t) after-judgment.Post
 after-judgment-exists-requires t c κs = (omega arith, ((c .before .before .before .pre .1 .0), (c .before .before .before .pre .1 .1)))
@@ -183,8 +183,8 @@ unfolding entryOf table fieldsOf childrenOf
 after-judgment-returns-2 t c = code-as ((c .slots .ensures) _) (followed _ _ (valueOf (c .before .before .before .before .args .w)) _ _ (kindOf (c .before .before .before .before .args .w)) Slots (ap (λ (k : ℕ). entryOf k .follows) (c .before .match .keys2)) (only-fields _ _ (valueOf (c .before .before .before .before .args .w)) _ _ Slots (λ last. refl) refl))
 
 after-judgment-returns-3 : (t : ℕ) → after-judgment-lts.Need-returns-3 (after-judgment-calls t) (after-judgment-at t) after-judgment.Post
-unfolding entryOf table fieldsOf childrenOf fields
-after-judgment-returns-3 t c = code-as (last-code _ _ _ _ ((c .up-to .ensures) _)) (followed _ _ (valueOf (c .before .before .before .before .args .w)) _ _ (kindOf (c .before .before .before .before .args .w)) Atom (ap (λ (k : ℕ). entryOf k .follows) (c .before .match .keys3)) (only-fields _ _ (valueOf (c .before .before .before .before .args .w)) _ _ Atom (λ last. refl) refl))
+unfolding entryOf table fieldsOf childrenOf
+after-judgment-returns-3 t c = code-as ((c .atom .ensures) _) (followed _ _ (valueOf (c .before .before .before .before .args .w)) _ _ (kindOf (c .before .before .before .before .args .w)) Atom (ap (λ (k : ℕ). entryOf k .follows) (c .before .match .keys3)) (only-fields _ _ (valueOf (c .before .before .before .before .args .w)) _ _ Atom (λ last. refl) refl))
 
 after-judgment-returns-4 : (t : ℕ) → after-judgment-lts.Need-returns-4 (after-judgment-calls t) (after-judgment-at t) after-judgment.Post
 unfolding entryOf table fieldsOf childrenOf follow
@@ -244,40 +244,40 @@ aggregate-up-to-requires t c κs = ((c .before .pre .1 .0 .most), (c .before .pr
 
 aggregate-returns : (t : ℕ) → aggregate-lts.Need-returns (aggregate-calls t) (aggregate-at t) aggregate.Post
 unfolding follow fields fieldsOf
-aggregate-returns t c = then-code _ _ _ _ (first-code _ _ _ _ _ ((c .before .up-to .ensures) (c .before .before .before .args .n)) (c .before .before .before .pre .1 .0 .most) (c .before .before .before .pre .1 .1) (c .if1 .taken)) (c .before .before .before .pre .1 .0 .most) (c .before .before .before .pre .1 .1) (c .if1 .taken)
+aggregate-returns t c = then-code _ _ _ _ (first-code _ _ _ _ _ (fault-code _ _ _ _ ((c .before .up-to .ensures) (c .before .before .before .args .n)) (c .if1 .taken)) (c .before .before .before .pre .1 .0 .most) (c .before .before .before .pre .1 .1) (fault-large _ _ _ _ ((c .before .up-to .ensures) (c .before .before .before .args .n)) (c .if1 .taken))) (c .before .before .before .pre .1 .0 .most) (c .before .before .before .pre .1 .1) (fault-large _ _ _ _ ((c .before .up-to .ensures) (c .before .before .before .args .n)) (c .if1 .taken))
 
 aggregate-add-up-to : (t : ℕ) → aggregate-lts.Need-add-up-to (aggregate-calls t) (aggregate-at t) aggregate.Post
 aggregate-add-up-to t c = omega (arith, (c .before .before .before .pre .1 .0 .most), (c .before .before .before .pre .1 .1))
 
 aggregate-up-to-requires-2 : (t : ℕ) → aggregate-lts.Need-up-to-requires-2 (aggregate-calls t) (aggregate-at t) aggregate.Post
 unfolding entryOf table
-aggregate-up-to-requires-2 t c κs = let m1 = moved _ _ _ _ ((c .before .up-to .ensures) (c .before .before .before .args .n)) (c .before .before .before .pre .1 .0 .most) (c .before .before .before .pre .1 .1) (c .if1 .left) ((c .before .before .before .args .at) + 1) (omega arith) in ((c .before .before .before .pre .1 .0 .most), m1 .there, up-to-any 81 refl)
+aggregate-up-to-requires-2 t c κs = let m1 = passed _ _ _ _ ((c .before .up-to .ensures) (c .before .before .before .args .n)) (c .before .before .before .pre .1 .0 .most) (c .before .before .before .pre .1 .1) (c .if1 .left) ((c .before .before .before .args .at) + 1) (omega arith) in ((c .before .before .before .pre .1 .0 .most), m1 .there, up-to-any 81 refl)
 
 aggregate-returns-2 : (t : ℕ) → aggregate-lts.Need-returns-2 (aggregate-calls t) (aggregate-at t) aggregate.Post
 unfolding follow fields fieldsOf
-aggregate-returns-2 t c = let m1 = moved _ _ _ _ ((c .before .before .before .up-to .ensures) (c .before .before .before .before .before .args .n)) (c .before .before .before .before .before .pre .1 .0 .most) (c .before .before .before .before .before .pre .1 .1) (c .before .before .if1 .left) ((c .before .before .before .before .before .args .at) + 1) (omega arith) in then-code _ _ _ _ (next-code _ _ _ _ _ (m1 .same) (m1 .small) (first-code _ _ _ _ _ ((c .before .up-to2 .ensures) (c .before .before .before .before .before .args .n)) (c .before .before .before .before .before .pre .1 .0 .most) (m1 .there) (c .if2 .taken))) (c .before .before .before .before .before .pre .1 .0 .most) (c .before .before .before .before .before .pre .1 .1) (c .if2 .taken)
+aggregate-returns-2 t c = let m1 = passed _ _ _ _ ((c .before .before .before .up-to .ensures) (c .before .before .before .before .before .args .n)) (c .before .before .before .before .before .pre .1 .0 .most) (c .before .before .before .before .before .pre .1 .1) (c .before .before .if1 .left) ((c .before .before .before .before .before .args .at) + 1) (omega arith) in then-code _ _ _ _ (next-code _ _ _ _ _ (m1 .same) (m1 .small) (first-code _ _ _ _ _ (fault-code _ _ _ _ ((c .before .up-to2 .ensures) (c .before .before .before .before .before .args .n)) (c .if2 .taken)) (c .before .before .before .before .before .pre .1 .0 .most) (m1 .there) (fault-large _ _ _ _ ((c .before .up-to2 .ensures) (c .before .before .before .before .before .args .n)) (c .if2 .taken)))) (c .before .before .before .before .before .pre .1 .0 .most) (c .before .before .before .before .before .pre .1 .1) (fault-large _ _ _ _ ((c .before .up-to2 .ensures) (c .before .before .before .before .before .args .n)) (c .if2 .taken))
 
 aggregate-add-up-to-2 : (t : ℕ) → aggregate-lts.Need-add-up-to-2 (aggregate-calls t) (aggregate-at t) aggregate.Post
 aggregate-add-up-to-2 t c = omega (arith, (c .before .before .before .before .before .pre .1 .0 .most), (c .before .before .before .before .before .pre .1 .1))
 
 aggregate-up-to-requires-3 : (t : ℕ) → aggregate-lts.Need-up-to-requires-3 (aggregate-calls t) (aggregate-at t) aggregate.Post
 unfolding entryOf table
-aggregate-up-to-requires-3 t c κs = let m1 = moved _ _ _ _ ((c .before .before .before .up-to .ensures) (c .before .before .before .before .before .args .n)) (c .before .before .before .before .before .pre .1 .0 .most) (c .before .before .before .before .before .pre .1 .1) (c .before .before .if1 .left) ((c .before .before .before .before .before .args .at) + 1) (omega arith) in let m2 = moved _ _ _ _ ((c .before .up-to2 .ensures) (c .before .before .before .before .before .args .n)) (c .before .before .before .before .before .pre .1 .0 .most) (m1 .there) (c .if2 .left) ((c .before .before .before .before .before .args .at) + 2) (omega arith) in ((c .before .before .before .before .before .pre .1 .0 .most), m2 .there, up-to-any 86 refl)
+aggregate-up-to-requires-3 t c κs = let m1 = passed _ _ _ _ ((c .before .before .before .up-to .ensures) (c .before .before .before .before .before .args .n)) (c .before .before .before .before .before .pre .1 .0 .most) (c .before .before .before .before .before .pre .1 .1) (c .before .before .if1 .left) ((c .before .before .before .before .before .args .at) + 1) (omega arith) in let m2 = passed _ _ _ _ ((c .before .up-to2 .ensures) (c .before .before .before .before .before .args .n)) (c .before .before .before .before .before .pre .1 .0 .most) (m1 .there) (c .if2 .left) ((c .before .before .before .before .before .args .at) + 2) (omega arith) in ((c .before .before .before .before .before .pre .1 .0 .most), m2 .there, up-to-any 86 refl)
 
 aggregate-returns-3 : (t : ℕ) → aggregate-lts.Need-returns-3 (aggregate-calls t) (aggregate-at t) aggregate.Post
 unfolding follow fields fieldsOf
-aggregate-returns-3 t c = let m1 = moved _ _ _ _ ((c .before .before .before .before .before .up-to .ensures) (c .before .before .before .before .before .before .before .args .n)) (c .before .before .before .before .before .before .before .pre .1 .0 .most) (c .before .before .before .before .before .before .before .pre .1 .1) (c .before .before .before .before .if1 .left) ((c .before .before .before .before .before .before .before .args .at) + 1) (omega arith) in let m2 = moved _ _ _ _ ((c .before .before .before .up-to2 .ensures) (c .before .before .before .before .before .before .before .args .n)) (c .before .before .before .before .before .before .before .pre .1 .0 .most) (m1 .there) (c .before .before .if2 .left) ((c .before .before .before .before .before .before .before .args .at) + 2) (omega arith) in then-code _ _ _ _ (next-code _ _ _ _ _ (m1 .same) (m1 .small) (next-code _ _ _ _ _ (m2 .same) (m2 .small) (first-code _ _ _ _ _ ((c .before .up-to3 .ensures) (c .before .before .before .before .before .before .before .args .n)) (c .before .before .before .before .before .before .before .pre .1 .0 .most) (m2 .there) (c .if3 .taken)))) (c .before .before .before .before .before .before .before .pre .1 .0 .most) (c .before .before .before .before .before .before .before .pre .1 .1) (c .if3 .taken)
+aggregate-returns-3 t c = let m1 = passed _ _ _ _ ((c .before .before .before .before .before .up-to .ensures) (c .before .before .before .before .before .before .before .args .n)) (c .before .before .before .before .before .before .before .pre .1 .0 .most) (c .before .before .before .before .before .before .before .pre .1 .1) (c .before .before .before .before .if1 .left) ((c .before .before .before .before .before .before .before .args .at) + 1) (omega arith) in let m2 = passed _ _ _ _ ((c .before .before .before .up-to2 .ensures) (c .before .before .before .before .before .before .before .args .n)) (c .before .before .before .before .before .before .before .pre .1 .0 .most) (m1 .there) (c .before .before .if2 .left) ((c .before .before .before .before .before .before .before .args .at) + 2) (omega arith) in then-code _ _ _ _ (next-code _ _ _ _ _ (m1 .same) (m1 .small) (next-code _ _ _ _ _ (m2 .same) (m2 .small) (first-code _ _ _ _ _ (fault-code _ _ _ _ ((c .before .up-to3 .ensures) (c .before .before .before .before .before .before .before .args .n)) (c .if3 .taken)) (c .before .before .before .before .before .before .before .pre .1 .0 .most) (m2 .there) (fault-large _ _ _ _ ((c .before .up-to3 .ensures) (c .before .before .before .before .before .before .before .args .n)) (c .if3 .taken))))) (c .before .before .before .before .before .before .before .pre .1 .0 .most) (c .before .before .before .before .before .before .before .pre .1 .1) (fault-large _ _ _ _ ((c .before .up-to3 .ensures) (c .before .before .before .before .before .before .before .args .n)) (c .if3 .taken))
 
 aggregate-add-up-to-3 : (t : ℕ) → aggregate-lts.Need-add-up-to-3 (aggregate-calls t) (aggregate-at t) aggregate.Post
 aggregate-add-up-to-3 t c = omega (arith, (c .before .before .before .before .before .before .before .pre .1 .0 .most), (c .before .before .before .before .before .before .before .pre .1 .1))
 
 aggregate-up-to-requires-4 : (t : ℕ) → aggregate-lts.Need-up-to-requires-4 (aggregate-calls t) (aggregate-at t) aggregate.Post
 unfolding entryOf table
-aggregate-up-to-requires-4 t c κs = let m1 = moved _ _ _ _ ((c .before .before .before .before .before .up-to .ensures) (c .before .before .before .before .before .before .before .args .n)) (c .before .before .before .before .before .before .before .pre .1 .0 .most) (c .before .before .before .before .before .before .before .pre .1 .1) (c .before .before .before .before .if1 .left) ((c .before .before .before .before .before .before .before .args .at) + 1) (omega arith) in let m2 = moved _ _ _ _ ((c .before .before .before .up-to2 .ensures) (c .before .before .before .before .before .before .before .args .n)) (c .before .before .before .before .before .before .before .pre .1 .0 .most) (m1 .there) (c .before .before .if2 .left) ((c .before .before .before .before .before .before .before .args .at) + 2) (omega arith) in let m3 = moved _ _ _ _ ((c .before .up-to3 .ensures) (c .before .before .before .before .before .before .before .args .n)) (c .before .before .before .before .before .before .before .pre .1 .0 .most) (m2 .there) (c .if3 .left) ((c .before .before .before .before .before .before .before .args .at) + 3) (omega arith) in ((c .before .before .before .before .before .before .before .pre .1 .0 .most), m3 .there, up-to-most 83 1 refl)
+aggregate-up-to-requires-4 t c κs = let m1 = passed _ _ _ _ ((c .before .before .before .before .before .up-to .ensures) (c .before .before .before .before .before .before .before .args .n)) (c .before .before .before .before .before .before .before .pre .1 .0 .most) (c .before .before .before .before .before .before .before .pre .1 .1) (c .before .before .before .before .if1 .left) ((c .before .before .before .before .before .before .before .args .at) + 1) (omega arith) in let m2 = passed _ _ _ _ ((c .before .before .before .up-to2 .ensures) (c .before .before .before .before .before .before .before .args .n)) (c .before .before .before .before .before .before .before .pre .1 .0 .most) (m1 .there) (c .before .before .if2 .left) ((c .before .before .before .before .before .before .before .args .at) + 2) (omega arith) in let m3 = passed _ _ _ _ ((c .before .up-to3 .ensures) (c .before .before .before .before .before .before .before .args .n)) (c .before .before .before .before .before .before .before .pre .1 .0 .most) (m2 .there) (c .if3 .left) ((c .before .before .before .before .before .before .before .args .at) + 3) (omega arith) in ((c .before .before .before .before .before .before .before .pre .1 .0 .most), m3 .there, up-to-most 83 1 refl)
 
 aggregate-returns-4 : (t : ℕ) → aggregate-lts.Need-returns-4 (aggregate-calls t) (aggregate-at t) aggregate.Post
 unfolding follow fields fieldsOf
-aggregate-returns-4 t c = let m1 = moved _ _ _ _ ((c .before .before .before .before .before .before .before .up-to .ensures) (c .before .before .before .before .before .before .before .before .before .args .n)) (c .before .before .before .before .before .before .before .before .before .pre .1 .0 .most) (c .before .before .before .before .before .before .before .before .before .pre .1 .1) (c .before .before .before .before .before .before .if1 .left) ((c .before .before .before .before .before .before .before .before .before .args .at) + 1) (omega arith) in let m2 = moved _ _ _ _ ((c .before .before .before .before .before .up-to2 .ensures) (c .before .before .before .before .before .before .before .before .before .args .n)) (c .before .before .before .before .before .before .before .before .before .pre .1 .0 .most) (m1 .there) (c .before .before .before .before .if2 .left) ((c .before .before .before .before .before .before .before .before .before .args .at) + 2) (omega arith) in let m3 = moved _ _ _ _ ((c .before .before .before .up-to3 .ensures) (c .before .before .before .before .before .before .before .before .before .args .n)) (c .before .before .before .before .before .before .before .before .before .pre .1 .0 .most) (m2 .there) (c .before .before .if3 .left) ((c .before .before .before .before .before .before .before .before .before .args .at) + 3) (omega arith) in then-code _ _ _ _ (next-code _ _ _ _ _ (m1 .same) (m1 .small) (next-code _ _ _ _ _ (m2 .same) (m2 .small) (next-code _ _ _ _ _ (m3 .same) (m3 .small) (last-code _ _ _ _ ((c .before .up-to4 .ensures) (c .before .before .before .before .before .before .before .before .before .args .n)))))) (c .before .before .before .before .before .before .before .before .before .pre .1 .0 .most) (c .before .before .before .before .before .before .before .before .before .pre .1 .1) (c .if4 .taken)
+aggregate-returns-4 t c = let m1 = passed _ _ _ _ ((c .before .before .before .before .before .before .before .up-to .ensures) (c .before .before .before .before .before .before .before .before .before .args .n)) (c .before .before .before .before .before .before .before .before .before .pre .1 .0 .most) (c .before .before .before .before .before .before .before .before .before .pre .1 .1) (c .before .before .before .before .before .before .if1 .left) ((c .before .before .before .before .before .before .before .before .before .args .at) + 1) (omega arith) in let m2 = passed _ _ _ _ ((c .before .before .before .before .before .up-to2 .ensures) (c .before .before .before .before .before .before .before .before .before .args .n)) (c .before .before .before .before .before .before .before .before .before .pre .1 .0 .most) (m1 .there) (c .before .before .before .before .if2 .left) ((c .before .before .before .before .before .before .before .before .before .args .at) + 2) (omega arith) in let m3 = passed _ _ _ _ ((c .before .before .before .up-to3 .ensures) (c .before .before .before .before .before .before .before .before .before .args .n)) (c .before .before .before .before .before .before .before .before .before .pre .1 .0 .most) (m2 .there) (c .before .before .if3 .left) ((c .before .before .before .before .before .before .before .before .before .args .at) + 3) (omega arith) in then-code _ _ _ _ (next-code _ _ _ _ _ (m1 .same) (m1 .small) (next-code _ _ _ _ _ (m2 .same) (m2 .small) (next-code _ _ _ _ _ (m3 .same) (m3 .small) (last-code _ _ _ _ (fault-code _ _ _ _ ((c .before .up-to4 .ensures) (c .before .before .before .before .before .before .before .before .before .args .n)) (c .if4 .taken)))))) (c .before .before .before .before .before .before .before .before .before .pre .1 .0 .most) (c .before .before .before .before .before .before .before .before .before .pre .1 .1) (fault-large _ _ _ _ ((c .before .up-to4 .ensures) (c .before .before .before .before .before .before .before .before .before .args .n)) (c .if4 .taken))
 
 aggregate-add-judgments : (t : ℕ) → aggregate-lts.Need-add-judgments (aggregate-calls t) (aggregate-at t) aggregate.Post
 aggregate-add-judgments t c = omega (arith, (c .before .before .before .before .before .before .before .before .before .pre .1 .0 .most), (c .before .before .before .before .before .before .before .before .before .pre .1 .1))
@@ -286,16 +286,16 @@ aggregate-add-judgments-2 : (t : ℕ) → aggregate-lts.Need-add-judgments-2 (ag
 aggregate-add-judgments-2 t c = omega (arith, (c .before .before .before .before .before .before .before .before .before .pre .1 .0 .most), (c .before .before .before .before .before .before .before .before .before .pre .1 .1))
 
 aggregate-mul-judgments : (t : ℕ) → aggregate-lts.Need-mul-judgments (aggregate-calls t) (aggregate-at t) aggregate.Post
-aggregate-mul-judgments t c = let m1 = moved _ _ _ _ ((c .before .before .before .before .before .before .before .up-to .ensures) (c .before .before .before .before .before .before .before .before .before .args .n)) (c .before .before .before .before .before .before .before .before .before .pre .1 .0 .most) (c .before .before .before .before .before .before .before .before .before .pre .1 .1) (c .before .before .before .before .before .before .if1 .left) ((c .before .before .before .before .before .before .before .before .before .args .at) + 1) (omega arith) in let m2 = moved _ _ _ _ ((c .before .before .before .before .before .up-to2 .ensures) (c .before .before .before .before .before .before .before .before .before .args .n)) (c .before .before .before .before .before .before .before .before .before .pre .1 .0 .most) (m1 .there) (c .before .before .before .before .if2 .left) ((c .before .before .before .before .before .before .before .before .before .args .at) + 2) (omega arith) in let m3 = moved _ _ _ _ ((c .before .before .before .up-to3 .ensures) (c .before .before .before .before .before .before .before .before .before .args .n)) (c .before .before .before .before .before .before .before .before .before .pre .1 .0 .most) (m2 .there) (c .before .before .if3 .left) ((c .before .before .before .before .before .before .before .before .before .args .at) + 3) (omega arith) in let m4 = moved _ _ _ _ ((c .before .up-to4 .ensures) (c .before .before .before .before .before .before .before .before .before .args .n)) (c .before .before .before .before .before .before .before .before .before .pre .1 .0 .most) (m3 .there) (c .if4 .left) ((c .before .before .before .before .before .before .before .before .before .args .at) + 4) (omega arith) in omega (arith, m4 .there, (c .before .before .before .before .before .before .before .before .before .pre .1 .0 .most))
+aggregate-mul-judgments t c = let m1 = passed _ _ _ _ ((c .before .before .before .before .before .before .before .up-to .ensures) (c .before .before .before .before .before .before .before .before .before .args .n)) (c .before .before .before .before .before .before .before .before .before .pre .1 .0 .most) (c .before .before .before .before .before .before .before .before .before .pre .1 .1) (c .before .before .before .before .before .before .if1 .left) ((c .before .before .before .before .before .before .before .before .before .args .at) + 1) (omega arith) in let m2 = passed _ _ _ _ ((c .before .before .before .before .before .up-to2 .ensures) (c .before .before .before .before .before .before .before .before .before .args .n)) (c .before .before .before .before .before .before .before .before .before .pre .1 .0 .most) (m1 .there) (c .before .before .before .before .if2 .left) ((c .before .before .before .before .before .before .before .before .before .args .at) + 2) (omega arith) in let m3 = passed _ _ _ _ ((c .before .before .before .up-to3 .ensures) (c .before .before .before .before .before .before .before .before .before .args .n)) (c .before .before .before .before .before .before .before .before .before .pre .1 .0 .most) (m2 .there) (c .before .before .if3 .left) ((c .before .before .before .before .before .before .before .before .before .args .at) + 3) (omega arith) in let m4 = passed _ _ _ _ ((c .before .up-to4 .ensures) (c .before .before .before .before .before .before .before .before .before .args .n)) (c .before .before .before .before .before .before .before .before .before .pre .1 .0 .most) (m3 .there) (c .if4 .left) ((c .before .before .before .before .before .before .before .before .before .args .at) + 4) (omega arith) in omega (arith, m4 .there, (c .before .before .before .before .before .before .before .before .before .pre .1 .0 .most))
 
 aggregate-shared-slice-read-judgments : (t : ℕ) → aggregate-lts.Need-shared-slice-read-judgments (aggregate-calls t) (aggregate-at t) aggregate.Post
-aggregate-shared-slice-read-judgments t c = let m1 = moved _ _ _ _ ((c .before .before .before .before .before .before .before .before .up-to .ensures) (c .before .before .before .before .before .before .before .before .before .before .args .n)) (c .before .before .before .before .before .before .before .before .before .before .pre .1 .0 .most) (c .before .before .before .before .before .before .before .before .before .before .pre .1 .1) (c .before .before .before .before .before .before .before .if1 .left) ((c .before .before .before .before .before .before .before .before .before .before .args .at) + 1) (omega arith) in let m2 = moved _ _ _ _ ((c .before .before .before .before .before .before .up-to2 .ensures) (c .before .before .before .before .before .before .before .before .before .before .args .n)) (c .before .before .before .before .before .before .before .before .before .before .pre .1 .0 .most) (m1 .there) (c .before .before .before .before .before .if2 .left) ((c .before .before .before .before .before .before .before .before .before .before .args .at) + 2) (omega arith) in let m3 = moved _ _ _ _ ((c .before .before .before .before .up-to3 .ensures) (c .before .before .before .before .before .before .before .before .before .before .args .n)) (c .before .before .before .before .before .before .before .before .before .before .pre .1 .0 .most) (m2 .there) (c .before .before .before .if3 .left) ((c .before .before .before .before .before .before .before .before .before .before .args .at) + 3) (omega arith) in let m4 = moved _ _ _ _ ((c .before .before .up-to4 .ensures) (c .before .before .before .before .before .before .before .before .before .before .args .n)) (c .before .before .before .before .before .before .before .before .before .before .pre .1 .0 .most) (m3 .there) (c .before .if4 .left) ((c .before .before .before .before .before .before .before .before .before .before .args .at) + 4) (omega arith) in omega (arith, m4 .there)
+aggregate-shared-slice-read-judgments t c = let m1 = passed _ _ _ _ ((c .before .before .before .before .before .before .before .before .up-to .ensures) (c .before .before .before .before .before .before .before .before .before .before .args .n)) (c .before .before .before .before .before .before .before .before .before .before .pre .1 .0 .most) (c .before .before .before .before .before .before .before .before .before .before .pre .1 .1) (c .before .before .before .before .before .before .before .if1 .left) ((c .before .before .before .before .before .before .before .before .before .before .args .at) + 1) (omega arith) in let m2 = passed _ _ _ _ ((c .before .before .before .before .before .before .up-to2 .ensures) (c .before .before .before .before .before .before .before .before .before .before .args .n)) (c .before .before .before .before .before .before .before .before .before .before .pre .1 .0 .most) (m1 .there) (c .before .before .before .before .before .if2 .left) ((c .before .before .before .before .before .before .before .before .before .before .args .at) + 2) (omega arith) in let m3 = passed _ _ _ _ ((c .before .before .before .before .up-to3 .ensures) (c .before .before .before .before .before .before .before .before .before .before .args .n)) (c .before .before .before .before .before .before .before .before .before .before .pre .1 .0 .most) (m2 .there) (c .before .before .before .if3 .left) ((c .before .before .before .before .before .before .before .before .before .before .args .at) + 3) (omega arith) in let m4 = passed _ _ _ _ ((c .before .before .up-to4 .ensures) (c .before .before .before .before .before .before .before .before .before .before .args .n)) (c .before .before .before .before .before .before .before .before .before .before .pre .1 .0 .most) (m3 .there) (c .before .if4 .left) ((c .before .before .before .before .before .before .before .before .before .before .args .at) + 4) (omega arith) in omega (arith, m4 .there)
 
 aggregate-judgments-requires : (t : ℕ) → aggregate-lts.Need-judgments-requires (aggregate-calls t) (aggregate-at t) aggregate.Post
-aggregate-judgments-requires t c κs = let m1 = moved _ _ _ _ ((c .before .before .before .before .before .before .before .before .up-to .ensures) (c .before .before .before .before .before .before .before .before .before .before .args .n)) (c .before .before .before .before .before .before .before .before .before .before .pre .1 .0 .most) (c .before .before .before .before .before .before .before .before .before .before .pre .1 .1) (c .before .before .before .before .before .before .before .if1 .left) ((c .before .before .before .before .before .before .before .before .before .before .args .at) + 1) (omega arith) in let m2 = moved _ _ _ _ ((c .before .before .before .before .before .before .up-to2 .ensures) (c .before .before .before .before .before .before .before .before .before .before .args .n)) (c .before .before .before .before .before .before .before .before .before .before .pre .1 .0 .most) (m1 .there) (c .before .before .before .before .before .if2 .left) ((c .before .before .before .before .before .before .before .before .before .before .args .at) + 2) (omega arith) in let m3 = moved _ _ _ _ ((c .before .before .before .before .up-to3 .ensures) (c .before .before .before .before .before .before .before .before .before .before .args .n)) (c .before .before .before .before .before .before .before .before .before .before .pre .1 .0 .most) (m2 .there) (c .before .before .before .if3 .left) ((c .before .before .before .before .before .before .before .before .before .before .args .at) + 3) (omega arith) in let m4 = moved _ _ _ _ ((c .before .before .up-to4 .ensures) (c .before .before .before .before .before .before .before .before .before .before .args .n)) (c .before .before .before .before .before .before .before .before .before .before .pre .1 .0 .most) (m3 .there) (c .before .if4 .left) ((c .before .before .before .before .before .before .before .before .before .before .args .at) + 4) (omega arith) in (omega arith, ((c .before .before .before .before .before .before .before .before .before .before .pre .1 .0), m4 .there))
+aggregate-judgments-requires t c κs = let m1 = passed _ _ _ _ ((c .before .before .before .before .before .before .before .before .up-to .ensures) (c .before .before .before .before .before .before .before .before .before .before .args .n)) (c .before .before .before .before .before .before .before .before .before .before .pre .1 .0 .most) (c .before .before .before .before .before .before .before .before .before .before .pre .1 .1) (c .before .before .before .before .before .before .before .if1 .left) ((c .before .before .before .before .before .before .before .before .before .before .args .at) + 1) (omega arith) in let m2 = passed _ _ _ _ ((c .before .before .before .before .before .before .up-to2 .ensures) (c .before .before .before .before .before .before .before .before .before .before .args .n)) (c .before .before .before .before .before .before .before .before .before .before .pre .1 .0 .most) (m1 .there) (c .before .before .before .before .before .if2 .left) ((c .before .before .before .before .before .before .before .before .before .before .args .at) + 2) (omega arith) in let m3 = passed _ _ _ _ ((c .before .before .before .before .up-to3 .ensures) (c .before .before .before .before .before .before .before .before .before .before .args .n)) (c .before .before .before .before .before .before .before .before .before .before .pre .1 .0 .most) (m2 .there) (c .before .before .before .if3 .left) ((c .before .before .before .before .before .before .before .before .before .before .args .at) + 3) (omega arith) in let m4 = passed _ _ _ _ ((c .before .before .up-to4 .ensures) (c .before .before .before .before .before .before .before .before .before .before .args .n)) (c .before .before .before .before .before .before .before .before .before .before .pre .1 .0 .most) (m3 .there) (c .before .if4 .left) ((c .before .before .before .before .before .before .before .before .before .before .args .at) + 4) (omega arith) in (omega arith, ((c .before .before .before .before .before .before .before .before .before .before .pre .1 .0), m4 .there))
 
 aggregate-returns-5 : (t : ℕ) → aggregate-lts.Need-returns-5 (aggregate-calls t) (aggregate-at t) aggregate.Post
-aggregate-returns-5 t c = let m1 = moved _ _ _ _ ((c .before .before .before .before .before .before .before .before .before .up-to .ensures) (c .before .before .before .before .before .before .before .before .before .before .before .args .n)) (c .before .before .before .before .before .before .before .before .before .before .before .pre .1 .0 .most) (c .before .before .before .before .before .before .before .before .before .before .before .pre .1 .1) (c .before .before .before .before .before .before .before .before .if1 .left) ((c .before .before .before .before .before .before .before .before .before .before .before .args .at) + 1) (omega arith) in let m2 = moved _ _ _ _ ((c .before .before .before .before .before .before .before .up-to2 .ensures) (c .before .before .before .before .before .before .before .before .before .before .before .args .n)) (c .before .before .before .before .before .before .before .before .before .before .before .pre .1 .0 .most) (m1 .there) (c .before .before .before .before .before .before .if2 .left) ((c .before .before .before .before .before .before .before .before .before .before .before .args .at) + 2) (omega arith) in let m3 = moved _ _ _ _ ((c .before .before .before .before .before .up-to3 .ensures) (c .before .before .before .before .before .before .before .before .before .before .before .args .n)) (c .before .before .before .before .before .before .before .before .before .before .before .pre .1 .0 .most) (m2 .there) (c .before .before .before .before .if3 .left) ((c .before .before .before .before .before .before .before .before .before .before .before .args .at) + 3) (omega arith) in let m4 = moved _ _ _ _ ((c .before .before .before .up-to4 .ensures) (c .before .before .before .before .before .before .before .before .before .before .before .args .n)) (c .before .before .before .before .before .before .before .before .before .before .before .pre .1 .0 .most) (m3 .there) (c .before .before .if4 .left) ((c .before .before .before .before .before .before .before .before .before .before .before .args .at) + 4) (omega arith) in by-where _ _ _ _ (m1 .same) (m1 .small) (m2 .same) (m2 .small) (m3 .same) (m3 .small) (m4 .same) (m4 .small) (m3 .there) (c .judgments .ensures)
+aggregate-returns-5 t c = let m1 = passed _ _ _ _ ((c .before .before .before .before .before .before .before .before .before .up-to .ensures) (c .before .before .before .before .before .before .before .before .before .before .before .args .n)) (c .before .before .before .before .before .before .before .before .before .before .before .pre .1 .0 .most) (c .before .before .before .before .before .before .before .before .before .before .before .pre .1 .1) (c .before .before .before .before .before .before .before .before .if1 .left) ((c .before .before .before .before .before .before .before .before .before .before .before .args .at) + 1) (omega arith) in let m2 = passed _ _ _ _ ((c .before .before .before .before .before .before .before .up-to2 .ensures) (c .before .before .before .before .before .before .before .before .before .before .before .args .n)) (c .before .before .before .before .before .before .before .before .before .before .before .pre .1 .0 .most) (m1 .there) (c .before .before .before .before .before .before .if2 .left) ((c .before .before .before .before .before .before .before .before .before .before .before .args .at) + 2) (omega arith) in let m3 = passed _ _ _ _ ((c .before .before .before .before .before .up-to3 .ensures) (c .before .before .before .before .before .before .before .before .before .before .before .args .n)) (c .before .before .before .before .before .before .before .before .before .before .before .pre .1 .0 .most) (m2 .there) (c .before .before .before .before .if3 .left) ((c .before .before .before .before .before .before .before .before .before .before .before .args .at) + 3) (omega arith) in let m4 = passed _ _ _ _ ((c .before .before .before .up-to4 .ensures) (c .before .before .before .before .before .before .before .before .before .before .before .args .n)) (c .before .before .before .before .before .before .before .before .before .before .before .pre .1 .0 .most) (m3 .there) (c .before .before .if4 .left) ((c .before .before .before .before .before .before .before .before .before .before .before .args .at) + 4) (omega arith) in by-where _ _ _ _ (m1 .same) (m1 .small) (m2 .same) (m2 .small) (m3 .same) (m3 .small) (m4 .same) (m4 .small) (m3 .there) (c .judgments .ensures)
 
 choice-judgments-requires : (t : ℕ) → choice-lts.Need-judgments-requires (choice-calls t) (choice-at t) choice.Post
 choice-judgments-requires t c κs = (omega arith, ((c .before .pre .1 .0), (c .before .pre .1 .1)))
@@ -315,17 +315,17 @@ exists-up-to-requires t c κs = ((c .before .pre .1 .0 .most), (c .before .pre .
 
 exists-returns : (t : ℕ) → exists-lts.Need-returns (exists-calls t) (exists-at t) exists.Post
 unfolding follow fields fieldsOf
-exists-returns t c = then-code _ _ _ _ (last-code _ _ _ _ ((c .before .up-to .ensures) _)) (c .before .before .before .pre .1 .0 .most) (c .before .before .before .pre .1 .1) (c .if1 .taken)
+exists-returns t c = then-code _ _ _ _ (last-code _ _ _ _ (fault-code _ _ _ _ ((c .before .up-to .ensures) (c .before .before .before .args .n)) (c .if1 .taken))) (c .before .before .before .pre .1 .0 .most) (c .before .before .before .pre .1 .1) (fault-large _ _ _ _ ((c .before .up-to .ensures) (c .before .before .before .args .n)) (c .if1 .taken))
 
 exists-add-judgments : (t : ℕ) → exists-lts.Need-add-judgments (exists-calls t) (exists-at t) exists.Post
 exists-add-judgments t c = omega (arith, (c .before .before .before .pre .1 .0 .most), (c .before .before .before .pre .1 .1))
 
 exists-judgments-requires : (t : ℕ) → exists-lts.Need-judgments-requires (exists-calls t) (exists-at t) exists.Post
-exists-judgments-requires t c κs = let m1 = moved _ _ _ _ ((c .before .up-to .ensures) (c .before .before .before .args .n)) (c .before .before .before .pre .1 .0 .most) (c .before .before .before .pre .1 .1) (c .if1 .left) ((c .before .before .before .args .at) + 1) refl in (omega arith, ((c .before .before .before .pre .1 .0), m1 .there))
+exists-judgments-requires t c κs = let m1 = passed _ _ _ _ ((c .before .up-to .ensures) (c .before .before .before .args .n)) (c .before .before .before .pre .1 .0 .most) (c .before .before .before .pre .1 .1) (c .if1 .left) ((c .before .before .before .args .at) + 1) refl in (omega arith, ((c .before .before .before .pre .1 .0), m1 .there))
 
 exists-returns-2 : (t : ℕ) → exists-lts.Need-returns-2 (exists-calls t) (exists-at t) exists.Post
 unfolding follow fields fieldsOf childrenOf
-exists-returns-2 t c = let m1 = moved _ _ _ _ ((c .before .before .up-to .ensures) (c .before .before .before .before .args .n)) (c .before .before .before .before .pre .1 .0 .most) (c .before .before .before .before .pre .1 .1) (c .before .if1 .left) ((c .before .before .before .before .args .at) + 1) refl in then-next _ _ _ _ (last-code _ _ _ _ (m1 .same)) (m1 .small) (c .judgments .ensures)
+exists-returns-2 t c = let m1 = passed _ _ _ _ ((c .before .before .up-to .ensures) (c .before .before .before .before .args .n)) (c .before .before .before .before .pre .1 .0 .most) (c .before .before .before .before .pre .1 .1) (c .before .if1 .left) ((c .before .before .before .before .args .at) + 1) refl in then-next _ _ _ _ (last-code _ _ _ _ (m1 .same)) (m1 .small) (c .judgments .ensures)
 
 abbrev judgments-Inv-loop : judgments-lts.InvT-loop
 judgments-Inv-loop s t start n count left at₀ k₀ at k = Going s at left left (walk (each (tree n left) (replicate count judgment-sort)) s start) (walk (each (tree n left) (replicate k judgment-sort)) s at)
@@ -340,13 +340,13 @@ judgments-head-requires : (t : ℕ) → judgments-lts.Need-head-requires (judgme
 judgments-head-requires t c κs = ((c .before .before .before .pre .1 .0), (c .before .loop .inv .there))
 
 judgments-returns : (t : ℕ) → judgments-lts.Need-returns (judgments-calls t) (judgments-at t) judgments.Post judgments-Inv-loop judgments-μ-loop
-judgments-returns t c = code-as (row-stop _ _ _ _ _ (c .before .head .ensures) (c .before .before .before .before .before .pre .1 .0 .most) (c .before .before .before .loop .inv .there) (c .before .before .before .loop .k) (omega arith) (c .if1 .taken)) (sym (c .before .before .before .loop .inv .same))
+judgments-returns t c = code-as (row-stop _ _ _ _ _ (fault-code _ _ _ _ (c .before .head .ensures) (c .if1 .taken)) (c .before .before .before .before .before .pre .1 .0 .most) (c .before .before .before .loop .inv .there) (c .before .before .before .loop .k) (omega arith) (fault-large _ _ _ _ (c .before .head .ensures) (c .if1 .taken))) (sym (c .before .before .before .loop .inv .same))
 
 judgments-mul-w : (t : ℕ) → judgments-lts.Need-mul-w (judgments-calls t) (judgments-at t) judgments.Post judgments-Inv-loop judgments-μ-loop
-judgments-mul-w t c = let u = turn _ _ _ _ _ (c .before .head .ensures) (c .before .before .before .loop .inv .there) (c .if1 .left) in omega (arith, u .inside, (c .before .before .before .before .before .pre .1 .0 .most))
+judgments-mul-w t c = let u = turn _ _ _ _ _ (fault-on _ _ _ _ (c .before .head .ensures) (c .if1 .left)) (c .before .before .before .loop .inv .there) (small-next (c .before .before .before .before .before .pre .1 .0 .most) (c .before .before .before .loop .inv .there)) in omega (arith, u .inside, (c .before .before .before .before .before .pre .1 .0 .most))
 
 judgments-shared-slice-read-w : (t : ℕ) → judgments-lts.Need-shared-slice-read-w (judgments-calls t) (judgments-at t) judgments.Post judgments-Inv-loop judgments-μ-loop
-judgments-shared-slice-read-w t c = (turn _ _ _ _ _ (c .before .before .head .ensures) (c .before .before .before .before .loop .inv .there) (c .before .if1 .left)) .inside
+judgments-shared-slice-read-w t c = (turn _ _ _ _ _ (fault-on _ _ _ _ (c .before .before .head .ensures) (c .before .if1 .left)) (c .before .before .before .before .loop .inv .there) (small-next (c .before .before .before .before .before .before .pre .1 .0 .most) (c .before .before .before .before .loop .inv .there))) .inside
 
 judgments-add-at : (t : ℕ) → judgments-lts.Need-add-at (judgments-calls t) (judgments-at t) judgments.Post judgments-Inv-loop judgments-μ-loop
 judgments-add-at t c = search needs
@@ -355,25 +355,25 @@ judgments-sub-k : (t : ℕ) → judgments-lts.Need-sub-k (judgments-calls t) (ju
 judgments-sub-k t c = search needs
 
 judgments-sub-after-judgment : (t : ℕ) → judgments-lts.Need-sub-after-judgment (judgments-calls t) (judgments-at t) judgments.Post judgments-Inv-loop judgments-μ-loop
-judgments-sub-after-judgment t c = (turn _ _ _ _ _ (c .before .before .before .head .ensures) (c .before .before .before .before .before .loop .inv .there) (c .before .before .if1 .left)) .level
+judgments-sub-after-judgment t c = (turn _ _ _ _ _ (fault-on _ _ _ _ (c .before .before .before .head .ensures) (c .before .before .if1 .left)) (c .before .before .before .before .before .loop .inv .there) (small-next (c .before .before .before .before .before .before .before .pre .1 .0 .most) (c .before .before .before .before .before .loop .inv .there))) .level
 
 judgments-after-judgment-requires : (t : ℕ) → judgments-lts.Need-after-judgment-requires (judgments-calls t) (judgments-at t) judgments.Post judgments-Inv-loop judgments-μ-loop
-judgments-after-judgment-requires t c κs = let u = turn _ _ _ _ _ (c .before .before .before .head .ensures) (c .before .before .before .before .before .loop .inv .there) (c .before .before .if1 .left) in (omega (arith, u .level, (c .before .before .before .before .before .loop .inv .deep)), ((c .before .before .before .before .before .before .before .pre .1 .0), u .past, judgment-kind (kindOf (getD (c .before .before .before .before .before .before .before .args .s .now) (c .before .before .before .before .before .loop .at) 0)) (u .kind)))
+judgments-after-judgment-requires t c κs = let u = turn _ _ _ _ _ (fault-on _ _ _ _ (c .before .before .before .head .ensures) (c .before .before .if1 .left)) (c .before .before .before .before .before .loop .inv .there) (small-next (c .before .before .before .before .before .before .before .pre .1 .0 .most) (c .before .before .before .before .before .loop .inv .there)) in (omega (arith, u .level, (c .before .before .before .before .before .loop .inv .deep)), ((c .before .before .before .before .before .before .before .pre .1 .0), u .past, judgment-kind (kindOf (getD (c .before .before .before .before .before .before .before .args .s .now) (c .before .before .before .before .before .loop .at) 0)) (u .kind)))
 
 judgments-returns-2 : (t : ℕ) → judgments-lts.Need-returns-2 (judgments-calls t) (judgments-at t) judgments.Post judgments-Inv-loop judgments-μ-loop
-judgments-returns-2 t c = code-as (node-stop _ _ _ _ _ (c .before .before .before .before .before .head .ensures) (c .before .before .before .before .before .before .before .before .before .pre .1 .0 .most) (c .before .before .before .before .before .before .before .loop .inv .there) (c .before .before .before .before .before .before .before .loop .k) (omega arith) (c .before .before .before .before .if1 .left) (c .before .after-judgment .ensures) (c .if3 .taken)) (sym (c .before .before .before .before .before .before .before .loop .inv .same))
+judgments-returns-2 t c = code-as (node-stop _ _ _ _ _ (fault-on _ _ _ _ (c .before .before .before .before .before .head .ensures) (c .before .before .before .before .if1 .left)) (c .before .before .before .before .before .before .before .before .before .pre .1 .0 .most) (c .before .before .before .before .before .before .before .loop .inv .there) (c .before .before .before .before .before .before .before .loop .k) (omega arith) (small-next (c .before .before .before .before .before .before .before .before .before .pre .1 .0 .most) (c .before .before .before .before .before .before .before .loop .inv .there)) (c .before .after-judgment .ensures) (c .if3 .taken)) (sym (c .before .before .before .before .before .before .before .loop .inv .same))
 
 judgments-loop-less : (t : ℕ) → judgments-lts.Need-loop-less (judgments-calls t) (judgments-at t) judgments.Post judgments-Inv-loop judgments-μ-loop
-judgments-loop-less t c = let u = turn _ _ _ _ _ (c .before .before .before .before .before .head .ensures) (c .before .before .before .before .before .before .before .loop .inv .there) (c .before .before .before .before .if1 .left) in omega (arith, u .inside, code-forward _ _ _ (c .before .after-judgment .ensures) (c .if3 .left))
+judgments-loop-less t c = let u = turn _ _ _ _ _ (fault-on _ _ _ _ (c .before .before .before .before .before .head .ensures) (c .before .before .before .before .if1 .left)) (c .before .before .before .before .before .before .before .loop .inv .there) (small-next (c .before .before .before .before .before .before .before .before .before .pre .1 .0 .most) (c .before .before .before .before .before .before .before .loop .inv .there)) in omega (arith, u .inside, code-forward _ _ _ (c .before .after-judgment .ensures) (c .if3 .left))
 
 judgments-loop-again : (t : ℕ) → judgments-lts.Need-loop-again (judgments-calls t) (judgments-at t) judgments.Post judgments-Inv-loop judgments-μ-loop
-judgments-loop-again t c = record { there = code-within _ _ _ (c .before .after-judgment .ensures) ((turn _ _ _ _ _ (c .before .before .before .before .before .head .ensures) (c .before .before .before .before .before .before .before .loop .inv .there) (c .before .before .before .before .if1 .left)) .past) (c .if3 .left); deep = (c .before .before .before .before .before .before .before .loop .inv .deep); same = (c .before .before .before .before .before .before .before .loop .inv .same) ∙ node-on _ _ _ _ _ (c .before .before .before .before .before .head .ensures) (c .before .before .before .before .before .before .before .before .before .pre .1 .0 .most) (c .before .before .before .before .before .before .before .loop .inv .there) (c .before .before .before .before .before .before .before .loop .k) (omega arith) (c .before .before .before .before .if1 .left) (c .before .after-judgment .ensures) (c .if3 .left) }
+judgments-loop-again t c = record { there = code-within _ _ _ (c .before .after-judgment .ensures) ((turn _ _ _ _ _ (fault-on _ _ _ _ (c .before .before .before .before .before .head .ensures) (c .before .before .before .before .if1 .left)) (c .before .before .before .before .before .before .before .loop .inv .there) (small-next (c .before .before .before .before .before .before .before .before .before .pre .1 .0 .most) (c .before .before .before .before .before .before .before .loop .inv .there))) .past) (c .if3 .left); deep = (c .before .before .before .before .before .before .before .loop .inv .deep); same = (c .before .before .before .before .before .before .before .loop .inv .same) ∙ node-on _ _ _ _ _ (fault-on _ _ _ _ (c .before .before .before .before .before .head .ensures) (c .before .before .before .before .if1 .left)) (c .before .before .before .before .before .before .before .before .before .pre .1 .0 .most) (c .before .before .before .before .before .before .before .loop .inv .there) (c .before .before .before .before .before .before .before .loop .k) (omega arith) (small-next (c .before .before .before .before .before .before .before .before .before .pre .1 .0 .most) (c .before .before .before .before .before .before .before .loop .inv .there)) (c .before .after-judgment .ensures) (c .if3 .left) }
 
 judgments-loop-less-2 : (t : ℕ) → judgments-lts.Need-loop-less-2 (judgments-calls t) (judgments-at t) judgments.Post judgments-Inv-loop judgments-μ-loop
-judgments-loop-less-2 t c = let u = turn _ _ _ _ _ (c .before .before .before .head .ensures) (c .before .before .before .before .before .loop .inv .there) (c .before .before .if1 .left) in omega (arith, u .inside)
+judgments-loop-less-2 t c = let u = turn _ _ _ _ _ (fault-on _ _ _ _ (c .before .before .before .head .ensures) (c .before .before .if1 .left)) (c .before .before .before .before .before .loop .inv .there) (small-next (c .before .before .before .before .before .before .before .pre .1 .0 .most) (c .before .before .before .before .before .loop .inv .there)) in omega (arith, u .inside)
 
 judgments-loop-again-2 : (t : ℕ) → judgments-lts.Need-loop-again-2 (judgments-calls t) (judgments-at t) judgments.Post judgments-Inv-loop judgments-μ-loop
-judgments-loop-again-2 t c = record { there = (turn _ _ _ _ _ (c .before .before .before .head .ensures) (c .before .before .before .before .before .loop .inv .there) (c .before .before .if1 .left)) .past; deep = (c .before .before .before .before .before .loop .inv .deep); same = (c .before .before .before .before .before .loop .inv .same) ∙ row-leaf _ _ _ _ _ (c .before .before .before .head .ensures) (c .before .before .before .before .before .before .before .pre .1 .0 .most) (c .before .before .before .before .before .loop .inv .there) (c .before .before .before .before .before .loop .k) (omega arith) (c .before .before .if1 .left) (leaf-last (valueOf (getD (c .before .before .before .before .before .before .before .args .s .now) (c .before .before .before .before .before .loop .at) 0)) (kindOf (getD (c .before .before .before .before .before .before .before .args .s .now) (c .before .before .before .before .before .loop .at) 0)) (c .if2 .left) (omega (arith, (c .before .shared-slice-known2 .given) (c .before .before .before .before .before .loop .at)))) }
+judgments-loop-again-2 t c = record { there = (turn _ _ _ _ _ (fault-on _ _ _ _ (c .before .before .before .head .ensures) (c .before .before .if1 .left)) (c .before .before .before .before .before .loop .inv .there) (small-next (c .before .before .before .before .before .before .before .pre .1 .0 .most) (c .before .before .before .before .before .loop .inv .there))) .past; deep = (c .before .before .before .before .before .loop .inv .deep); same = (c .before .before .before .before .before .loop .inv .same) ∙ row-leaf _ _ _ _ _ (fault-on _ _ _ _ (c .before .before .before .head .ensures) (c .before .before .if1 .left)) (c .before .before .before .before .before .before .before .pre .1 .0 .most) (c .before .before .before .before .before .loop .inv .there) (c .before .before .before .before .before .loop .k) (omega arith) (small-next (c .before .before .before .before .before .before .before .pre .1 .0 .most) (c .before .before .before .before .before .loop .inv .there)) (leaf-last (valueOf (getD (c .before .before .before .before .before .before .before .args .s .now) (c .before .before .before .before .before .loop .at) 0)) (kindOf (getD (c .before .before .before .before .before .before .before .args .s .now) (c .before .before .before .before .before .loop .at) 0)) (c .if2 .left) (omega (arith, (c .before .shared-slice-known2 .given) (c .before .before .before .before .before .loop .at)))) }
 
 judgments-returns-3 : (t : ℕ) → judgments-lts.Need-returns-3 (judgments-calls t) (judgments-at t) judgments.Post judgments-Inv-loop judgments-μ-loop
 judgments-returns-3 t c = row-done _ _ _ _ (c .before .loop .k) (omega arith) (c .before .loop .inv .same)
@@ -391,13 +391,13 @@ scalars-head-requires : (t : ℕ) → scalars-lts.Need-head-requires (scalars-ca
 scalars-head-requires t c κs = ((c .before .before .before .pre .1 .0), (c .before .loop .inv .there))
 
 scalars-returns : (t : ℕ) → scalars-lts.Need-returns (scalars-calls t) (scalars-at t) scalars.Post scalars-Inv-loop scalars-μ-loop
-scalars-returns t c = code-as (row-stop _ _ _ _ _ (c .before .head .ensures) (c .before .before .before .before .before .pre .1 .0 .most) (c .before .before .before .loop .inv .there) (c .before .before .before .loop .k) (omega arith) (c .if1 .taken)) (sym (c .before .before .before .loop .inv .same))
+scalars-returns t c = code-as (row-stop _ _ _ _ _ (fault-code _ _ _ _ (c .before .head .ensures) (c .if1 .taken)) (c .before .before .before .before .before .pre .1 .0 .most) (c .before .before .before .loop .inv .there) (c .before .before .before .loop .k) (omega arith) (fault-large _ _ _ _ (c .before .head .ensures) (c .if1 .taken))) (sym (c .before .before .before .loop .inv .same))
 
 scalars-mul-w : (t : ℕ) → scalars-lts.Need-mul-w (scalars-calls t) (scalars-at t) scalars.Post scalars-Inv-loop scalars-μ-loop
-scalars-mul-w t c = let u = turn _ _ _ _ _ (c .before .head .ensures) (c .before .before .before .loop .inv .there) (c .if1 .left) in omega (arith, u .inside, (c .before .before .before .before .before .pre .1 .0 .most))
+scalars-mul-w t c = let u = turn _ _ _ _ _ (fault-on _ _ _ _ (c .before .head .ensures) (c .if1 .left)) (c .before .before .before .loop .inv .there) (small-next (c .before .before .before .before .before .pre .1 .0 .most) (c .before .before .before .loop .inv .there)) in omega (arith, u .inside, (c .before .before .before .before .before .pre .1 .0 .most))
 
 scalars-shared-slice-read-w : (t : ℕ) → scalars-lts.Need-shared-slice-read-w (scalars-calls t) (scalars-at t) scalars.Post scalars-Inv-loop scalars-μ-loop
-scalars-shared-slice-read-w t c = (turn _ _ _ _ _ (c .before .before .head .ensures) (c .before .before .before .before .loop .inv .there) (c .before .if1 .left)) .inside
+scalars-shared-slice-read-w t c = (turn _ _ _ _ _ (fault-on _ _ _ _ (c .before .before .head .ensures) (c .before .if1 .left)) (c .before .before .before .before .loop .inv .there) (small-next (c .before .before .before .before .before .before .pre .1 .0 .most) (c .before .before .before .before .loop .inv .there))) .inside
 
 scalars-add-at : (t : ℕ) → scalars-lts.Need-add-at (scalars-calls t) (scalars-at t) scalars.Post scalars-Inv-loop scalars-μ-loop
 scalars-add-at t c = search needs
@@ -409,34 +409,34 @@ scalars-children-requires : (t : ℕ) → scalars-lts.Need-children-requires (sc
 scalars-children-requires t c κs = search needs
 
 scalars-sub-left : (t : ℕ) → scalars-lts.Need-sub-left (scalars-calls t) (scalars-at t) scalars.Post scalars-Inv-loop scalars-μ-loop
-scalars-sub-left t c = (turn _ _ _ _ _ (c .before .before .before .before .before .before .head .ensures) (c .before .before .before .before .before .before .before .before .loop .inv .there) (c .before .before .before .before .before .if1 .left)) .level
+scalars-sub-left t c = (turn _ _ _ _ _ (fault-on _ _ _ _ (c .before .before .before .before .before .before .head .ensures) (c .before .before .before .before .before .if1 .left)) (c .before .before .before .before .before .before .before .before .loop .inv .there) (small-next (c .before .before .before .before .before .before .before .before .before .before .pre .1 .0 .most) (c .before .before .before .before .before .before .before .before .loop .inv .there))) .level
 
 scalars-loop-less : (t : ℕ) → scalars-lts.Need-loop-less (scalars-calls t) (scalars-at t) scalars.Post scalars-Inv-loop scalars-μ-loop
-scalars-loop-less t c = let u = turn _ _ _ _ _ (c .before .before .before .before .before .before .head .ensures) (c .before .before .before .before .before .before .before .before .loop .inv .there) (c .before .before .before .before .before .if1 .left) in omega (arith, u .inside)
+scalars-loop-less t c = let u = turn _ _ _ _ _ (fault-on _ _ _ _ (c .before .before .before .before .before .before .head .ensures) (c .before .before .before .before .before .if1 .left)) (c .before .before .before .before .before .before .before .before .loop .inv .there) (small-next (c .before .before .before .before .before .before .before .before .before .before .pre .1 .0 .most) (c .before .before .before .before .before .before .before .before .loop .inv .there)) in omega (arith, u .inside)
 
 scalars-loop-again : (t : ℕ) → scalars-lts.Need-loop-again (scalars-calls t) (scalars-at t) scalars.Post scalars-Inv-loop scalars-μ-loop
-scalars-loop-again t c = let u = turn _ _ _ _ _ (c .before .before .before .before .before .before .head .ensures) (c .before .before .before .before .before .before .before .before .loop .inv .there) (c .before .before .before .before .before .if1 .left) in record { there = omega (arith, u .inside); deep = omega (arith, (c .before .before .before .before .before .before .before .before .loop .inv .deep)); same = (c .before .before .before .before .before .before .before .before .loop .inv .same) ∙ row-last _ _ _ _ _ (c .before .before .before .before .before .before .head .ensures) (c .before .before .before .before .before .before .before .before .before .before .pre .1 .0 .most) (c .before .before .before .before .before .before .before .before .loop .inv .there) (c .before .before .before .before .before .before .before .before .loop .k) (omega arith) (c .before .before .before .before .before .if1 .left) (omega arith) (scalar-row (valueOf (getD (c .before .before .before .before .before .before .before .before .before .before .args .s .now) (c .before .before .before .before .before .before .before .before .loop .at) 0)) (kindOf (getD (c .before .before .before .before .before .before .before .before .before .before .args .s .now) (c .before .before .before .before .before .before .before .before .loop .at) 0)) (omega arith) (omega (arith, leb-true (kindOf (getD (c .before .before .before .before .before .before .before .before .before .before .args .s .now) (c .before .before .before .before .before .before .before .before .loop .at) 0)) 70 (c .before .if4 .taken))) (λ z. omega (arith, leb-true (kindOf (getD (c .before .before .before .before .before .before .before .before .before .before .args .s .now) (c .before .before .before .before .before .before .before .before .loop .at) 0)) 70 (c .before .if4 .taken)))) (c .children .ensures) }
+scalars-loop-again t c = let u = turn _ _ _ _ _ (fault-on _ _ _ _ (c .before .before .before .before .before .before .head .ensures) (c .before .before .before .before .before .if1 .left)) (c .before .before .before .before .before .before .before .before .loop .inv .there) (small-next (c .before .before .before .before .before .before .before .before .before .before .pre .1 .0 .most) (c .before .before .before .before .before .before .before .before .loop .inv .there)) in record { there = omega (arith, u .inside); deep = omega (arith, (c .before .before .before .before .before .before .before .before .loop .inv .deep)); same = (c .before .before .before .before .before .before .before .before .loop .inv .same) ∙ row-last _ _ _ _ _ (fault-on _ _ _ _ (c .before .before .before .before .before .before .head .ensures) (c .before .before .before .before .before .if1 .left)) (c .before .before .before .before .before .before .before .before .before .before .pre .1 .0 .most) (c .before .before .before .before .before .before .before .before .loop .inv .there) (c .before .before .before .before .before .before .before .before .loop .k) (omega arith) (small-next (c .before .before .before .before .before .before .before .before .before .before .pre .1 .0 .most) (c .before .before .before .before .before .before .before .before .loop .inv .there)) (omega arith) (scalar-row (valueOf (getD (c .before .before .before .before .before .before .before .before .before .before .args .s .now) (c .before .before .before .before .before .before .before .before .loop .at) 0)) (kindOf (getD (c .before .before .before .before .before .before .before .before .before .before .args .s .now) (c .before .before .before .before .before .before .before .before .loop .at) 0)) (omega arith) (omega (arith, leb-true (kindOf (getD (c .before .before .before .before .before .before .before .before .before .before .args .s .now) (c .before .before .before .before .before .before .before .before .loop .at) 0)) 70 (c .before .if4 .taken))) (λ z. omega (arith, leb-true (kindOf (getD (c .before .before .before .before .before .before .before .before .before .before .args .s .now) (c .before .before .before .before .before .before .before .before .loop .at) 0)) 70 (c .before .if4 .taken)))) (c .children .ensures) }
 
 scalars-sub-after-scalar : (t : ℕ) → scalars-lts.Need-sub-after-scalar (scalars-calls t) (scalars-at t) scalars.Post scalars-Inv-loop scalars-μ-loop
-scalars-sub-after-scalar t c = (turn _ _ _ _ _ (c .before .before .before .before .head .ensures) (c .before .before .before .before .before .before .loop .inv .there) (c .before .before .before .if1 .left)) .level
+scalars-sub-after-scalar t c = (turn _ _ _ _ _ (fault-on _ _ _ _ (c .before .before .before .before .head .ensures) (c .before .before .before .if1 .left)) (c .before .before .before .before .before .before .loop .inv .there) (small-next (c .before .before .before .before .before .before .before .before .pre .1 .0 .most) (c .before .before .before .before .before .before .loop .inv .there))) .level
 
 scalars-after-scalar-requires : (t : ℕ) → scalars-lts.Need-after-scalar-requires (scalars-calls t) (scalars-at t) scalars.Post scalars-Inv-loop scalars-μ-loop
-scalars-after-scalar-requires t c κs = let u = turn _ _ _ _ _ (c .before .before .before .before .head .ensures) (c .before .before .before .before .before .before .loop .inv .there) (c .before .before .before .if1 .left) in (omega (arith, u .level, (c .before .before .before .before .before .before .loop .inv .deep)), ((c .before .before .before .before .before .before .before .before .pre .1 .0), u .past, scalar-kind (kindOf (getD (c .before .before .before .before .before .before .before .before .args .s .now) (c .before .before .before .before .before .before .loop .at) 0)) (omega (arith, (c .before .before .shared-slice-known2 .given) (c .before .before .before .before .before .before .loop .at))) (u .kind)))
+scalars-after-scalar-requires t c κs = let u = turn _ _ _ _ _ (fault-on _ _ _ _ (c .before .before .before .before .head .ensures) (c .before .before .before .if1 .left)) (c .before .before .before .before .before .before .loop .inv .there) (small-next (c .before .before .before .before .before .before .before .before .pre .1 .0 .most) (c .before .before .before .before .before .before .loop .inv .there)) in (omega (arith, u .level, (c .before .before .before .before .before .before .loop .inv .deep)), ((c .before .before .before .before .before .before .before .before .pre .1 .0), u .past, scalar-kind (kindOf (getD (c .before .before .before .before .before .before .before .before .args .s .now) (c .before .before .before .before .before .before .loop .at) 0)) (omega (arith, (c .before .before .shared-slice-known2 .given) (c .before .before .before .before .before .before .loop .at))) (u .kind)))
 
 scalars-returns-2 : (t : ℕ) → scalars-lts.Need-returns-2 (scalars-calls t) (scalars-at t) scalars.Post scalars-Inv-loop scalars-μ-loop
-scalars-returns-2 t c = code-as (node-stop _ _ _ _ _ (c .before .before .before .before .before .before .head .ensures) (c .before .before .before .before .before .before .before .before .before .before .pre .1 .0 .most) (c .before .before .before .before .before .before .before .before .loop .inv .there) (c .before .before .before .before .before .before .before .before .loop .k) (omega arith) (c .before .before .before .before .before .if1 .left) (c .before .after-scalar .ensures) (c .if5 .taken)) (sym (c .before .before .before .before .before .before .before .before .loop .inv .same))
+scalars-returns-2 t c = code-as (node-stop _ _ _ _ _ (fault-on _ _ _ _ (c .before .before .before .before .before .before .head .ensures) (c .before .before .before .before .before .if1 .left)) (c .before .before .before .before .before .before .before .before .before .before .pre .1 .0 .most) (c .before .before .before .before .before .before .before .before .loop .inv .there) (c .before .before .before .before .before .before .before .before .loop .k) (omega arith) (small-next (c .before .before .before .before .before .before .before .before .before .before .pre .1 .0 .most) (c .before .before .before .before .before .before .before .before .loop .inv .there)) (c .before .after-scalar .ensures) (c .if5 .taken)) (sym (c .before .before .before .before .before .before .before .before .loop .inv .same))
 
 scalars-loop-less-2 : (t : ℕ) → scalars-lts.Need-loop-less-2 (scalars-calls t) (scalars-at t) scalars.Post scalars-Inv-loop scalars-μ-loop
-scalars-loop-less-2 t c = let u = turn _ _ _ _ _ (c .before .before .before .before .before .before .head .ensures) (c .before .before .before .before .before .before .before .before .loop .inv .there) (c .before .before .before .before .before .if1 .left) in omega (arith, u .inside, code-forward _ _ _ (c .before .after-scalar .ensures) (c .if5 .left))
+scalars-loop-less-2 t c = let u = turn _ _ _ _ _ (fault-on _ _ _ _ (c .before .before .before .before .before .before .head .ensures) (c .before .before .before .before .before .if1 .left)) (c .before .before .before .before .before .before .before .before .loop .inv .there) (small-next (c .before .before .before .before .before .before .before .before .before .before .pre .1 .0 .most) (c .before .before .before .before .before .before .before .before .loop .inv .there)) in omega (arith, u .inside, code-forward _ _ _ (c .before .after-scalar .ensures) (c .if5 .left))
 
 scalars-loop-again-2 : (t : ℕ) → scalars-lts.Need-loop-again-2 (scalars-calls t) (scalars-at t) scalars.Post scalars-Inv-loop scalars-μ-loop
-scalars-loop-again-2 t c = record { there = code-within _ _ _ (c .before .after-scalar .ensures) ((turn _ _ _ _ _ (c .before .before .before .before .before .before .head .ensures) (c .before .before .before .before .before .before .before .before .loop .inv .there) (c .before .before .before .before .before .if1 .left)) .past) (c .if5 .left); deep = (c .before .before .before .before .before .before .before .before .loop .inv .deep); same = (c .before .before .before .before .before .before .before .before .loop .inv .same) ∙ node-on _ _ _ _ _ (c .before .before .before .before .before .before .head .ensures) (c .before .before .before .before .before .before .before .before .before .before .pre .1 .0 .most) (c .before .before .before .before .before .before .before .before .loop .inv .there) (c .before .before .before .before .before .before .before .before .loop .k) (omega arith) (c .before .before .before .before .before .if1 .left) (c .before .after-scalar .ensures) (c .if5 .left) }
+scalars-loop-again-2 t c = record { there = code-within _ _ _ (c .before .after-scalar .ensures) ((turn _ _ _ _ _ (fault-on _ _ _ _ (c .before .before .before .before .before .before .head .ensures) (c .before .before .before .before .before .if1 .left)) (c .before .before .before .before .before .before .before .before .loop .inv .there) (small-next (c .before .before .before .before .before .before .before .before .before .before .pre .1 .0 .most) (c .before .before .before .before .before .before .before .before .loop .inv .there))) .past) (c .if5 .left); deep = (c .before .before .before .before .before .before .before .before .loop .inv .deep); same = (c .before .before .before .before .before .before .before .before .loop .inv .same) ∙ node-on _ _ _ _ _ (fault-on _ _ _ _ (c .before .before .before .before .before .before .head .ensures) (c .before .before .before .before .before .if1 .left)) (c .before .before .before .before .before .before .before .before .before .before .pre .1 .0 .most) (c .before .before .before .before .before .before .before .before .loop .inv .there) (c .before .before .before .before .before .before .before .before .loop .k) (omega arith) (small-next (c .before .before .before .before .before .before .before .before .before .before .pre .1 .0 .most) (c .before .before .before .before .before .before .before .before .loop .inv .there)) (c .before .after-scalar .ensures) (c .if5 .left) }
 
 scalars-loop-less-3 : (t : ℕ) → scalars-lts.Need-loop-less-3 (scalars-calls t) (scalars-at t) scalars.Post scalars-Inv-loop scalars-μ-loop
-scalars-loop-less-3 t c = let u = turn _ _ _ _ _ (c .before .before .before .head .ensures) (c .before .before .before .before .before .loop .inv .there) (c .before .before .if1 .left) in omega (arith, u .inside)
+scalars-loop-less-3 t c = let u = turn _ _ _ _ _ (fault-on _ _ _ _ (c .before .before .before .head .ensures) (c .before .before .if1 .left)) (c .before .before .before .before .before .loop .inv .there) (small-next (c .before .before .before .before .before .before .before .pre .1 .0 .most) (c .before .before .before .before .before .loop .inv .there)) in omega (arith, u .inside)
 
 scalars-loop-again-3 : (t : ℕ) → scalars-lts.Need-loop-again-3 (scalars-calls t) (scalars-at t) scalars.Post scalars-Inv-loop scalars-μ-loop
-scalars-loop-again-3 t c = record { there = (turn _ _ _ _ _ (c .before .before .before .head .ensures) (c .before .before .before .before .before .loop .inv .there) (c .before .before .if1 .left)) .past; deep = (c .before .before .before .before .before .loop .inv .deep); same = (c .before .before .before .before .before .loop .inv .same) ∙ row-leaf _ _ _ _ _ (c .before .before .before .head .ensures) (c .before .before .before .before .before .before .before .pre .1 .0 .most) (c .before .before .before .before .before .loop .inv .there) (c .before .before .before .before .before .loop .k) (omega arith) (c .before .before .if1 .left) (leaf-low (valueOf (getD (c .before .before .before .before .before .before .before .args .s .now) (c .before .before .before .before .before .loop .at) 0)) (kindOf (getD (c .before .before .before .before .before .before .before .args .s .now) (c .before .before .before .before .before .loop .at) 0)) (c .if2 .left)) }
+scalars-loop-again-3 t c = record { there = (turn _ _ _ _ _ (fault-on _ _ _ _ (c .before .before .before .head .ensures) (c .before .before .if1 .left)) (c .before .before .before .before .before .loop .inv .there) (small-next (c .before .before .before .before .before .before .before .pre .1 .0 .most) (c .before .before .before .before .before .loop .inv .there))) .past; deep = (c .before .before .before .before .before .loop .inv .deep); same = (c .before .before .before .before .before .loop .inv .same) ∙ row-leaf _ _ _ _ _ (fault-on _ _ _ _ (c .before .before .before .head .ensures) (c .before .before .if1 .left)) (c .before .before .before .before .before .before .before .pre .1 .0 .most) (c .before .before .before .before .before .loop .inv .there) (c .before .before .before .before .before .loop .k) (omega arith) (small-next (c .before .before .before .before .before .before .before .pre .1 .0 .most) (c .before .before .before .before .before .loop .inv .there)) (leaf-low (valueOf (getD (c .before .before .before .before .before .before .before .args .s .now) (c .before .before .before .before .before .loop .at) 0)) (kindOf (getD (c .before .before .before .before .before .before .before .args .s .now) (c .before .before .before .before .before .loop .at) 0)) (c .if2 .left)) }
 
 scalars-returns-3 : (t : ℕ) → scalars-lts.Need-returns-3 (scalars-calls t) (scalars-at t) scalars.Post scalars-Inv-loop scalars-μ-loop
 scalars-returns-3 t c = row-done _ _ _ _ (c .before .loop .k) (omega arith) (c .before .loop .inv .same)
@@ -457,7 +457,7 @@ pub +after-judgment+after-scalar+aggregate+choice+exists+judgments+scalars-spec 
     (after-judgment-entry-of-requires t)
     (after-judgment-scalars-requires t)
     (after-judgment-slots-requires t)
-    (after-judgment-up-to-requires t)
+    (after-judgment-atom-requires t)
     (after-judgment-exists-requires t)
     (after-judgment-how-many-requires t)
     (after-judgment-judgments-requires t)
