@@ -5,6 +5,7 @@ pub mod DealtLaws
 pub mod Examples
 pub mod StepLaws
 pub mod TreeLaws
+pub mod CodeLaws
 pub mod RecordLaws
 pub mod CheckLaws
 pub mod RewriteLaws

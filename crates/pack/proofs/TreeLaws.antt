@@ -7,7 +7,7 @@ use mathlib.Core.List.{List, [], _∷_}
 use mathlib.Core.Bool.{Bool, true, false}
 use lib.Dec.{ltb, eqb}
 use lib.ListN.{replicate}
-use borrow.Author.Tests.{eq-eqb, ne-eqb, ltb-true, ltb-false}
+use borrow.Author.Tests.{eq-eqb, ne-eqb, ltb-true, ltb-false, eqb-true, eqb-false}
 use Rattle.pack.specs.declared.answer.Refusal.{Refusal}
 use Rattle.pack.specs.declared.cursor.Cursor.{Cursor}
 use Rattle.pack.specs.declared.cursor.Step.{Step}
@@ -128,6 +128,53 @@ comparison-row v k e = row 96 1 scalar v refl refl k (omega arith) (omega arith)
 pub judgment-row : (v k : ℕ) → 97 ≤ k → k < 101 → Row k v judgment
 unfolding entryOf table fieldsOf childrenOf
 judgment-row v k lo hi = row 97 4 judgment v refl refl k lo hi
+
+-- the children of the kinds 66 to 70
+pub child-one : (k v : ℕ) → k ≡ 66 → 1 ≡ howMany (entryOf k .follows) v
+unfolding entryOf table
+child-one k v e = rw e refl
+
+pub child-two : (k v : ℕ) → k ≡ 67 → 2 ≡ howMany (entryOf k .follows) v
+unfolding entryOf table
+child-two k v e = rw e refl
+
+pub child-many : (k v : ℕ) → 66 ≤ k → k ≤ 70 → (k ≡ 66 → ⊥) → (k ≡ 67 → ⊥) → v ≡ howMany (entryOf k .follows) v
+unfolding entryOf table
+child-many k v lo hi y z = agree (λ k. v) (λ k. howMany (entryOf k .follows) v) 68 3 refl k (omega arith) (omega arith)
+
+pub compared : (k v : ℕ) → k ≡ 96 → 2 ≡ howMany (entryOf k .follows) v
+unfolding entryOf table
+compared k v e = rw e refl
+
+-- the kinds that begin a tree of a sort
+pub head-sort : (sort left k : ℕ) → heads sort left k ≡ 0 → entryOf k .sort ≡ sort
+unfolding heads
+head-sort sort zero k e = go (eqb (entryOf k .sort) sort) refl e
+  where
+    go : (b : Bool) → eqb (entryOf k .sort) sort ≡ b → _≡_ {A = ℕ} (pick b 5 2) 0 → entryOf k .sort ≡ sort
+    go true h e = eqb-true _ _ h
+    go false h e = absurd (omega arith)
+head-sort sort (suc d) k e = go (eqb (entryOf k .sort) sort) refl e
+  where
+    go : (b : Bool) → eqb (entryOf k .sort) sort ≡ b → _≡_ {A = ℕ} (pick b 0 2) 0 → entryOf k .sort ≡ sort
+    go true h e = eqb-true _ _ h
+    go false h e = absurd (omega arith)
+
+pub scalar-kind : (k : ℕ) → k < 256 → entryOf k .sort ≡ scalar → k ≤ 95
+unfolding entryOf table
+scalar-kind k h e = go (ltb k 96) refl
+  where
+    go : (b : Bool) → ltb k 96 ≡ b → k ≤ 95
+    go true l = omega (arith, ltb-true k 96 l)
+    go false l = absurd (eqb-false _ _ (in-range (λ (k : ℕ). eqb (entryOf k .sort) 0) false 96 160 refl k (ltb-false k 96 l) h) e)
+
+pub judgment-kind : (k : ℕ) → entryOf k .sort ≡ judgment → 96 ≤ k
+unfolding entryOf table
+judgment-kind k e = go (ltb k 96) refl
+  where
+    go : (b : Bool) → ltb k 96 ≡ b → 96 ≤ k
+    go true l = absurd (eqb-false _ _ (in-range (λ (k : ℕ). eqb (entryOf k .sort) 1) false 0 96 refl k (omega arith) (ltb-true k 96 l)) e)
+    go false l = ltb-false k 96 l
 
 -- a kind that nothing follows
 pub record Leaf (k v : ℕ) : Type 0 where

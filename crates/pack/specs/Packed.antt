@@ -1,15 +1,16 @@
 -- How an entry of the code's table is packed into one number.
-use Prim.Native.Nat.{ℕ, _/_, _%_, _<_}
+use Prim.Native.Nat.{ℕ, _/_, _%_, _<_, _≤_}
 use mathlib.Core.Path.{_≡_}
 use mathlib.Core.List.{List}
-use lib.ListN.{getD}
-use lib.Dec.{eqb}
+use lib.ListN.{length, getD}
+use lib.Dec.{eqb, leb}
 use Rattle.pack.specs.declared.table.Entry.{Entry}
 use Rattle.pack.specs.declared.table.Rule.{Rule}
 use Rattle.pack.specs.declared.table.Rule.the-variants.{Unused, Any, AtMost, FromOne, AtMostOrNone, Total, Name, NameOrNone}
 use Rattle.pack.specs.declared.table.Follows.{Follows}
 use Rattle.pack.specs.declared.table.Follows.the-variants.{Nothing, Counted, OneScalar, TwoScalars, Scalars, Patterns, Periods, OneJudgment, Judgments, Choice, Aggregate, OnlyRelated, Slots, Atom, Exists}
 use Rattle.pack.specs.Table.{pick, entryOf}
+use Rattle.pack.specs.Form.{allowedHere}
 
 abbrev pub ruleFrom : ℕ → Rule
 ruleFrom x =
@@ -47,3 +48,12 @@ entryFrom x = record { sort = x / 65536 % 4; rule = ruleFrom x; follows = follow
 -- a list that holds the table: at each kind an entry's number
 unfoldable pub Tabled : List ℕ → Type 0
 Tabled t = (k : ℕ) → k < 256 → entryFrom (getD t k 0) ≡ entryOf k
+
+-- what is lent to a reader: words, of which there are no more than a pack may have, and the table
+pub record Lent (ws t : List ℕ) : Type 0 where
+  pub most : length ws ≤ 8192
+  pub tabled : Tabled t
+
+-- a word of this kind may have any value up to a most
+unfoldable pub UpTo : ℕ → ℕ → Type 0
+UpTo kind most = (n v : ℕ) → v < 16777216 → allowedHere n kind v ≡ leb v most

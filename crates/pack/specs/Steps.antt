@@ -1,13 +1,13 @@
 -- What the functions that read a part of a pack answer: the forms' readers, of whose values a number is kept.
-use Prim.Native.Nat.{ℕ, _+_}
+use Prim.Native.Nat.{ℕ, _+_, _-_, _*_, _/_, _%_}
 use mathlib.Core.Bool.{Bool}
 use mathlib.Core.List.{List, [], _∷_}
 use lib.ListN.{drop, getD}
-use lib.Dec.{eqb}
+use lib.Dec.{ltb, eqb}
 use Rattle.pack.specs.declared.cursor.Cursor.{Cursor}
 use Rattle.pack.specs.declared.cursor.Step.{Step}
 use Rattle.pack.specs.declared.cursor.Step.the-variants.{On, Refused}
-use Rattle.pack.specs.Table.{wordOf}
+use Rattle.pack.specs.Table.{pick, wordOf}
 use Rattle.pack.specs.Form.{Read, got, refused, Form, field, readAll, readBy}
 use Rattle.pack.specs.Pack.{Relation}
 
@@ -42,6 +42,20 @@ wordStep ws at = nextWord at (drop at ws)
 -- a head word is kept whole
 abbrev pub wholeWord : ℕ × ℕ → ℕ
 wholeWord t = wordOf (t .0) (t .1)
+
+-- a step in one number: the place after what was read; from 65536 on, a refusal's number and place
+unfoldable pub coded : Step → ℕ
+coded (On v k) = k .at
+coded (Refused r) = 65536 * (r .number + 1) + r .place
+
+-- the same of a word that is only tested: 0 where it was read
+unfoldable pub fault : Step → ℕ
+fault (On v k) = 0
+fault (Refused r) = 65536 * (r .number + 1) + r .place
+
+-- the step of a number
+unfoldable pub decoded : ℕ → Step
+decoded c = pick (ltb c 65536) (On 0 (record { at = c })) (Refused (record { number = c / 65536 - 1; place = c % 65536; name = 0; other = 0 }))
 
 -- so many that follow one another
 unfoldable pub walkAll : {S A : Type 0} → (S → A → S) → (S → Form A) → ℕ → S → List ℕ → ℕ → Step

@@ -6,6 +6,7 @@ use crate::kinds::Pack;
 use crate::table::table;
 ghost use mathlib.Core.Path.{_≡_};
 ghost use Prim.Native.Nat.{_≤_};
+ghost use lib.ListN.{length};
 ghost use Rattle.pack.specs.Pack.{Edition, layout};
 ghost use Rattle.pack.specs.Steps.{walk};
 ghost use Rattle.pack.specs.Operations.{checkAnswer};
@@ -23,6 +24,7 @@ pub fn refuse(number: u32, place: usize) -> Answer
 
 // All the words of a slice of so many.
 fn layout(s: &[u32], len: u32) -> Step
+    requires { ⌜ length (now s) ≤ 8192 ⌝ }
     ensures { λ r. ⌜ r ≡ walk (layout Edition.undated len) (now (s .entry)) 0 ⌝ }
 {
     let t = table();

@@ -4,12 +4,11 @@ use crate::kinds::Pack;
 use crate::table::allows;
 use crate::table::entry_of;
 ghost use mathlib.Core.Path.{_≡_};
-ghost use Rattle.pack.specs.Packed.{Tabled};
+ghost use Rattle.pack.specs.Packed.{Lent, Tabled};
 ghost use Prim.Native.Nat.{_<_};
 ghost use mathlib.Core.List.{[], _∷_};
 ghost use Rattle.pack.specs.Form.{allowedHere, field, word, only};
-ghost use Rattle.pack.specs.Tree.{heads};
-ghost use Rattle.pack.specs.Steps.{wordStep, fieldStep, stepOf, walk, wholeWord};
+ghost use Rattle.pack.specs.Steps.{wordStep, fieldStep, walk};
 
 // A place of the pack. It starts at word 0 and moves on by whole words.
 pub struct Cursor {
@@ -67,7 +66,7 @@ impl Cursor {
 
     // A word of this kind: its value.
     pub fn field(self, s: &[u32], t: &[u32; 256], n: u32, kind: u32) -> Step
-        requires { ⌜ Tabled (now t) ⌝ }
+        requires { ⌜ Lent (now s) (now t) ⌝ }
         ensures { λ r. ⌜ r ≡ fieldStep n kind (now (s .entry)) (self .at) ⌝ }
     {
         let at = self.at;
@@ -88,7 +87,7 @@ impl Cursor {
 
     // A word of which only the place after it is wanted.
     pub fn skip(self, s: &[u32], t: &[u32; 256], n: u32, kind: u32) -> Step
-        requires { ⌜ Tabled (now t) ⌝ }
+        requires { ⌜ Lent (now s) (now t) ⌝ }
         ensures { λ r. ⌜ r ≡ walk (field n kind) (now (s .entry)) (self .at) ⌝ }
     {
         let f = self.field(s, t, n, kind);
@@ -100,7 +99,7 @@ impl Cursor {
 
     // A word of one of two kinds.
     pub fn either(self, s: &[u32], t: &[u32; 256], n: u32, a: u32, b: u32) -> Step
-        requires { ⌜ Tabled (now t) ⌝ }
+        requires { ⌜ Lent (now s) (now t) ⌝ }
         ensures { λ r. ⌜ r ≡ walk (word (only (a ∷ b ∷ [])) n) (now (s .entry)) (self .at) ⌝ }
     {
         let at = self.at;
@@ -116,30 +115,6 @@ impl Cursor {
         }
         if allowed_here(t, n, kind, w % Pack::VALUES) {
             Step::On(0, c)
-        } else {
-            stop(4, at)
-        }
-    }
-
-    // The word that begins a tree of the sort, where so many levels are left.
-    pub fn head(self, s: &[u32], t: &[u32; 256], n: u32, sort: u32, left: u32) -> Step
-        requires { ⌜ Tabled (now t) ⌝ }
-        ensures { λ r. ⌜ r ≡ stepOf wholeWord (word (heads sort left) n) (now (s .entry)) (self .at) ⌝ }
-    {
-        let at = self.at;
-        let f = self.word(s);
-        let Step::On(w, c) = f else {
-            return f;
-        };
-        let e = entry_of(t, w / Pack::VALUES);
-        if e.sort != sort {
-            return stop(2, at);
-        }
-        if left == 0 {
-            return stop(5, at);
-        }
-        if allowed_here(t, n, w / Pack::VALUES, w % Pack::VALUES) {
-            Step::On(w, c)
         } else {
             stop(4, at)
         }

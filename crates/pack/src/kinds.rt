@@ -11,6 +11,9 @@ impl Pack {
     pub const LEAST_WORDS: usize = 6;
 
     pub const MOST_WORDS: usize = 8192;
+
+    // From here on a number is no place but the code of a refusal.
+    pub const CODES: usize = 65536;
 }
 
 // Limits.
@@ -122,6 +125,8 @@ impl Pack {
 // The kinds of tree nodes.
 impl Pack {
     pub const ONE_CHILD: u32 = 66;
+
+    pub const TWO_CHILDREN: u32 = 67;
 
     pub const MAX: u32 = 70;
 

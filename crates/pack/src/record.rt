@@ -7,7 +7,7 @@ use crate::kinds::Pack;
 use crate::tree::judgment;
 use crate::tree::scalar;
 ghost use mathlib.Core.Path.{_≡_};
-ghost use Rattle.pack.specs.Packed.{Tabled};
+ghost use Rattle.pack.specs.Packed.{Lent};
 ghost use Prim.Native.Nat.{_≤_};
 ghost use Rattle.pack.specs.Pack.{Edition, defaultedName, defaulted, nameList, hop, path, chain, member, derivation, optionalDerivation, relationTail, newName, relation, relations, body, bodies, rule, rules, item, blockItems, block, blocks, records};
 ghost use Rattle.pack.specs.Form.{repeats};
@@ -24,7 +24,7 @@ fn repeats(count: u32) -> u32
 impl Cursor {
     // One that is at least `low`.
     fn defaulted_name(self, s: &[u32], t: &[u32; 256], n: u32, low: u32) -> Step
-        requires { ⌜ Tabled (now t) ⌝ }
+        requires { ⌜ Lent (now s) (now t) ⌝ }
         ensures { λ r. ⌜ r ≡ stepOf same (defaultedName n low) (now (s .entry)) (self .at) ⌝ }
     {
         let at = self.at;
@@ -39,7 +39,7 @@ impl Cursor {
     }
 
     pub fn defaulted(self, s: &[u32], t: &[u32; 256], n: u32) -> Step
-        requires { ⌜ Tabled (now t) ⌝ }
+        requires { ⌜ Lent (now s) (now t) ⌝ }
         ensures { λ r. ⌜ r ≡ walk (defaulted n) (now (s .entry)) (self .at) ⌝ }
     {
         let f = self.field(s, t, n, Pack::DEFAULTED_COUNT);
@@ -66,7 +66,7 @@ impl Cursor {
 impl Cursor {
     // A count of this kind, and as many names.
     fn name_list(self, s: &[u32], t: &[u32; 256], n: u32, kind: u32) -> Step
-        requires { ⌜ Tabled (now t) ⌝ }
+        requires { ⌜ Lent (now s) (now t) ⌝ }
         ensures { λ r. ⌜ r ≡ walk (nameList n kind) (now (s .entry)) (self .at) ⌝ }
     {
         let f = self.field(s, t, n, kind);
@@ -88,7 +88,7 @@ impl Cursor {
 
     // A step of a path.
     fn hop(self, s: &[u32], t: &[u32; 256], n: u32) -> Step
-        requires { ⌜ Tabled (now t) ⌝ }
+        requires { ⌜ Lent (now s) (now t) ⌝ }
         ensures { λ r. ⌜ r ≡ walk (hop n) (now (s .entry)) (self .at) ⌝ }
     {
         let f1 = self.skip(s, t, n, Pack::STEP_RELATION);
@@ -103,7 +103,7 @@ impl Cursor {
     }
 
     fn path(self, s: &[u32], t: &[u32; 256], n: u32) -> Step
-        requires { ⌜ Tabled (now t) ⌝ }
+        requires { ⌜ Lent (now s) (now t) ⌝ }
         ensures { λ r. ⌜ r ≡ walk (path n) (now (s .entry)) (self .at) ⌝ }
     {
         let f = self.field(s, t, n, Pack::PATH);
@@ -125,7 +125,7 @@ impl Cursor {
 
     // The source, the path and the slots.
     fn chain(self, s: &[u32], t: &[u32; 256], n: u32) -> Step
-        requires { ⌜ Tabled (now t) ⌝ }
+        requires { ⌜ Lent (now s) (now t) ⌝ }
         ensures { λ r. ⌜ r ≡ walk (chain n) (now (s .entry)) (self .at) ⌝ }
     {
         let f1 = self.skip(s, t, n, Pack::SOURCE);
@@ -145,7 +145,7 @@ impl Cursor {
 
     // The entity, the member relation, the list and the predicate.
     fn member(self, s: &[u32], t: &[u32; 256], n: u32) -> Step
-        requires { ⌜ Tabled (now t) ⌝ }
+        requires { ⌜ Lent (now s) (now t) ⌝ }
         ensures { λ r. ⌜ r ≡ walk (member n) (now (s .entry)) (self .at) ⌝ }
     {
         let f1 = self.skip(s, t, n, Pack::ENTITY);
@@ -164,7 +164,7 @@ impl Cursor {
     }
 
     fn derivation(self, s: &[u32], t: &[u32; 256], n: u32) -> Step
-        requires { ⌜ Tabled (now t) ⌝ }
+        requires { ⌜ Lent (now s) (now t) ⌝ }
         ensures { λ r. ⌜ r ≡ walk (derivation n) (now (s .entry)) (self .at) ⌝ }
     {
         let f1 = self.chain(s, t, n);
@@ -176,7 +176,7 @@ impl Cursor {
 
     // A flag, and a derivation where it is 1.
     fn optional_derivation(self, s: &[u32], t: &[u32; 256], n: u32) -> Step
-        requires { ⌜ Tabled (now t) ⌝ }
+        requires { ⌜ Lent (now s) (now t) ⌝ }
         ensures { λ r. ⌜ r ≡ walk (optionalDerivation n) (now (s .entry)) (self .at) ⌝ }
     {
         let f = self.field(s, t, n, Pack::DERIVATION);
@@ -194,7 +194,7 @@ impl Cursor {
 impl Cursor {
     // What follows a relation's name.
     fn relation_tail(self, s: &[u32], t: &[u32; 256], n: u32) -> Step
-        requires { ⌜ Tabled (now t) ⌝ }
+        requires { ⌜ Lent (now s) (now t) ⌝ }
         ensures { λ r. ⌜ r ≡ walk (relationTail n) (now (s .entry)) (self .at) ⌝ }
     {
         let f1 = self.skip(s, t, n, Pack::RELATION_ORIGIN);
@@ -214,7 +214,7 @@ impl Cursor {
 
     // A name that has no mark.
     fn new_name(self, s: &[u32], t: &[u32; 256], n: u32, marks: &[u8; 4096]) -> Step
-        requires { ⌜ (n ≤ 4096) × Tabled (now t) ⌝ }
+        requires { ⌜ (n ≤ 4096) × Lent (now s) (now t) ⌝ }
         ensures { λ r. ⌜ r ≡ stepOf same (newName n (marked (now (marks .entry)))) (now (s .entry)) (self .at) ⌝ }
     {
         let at = self.at;
@@ -236,7 +236,7 @@ impl Cursor {
 
     // A relation: its name.
     fn relation(self, s: &[u32], t: &[u32; 256], n: u32, marks: &[u8; 4096]) -> Step
-        requires { ⌜ (n ≤ 4096) × Tabled (now t) ⌝ }
+        requires { ⌜ (n ≤ 4096) × Lent (now s) (now t) ⌝ }
         ensures { λ r. ⌜ r ≡ stepOf nameOf (relation n (marked (now (marks .entry)))) (now (s .entry)) (self .at) ⌝ }
     {
         let f1 = self.new_name(s, t, n, marks);
@@ -252,7 +252,7 @@ impl Cursor {
 
     // The relations, with no name marked at first.
     pub fn relations(self, s: &[u32], t: &[u32; 256], n: u32) -> Step
-        requires { ⌜ (n ≤ 4096) × Tabled (now t) ⌝ }
+        requires { ⌜ (n ≤ 4096) × Lent (now s) (now t) ⌝ }
         ensures { λ r. ⌜ r ≡ walk (relations n) (now (s .entry)) (self .at) ⌝ }
     {
         let f = self.field(s, t, n, Pack::RELATION_COUNT);
@@ -280,7 +280,7 @@ impl Cursor {
 impl Cursor {
     // A body: the sort of its tree, and the tree.
     fn body(self, s: &[u32], t: &[u32; 256], n: u32) -> Step
-        requires { ⌜ Tabled (now t) ⌝ }
+        requires { ⌜ Lent (now s) (now t) ⌝ }
         ensures { λ r. ⌜ r ≡ walk (body n) (now (s .entry)) (self .at) ⌝ }
     {
         let f = self.field(s, t, n, Pack::BODY);
@@ -296,7 +296,7 @@ impl Cursor {
 
     // The semantics and the versions.
     fn bodies(self, s: &[u32], t: &[u32; 256], n: u32) -> Step
-        requires { ⌜ Tabled (now t) ⌝ }
+        requires { ⌜ Lent (now s) (now t) ⌝ }
         ensures { λ r. ⌜ r ≡ walk (bodies n) (now (s .entry)) (self .at) ⌝ }
     {
         let f = self.field(s, t, n, Pack::BODIES);
@@ -321,7 +321,7 @@ impl Cursor {
     }
 
     fn rule(self, s: &[u32], t: &[u32; 256], n: u32) -> Step
-        requires { ⌜ Tabled (now t) ⌝ }
+        requires { ⌜ Lent (now s) (now t) ⌝ }
         ensures { λ r. ⌜ r ≡ walk (rule n) (now (s .entry)) (self .at) ⌝ }
     {
         let f1 = self.skip(s, t, n, Pack::RULE);
@@ -340,7 +340,7 @@ impl Cursor {
     }
 
     pub fn rules(self, s: &[u32], t: &[u32; 256], n: u32) -> Step
-        requires { ⌜ Tabled (now t) ⌝ }
+        requires { ⌜ Lent (now s) (now t) ⌝ }
         ensures { λ r. ⌜ r ≡ walk (rules n) (now (s .entry)) (self .at) ⌝ }
     {
         let f = self.field(s, t, n, Pack::RULE_COUNT);
@@ -364,7 +364,7 @@ impl Cursor {
 // Blocks.
 impl Cursor {
     fn item(self, s: &[u32], t: &[u32; 256], n: u32) -> Step
-        requires { ⌜ Tabled (now t) ⌝ }
+        requires { ⌜ Lent (now s) (now t) ⌝ }
         ensures { λ r. ⌜ r ≡ walk (item n) (now (s .entry)) (self .at) ⌝ }
     {
         let f1 = self.skip(s, t, n, Pack::ITEM);
@@ -380,7 +380,7 @@ impl Cursor {
 
     // A count or none, and as many items.
     fn items(self, s: &[u32], t: &[u32; 256], n: u32) -> Step
-        requires { ⌜ Tabled (now t) ⌝ }
+        requires { ⌜ Lent (now s) (now t) ⌝ }
         ensures { λ r. ⌜ r ≡ walk (blockItems n) (now (s .entry)) (self .at) ⌝ }
     {
         let f = self.field(s, t, n, Pack::ITEMS);
@@ -401,7 +401,7 @@ impl Cursor {
     }
 
     fn block(self, s: &[u32], t: &[u32; 256], n: u32) -> Step
-        requires { ⌜ Tabled (now t) ⌝ }
+        requires { ⌜ Lent (now s) (now t) ⌝ }
         ensures { λ r. ⌜ r ≡ walk (block n) (now (s .entry)) (self .at) ⌝ }
     {
         let f1 = self.skip(s, t, n, Pack::BLOCK_ORIGIN);
@@ -412,7 +412,7 @@ impl Cursor {
     }
 
     pub fn blocks(self, s: &[u32], t: &[u32; 256], n: u32) -> Step
-        requires { ⌜ Tabled (now t) ⌝ }
+        requires { ⌜ Lent (now s) (now t) ⌝ }
         ensures { λ r. ⌜ r ≡ walk (blocks n) (now (s .entry)) (self .at) ⌝ }
     {
         let f = self.field(s, t, n, Pack::BLOCK_COUNT);
@@ -436,7 +436,7 @@ impl Cursor {
 // All the records.
 impl Cursor {
     pub fn records(self, s: &[u32], t: &[u32; 256], n: u32) -> Step
-        requires { ⌜ (n ≤ 4096) × Tabled (now t) ⌝ }
+        requires { ⌜ (n ≤ 4096) × Lent (now s) (now t) ⌝ }
         ensures { λ r. ⌜ r ≡ walk (records Edition.undated n) (now (s .entry)) (self .at) ⌝ }
     {
         let f1 = self.defaulted(s, t, n);

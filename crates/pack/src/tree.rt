@@ -1,188 +1,301 @@
 // Trees: scalar and judgment walkers, which call each other. With each level the number of levels left falls.
+// They answer a plain number: the place after the tree, or a refusal's code.
 use crate::cursor::Cursor;
 use crate::cursor::Step;
+use crate::cursor::stop;
 use crate::kinds::Pack;
+use crate::table::allows;
 use crate::table::entry_of;
 use crate::table::how_many;
 ghost use mathlib.Core.Path.{_≡_};
-ghost use Rattle.pack.specs.Packed.{Tabled};
-ghost use Prim.Native.Nat.{_≤_};
+ghost use Prim.Native.Nat.{ℕ, _≤_};
 ghost use mathlib.Core.List.{[], _∷_};
-ghost use lib.ListN.{replicate};
-ghost use Rattle.pack.specs.Table.{scalar, judgment, kindOf, valueOf, entryOf, fieldsOf};
-ghost use Rattle.pack.specs.Form.{each};
-ghost use Rattle.pack.specs.Tree.{fields, follow, lastField, tree};
-ghost use Rattle.pack.specs.Steps.{stepOf, walk};
-ghost use Rattle.pack.specs.declared.table.Follows.the-variants.{Aggregate, OnlyRelated, Slots, Exists};
+ghost use lib.ListN.{length, replicate};
+ghost use Rattle.pack.specs.declared.cursor.Step.the-variants.{Refused};
+ghost use Rattle.pack.specs.declared.table.Follows.the-variants.{Aggregate, OnlyRelated, Slots, Atom, Exists};
+ghost use Rattle.pack.specs.Table.{scalar, judgment, kindOf, valueOf, entryOf, howMany, fieldsOf};
+ghost use Rattle.pack.specs.Packed.{Lent, UpTo};
+ghost use Rattle.pack.specs.Form.{word, only, each};
+ghost use Rattle.pack.specs.Tree.{heads, fields, follow, tree};
+ghost use Rattle.pack.specs.Steps.{walk, coded, fault, decoded};
 
-// The fields of nodes.
-impl Cursor {
-    // The slots of a RelationMember.
-    fn slots(self, s: &[u32], t: &[u32; 256], n: u32) -> Step
-        requires { ⌜ Tabled (now t) ⌝ }
-        ensures { λ r. ⌜ r ≡ walk (fields n (fieldsOf Slots)) (now (s .entry)) (self .at) ⌝ }
-    {
-        let f1 = self.field(s, t, n, Pack::CURRENT);
-        let Step::On(_, c1) = f1 else {
-            return f1;
-        };
-        c1.skip(s, t, n, Pack::RELATED)
+// The code of a refusal.
+fn refused(number: u32, at: usize) -> usize
+    requires { ⌜ (number ≤ 5) × (at ≤ 8192) ⌝ }
+    ensures { λ r. ⌜ r ≡ coded (Refused (record { number = number; place = at; name = 0; other = 0 })) ⌝ }
+{
+    Pack::CODES * (number as usize + 1) + at
+}
+
+// The word that begins a tree of the sort, where so many levels are left: 0, or a refusal's code.
+fn head(s: &[u32], t: &[u32; 256], at: usize, n: u32, sort: u32, left: u32) -> usize
+    requires { ⌜ Lent (now s) (now t) × (at ≤ length (now s)) ⌝ }
+    ensures { λ r. ⌜ r ≡ fault (walk (word (heads sort left) n) (now (s .entry)) at) ⌝ }
+{
+    if s.len() <= at {
+        return refused(3, at);
     }
-
-    // The slots of an OnlyRelated, and its input's or derived name.
-    fn only_related(self, s: &[u32], t: &[u32; 256], n: u32) -> Step
-        requires { ⌜ Tabled (now t) ⌝ }
-        ensures { λ r. ⌜ r ≡ walk (fields n (fieldsOf OnlyRelated)) (now (s .entry)) (self .at) ⌝ }
-    {
-        let f1 = self.field(s, t, n, Pack::CURRENT);
-        let Step::On(_, c1) = f1 else {
-            return f1;
-        };
-        let f2 = c1.field(s, t, n, Pack::RELATED);
-        let Step::On(_, c2) = f2 else {
-            return f2;
-        };
-        c2.either(s, t, n, Pack::INPUT, Pack::DERIVED)
+    let w = s[at];
+    let e = entry_of(t, w / Pack::VALUES);
+    let rule = e.rule;
+    if e.sort != sort {
+        return refused(2, at);
     }
-
-    // The fields of an aggregate: its flag.
-    fn aggregate_fields(self, s: &[u32], t: &[u32; 256], n: u32) -> Step
-        requires { ⌜ Tabled (now t) ⌝ }
-        ensures { λ r. ⌜ r ≡ stepOf lastField (fields n (fieldsOf Aggregate)) (now (s .entry)) (self .at) ⌝ }
-    {
-        let f1 = self.field(s, t, n, Pack::CURRENT);
-        let Step::On(_, c1) = f1 else {
-            return f1;
-        };
-        let f2 = c1.field(s, t, n, Pack::RELATED);
-        let Step::On(_, c2) = f2 else {
-            return f2;
-        };
-        let f3 = c2.field(s, t, n, Pack::VALUE);
-        let Step::On(_, c3) = f3 else {
-            return f3;
-        };
-        c3.field(s, t, n, Pack::WHERE)
+    if left == 0 {
+        return refused(5, at);
+    }
+    if allows(rule, n, w % Pack::VALUES) {
+        0
+    } else {
+        refused(4, at)
     }
 }
 
-pub fn scalar(s: &[u32], t: &[u32; 256], c: Cursor, n: u32, left: u32) -> Step
-    requires { ⌜ Tabled (now t) ⌝ }
-    ensures { λ r. ⌜ r ≡ walk (tree n left scalar) (now (s .entry)) (c .at) ⌝ }
+// A word of this kind, with any value up to a most: 0, or a refusal's code.
+fn up_to(s: &[u32], at: usize, kind: u32, most: u32) -> usize
+    requires { ⌜ (length (now s) ≤ 8192) × (at ≤ length (now s)) × UpTo kind most ⌝ }
+    ensures { λ r. ⌜ ((n : ℕ) → r ≡ fault (walk (word (only (kind ∷ [])) n) (now (s .entry)) at)) ⌝ }
 {
-    let f = c.head(s, t, n, Pack::SCALAR, left);
-    let Step::On(w, next) = f else {
-        return f;
-    };
-    if w / Pack::VALUES < Pack::ONE_CHILD {
-        return Step::On(0, next);
+    if s.len() <= at {
+        return refused(3, at);
     }
-    rest(s, t, next, n, w, left - 1)
+    let w = s[at];
+    if w / Pack::VALUES != kind {
+        return refused(2, at);
+    }
+    if most < w % Pack::VALUES {
+        return refused(4, at);
+    }
+    0
 }
 
-pub fn judgment(s: &[u32], t: &[u32; 256], c: Cursor, n: u32, left: u32) -> Step
-    requires { ⌜ Tabled (now t) ⌝ }
-    ensures { λ r. ⌜ r ≡ walk (tree n left judgment) (now (s .entry)) (c .at) ⌝ }
+// The slots of a RelationMember.
+fn slots(s: &[u32], at: usize) -> usize
+    requires { ⌜ (length (now s) ≤ 8192) × (at ≤ length (now s)) ⌝ }
+    ensures { λ r. ⌜ ((n : ℕ) → r ≡ coded (walk (fields n (fieldsOf Slots)) (now (s .entry)) at)) ⌝ }
 {
-    let f = c.head(s, t, n, Pack::JUDGMENT, left);
-    let Step::On(w, next) = f else {
-        return f;
-    };
-    if Pack::EXISTS < w / Pack::VALUES {
-        return Step::On(0, next);
+    let f1 = up_to(s, at, Pack::CURRENT, Pack::NONE);
+    if f1 != 0 {
+        return f1;
     }
-    rest(s, t, next, n, w, left - 1)
+    let f2 = up_to(s, at + 1, Pack::RELATED, Pack::NONE);
+    if f2 != 0 {
+        return f2;
+    }
+    at + 2
 }
 
-fn scalars(s: &[u32], t: &[u32; 256], c: Cursor, n: u32, count: u32, left: u32) -> Step
-    requires { ⌜ Tabled (now t) ⌝ }
-    ensures { λ r. ⌜ r ≡ walk (each (tree n left) (replicate count scalar)) (now (s .entry)) (c .at) ⌝ }
+// The arguments of a RelationAtom.
+fn atom(s: &[u32], at: usize) -> usize
+    requires { ⌜ (length (now s) ≤ 8192) × (at ≤ length (now s)) ⌝ }
+    ensures { λ r. ⌜ ((n : ℕ) → r ≡ coded (walk (fields n (fieldsOf Atom)) (now (s .entry)) at)) ⌝ }
 {
-    let mut here = c;
+    let f1 = up_to(s, at, Pack::ARGUMENTS, Pack::NONE);
+    if f1 != 0 {
+        return f1;
+    }
+    at + 1
+}
+
+// The slots of an OnlyRelated, and its input's or derived name.
+fn only_related(s: &[u32], t: &[u32; 256], at: usize, n: u32) -> usize
+    requires { ⌜ Lent (now s) (now t) × (at ≤ length (now s)) ⌝ }
+    ensures { λ r. ⌜ r ≡ coded (walk (fields n (fieldsOf OnlyRelated)) (now (s .entry)) at) ⌝ }
+{
+    let f1 = up_to(s, at, Pack::CURRENT, Pack::NONE);
+    if f1 != 0 {
+        return f1;
+    }
+    let f2 = up_to(s, at + 1, Pack::RELATED, Pack::NONE);
+    if f2 != 0 {
+        return f2;
+    }
+    let c = Cursor { at: at + 2 };
+    match c.either(s, t, n, Pack::INPUT, Pack::DERIVED) {
+        Step::On(_, next) => next.at,
+        Step::Refused(r) => refused(r.number, r.place),
+    }
+}
+
+// How many children follow a OneChild up to a Max.
+fn children(kind: u32, v: u32) -> u32
+    requires { ⌜ (66 ≤ kind) × (kind ≤ 70) ⌝ }
+    ensures { λ r. ⌜ r ≡ howMany (entryOf kind .follows) v ⌝ }
+{
+    if kind == Pack::ONE_CHILD {
+        return 1;
+    }
+    if kind == Pack::TWO_CHILDREN { 2 } else { v }
+}
+
+// A row of scalars. The last one's own row, where it has one, takes the place of the row that ends with it.
+fn scalars(s: &[u32], t: &[u32; 256], start: usize, n: u32, count: u32, levels: u32) -> usize
+    requires { ⌜ Lent (now s) (now t) × (start ≤ length (now s)) ⌝ }
+    ensures { λ r. ⌜ r ≡ coded (walk (each (tree n levels) (replicate count scalar)) (now (s .entry)) start) ⌝ }
+{
+    let mut at = start;
+    let mut k = count;
+    let mut left = levels;
+    while 0 < k {
+        let f = head(s, t, at, n, Pack::SCALAR, left);
+        if f != 0 {
+            return f;
+        }
+        let w = s[at];
+        let kind = w / Pack::VALUES;
+        at += 1;
+        k -= 1;
+        if Pack::ONE_CHILD <= kind {
+            if k == 0 && kind <= Pack::MAX {
+                k = children(kind, w % Pack::VALUES);
+                left -= 1;
+            } else {
+                at = after_scalar(s, t, at, n, w, left - 1);
+                if Pack::CODES <= at {
+                    return at;
+                }
+            }
+        }
+    }
+    at
+}
+
+// A row of judgments.
+fn judgments(s: &[u32], t: &[u32; 256], start: usize, n: u32, count: u32, left: u32) -> usize
+    requires { ⌜ Lent (now s) (now t) × (start ≤ length (now s)) ⌝ }
+    ensures { λ r. ⌜ r ≡ coded (walk (each (tree n left) (replicate count judgment)) (now (s .entry)) start) ⌝ }
+{
+    let mut at = start;
     let mut k = count;
     while 0 < k {
-        let f = scalar(s, t, here, n, left);
-        let Step::On(_, next) = f else {
+        let f = head(s, t, at, n, Pack::JUDGMENT, left);
+        if f != 0 {
             return f;
-        };
-        here = next;
+        }
+        let w = s[at];
+        at += 1;
         k -= 1;
+        if w / Pack::VALUES <= Pack::EXISTS {
+            at = after_judgment(s, t, at, n, w, left - 1);
+            if Pack::CODES <= at {
+                return at;
+            }
+        }
     }
-    Step::On(0, here)
-}
-
-fn judgments(s: &[u32], t: &[u32; 256], c: Cursor, n: u32, count: u32, left: u32) -> Step
-    requires { ⌜ Tabled (now t) ⌝ }
-    ensures { λ r. ⌜ r ≡ walk (each (tree n left) (replicate count judgment)) (now (s .entry)) (c .at) ⌝ }
-{
-    let mut here = c;
-    let mut k = count;
-    while 0 < k {
-        let f = judgment(s, t, here, n, left);
-        let Step::On(_, next) = f else {
-            return f;
-        };
-        here = next;
-        k -= 1;
-    }
-    Step::On(0, here)
+    at
 }
 
 // The condition and the two cases of an If.
-fn choice(s: &[u32], t: &[u32; 256], c: Cursor, n: u32, left: u32) -> Step
-    requires { ⌜ Tabled (now t) ⌝ }
-    ensures { λ r. ⌜ r ≡ walk (each (tree n left) (judgment ∷ scalar ∷ scalar ∷ [])) (now (s .entry)) (c .at) ⌝ }
+fn choice(s: &[u32], t: &[u32; 256], at: usize, n: u32, left: u32) -> usize
+    requires { ⌜ Lent (now s) (now t) × (at ≤ length (now s)) ⌝ }
+    ensures { λ r. ⌜ r ≡ coded (walk (each (tree n left) (judgment ∷ scalar ∷ scalar ∷ [])) (now (s .entry)) at) ⌝ }
 {
-    let f = judgment(s, t, c, n, left);
-    let Step::On(_, next) = f else {
-        return f;
-    };
+    let next = judgments(s, t, at, n, 1, left);
+    if Pack::CODES <= next {
+        return next;
+    }
     scalars(s, t, next, n, 2, left)
 }
 
 // The fields of an aggregate, and its where tree.
-fn aggregate(s: &[u32], t: &[u32; 256], c: Cursor, n: u32, left: u32) -> Step
-    requires { ⌜ Tabled (now t) ⌝ }
-    ensures { λ r. ⌜ r ≡ walk (follow n (tree n left) Aggregate 0) (now (s .entry)) (c .at) ⌝ }
+fn aggregate(s: &[u32], t: &[u32; 256], at: usize, n: u32, left: u32) -> usize
+    requires { ⌜ Lent (now s) (now t) × (at ≤ length (now s)) ⌝ }
+    ensures { λ r. ⌜ r ≡ coded (walk (follow n (tree n left) Aggregate 0) (now (s .entry)) at) ⌝ }
 {
-    let f = c.aggregate_fields(s, t, n);
-    let Step::On(flag, next) = f else {
-        return f;
-    };
-    judgments(s, t, next, n, flag, left)
+    let f1 = up_to(s, at, Pack::CURRENT, Pack::NONE);
+    if f1 != 0 {
+        return f1;
+    }
+    let f2 = up_to(s, at + 1, Pack::RELATED, Pack::NONE);
+    if f2 != 0 {
+        return f2;
+    }
+    let f3 = up_to(s, at + 2, Pack::VALUE, Pack::NONE);
+    if f3 != 0 {
+        return f3;
+    }
+    let f4 = up_to(s, at + 3, Pack::WHERE, 1);
+    if f4 != 0 {
+        return f4;
+    }
+    judgments(s, t, at + 4, n, s[at + 3] % Pack::VALUES, left)
 }
 
 // The arguments of an Exists, and its body.
-fn exists(s: &[u32], t: &[u32; 256], c: Cursor, n: u32, left: u32) -> Step
-    requires { ⌜ Tabled (now t) ⌝ }
-    ensures { λ r. ⌜ r ≡ walk (follow n (tree n left) Exists 0) (now (s .entry)) (c .at) ⌝ }
+fn exists(s: &[u32], t: &[u32; 256], at: usize, n: u32, left: u32) -> usize
+    requires { ⌜ Lent (now s) (now t) × (at ≤ length (now s)) ⌝ }
+    ensures { λ r. ⌜ r ≡ coded (walk (follow n (tree n left) Exists 0) (now (s .entry)) at) ⌝ }
 {
-    let f = c.field(s, t, n, Pack::ARGUMENTS);
-    let Step::On(_, next) = f else {
-        return f;
-    };
-    judgments(s, t, next, n, 1, left)
+    let f1 = up_to(s, at, Pack::ARGUMENTS, Pack::NONE);
+    if f1 != 0 {
+        return f1;
+    }
+    judgments(s, t, at + 1, n, 1, left)
 }
 
-// What follows the head word w.
-fn rest(s: &[u32], t: &[u32; 256], c: Cursor, n: u32, w: u32, left: u32) -> Step
-    requires { ⌜ Tabled (now t) ⌝ }
-    ensures { λ r. ⌜ r ≡ walk (follow n (tree n left) (entryOf (kindOf w) .follows) (valueOf w)) (now (s .entry)) (c .at) ⌝ }
+// What follows the head word w of a scalar.
+fn after_scalar(s: &[u32], t: &[u32; 256], at: usize, n: u32, w: u32, left: u32) -> usize
+    requires { ⌜ Lent (now s) (now t) × (at ≤ length (now s)) × (kindOf w ≤ 95) ⌝ }
+    ensures { λ r. ⌜ r ≡ coded (walk (follow n (tree n left) (entryOf (kindOf w) .follows) (valueOf w)) (now (s .entry)) at) ⌝ }
 {
     let kind = w / Pack::VALUES;
     let e = entry_of(t, kind);
     let follows = e.follows;
-    let v = w % Pack::VALUES;
     match kind {
-        Pack::ONE_CHILD..=Pack::MAX | Pack::NO_MATCH..=Pack::OVER_PERIODS | Pack::COMPARISON =>
-            scalars(s, t, c, n, how_many(follows, v), left),
-        Pack::IF => choice(s, t, c, n, left),
-        Pack::COUNT..=Pack::SINGLE => aggregate(s, t, c, n, left),
-        Pack::ONLY_RELATED => c.only_related(s, t, n),
-        Pack::AND..=Pack::NOT => judgments(s, t, c, n, how_many(follows, v), left),
-        Pack::RELATION_MEMBER => c.slots(s, t, n),
-        Pack::RELATION_ATOM => c.skip(s, t, n, Pack::ARGUMENTS),
-        Pack::EXISTS => exists(s, t, c, n, left),
-        _ => Step::On(0, c),
+        Pack::ONE_CHILD..=Pack::MAX | Pack::NO_MATCH..=Pack::OVER_PERIODS => scalars(
+            s,
+            t,
+            at,
+            n,
+            how_many(follows, w % Pack::VALUES),
+            left,
+        ),
+        Pack::IF => choice(s, t, at, n, left),
+        Pack::COUNT..=Pack::SINGLE => aggregate(s, t, at, n, left),
+        Pack::ONLY_RELATED => only_related(s, t, at, n),
+        _ => at,
     }
+}
+
+// What follows the head word w of a judgment.
+fn after_judgment(s: &[u32], t: &[u32; 256], at: usize, n: u32, w: u32, left: u32) -> usize
+    requires { ⌜ Lent (now s) (now t) × (at ≤ length (now s)) × (96 ≤ kindOf w) ⌝ }
+    ensures { λ r. ⌜ r ≡ coded (walk (follow n (tree n left) (entryOf (kindOf w) .follows) (valueOf w)) (now (s .entry)) at) ⌝ }
+{
+    let kind = w / Pack::VALUES;
+    let e = entry_of(t, kind);
+    let follows = e.follows;
+    match kind {
+        Pack::COMPARISON => scalars(s, t, at, n, 2, left),
+        Pack::AND..=Pack::NOT => judgments(s, t, at, n, how_many(follows, w % Pack::VALUES), left),
+        Pack::RELATION_MEMBER => slots(s, at),
+        Pack::RELATION_ATOM => atom(s, at),
+        Pack::EXISTS => exists(s, t, at, n, left),
+        _ => at,
+    }
+}
+
+// What a number answers.
+fn step_of(code: usize) -> Step
+    requires { ⌜ code ≤ 458751 ⌝ }
+    ensures { λ r. ⌜ r ≡ decoded code ⌝ }
+{
+    if code < Pack::CODES {
+        return Step::On(0, Cursor { at: code });
+    }
+    stop((code / Pack::CODES - 1) as u32, code % Pack::CODES)
+}
+
+pub fn scalar(s: &[u32], t: &[u32; 256], c: Cursor, n: u32, left: u32) -> Step
+    requires { ⌜ Lent (now s) (now t) × (c .at ≤ length (now s)) ⌝ }
+    ensures { λ r. ⌜ r ≡ walk (tree n left scalar) (now (s .entry)) (c .at) ⌝ }
+{
+    step_of(scalars(s, t, c.at, n, 1, left))
+}
+
+pub fn judgment(s: &[u32], t: &[u32; 256], c: Cursor, n: u32, left: u32) -> Step
+    requires { ⌜ Lent (now s) (now t) × (c .at ≤ length (now s)) ⌝ }
+    ensures { λ r. ⌜ r ≡ walk (tree n left judgment) (now (s .entry)) (c .at) ⌝ }
+{
+    step_of(judgments(s, t, c.at, n, 1, left))
 }

@@ -22,7 +22,7 @@ cast-layout : tie.Need-cast-layout
 cast-layout c = search needs
 
 layout-requires : tie.Need-layout-requires
-layout-requires c κs = search needs
+layout-requires c κs = omega arith
 
 enum-known-r : tie.Need-enum-known-r
 enum-known-r c = search needs

@@ -14,7 +14,7 @@ start-requires : tie.Need-start-requires
 start-requires c κs = search needs
 
 skip-requires : tie.Need-skip-requires
-skip-requires c κs = search needs
+skip-requires c κs = record { most = (c .before .before .before .before .pre); tabled = (c .before .before .table .ensures) }
 
 enum-known-f1 : tie.Need-enum-known-f1
 enum-known-f1 c = search needs
@@ -27,7 +27,7 @@ unfolding layout inner
 returns c = from-start _ _ (c .before .before .before .before .start .ensures) (search walks depth 12)
 
 field-requires : tie.Need-field-requires
-field-requires c κs = search needs
+field-requires c κs = record { most = (c .before .before .before .before .before .before .before .before .before .pre); tabled = (c .before .before .before .before .before .before .before .table .ensures) }
 
 enum-known-f2 : tie.Need-enum-known-f2
 enum-known-f2 c = search needs
@@ -40,7 +40,7 @@ unfolding layout inner
 returns-2 c = from-start _ _ (c .before .before .before .before .before .before .before .before .before .start .ensures) (search walks depth 12)
 
 records-requires : tie.Need-records-requires
-records-requires c κs = (names-most _ _ _ (c .before .before .before .before .field .ensures) (c .before .before .f2 .given .1), search needs)
+records-requires c κs = (names-most _ _ _ (c .before .before .before .before .field .ensures) (c .before .before .f2 .given .1), record { most = (c .before .before .before .before .before .before .before .before .before .before .before .before .before .before .pre); tabled = (c .before .before .before .before .before .before .before .before .before .before .before .before .table .ensures) })
 
 returns-3 : tie.Need-returns-3
 unfolding layout inner

@@ -5,6 +5,7 @@ use Rattle.pack.specs.Pack.{body}
 use Rattle.pack.specs.Tree.{root}
 use Rattle.pack.proofs.StepLaws.{walks, by-via, by-value}
 use Rattle.pack.proofs.RecordLaws.{body-sort}
+use Rattle.pack.proofs.CodeLaws.{field-within}
 use borrow.Author.Needs.{needs}
 use Rattle.pack.proofs.cursor.Cursor.body.Statement.{statement}
 use Rattle.pack.proofs.cursor.Cursor.body.Tie as tie
@@ -23,10 +24,10 @@ unfolding body
 returns c = search walks depth 12
 
 scalar-requires : tie.Need-scalar-requires
-scalar-requires c κs = search needs
+scalar-requires c κs = ((c .before .before .before .before .before .before .pre), field-within _ _ _ _ _ (c .before .before .before .before .field .ensures) (c .before .before .f .given .1))
 
 judgment-requires : tie.Need-judgment-requires
-judgment-requires c κs = search needs
+judgment-requires c κs = ((c .before .before .before .before .before .before .pre), field-within _ _ _ _ _ (c .before .before .before .before .field .ensures) (c .before .before .f .given .1))
 
 returns-2 : tie.Need-returns-2
 unfolding body root

@@ -2,6 +2,7 @@
 use Rattle.pack.specs.Pack.{member}
 use Rattle.pack.specs.Tree.{root}
 use Rattle.pack.proofs.StepLaws.{by-then, then-stop}
+use Rattle.pack.proofs.CodeLaws.{field-within, step-within}
 use borrow.Author.Needs.{needs}
 use Rattle.pack.proofs.cursor.Cursor.member.Statement.{statement}
 use Rattle.pack.proofs.cursor.Cursor.member.Tie as tie
@@ -46,7 +47,7 @@ unfolding member root
 returns-3 c = search (by-then, then-stop) depth 12
 
 judgment-requires : tie.Need-judgment-requires
-judgment-requires c κs = search needs
+judgment-requires c κs = ((c .before .before .before .before .before .before .before .before .before .before .before .before .before .pre), step-within _ _ _ _ (field-within _ _ _ _ _ (c .before .before .before .before .before .before .before .skip2 .ensures) (c .before .before .before .before .before .f2 .given .1)) (c .before .before .before .name-list .ensures) (c .before .f3 .given .1))
 
 returns-4 : tie.Need-returns-4
 unfolding member root
