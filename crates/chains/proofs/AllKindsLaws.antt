@@ -4,24 +4,24 @@ use native.Mathlib.Omega.{arith}
 use mathlib.Core.Path.{_≡_, refl, ap, sym, _∙_, fun-ext}
 use mathlib.Core.List.{List, [], _∷_, map}
 use mathlib.Core.Bool.{Bool, true, false}
-use mathlib.Core.Option.{Option, none, some, Option·map}
-use lib.ListN.{length, getD, replicate}
+use mathlib.Core.Option.{none, some, Option·map}
+use lib.ListN.{length, getD}
 use lib.Dec.{eqb, ltb}
 use borrow.Author.Tests.{ltb-false, eq-eqb}
 use Rattle.pack.specs.Table.{pick}
 use Rattle.pack.specs.Form.{among}
 use Rattle.pack.specs.Pack.{Relation, Pack, WellFormed, words}
-use Rattle.chains.specs.Chain.{Step, Settled, nothing, Walked, own, All, walkAll}
+use Rattle.chains.specs.Chain.{Settled, nothing, Walked, own, All, walkAll}
 use Rattle.chains.specs.Kinds.{declared, kindStep, allKinds, ownAnswer}
 use Rattle.chains.specs.Kinds as kinds
-use Rattle.chains.specs.Operations.{placeOf, settledOf, allKindsWords}
+use Rattle.chains.specs.Operations.{placeOf, allKindsWords}
 use Rattle.chains.specs.Index.{scanFrom}
-use Rattle.chains.specs.Settle.{stepAt, settledIn, same, walkIn, walksIn, SettledAll, placesIn, Placeable}
+use Rattle.chains.specs.Settle.{stepAt, settledIn, same, walkIn, walksIn, SettledAll, placesIn}
 use Rattle.chains.proofs.Names.{or-left, or-right}
 use Rattle.chains.proofs.MappedLaws.{AnswersMapped, answers-mapped}
 use Rattle.chains.proofs.KindLaws.{in-row, kinds-own, words-own}
 use Rattle.chains.proofs.PackIndex.{zeros, zero-at}
-use Rattle.chains.proofs.PlaceBounds.{Indexes, indexes}
+use Rattle.chains.proofs.PlaceBounds.{indexes}
 
 -- walks from the starts in order, as defined and as they run
 walks-all : (table ds starts : List ℕ) (t : Settled ℕ) (k : ℕ) → walksIn table (suc (length ds)) starts t k ≡ walkAll 0 same (stepAt table) ds starts t k

@@ -7,7 +7,6 @@ use mathlib.Core.Path.{_≡_, refl, ap, sym, _∙_, subst}
 use mathlib.Core.List.{List, [], _∷_, _++_, append-nil}
 use lib.ListN.{length, getD, drop, length-append, length-map, length-replicate, drop-of-length-le}
 use lib.Seq.{getD-at}
-use lib.Dec.{eqb}
 use Rattle.pack.specs.Table.{wordOf}
 use Rattle.pack.specs.Form.{among}
 use Rattle.pack.specs.Pack.{Relation, Pack, WellFormed, yes, read, words}
@@ -15,7 +14,7 @@ use Rattle.pack.proofs.PackLaws.{words-read, words-length}
 use Rattle.chains.specs.Kinds.{declared, allKinds, ownAnswer}
 use Rattle.chains.specs.Operations.{placeOf, allKindsWords}
 use Rattle.chains.specs.Index.{scanFrom, startsIn}
-use Rattle.chains.specs.Settle.{Leading, Marked, OnPath, settledIn, walkIn, Walkable, WalkedHere, Settleable, SettledAll, placesIn, Placeable}
+use Rattle.chains.specs.Settle.{Marked, OnPath, Walkable, WalkedHere, Settleable, SettledAll, placesIn, Placeable}
 use Rattle.chains.specs.AllKinds.{Checked, Counted, Named, OwnPlace, KindsAsked, KindsLeft}
 use Rattle.chains.proofs.RelationScan.{RelationsFine, kept}
 use Rattle.chains.proofs.PackIndex.{zeros, zero-at, parts, split, opening, opening-length, relationsPart}

@@ -1,22 +1,22 @@
 -- What the scan leaves for a relation is its declaration.
-use Prim.Native.Nat.{ℕ, zero, suc, _+_, _*_, _/_, _%_, _<_, _≤_}
+use Prim.Native.Nat.{ℕ, _+_, _*_, _<_}
 use native.Mathlib.Omega.{arith}
-use mathlib.Core.Path.{_≡_, refl, ap, sym, _∙_}
+use mathlib.Core.Path.{_≡_, refl, ap, _∙_}
 use mathlib.Core.List.{List, [], _∷_}
 use mathlib.Core.Bool.{Bool, true, false}
 use mathlib.Core.Option.{Option, none, some}
 use lib.ListN.{length}
 use lib.Dec.{eqb, ltb}
-use borrow.Author.Tests.{eq-eqb, ne-eqb, eqb-true, eqb-false, lt-ltb, le-ltb}
-use Rattle.pack.specs.Table.{pick, kindOf, valueOf, wordOf}
+use borrow.Author.Tests.{ne-eqb, lt-ltb, le-ltb}
+use Rattle.pack.specs.Table.{pick, valueOf, wordOf}
 use Rattle.pack.specs.Form.{count, listOrNone}
 use Rattle.pack.specs.Pack.{Hop, Derivation, Relation}
-use Rattle.chains.specs.Chain.{Step, end, next, mapped}
-use Rattle.chains.specs.Kinds.{list9, list21, inherits, plain, derived, declares}
+use Rattle.chains.specs.Chain.{end, next, mapped}
+use Rattle.chains.specs.Kinds.{list21, inherits, plain, derived, declares}
 use Rattle.chains.specs.Operations.{countPlace}
 use Rattle.chains.specs.Index.{coded, entryAfter, placed, declarationAt}
 use Rattle.chains.proofs.Hushed.{kind-word}
-use Rattle.chains.proofs.ScanLaws.{hops, afterDerivation, afterOption, afterTail}
+use Rattle.chains.proofs.ScanLaws.{hops, afterOption, afterTail}
 
 value-word : (k v : ℕ) → v < 16777216 → valueOf (wordOf k v) ≡ v
 value-word k v h = omega arith

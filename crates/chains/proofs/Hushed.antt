@@ -1,19 +1,18 @@
 -- Forms whose words avoid some kinds. A tree has no word of a kind below 64.
-use Prim.Native.Nat.{ℕ, zero, suc, _+_, _*_, _/_, _%_, _<_, _≤_}
+use Prim.Native.Nat.{ℕ, zero, suc, _+_, _%_, _<_, _≤_}
 use native.Mathlib.Omega.{arith}
-use native.Mathlib.Nat.{add-zero, add-assoc}
-use mathlib.Core.Path.{_≡_, refl, ap, sym, _∙_}
+use mathlib.Core.Path.{_≡_, refl}
 use mathlib.Core.List.{List, [], _∷_, _++_}
 use mathlib.Core.Bool.{Bool, true, false, _||_}
-use lib.ListN.{length, getD, set, replicate}
+use lib.ListN.{replicate}
 use lib.Dec.{ltb, eqb}
-use borrow.Author.Tests.{eq-eqb, ne-eqb, eqb-true, ltb-true, ltb-false}
+use borrow.Author.Tests.{eqb-true, ltb-true, ltb-false}
 use Rattle.pack.specs.declared.table.Follows.{Follows}
 use Rattle.pack.specs.declared.table.Follows.the-variants.{Nothing, Counted, OneScalar, TwoScalars, Scalars, Patterns, Periods, OneJudgment, Judgments, Choice, Aggregate, OnlyRelated, Slots, Atom, Exists}
-use Rattle.pack.specs.Table.{pick, kindOf, valueOf, wordOf, scalar, judgment, table, entryOf, fieldsOf, childrenOf}
+use Rattle.pack.specs.Table.{pick, kindOf, wordOf, scalar, judgment, table, entryOf, fieldsOf, childrenOf}
 use Rattle.pack.specs.Form.{among, only, wordsAll, wordsEach, FineAll, FineEach, Holder, count, items, Suits, countedFrom, Form, field, word, empty, each, _▹_, via, wordsBy, Fine}
 use Rattle.pack.specs.Tree.{heads, lastField, fields, follow, tree}
-use Rattle.pack.proofs.Listed.{listed, in-range}
+use Rattle.pack.proofs.Listed.{in-range}
 
 -- a word of a kind and a value that fits
 pub kind-word : (k v : ℕ) → v < 16777216 → kindOf (wordOf k v) ≡ k

@@ -8,10 +8,10 @@ use mathlib.Core.List.{List, [], _∷_, _++_, append-assoc, append-nil}
 use mathlib.Core.Bool.{Bool, true, false}
 use lib.ListN.{length, drop, getD, set, length-set, length-append, drop-of-length-le}
 use lib.Seq.{drop-cons, set-at}
-use lib.Dec.{ltb, eqb}
+use lib.Dec.{eqb}
 use borrow.Author.Tests.{eq-eqb, ne-eqb, eqb-true, eqb-false, lt-ltb, le-ltb}
 use Rattle.pack.specs.Table.{pick, kindOf, valueOf}
-use Rattle.chains.specs.Index.{entryAfter, nameAfter, tableAfter, scanFrom, Indexed, startsIn, Started}
+use Rattle.chains.specs.Index.{entryAfter, nameAfter, scanFrom, Indexed, startsIn, Started}
 
 module _ (x place w : ℕ) where
   pub list-none : (kindOf w ≡ 9) ⊎ (kindOf w ≡ 21) → valueOf w ≡ 0 → x ≡ entryAfter x place w

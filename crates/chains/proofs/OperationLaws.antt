@@ -1,18 +1,18 @@
 -- Operations that read first: what they answer and leave where Check refuses, and where it accepts.
-use Prim.Native.Nat.{ℕ, _-_, _+_, _<_, _≤_}
+use Prim.Native.Nat.{ℕ, _-_, _<_, _≤_}
 use native.Mathlib.Omega.{arith}
-use mathlib.Core.Path.{_≡_, refl, ap, sym, _∙_}
-use mathlib.Core.List.{List, [], _∷_, _++_, map}
-use lib.ListN.{length, take, drop, length-map}
+use mathlib.Core.Path.{_≡_, refl, sym, _∙_}
+use mathlib.Core.List.{List, []}
+use lib.ListN.{length, length-map}
 use lib.Seq.{length-take-le}
-use lib.Dec.{ltb, leb}
+use lib.Dec.{ltb}
 use borrow.Author.Tests.{le-leb, lt-leb, le-ltb, lt-ltb}
 use borrow.Rule.Slice.PartMut.{midOf, putMid}
 use Rattle.pack.specs.declared.answer.Refusal.{Refusal}
 use Rattle.pack.specs.declared.answer.Answer.{Answer}
 use Rattle.pack.specs.declared.answer.Answer.the-variants.{Given, Refused}
 use Rattle.pack.specs.Table.{pick}
-use Rattle.pack.specs.Pack.{Relation, Pack, Reading, yes, refuse, read}
+use Rattle.pack.specs.Pack.{Pack, Reading, yes, refuse, read}
 use Rattle.pack.specs.Operations.{answer, buffer, noRoom, checkAnswer}
 use Rattle.pack.proofs.RewriteLaws.{accepted}
 use Rattle.chains.specs.Kinds.{allKinds, ownAnswer}

@@ -1,25 +1,25 @@
 -- The index of a checked pack: at each name, what one declaration read there says, with its list as a place.
-use Prim.Native.Nat.{ℕ, zero, suc, _+_, _*_, _<_, _≤_}
+use Prim.Native.Nat.{ℕ, zero, suc, _+_, _<_, _≤_}
 use native.Mathlib.Omega.{arith}
 use mathlib.Core.Path.{_≡_, refl, ap, sym, _∙_}
-use mathlib.Core.List.{List, [], _∷_, _++_, append-assoc}
+use mathlib.Core.List.{List, [], _∷_, _++_}
 use mathlib.Core.Bool.{Bool, true, false, _&&_}
 use mathlib.Core.Option.{Option, none, some}
-use lib.ListN.{length, getD, length-append, replicate, length-replicate, getD-replicate}
+use lib.ListN.{length, getD, length-append, replicate, length-replicate}
 use lib.Dec.{eqb, leb}
 use borrow.Author.Tests.{eqb-true, leb-true}
-use Rattle.pack.specs.Table.{pick, kindOf, wordOf, entryOf, table}
+use Rattle.pack.specs.Table.{pick, wordOf, entryOf, table}
 use Rattle.pack.specs.Table as table
-use Rattle.pack.specs.Form.{among, allowedHere, wordsAll, FineAll, count, items, Form, field, _▹_, wordsBy, Fine}
-use Rattle.pack.specs.Pack.{Hop, Derivation, Relation, Edition, undated, firstKind, above, nextUsed, relation, rule, defaultedName, defaulted, relations, rules, blocks, records, inner, layout, Pack, toRow, total, words, WellFormed}
+use Rattle.pack.specs.Form.{among, allowedHere, wordsAll, FineAll, count, items, wordsBy, Fine}
+use Rattle.pack.specs.Pack.{Hop, Derivation, Relation, Edition, undated, firstKind, above, nextUsed, relation, rule, defaultedName, defaulted, relations, rules, blocks, records, inner, layout, Pack, total, words, WellFormed}
 use Rattle.chains.specs.Chain.{Step, end, next, mapped}
-use Rattle.chains.specs.Kinds.{Which, list9, list21, Source, Answer, from, inherits, plain, derived, declares, find, readAt, kindStep}
-use Rattle.chains.specs.Operations.{relationWords, startOf, firstRelation, countPlace, placeOf}
+use Rattle.chains.specs.Kinds.{Which, list9, list21, Answer, from, inherits, derived, declares, find, readAt, kindStep}
+use Rattle.chains.specs.Operations.{startOf, firstRelation, placeOf}
 use Rattle.chains.specs.Index.{coded, scanFrom, placed, declarationAt}
 use Rattle.pack.proofs.PackLaws.{words-length}
 use Rattle.chains.proofs.Hushed.{Quiet, quiet-word, kind-word}
 use Rattle.chains.proofs.Quiet.{loud, scan-quiet}
-use Rattle.chains.proofs.RelationScan.{declarations, left, declared-at, lastName, relationsWords, RelationsFine, Blank, scan-relations}
+use Rattle.chains.proofs.RelationScan.{declarations, left, declared-at, RelationsFine, scan-relations}
 
 -- ---- the words before the relations
 

@@ -1,20 +1,19 @@
 -- In a checked pack every place and every name that a declaration leads to is small: the index tells them apart.
-use Prim.Native.Nat.{ℕ, suc, _+_, _-_, _*_, _<_, _≤_}
+use Prim.Native.Nat.{ℕ, _+_, _-_, _*_, _<_, _≤_}
 use native.Mathlib.Omega.{arith}
-use mathlib.Core.Path.{_≡_, refl, ap, sym, _∙_, subst}
-use mathlib.Core.List.{List, [], _∷_, _++_}
+use mathlib.Core.Path.{_≡_, refl, ap, sym, _∙_}
+use mathlib.Core.List.{List, [], _∷_}
 use mathlib.Core.Bool.{Bool, true, false, _||_}
 use mathlib.Core.Option.{Option, none, some}
 use lib.ListN.{length, getD, length-append}
-use lib.Dec.{eqb, ltb}
+use lib.Dec.{eqb}
 use borrow.Author.Tests.{ne-eqb, leb-true, ltb-true, lt-ltb, le-ltb}
-use Rattle.pack.specs.declared.table.Rule.the-variants.{Name}
-use Rattle.pack.specs.Table.{pick, entryOf, table, wordOf}
+use Rattle.pack.specs.Table.{pick, entryOf, table}
 use Rattle.pack.specs.Table as table
-use Rattle.pack.specs.Form.{among, allowedHere, wordsAll, FineAll, says, count, items, listOrNone, wordsBy, Fine}
-use Rattle.pack.specs.Pack.{Hop, Derivation, Relation, Pack, WellFormed, nameList, path, chain, member, derivation, optionalDerivation, relationTail, relation, newName, nextUsed, words, total}
+use Rattle.pack.specs.Form.{among, allowedHere, says, count, items, wordsBy, Fine}
+use Rattle.pack.specs.Pack.{Hop, Derivation, Relation, Pack, WellFormed, nameList, path, chain, derivation, optionalDerivation, relationTail, relation, newName, words}
 use Rattle.chains.specs.Chain.{Step, end, next, mapped}
-use Rattle.chains.specs.Kinds.{Which, list9, list21, Source, Answer, from, inherits, derived, declares, find, readAt, kindStep}
+use Rattle.chains.specs.Kinds.{Which, list9, list21, find, readAt, kindStep}
 use Rattle.chains.specs.Operations.{relationWords, startOf, firstRelation, hops, countPlace, placeOf}
 use Rattle.chains.specs.Index.{coded, scanFrom}
 use Rattle.chains.specs.Settle.{stepAt, Leading}

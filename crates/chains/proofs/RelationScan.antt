@@ -1,25 +1,22 @@
 -- The scan over all relations, and over a whole pack: at each name its declaration.
-use Prim.Native.Nat.{ℕ, zero, suc, _+_, _*_, _/_, _%_, _<_, _≤_}
+use Prim.Native.Nat.{ℕ, suc, _+_, _%_, _<_, _≤_}
 use native.Mathlib.Omega.{arith}
 use native.Mathlib.Nat.{add-assoc, add-zero}
-use mathlib.Core.Path.{_≡_, refl, ap, sym, _∙_}
+use mathlib.Core.Path.{_≡_, refl, ap, _∙_}
 use mathlib.Core.List.{List, [], _∷_, _++_, append-assoc}
-use mathlib.Core.Bool.{Bool, true, false, _||_, not}
+use mathlib.Core.Bool.{Bool, true, false, _||_}
 use mathlib.Core.Option.{Option, none, some}
-use lib.ListN.{length, getD, set, length-append, length-set, replicate, length-replicate, getD-replicate}
+use lib.ListN.{length, getD, set, length-append, length-set}
 use lib.Seq.{getD-set-same, getD-set-other}
-use lib.Dec.{eqb, ltb}
-use borrow.Author.Tests.{eq-eqb, ne-eqb, eqb-true, eqb-false, ltb-true, not-true}
-use Rattle.pack.specs.declared.table.Rule.the-variants.{Name}
-use Rattle.pack.specs.Table.{pick, kindOf, valueOf, wordOf, entryOf, table}
-use Rattle.pack.specs.Form.{among, allowedHere, wordsAll, FineAll, says, count, items, listOrNone, Form, field, guarded, _▹_, via, wordsBy, Fine}
-use Rattle.pack.specs.Pack.{Hop, Derivation, Relation, newName, nameList, path, chain, member, derivation, optionalDerivation, relationTail, relation, nextUsed, relations}
-use Rattle.chains.specs.Chain.{Step, end, next}
+use lib.Dec.{eqb}
+use borrow.Author.Tests.{eqb-true, eqb-false, ltb-true, not-true}
+use Rattle.pack.specs.Table.{pick, kindOf, wordOf, entryOf, table}
+use Rattle.pack.specs.Form.{among, allowedHere, wordsAll, FineAll, says, count, items, listOrNone, wordsBy, Fine}
+use Rattle.pack.specs.Pack.{Hop, Derivation, Relation, newName, nameList, path, chain, member, derivation, optionalDerivation, relationTail, relation, nextUsed}
 use Rattle.chains.specs.Kinds.{find}
 use Rattle.chains.specs.Operations.{relationWords, startOf}
 use Rattle.chains.specs.Index.{coded, entryAfter, nameAfter, tableAfter, scanFrom, declarationAt}
-use Rattle.chains.proofs.Hushed.{kind-word}
-use Rattle.chains.proofs.ScanLaws.{afterTail, Scans, scans-tail}
+use Rattle.chains.proofs.ScanLaws.{scans-tail}
 use Rattle.chains.proofs.DeclarationLaws.{Fitting, tail-declares}
 
 -- a relation's first word

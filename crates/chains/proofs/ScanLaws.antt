@@ -1,21 +1,19 @@
 -- The scan over a relation's words leaves its declaration in the table.
-use Prim.Native.Nat.{ℕ, zero, suc, _+_, _*_, _%_, _<_, _≤_}
+use Prim.Native.Nat.{ℕ, suc, _+_, _*_, _<_}
 use native.Mathlib.Omega.{arith}
 use native.Mathlib.Nat.{add-assoc}
 use mathlib.Core.Path.{_≡_, refl, ap, sym, _∙_}
 use mathlib.Core.List.{List, [], _∷_, _++_, append-assoc, append-nil}
-use mathlib.Core.Bool.{Bool, true, false}
 use mathlib.Core.Option.{Option, none, some}
-use lib.ListN.{length, getD, set, length-append}
+use lib.ListN.{length, set, length-append}
 use lib.Seq.{getD-set-same, set-set}
-use lib.Dec.{eqb, ltb}
-use borrow.Author.Tests.{eq-eqb, ne-eqb, eqb-true, eqb-false}
-use Rattle.pack.specs.Table.{pick, kindOf, valueOf, wordOf, judgment, entryOf}
-use Rattle.pack.specs.Form.{wordsAll, FineAll, Holder, listOrNone, option, count, items, says, Suits, Form, field, _▹_, via, countedFrom, wordsBy, Fits, Fine}
+use borrow.Author.Tests.{ne-eqb}
+use Rattle.pack.specs.Table.{kindOf, wordOf, judgment, entryOf}
+use Rattle.pack.specs.Form.{wordsAll, Holder, listOrNone, count, items, Suits, Form, field, _▹_, via, countedFrom, wordsBy, Fine}
 use Rattle.pack.specs.Tree.{root}
-use Rattle.pack.specs.Pack.{Hop, Derivation, Relation, newName, nameList, hop, path, chain, member, derivation, optionalDerivation, relationTail, relation}
+use Rattle.pack.specs.Pack.{Hop, Derivation, Relation, nameList, hop, path, chain, member, derivation, optionalDerivation, relationTail}
 use Rattle.chains.specs.Index.{entryAfter, nameAfter, tableAfter, scanFrom}
-use Rattle.chains.proofs.Hushed.{all-hushed, Quiet, quiet-append, quiet-word, kind-word, Hushed, field-hushed, then-hushed, via-hushed, tree-hushed}
+use Rattle.chains.proofs.Hushed.{all-hushed, quiet-word, kind-word, Hushed, field-hushed, then-hushed, via-hushed, tree-hushed}
 use Rattle.chains.proofs.Quiet.{loud, high, scan-quiet}
 
 -- a word of a relation whose name is known

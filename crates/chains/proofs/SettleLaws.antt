@@ -8,13 +8,13 @@ use mathlib.Core.List.{List, [], _∷_}
 use mathlib.Core.Bool.{Bool, true, false, _||_}
 use mathlib.Core.Option.{Option, none, some}
 use lib.ListN.{length, getD, drop, set, length-set, drop-of-length-le}
-use lib.Seq.{drop-cons, getD-set-same, getD-set-other, set-set}
+use lib.Seq.{drop-cons, getD-set-same, getD-set-other}
 use lib.Dec.{ltb, eqb}
 use borrow.Author.Tests.{eq-eqb, ne-eqb, eqb-true, eqb-false, lt-ltb, le-ltb}
 use Rattle.pack.specs.Table.{pick}
 use Rattle.pack.specs.Form.{among}
-use Rattle.chains.specs.Chain.{Step, end, next, Settled, put, Walked, walk, All}
-use Rattle.chains.specs.Settle.{stepAt, Leading, settledIn, OnPath, same, walkIn, Marked, Walkable, WalkedHere, walksIn, Settleable, SettledAll}
+use Rattle.chains.specs.Chain.{Settled, put, Walked, walk, All}
+use Rattle.chains.specs.Settle.{stepAt, Leading, settledIn, OnPath, walkIn, Marked, Walkable, WalkedHere, walksIn, Settleable, SettledAll}
 
 -- a store at a name, by the name that is looked at
 module _ (l : List ℕ) (n x : ℕ) (inside : n < length l) where

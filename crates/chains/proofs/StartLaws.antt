@@ -1,20 +1,19 @@
 -- The words of kind 6 of a checked pack are its relations' names, in record order.
-use Prim.Native.Nat.{ℕ, suc, _+_, _<_, _≤_}
+use Prim.Native.Nat.{ℕ, _+_, _<_, _≤_}
 use native.Mathlib.Omega.{arith}
-use mathlib.Core.Path.{_≡_, refl, ap, sym, _∙_}
-use mathlib.Core.List.{List, [], _∷_, _++_, append-assoc, append-nil, map}
+use mathlib.Core.Path.{_≡_, refl, ap, _∙_}
+use mathlib.Core.List.{List, [], _∷_, _++_, append-assoc, append-nil}
 use mathlib.Core.Bool.{Bool, true, false, _||_}
-use mathlib.Core.Option.{Option, none, some}
 use lib.ListN.{length}
 use lib.Dec.{eqb}
 use borrow.Author.Tests.{ne-eqb}
-use Rattle.pack.specs.Table.{pick, kindOf, valueOf, wordOf, judgment}
-use Rattle.pack.specs.Form.{among, wordsAll, FineAll, count, items, Form, field, _▹_, via, countedFrom, wordsBy, Fine}
+use Rattle.pack.specs.Table.{kindOf, valueOf, wordOf, judgment}
+use Rattle.pack.specs.Form.{among, wordsAll, FineAll, Form, field, _▹_, wordsBy, Fine}
 use Rattle.pack.specs.Tree.{root}
 use Rattle.pack.specs.Pack.{Relation, newName, nameList, hop, path, chain, member, derivation, optionalDerivation, relationTail, relation, nextUsed, above, defaultedName, Pack, total, words, WellFormed}
 use Rattle.chains.specs.Kinds.{declared}
 use Rattle.chains.specs.Index.{startsIn}
-use Rattle.chains.proofs.Hushed.{Quiet, quiet-append, quiet-word, kind-word, Hushed, field-hushed, then-hushed, via-hushed, counted-hushed, tree-hushed}
+use Rattle.chains.proofs.Hushed.{Quiet, quiet-word, kind-word, Hushed, field-hushed, then-hushed, via-hushed, counted-hushed, tree-hushed}
 use Rattle.chains.proofs.RelationScan.{RelationsFine, kept}
 use Rattle.chains.proofs.PackIndex.{opening, relationsPart, parts, split}
 

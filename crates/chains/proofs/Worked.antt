@@ -5,9 +5,9 @@ use mathlib.Core.List.{List, [], _∷_, map}
 use mathlib.Core.Option.{Option, none, some}
 use lib.Dec.{eqb}
 use Rattle.pack.specs.Table.{pick}
-use Rattle.pack.specs.Tree.{Tree, node}
+use Rattle.pack.specs.Tree.{node}
 use Rattle.pack.specs.Tree as trees
-use Rattle.pack.specs.Pack.{Hop, Derivation, Relation}
+use Rattle.pack.specs.Pack.{Hop, Relation}
 use Rattle.chains.specs.Chain.{walk, walkAll, own}
 use Rattle.chains.specs.Kinds.{find, kindStep, namesOf, allKinds, kindsOf, declared}
 use Rattle.chains.specs.Operations.{settledOf}

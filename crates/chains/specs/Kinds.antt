@@ -1,13 +1,12 @@
 -- The kinds of relations. 01, "Chain walk".
 use Prim.Native.Nat.{ℕ}
 use mathlib.Core.List.{List, [], _∷_, map}
-use mathlib.Core.Bool.{Bool, true, false}
 use mathlib.Core.Option.{Option, none, some}
 use lib.Dec.{eqb}
 use Rattle.pack.specs.Table.{pick}
 use Rattle.pack.specs.Table as table
 use Rattle.pack.specs.Pack.{Hop, Derivation, Relation}
-use Rattle.chains.specs.Chain.{Step, end, next, Settled, nothing, All, walkAll, own, outside}
+use Rattle.chains.specs.Chain.{Step, end, next, nothing, All, walkAll, own, outside}
 
 -- the list that settles a relation: list 9 or list 21 of its owner
 pub data Which : Type 0 where

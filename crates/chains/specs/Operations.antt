@@ -5,15 +5,14 @@ use mathlib.Core.Bool.{Bool, true, false}
 use mathlib.Core.Option.{Option, none, some}
 use lib.ListN.{length, drop}
 use lib.Dec.{ltb, leb, eqb}
-use Rattle.pack.specs.declared.answer.Refusal.{Refusal}
 use Rattle.pack.specs.declared.answer.Answer.{Answer}
 use Rattle.pack.specs.declared.answer.Answer.the-variants.{Given, Refused}
 use Rattle.pack.specs.Table.{pick}
 use Rattle.pack.specs.Table as table
 use Rattle.pack.specs.Form.{wordsBy}
-use Rattle.pack.specs.Pack.{Hop, Derivation, Relation, relation, Pack, read}
+use Rattle.pack.specs.Pack.{Hop, Relation, relation, Pack, read}
 use Rattle.pack.specs.Operations.{answer, buffer, noRoom}
-use Rattle.chains.specs.Kinds.{Which, list9, list21, Source, find, declared, allKinds, ownAnswer}
+use Rattle.chains.specs.Kinds.{Which, list9, list21, find, allKinds, ownAnswer}
 use Rattle.chains.specs.Kinds as kinds
 use Rattle.chains.specs.Reach.{leans}
 use Rattle.chains.specs.Filtered.{direct, alias, unresolved, innermost}

@@ -1,23 +1,18 @@
 -- Laws of Check: what its tests and its reading come to.
-use Prim.Native.Nat.{ℕ, _+_, _≤_, _<_}
-use native.Mathlib.Omega.{arith}
-use mathlib.Core.Path.{_≡_, refl, ap, sym, _∙_}
-use mathlib.Core.List.{List, [], _∷_}
-use mathlib.Core.Bool.{Bool, true, false, _&&_}
-use lib.ListN.{length, drop, drop-of-length-le}
+use Prim.Native.Nat.{ℕ, _≤_, _<_}
+use mathlib.Core.Path.{_≡_, ap, sym, _∙_}
+use mathlib.Core.List.{List}
+use lib.ListN.{length, drop-of-length-le}
 use lib.Seq.{drop-cons}
-use lib.Dec.{leb}
 use borrow.Author.Tests.{le-leb, lt-leb}
 use Rattle.pack.specs.declared.answer.Refusal.{Refusal}
-use Rattle.pack.specs.declared.answer.Answer.{Answer}
 use Rattle.pack.specs.declared.answer.Answer.the-variants.{Given}
 use Rattle.pack.specs.declared.answer.Answer.the-variants.{Refused as No}
 use Rattle.pack.specs.declared.cursor.Cursor.{Cursor}
 use Rattle.pack.specs.declared.cursor.Step.{Step}
 use Rattle.pack.specs.declared.cursor.Step.the-variants.{On, Refused}
-use Rattle.pack.specs.Table.{pick}
 use Rattle.pack.specs.Form.{Form, readBy}
-use Rattle.pack.specs.Pack.{Pack, undated, layout, Reading, yes, refuse, complete, read}
+use Rattle.pack.specs.Pack.{undated, layout, complete, read}
 use Rattle.pack.specs.Steps.{stepOf, walk}
 use Rattle.pack.specs.Operations.{answer, checkAnswer}
 use Rattle.pack.proofs.StepLaws.{went, step-no}

@@ -2,11 +2,11 @@
 use Prim.Native.Nat.{ℕ, zero, suc, _+_, _-_, _*_, _/_, _%_, _≤_, _<_}
 use native.Mathlib.Omega.{arith}
 use mathlib.Core.Path.{_≡_, refl, ap, sym, _∙_}
-use mathlib.Core.List.{List, [], _∷_, _++_}
+use mathlib.Core.List.{List, [], _∷_}
 use mathlib.Core.Bool.{Bool, true, false}
 use lib.ListN.{length, drop, getD, replicate, length-append, length-drop}
 use lib.Seq.{drop-cons}
-use lib.Dec.{ltb, leb, eqb}
+use lib.Dec.{eqb}
 use borrow.Author.Tests.{lt-ltb, le-ltb, le-leb, lt-leb}
 use Rattle.pack.specs.declared.answer.Refusal.{Refusal}
 use Rattle.pack.specs.declared.cursor.Cursor.{Cursor}
@@ -15,13 +15,13 @@ use Rattle.pack.specs.declared.cursor.Step.the-variants.{On, Refused}
 use Rattle.pack.specs.declared.table.Entry.{Entry}
 use Rattle.pack.specs.declared.table.Rule.the-variants.{Any, AtMost}
 use Rattle.pack.specs.declared.table.Follows.the-variants.{Aggregate}
-use Rattle.pack.specs.Table.{pick, kindOf, valueOf, wordOf, allowed, entryOf, howMany, fieldsOf, childrenOf, judgment}
+use Rattle.pack.specs.Table.{pick, kindOf, valueOf, allowed, entryOf, howMany, fieldsOf, childrenOf, judgment}
 use Rattle.pack.specs.Packed.{UpTo}
-use Rattle.pack.specs.Form.{Read, got, refused, because, bind, mapRead, allowedHere, readWord, among, only, readEach, Form, field, word, empty, each, _▹_, via, wordsBy, Fine, readBy}
+use Rattle.pack.specs.Form.{Read, got, refused, because, bind, mapRead, allowedHere, readWord, among, only, Form, field, word, empty, each, _▹_, via, wordsBy, Fine, readBy}
 use Rattle.pack.specs.Tree.{Tree, heads, lastField, fields, follow, tree}
 use Rattle.pack.specs.Steps.{stepBy, stepOf, walk, wholeWord, coded, fault, decoded}
-use Rattle.pack.proofs.FormLaws.{Took, Lawful, lawful}
-use Rattle.pack.proofs.StepLaws.{Went, went, word-ended, word-there, word-stop, word-turned, word-value, word-on, step-no, last-stop, each-done, each-stop, by-each, each-last, then-stop, by-then, by-kept, many-done, many-stop, many-next}
+use Rattle.pack.proofs.FormLaws.{lawful}
+use Rattle.pack.proofs.StepLaws.{went, word-ended, word-there, word-stop, word-turned, word-value, word-on, step-no, last-stop, each-done, each-stop, by-each, each-last, then-stop, by-then, by-kept, many-done, many-stop, many-next}
 use Rattle.pack.proofs.TreeLaws.{whole-word, head-sort, tree-stop, tree-rest, level-left, Row, by-row, Leaf, by-leaf}
 
 -- what was read stood among the words

@@ -1,19 +1,19 @@
 -- Every form reads back the words that it writes (`there`), and what it reads are the words of a value that keeps to it (`back`).
-use Prim.Native.Nat.{ℕ, zero, suc, _+_, _-_, _*_, _/_, _%_, _≤_, _<_}
+use Prim.Native.Nat.{ℕ, zero, suc, _+_, _-_, _*_, _/_, _%_, _≤_}
 use native.Mathlib.Omega.{arith}
 use native.Mathlib.Nat.{add-assoc, add-zero}
 use mathlib.Core.Path.{_≡_, refl, ap, sym, _∙_, subst}
 use mathlib.Core.List.{List, [], _∷_, _++_, append-assoc}
 use mathlib.Core.Bool.{Bool, true, false, _&&_, _||_}
-use mathlib.Core.Option.{Option, none, some}
+use mathlib.Core.Option.{none, some}
 use lib.ListN.{length, length-append}
-use lib.Dec.{ltb, leb, eqb}
-use borrow.Author.Tests.{eq-eqb, ne-eqb, eqb-true, eqb-false, leb-true}
+use lib.Dec.{leb, eqb}
+use borrow.Author.Tests.{eq-eqb, ne-eqb, eqb-true, leb-true}
 use Rattle.pack.specs.declared.answer.Refusal.{Refusal}
 use Rattle.pack.specs.declared.table.Rule.{Rule}
-use Rattle.pack.specs.declared.table.Rule.the-variants.{AtMost, FromOne}
+use Rattle.pack.specs.declared.table.Rule.the-variants.{FromOne}
 use Rattle.pack.specs.Table.{pick, kindOf, valueOf, wordOf, allowed, entryOf}
-use Rattle.pack.specs.Form.{Read, got, refused, because, bind, mapRead, allowedHere, readWord, among, only, readField, readAll, wordsAll, FineAll, readEach, wordsEach, FineEach}
+use Rattle.pack.specs.Form.{Read, got, refused, bind, mapRead, allowedHere, readWord, only, readField, readAll, wordsAll, FineAll, readEach, wordsEach, FineEach}
 use Rattle.pack.specs.Form.{Holder, list, listOrNone, option, count, items, says, first, whole, Suits, Form, field, word, empty, each, guarded, _▹_, countedFrom, oneAndMore, via, wordsBy, Fits, Fine, readBy}
 
 -- a value that was read: it keeps to the form, its words stood there, and the place moved past them

@@ -1,22 +1,22 @@
 -- Laws of the records' readers: what the table's rules say of values, and the marks of names used before.
-use Prim.Native.Nat.{ℕ, zero, suc, _+_, _-_, _≤_, _<_}
+use Prim.Native.Nat.{ℕ, _-_, _≤_, _<_}
 use native.Mathlib.Omega.{arith}
 use mathlib.Core.Path.{_≡_, refl, ap, sym, _∙_, subst}
 use mathlib.Core.List.{List, [], _∷_}
 use mathlib.Core.Bool.{Bool, true, false, _||_, not}
 use lib.ListN.{length, getD, set, replicate, length-set, length-replicate, getD-replicate}
 use lib.Seq.{getD-set-same, getD-set-other}
-use lib.Dec.{ltb, leb, eqb}
-use borrow.Author.Tests.{eq-eqb, ne-eqb, eqb-true, eqb-false, ltb-true}
+use lib.Dec.{eqb}
+use borrow.Author.Tests.{eqb-true, eqb-false, ltb-true}
 use Rattle.pack.specs.declared.answer.Refusal.{Refusal}
 use Rattle.pack.specs.declared.cursor.Cursor.{Cursor}
 use Rattle.pack.specs.declared.cursor.Step.{Step}
-use Rattle.pack.specs.declared.cursor.Step.the-variants.{On, Refused}
-use Rattle.pack.specs.declared.table.Rule.the-variants.{AtMost, FromOne, Name}
+use Rattle.pack.specs.declared.cursor.Step.the-variants.{On}
+use Rattle.pack.specs.declared.table.Rule.the-variants.{Name}
 use Rattle.pack.specs.Table.{pick, entryOf, table}
 use Rattle.pack.specs.Form.{Read, got, refused, bind, allowedHere, among, readField, field, Fine, readBy}
-use Rattle.pack.specs.Pack.{Relation, defaultedName, newName, relation}
-use Rattle.pack.specs.Steps.{stepOf, walk, same, fieldStep, marked, nameOf}
+use Rattle.pack.specs.Pack.{defaultedName, newName, relation}
+use Rattle.pack.specs.Steps.{stepOf, same, fieldStep, marked, nameOf}
 use Rattle.pack.proofs.FormLaws.{lawful}
 use Rattle.pack.proofs.StepLaws.{went, went-same, field-fine, at-most, from-one}
 

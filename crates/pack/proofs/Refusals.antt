@@ -1,22 +1,21 @@
 -- Check and Rewrite refuse by 01's numbers alone: 1 to 8, and Rewrite 16 too. Places lie within the slice, and names are values of words.
-use Prim.Native.Nat.{ℕ, zero, suc, _+_, _-_, _/_, _%_, _≤_, _<_}
+use Prim.Native.Nat.{ℕ, zero, suc, _+_, _-_, _≤_, _<_}
 use native.Mathlib.Omega.{arith}
 use mathlib.Core.Path.{_≡_, refl, ap, sym, _∙_}
-use mathlib.Core.List.{List, [], _∷_, _++_}
+use mathlib.Core.List.{List, [], _∷_}
 use mathlib.Core.Bool.{Bool, true, false, _&&_}
 use lib.ListN.{length, length-append}
 use mathlib.Core.Logic.{_⊎_, inl, inr}
 use lib.Dec.{leb, eqb}
 use borrow.Author.Tests.{eqb-false, leb-true}
 use Rattle.pack.specs.declared.answer.Refusal.{Refusal}
-use Rattle.pack.specs.declared.answer.Answer.{Answer}
 use Rattle.pack.specs.declared.answer.Answer.the-variants.{Given, Refused}
 use Rattle.pack.specs.Table.{pick, kindOf, valueOf, entryOf, judgment}
-use Rattle.pack.specs.Form.{Read, got, refused, because, bind, mapRead, allowedHere, readWord, among, only, readField, readAll, readEach, Holder, says, whole, Suits, Form, field, word, empty, each, guarded, _▹_, countedFrom, oneAndMore, via, wordsBy, Fits, Fine, readBy}
+use Rattle.pack.specs.Form.{Read, got, refused, because, bind, mapRead, allowedHere, readWord, among, only, readField, readAll, readEach, Holder, says, whole, Suits, Form, field, word, empty, each, guarded, _▹_, countedFrom, oneAndMore, via, Fine, readBy}
 use Rattle.pack.specs.Tree.{heads, fields, follow, tree, root}
-use Rattle.pack.specs.Pack.{Pack, defaultedName, defaulted, nameList, hop, path, chain, member, derivation, optionalDerivation, relationTail, newName, relation, relations, body, bodies, rule, rules, item, blockItems, block, blocks, records, inner, layout, Edition, Reading, yes, refuse, complete, editionOf, read, words}
+use Rattle.pack.specs.Pack.{defaultedName, defaulted, nameList, hop, path, chain, member, derivation, optionalDerivation, relationTail, newName, relation, relations, body, bodies, rule, rules, item, blockItems, block, blocks, records, inner, layout, Edition, Reading, yes, refuse, complete, editionOf, read, words}
 use Rattle.pack.specs.Operations.{answer, noRoom, checkAnswer, rewriteAnswer}
-use Rattle.pack.proofs.FormLaws.{Took, Lawful, lawful}
+use Rattle.pack.proofs.FormLaws.{lawful}
 
 -- a refusal by one of the numbers from 1 to 8, at a place up to `end`
 pub record Within (end : ℕ) (r : Refusal) : Type 0 where

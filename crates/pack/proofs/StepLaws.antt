@@ -1,25 +1,24 @@
 -- Laws of reading steps. They are stated backwards, for `search`: what answers the rest of a form answers the whole.
-use Prim.Native.Nat.{ℕ, zero, suc, _+_, _-_, _*_, _/_, _%_, _≤_, _<_}
+use Prim.Native.Nat.{ℕ, suc, _+_, _-_, _≤_, _<_}
 use native.Mathlib.Omega.{arith}
-use mathlib.Core.Path.{_≡_, refl, ap, sym, _∙_, subst}
+use mathlib.Core.Path.{_≡_, refl, ap, sym, _∙_}
 use mathlib.Core.List.{List, [], _∷_}
-use mathlib.Core.Bool.{Bool, true, false, _&&_, _||_}
+use mathlib.Core.Bool.{Bool, true, false, _&&_}
 use mathlib.Core.Option.{Option}
 use lib.ListN.{length, drop, getD, drop-of-length-le, replicate}
 use lib.Seq.{drop-cons, drop-drop, drop-append-seam}
-use lib.Dec.{ltb, leb, eqb}
-use borrow.Author.Tests.{eq-eqb, ne-eqb, leb-true, ltb-true}
+use lib.Dec.{leb}
+use borrow.Author.Tests.{ne-eqb, leb-true}
 use Rattle.pack.specs.declared.answer.Refusal.{Refusal}
 use Rattle.pack.specs.declared.cursor.Cursor.{Cursor}
 use Rattle.pack.specs.declared.cursor.Step.{Step}
 use Rattle.pack.specs.declared.cursor.Step.the-variants.{On, Refused}
-use Rattle.pack.specs.declared.table.Rule.{Rule}
 use Rattle.pack.specs.declared.table.Rule.the-variants.{AtMost, FromOne}
-use Rattle.pack.specs.Table.{pick, kindOf, valueOf, wordOf, allowed, entryOf}
-use Rattle.pack.specs.Form.{Read, got, refused, because, bind, mapRead, allowedHere, readWord, among, only, readField, readAll, readEach}
+use Rattle.pack.specs.Table.{kindOf, valueOf, entryOf}
+use Rattle.pack.specs.Form.{Read, got, refused, bind, mapRead, allowedHere, readWord, only, readField, readAll, readEach}
 use Rattle.pack.specs.Form.{Holder, option, says, whole, Suits, Form, field, word, each, guarded, _▹_, countedFrom, oneAndMore, via, wordsBy, Fine, readBy}
 use Rattle.pack.specs.Steps.{stepBy, stepOf, walk, same, fieldStep, nextWord, wordStep, walkAll}
-use Rattle.pack.proofs.FormLaws.{Took, Lawful, lawful}
+use Rattle.pack.proofs.FormLaws.{lawful}
 
 -- a word at a place
 module _ (ws : List ℕ) (at : ℕ) where

@@ -1,9 +1,9 @@
 -- The pack: its records, and 01's "Pack words" as one description.
-use Prim.Native.Nat.{ℕ, zero, suc, _+_, _≤_}
-use mathlib.Core.Path.{_≡_, refl}
+use Prim.Native.Nat.{ℕ, suc, _+_, _≤_}
+use mathlib.Core.Path.{refl}
 use mathlib.Core.List.{List, [], _∷_}
-use mathlib.Core.Bool.{Bool, true, false, _&&_, not}
-use mathlib.Core.Option.{Option, none, some}
+use mathlib.Core.Bool.{Bool, _&&_, not}
+use mathlib.Core.Option.{Option}
 use lib.ListN.{length}
 use lib.Dec.{leb}
 use Rattle.pack.specs.declared.answer.Refusal.{Refusal}

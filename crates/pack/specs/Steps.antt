@@ -4,7 +4,6 @@ use mathlib.Core.Bool.{Bool}
 use mathlib.Core.List.{List, [], _∷_}
 use lib.ListN.{drop, getD}
 use lib.Dec.{ltb, eqb}
-use Rattle.pack.specs.declared.cursor.Cursor.{Cursor}
 use Rattle.pack.specs.declared.cursor.Step.{Step}
 use Rattle.pack.specs.declared.cursor.Step.the-variants.{On, Refused}
 use Rattle.pack.specs.Table.{pick, wordOf}

@@ -1,6 +1,5 @@
 -- `chains::index::index_word` meets its contract.
-use native.Mathlib.Omega.{arith}
-use mathlib.Core.Path.{_≡_, refl}
+use mathlib.Core.Path.{refl}
 use Rattle.chains.specs.Index.{tableAfter}
 use borrow.Author.Needs.{needs}
 use Rattle.chains.proofs.index.index_word.Statement.{statement}

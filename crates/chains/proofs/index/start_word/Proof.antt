@@ -1,7 +1,5 @@
 -- `chains::index::start_word` meets its contract.
-use native.Mathlib.Omega.{arith}
-use mathlib.Core.Path.{_≡_, refl}
-use lib.ListN.{length-set}
+use mathlib.Core.Path.{refl}
 use borrow.Author.Needs.{needs}
 use Rattle.chains.proofs.index.start_word.Statement.{statement}
 use Rattle.chains.proofs.index.start_word.Tie as tie

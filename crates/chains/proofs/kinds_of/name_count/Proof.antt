@@ -1,6 +1,5 @@
 -- `chains::kinds_of::name_count` meets its contract.
 use Rattle.chains.proofs.CheckedLaws.{names-word-of}
-use borrow.Author.Needs.{needs}
 use Rattle.chains.proofs.kinds_of.name_count.Statement.{statement}
 use Rattle.chains.proofs.kinds_of.name_count.Tie as tie
 

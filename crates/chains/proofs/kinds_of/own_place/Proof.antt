@@ -1,7 +1,6 @@
 -- `chains::kinds_of::own_place` meets its contract.
 use native.Mathlib.Omega.{arith}
 use Rattle.chains.proofs.CheckedLaws.{short-checked, few-counted, walkable-own, own-place}
-use borrow.Author.Needs.{needs}
 use Rattle.chains.proofs.kinds_of.own_place.Statement.{statement}
 use Rattle.chains.proofs.kinds_of.own_place.Tie as tie
 

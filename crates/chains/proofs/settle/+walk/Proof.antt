@@ -1,7 +1,6 @@
 -- `chains::settle::walk` meets its contract. What falls at each call is the fuel.
 use Prim.Native.Nat.{ℕ, _<_}
 use native.Mathlib.Omega.{arith}
-use mathlib.Core.Path.{_≡_, refl, ap, sym, _∙_}
 use borrow.Author.Needs.{needs}
 use Rattle.chains.proofs.SettleLaws.{out-of-fuel, at-settled, at-ring, at-end, at-next, walkable-next}
 use borrow.Fn.Kinds.{In}

@@ -1,5 +1,4 @@
 -- `pack::cursor::allowed_here` meets its contract.
-use mathlib.Core.Path.{_≡_, refl, ap, sym, _∙_}
 use Rattle.pack.specs.Form.{allowedHere}
 use borrow.Author.Needs.{needs}
 use Rattle.pack.proofs.cursor.allowed_here.Statement.{statement}

@@ -1,8 +1,6 @@
 -- `pack::record::repeats` meets its contract.
-use mathlib.Core.Path.{_≡_, refl, ap, sym, _∙_}
-use Rattle.pack.specs.Table.{pick}
+use mathlib.Core.Path.{sym}
 use borrow.Author.Tests.{eq-eqb, ne-eqb}
-use borrow.Author.Needs.{needs}
 use Rattle.pack.proofs.record.repeats.Statement.{statement}
 use Rattle.pack.proofs.record.repeats.Tie as tie
 

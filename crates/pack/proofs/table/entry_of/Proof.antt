@@ -1,5 +1,4 @@
 -- `pack::table::entry_of` meets its contract.
-use mathlib.Core.Path.{_≡_, refl, ap, sym, _∙_}
 use native.Mathlib.Omega.{arith}
 use Rattle.pack.specs.Packed.{Tabled}
 use borrow.Author.Needs.{needs}

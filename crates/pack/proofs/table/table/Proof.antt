@@ -7,7 +7,6 @@ use lib.ListN.{getD}
 use Rattle.pack.specs.Table.{table, entryOf}
 use Rattle.pack.specs.Packed.{entryFrom, Tabled}
 use Rattle.pack.proofs.Listed.{listed, agree}
-use borrow.Author.Needs.{needs}
 use Rattle.pack.proofs.table.table.Statement.{statement}
 use Rattle.pack.proofs.table.table.Tie as tie
 

@@ -1,7 +1,7 @@
 -- The walkers of trees meet their contracts. What falls at each call is the number of levels left, and at the same level the rank of the walker; in a row, the number of words left.
 use Prim.Native.Nat.{ℕ, _+_, _-_, _*_, _<_}
 use native.Mathlib.Omega.{arith}
-use mathlib.Core.Path.{_≡_, refl, ap, sym, _∙_}
+use mathlib.Core.Path.{refl, ap, sym, _∙_}
 use lib.ListN.{length, getD, replicate}
 use borrow.Author.Needs.{needs}
 use borrow.Author.Tests.{leb-true}

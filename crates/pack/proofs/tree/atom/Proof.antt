@@ -1,11 +1,10 @@
 -- `pack::tree::atom` meets its contract.
 use Prim.Native.Nat.{_+_}
 use native.Mathlib.Omega.{arith}
-use mathlib.Core.Path.{_≡_, refl, ap, sym, _∙_}
+use mathlib.Core.Path.{refl}
 use Rattle.pack.specs.Table.{entryOf, table, fieldsOf}
 use Rattle.pack.specs.Tree.{fields}
 use Rattle.pack.proofs.CodeLaws.{up-to-any, passed, fault-code, last-code}
-use borrow.Author.Needs.{needs}
 use Rattle.pack.proofs.tree.atom.Statement.{statement}
 use Rattle.pack.proofs.tree.atom.Tie as tie
 

@@ -1,8 +1,5 @@
 -- `pack::tree::children` meets its contract.
-use native.Mathlib.Omega.{arith}
-use mathlib.Core.Path.{_≡_, refl, ap, sym, _∙_}
 use Rattle.pack.proofs.TreeLaws.{child-one, child-two, child-many}
-use borrow.Author.Needs.{needs}
 use Rattle.pack.proofs.tree.children.Statement.{statement}
 use Rattle.pack.proofs.tree.children.Tie as tie
 

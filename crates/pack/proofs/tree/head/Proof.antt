@@ -1,6 +1,5 @@
 -- `pack::tree::head` meets its contract.
 use native.Mathlib.Omega.{arith}
-use mathlib.Core.Path.{_≡_, refl, ap, sym, _∙_}
 use Rattle.pack.proofs.TreeLaws.{heads-other, heads-deep, heads-in}
 use Rattle.pack.proofs.CodeLaws.{fault-ended, fault-turned, fault-value, fault-read, allow-by}
 use borrow.Author.Needs.{needs}

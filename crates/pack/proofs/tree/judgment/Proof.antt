@@ -1,5 +1,5 @@
 -- `pack::tree::judgment` meets its contract.
-use mathlib.Core.Path.{_≡_, refl, ap, sym, _∙_}
+use mathlib.Core.Path.{_∙_}
 use Rattle.pack.proofs.CodeLaws.{tree-code}
 use borrow.Author.Needs.{needs}
 use Rattle.pack.proofs.tree.judgment.Statement.{statement}

@@ -1,7 +1,7 @@
 -- `pack::tree::only_related` meets its contract.
 use Prim.Native.Nat.{_+_}
 use native.Mathlib.Omega.{arith}
-use mathlib.Core.Path.{_≡_, refl, ap, sym, _∙_}
+use mathlib.Core.Path.{refl, ap, sym, _∙_}
 use Rattle.pack.specs.Table.{entryOf, table, fieldsOf}
 use Rattle.pack.specs.Tree.{fields}
 use Rattle.pack.specs.Steps.{coded}

@@ -1,6 +1,6 @@
 -- `pack::tree::refused` meets its contract.
 use Rattle.pack.specs.Steps.{coded}
-use mathlib.Core.Path.{_≡_, refl, ap, sym, _∙_}
+use mathlib.Core.Path.{refl}
 use borrow.Author.Needs.{needs}
 use Rattle.pack.proofs.tree.refused.Statement.{statement}
 use Rattle.pack.proofs.tree.refused.Tie as tie

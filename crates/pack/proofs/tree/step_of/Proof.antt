@@ -1,6 +1,5 @@
 -- `pack::tree::step_of` meets its contract.
-use native.Mathlib.Omega.{arith}
-use mathlib.Core.Path.{_≡_, refl, ap, sym, _∙_}
+use mathlib.Core.Path.{sym, _∙_}
 use Rattle.pack.proofs.CodeLaws.{decode-on, decode-stop}
 use borrow.Author.Needs.{needs}
 use Rattle.pack.proofs.tree.step_of.Statement.{statement}

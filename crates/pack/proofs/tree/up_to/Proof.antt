@@ -1,6 +1,5 @@
 -- `pack::tree::up_to` meets its contract.
 use native.Mathlib.Omega.{arith}
-use mathlib.Core.Path.{_≡_, refl, ap, sym, _∙_}
 use Rattle.pack.proofs.FormLaws.{only-same, only-other}
 use Rattle.pack.proofs.CodeLaws.{fault-ended, fault-turned, fault-value, fault-read, up-within, up-over}
 use borrow.Author.Needs.{needs}

@@ -1,11 +1,10 @@
 -- `pack::cursor::Cursor::bodies` meets its contract.
-use mathlib.Core.Path.{_≡_, refl, ap, sym, _∙_}
+use mathlib.Core.Path.{_≡_, refl, _∙_}
 use native.Mathlib.Omega.{arith}
-use mathlib.Core.List.{List, [], _∷_}
-use Prim.Native.Nat.{ℕ, _+_}
+use mathlib.Core.List.{List}
+use Prim.Native.Nat.{ℕ}
 use Rattle.pack.specs.declared.cursor.Step.{Step}
 use Rattle.pack.specs.Pack.{bodies, body}
-use Rattle.pack.specs.Table.{entryOf, table}
 use Rattle.pack.specs.Steps.{walkAll}
 use Rattle.pack.proofs.StepLaws.{more-stop, first-stop, by-more, by-inv, all-done, all-stop, all-next}
 use Rattle.pack.proofs.RecordLaws.{bodies-one}

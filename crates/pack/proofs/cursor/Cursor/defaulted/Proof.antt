@@ -1,7 +1,7 @@
 -- `pack::cursor::Cursor::defaulted` meets its contract.
-use mathlib.Core.Path.{_≡_, refl, ap, sym, _∙_}
+use mathlib.Core.Path.{_≡_, refl, _∙_}
 use native.Mathlib.Omega.{arith}
-use mathlib.Core.List.{List, [], _∷_}
+use mathlib.Core.List.{List}
 use Prim.Native.Nat.{ℕ, _+_}
 use Rattle.pack.specs.declared.cursor.Step.{Step}
 use Rattle.pack.specs.Pack.{defaulted, defaultedName, above}

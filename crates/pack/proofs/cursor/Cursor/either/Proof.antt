@@ -1,5 +1,5 @@
 -- `pack::cursor::Cursor::either` meets its contract.
-use mathlib.Core.Path.{_≡_, refl, ap, sym, _∙_}
+use mathlib.Core.Path.{refl, sym, _∙_}
 use native.Mathlib.Omega.{arith}
 use mathlib.Core.Logic.{⊎-elim}
 use Rattle.pack.proofs.StepLaws.{word-stop, word-turned, word-value, word-on}

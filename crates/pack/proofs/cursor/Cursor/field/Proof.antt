@@ -1,7 +1,6 @@
 -- `pack::cursor::Cursor::field` meets its contract.
-use mathlib.Core.Path.{_≡_, refl, ap, sym, _∙_}
+use mathlib.Core.Path.{refl, sym, _∙_}
 use native.Mathlib.Omega.{arith}
-use borrow.Author.Tests.{eq-eqb, ne-eqb}
 use Rattle.pack.proofs.StepLaws.{word-stop, word-turned, word-value, word-on, field-word}
 use Rattle.pack.proofs.FormLaws.{only-same, only-other}
 use borrow.Author.Needs.{needs}

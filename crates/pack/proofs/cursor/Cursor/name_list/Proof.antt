@@ -1,13 +1,13 @@
 -- `pack::cursor::Cursor::name_list` meets its contract.
-use mathlib.Core.Path.{_≡_, refl, ap, sym, _∙_}
+use mathlib.Core.Path.{_≡_, refl, _∙_}
 use native.Mathlib.Omega.{arith}
-use mathlib.Core.List.{List, [], _∷_}
-use Prim.Native.Nat.{ℕ, _+_}
+use mathlib.Core.List.{List}
+use Prim.Native.Nat.{ℕ}
 use Rattle.pack.specs.declared.cursor.Step.{Step}
 use Rattle.pack.specs.Pack.{nameList}
 use Rattle.pack.specs.Form.{field}
 use Rattle.pack.proofs.StepLaws.{walks, by-left, by-inv, all-done, all-stop, all-next}
-use Rattle.pack.specs.Steps.{walkAll, same}
+use Rattle.pack.specs.Steps.{walkAll}
 use Rattle.pack.specs.Form.{says}
 use borrow.Author.Needs.{needs}
 use Rattle.pack.proofs.cursor.Cursor.name_list.Statement.{statement}

@@ -1,5 +1,5 @@
 -- `pack::cursor::Cursor::word` meets its contract.
-use mathlib.Core.Path.{_≡_, refl, ap, sym, _∙_}
+use mathlib.Core.Path.{_∙_}
 use native.Mathlib.Omega.{arith}
 use Rattle.pack.proofs.StepLaws.{word-there, word-ended}
 use borrow.Author.Needs.{needs}
