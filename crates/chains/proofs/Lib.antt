@@ -21,3 +21,4 @@ pub mod PlaceBounds
 pub mod AllKindsLaws
 pub mod CheckedLaws
 pub mod OperationLaws
+pub mod DealtKinds
