@@ -15,7 +15,7 @@ use Rattle.chains.specs.Kinds.{declared, allKinds, ownAnswer}
 use Rattle.chains.specs.Operations.{placeOf, allKindsWords}
 use Rattle.chains.specs.Index.{scanFrom, startsIn}
 use Rattle.chains.specs.Settle.{Marked, OnPath, Walkable, WalkedHere, Settleable, SettledAll, placesIn, Placeable}
-use Rattle.chains.specs.AllKinds.{Checked, Counted, Named, OwnPlace, KindsAsked, KindsLeft}
+use Rattle.chains.specs.AllKinds.{IsPack, Counted, Named, OwnPlace, KindsAsked, KindsLeft}
 use Rattle.chains.proofs.RelationScan.{RelationsFine, kept}
 use Rattle.chains.proofs.PackIndex.{zeros, zero-at, parts, split, opening, opening-length, relationsPart}
 use Rattle.chains.proofs.StartLaws.{starts-pack}
@@ -51,7 +51,7 @@ pub record CountWord (ws : List ℕ) : Type 0 where
   pub second : getD ws 2 0 % 16777216 + 3 < length ws
   pub counted : Counted ws (getD ws (getD ws 2 0 % 16777216 + 3) 0 % 16777216)
 
-pub count-word-of : (ws : List ℕ) → Checked ws → CountWord ws
+pub count-word-of : (ws : List ℕ) → IsPack ws → CountWord ws
 count-word-of ws c =
     let l = long-enough ws (c .pack) (c .reads) in
     record {
@@ -66,7 +66,7 @@ pub record NamesWord (ws : List ℕ) : Type 0 where
   pub first : 1 < length ws
   pub named : Named ws (getD ws 1 0 % 16777216)
 
-pub names-word-of : (ws : List ℕ) → Checked ws → NamesWord ws
+pub names-word-of : (ws : List ℕ) → IsPack ws → NamesWord ws
 names-word-of ws c = record { first = omega (arith, long-enough ws (c .pack) (c .reads)); named = record { names = names-word ws } }
 
 -- ---- the kinds
@@ -149,12 +149,12 @@ module _ {ws out₀ : List ℕ} (asked : KindsAsked ws out₀) where
 
 -- ---- a checked pack has few relations
 
-pub few-counted : (ws : List ℕ) → Checked ws → {count : ℕ} → Counted ws count → count ≤ 512
+pub few-counted : (ws : List ℕ) → IsPack ws → {count : ℕ} → Counted ws count → count ≤ 512
 few-counted ws c k = omega (arith, k .relations (c .pack) (c .reads), parts (c .pack) (words-read ws (c .pack) (c .reads) .fine) .few-relations)
 
 -- ---- one name
 
-module _ {ws : List ℕ} (c : Checked ws) where
+module _ {ws : List ℕ} (c : IsPack ws) where
   abbrev the-pack : Pack
   the-pack = c .pack
 

@@ -17,10 +17,10 @@ use Rattle.pack.specs.Operations.{answer, buffer, noRoom, checkAnswer}
 use Rattle.pack.proofs.RewriteLaws.{accepted}
 use Rattle.chains.specs.Kinds.{allKinds, ownAnswer}
 use Rattle.chains.specs.Operations.{placeOf, unknown, kindsOfAnswer, allKindsWords, allKindsAnswer, allKindsBuffer, writeAnswer, writeBuffer}
-use Rattle.chains.specs.AllKinds.{Checked, Counted, Named, OwnPlace, KindsAsked, KindsLeft, KindsAnswered}
+use Rattle.chains.specs.AllKinds.{IsPack, Counted, Named, OwnPlace, KindsAsked, KindsLeft, KindsAnswered}
 
 -- an answer of Check's
-pub checked : (ws : List ℕ) {a : Answer} {v s : ℕ} → a ≡ checkAnswer ws → a ≡ Given v s → Checked ws
+pub checked : (ws : List ℕ) {a : Answer} {v s : ℕ} → a ≡ checkAnswer ws → a ≡ Given v s → IsPack ws
 checked ws e o = let c = accepted ws e o in record { pack = c .pack; reads = c .reads }
 
 -- a refusal of Check's is the operation's, and changes nothing
@@ -41,7 +41,7 @@ kinds-refused ws lent e o =
     let t = turned-away ws lent e o (λ p. writeAnswer (allKindsWords p) (allKinds (p .relations) .steps) (length lent)) (λ p. writeBuffer (allKindsWords p) lent) in
     record { answers = t .0; leaves = t .1 }
 
-module _ (ws lent : List ℕ) (c : Checked ws) {count : ℕ} (k : Counted ws count) where
+module _ (ws lent : List ℕ) (c : IsPack ws) {count : ℕ} (k : Counted ws count) where
   abbrev p : Pack
   p = c .pack
 
@@ -75,7 +75,7 @@ module _ (ws : List ℕ) (name : ℕ) where
   unfolding kindsOfAnswer
   name-refused e o = turned-away ws [] e o (λ p. pick (ltb name (p .names)) (Given (placeOf p (ownAnswer (p .relations) name)) 0) (unknown name)) (λ p. []) .0
 
-  module _ (c : Checked ws) {n : ℕ} (k : Named ws n) where
+  module _ (c : IsPack ws) {n : ℕ} (k : Named ws n) where
     pub name-unknown : n ≤ name → unknown name ≡ kindsOfAnswer ws name
     unfolding kindsOfAnswer
     name-unknown h = sym (simp (c .reads, ← k .names (c .pack) (c .reads), le-ltb name n h))

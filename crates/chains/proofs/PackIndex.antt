@@ -149,11 +149,12 @@ scan-pack p w =
 -- ---- places
 
 -- what holds of each way in which a declaration goes holds of the declaration
-module _ (P : Step Answer → Type 0) (n : ℕ) (nowhere : P (end none)) (here : (w : Which) → P (from n w)) where
-  pub each-way : (ks : List ℕ) (o : Option Derivation) → ((d : Derivation) → o ≡ some d → eqb (d .source) table.none ≡ false → P (next (d .source))) → P (declares n ks o)
-  each-way [] none leads = nowhere
-  each-way (k ∷ ks) none leads = here list9
-  each-way ks (some d) leads = go (d .slotEntities) ks
+module _ (P : Step Answer → Type 0) (n : ℕ) (nowhere : P (end none)) (nine : P (from n list9)) where
+  pub each-way : (ks : List ℕ) (o : Option Derivation) → ((d : Derivation) → o ≡ some d → P (from n list21))
+      → ((d : Derivation) → o ≡ some d → eqb (d .source) table.none ≡ false → P (next (d .source))) → P (declares n ks o)
+  each-way [] none twentyOne leads = nowhere
+  each-way (k ∷ ks) none twentyOne leads = nine
+  each-way ks (some d) twentyOne leads = go (d .slotEntities) ks
     where
       sourced : (c : Bool) → eqb (d .source) table.none ≡ c → P (pick c (end none) (next (d .source)))
       sourced true e = nowhere
@@ -164,14 +165,14 @@ module _ (P : Step Answer → Type 0) (n : ℕ) (nowhere : P (end none)) (here :
       pathed (some l) = nowhere
 
       go : (es ks : List ℕ) → P (derived n d es ks)
-      go (e ∷ es) ks = here list21
-      go [] (k ∷ ks) = here list9
+      go (e ∷ es) ks = twentyOne d refl
+      go [] (k ∷ ks) = nine
       go [] [] = pathed (d .path)
 
 -- a declaration's answers are those of its own relation
 mapped-alike : {S : Type 0} (g h : Answer → S) (n : ℕ) → g none ≡ h none → ((w : Which) → g (some (record { owner = n; which = w })) ≡ h (some (record { owner = n; which = w })))
     → (ks : List ℕ) (o : Option Derivation) → mapped g (declares n ks o) ≡ mapped h (declares n ks o)
-mapped-alike g h n a b ks o = each-way (λ s. mapped g s ≡ mapped h s) n (ap end a) (λ w. ap end (b w)) ks o (λ d e f. refl)
+mapped-alike g h n a b ks o = each-way (λ s. mapped g s ≡ mapped h s) n (ap end a) (ap end (b list9)) ks o (λ d e. ap end (b list21)) (λ d e f. refl)
 
 pub find-name : (rs : List Relation) (m : ℕ) (r : Relation) → find m rs ≡ some r → m ≡ r .name
 unfolding find

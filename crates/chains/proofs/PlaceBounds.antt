@@ -13,7 +13,7 @@ use Rattle.pack.specs.Table as table
 use Rattle.pack.specs.Form.{among, allowedHere, says, count, items, wordsBy, Fine}
 use Rattle.pack.specs.Pack.{Hop, Derivation, Relation, Pack, WellFormed, nameList, path, chain, derivation, optionalDerivation, relationTail, relation, newName, words}
 use Rattle.chains.specs.Chain.{Step, end, next, mapped}
-use Rattle.chains.specs.Kinds.{Which, list9, list21, find, readAt, kindStep}
+use Rattle.chains.specs.Kinds.{Which, list9, list21, from, find, readAt, kindStep}
 use Rattle.chains.specs.Operations.{relationWords, startOf, firstRelation, hops, countPlace, placeOf}
 use Rattle.chains.specs.Index.{coded, scanFrom}
 use Rattle.chains.specs.Settle.{stepAt, Leading}
@@ -125,7 +125,8 @@ step-small p w m = go (find m (p .relations)) refl
         let s = found-small (p .names) m [] (p .relations) r (h .relations-fine) e in
         let b = start-within (p .names) (r .name) (firstRelation p) [] (p .relations) in
         let room = relations-room p w in
-        each-way (λ s. Decodes (mapped (placeOf p) s)) (r .name) (omega arith) (λ c. rw (f) (omega (arith, b, room, s .place c))) (r .slotKinds) (r .derivation)
+        let here : (c : Which) → Decodes (mapped (placeOf p) (from (r .name) c)) = λ c. rw (f) (omega (arith, b, room, s .place c)) in
+        each-way (λ s. Decodes (mapped (placeOf p) s)) (r .name) (omega arith) (here list9) (r .slotKinds) (r .derivation) (λ d g. here list21)
         (λ d g z. omega (arith, s .leads d g z, h .most))
 
 decoded : (table : List ℕ) (n : ℕ) (s : Step ℕ) → getD table n 0 ≡ coded s → Decodes s → (stepAt table n ≡ s) × (getD table n 0 < 69632)

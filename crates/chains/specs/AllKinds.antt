@@ -8,8 +8,8 @@ use Rattle.pack.specs.Pack.{Pack, yes, read}
 use Rattle.chains.specs.Kinds.{allKinds, ownAnswer}
 use Rattle.chains.specs.Operations.{placeOf, allKindsWords, allKindsAnswer, allKindsBuffer}
 
--- words that Check accepts, and the pack read from them
-pub record Checked (ws : List ℕ) : Type 0 where
+-- the words are those of a pack
+pub record IsPack (ws : List ℕ) : Type 0 where
   pub pack : Pack
   pub reads : read ws ≡ yes pack
 
@@ -27,7 +27,7 @@ pub record OwnPlace (ws : List ℕ) (name place : ℕ) : Type 0 where
 
 -- a slice with one word for each relation
 pub record KindsAsked (ws out : List ℕ) : Type 0 where
-  pub checked : Checked ws
+  pub checked : IsPack ws
   pub fits : Counted ws (length out)
 
 -- the places, and the number of declarations read

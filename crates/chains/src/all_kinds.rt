@@ -7,11 +7,11 @@ use pack::answer::Answer;
 use pack::check::check;
 use pack::check::refuse;
 use pack::kinds::Pack;
-ghost use Rattle.chains.specs.AllKinds.{Checked, Counted, KindsAsked, KindsLeft, KindsAnswered};
+ghost use Rattle.chains.specs.AllKinds.{IsPack, Counted, KindsAsked, KindsLeft, KindsAnswered};
 
 // How many relations a checked pack has: the value of its word 5, which follows the defaulted names.
 pub fn relation_count(pack: &[u32]) -> usize
-    requires { ⌜ Checked (now pack) ⌝ }
+    requires { ⌜ IsPack (now pack) ⌝ }
     ensures { λ r. ⌜ Counted (now (pack .entry)) r ⌝ }
 {
     let defaulted = (pack[2] % Pack::VALUES) as usize;

@@ -9,11 +9,11 @@ use pack::kinds::Pack;
 ghost use mathlib.Core.Path.{_≡_};
 ghost use Prim.Native.Nat.{_<_};
 ghost use Rattle.chains.specs.Operations.{unknown, kindsOfAnswer};
-ghost use Rattle.chains.specs.AllKinds.{Checked, Named, OwnPlace};
+ghost use Rattle.chains.specs.AllKinds.{IsPack, Named, OwnPlace};
 
 // N of a checked pack.
 pub fn name_count(pack: &[u32]) -> u32
-    requires { ⌜ Checked (now pack) ⌝ }
+    requires { ⌜ IsPack (now pack) ⌝ }
     ensures { λ r. ⌜ Named (now (pack .entry)) r ⌝ }
 {
     pack[1] % Pack::VALUES
@@ -33,7 +33,7 @@ pub fn unknown_name(name: u32) -> Answer
 
 // The place of the list that settles a name in its own walk.
 fn own_place(pack: &[u32], name: usize) -> u32
-    requires { ⌜ Checked (now pack) × (name < 4096) ⌝ }
+    requires { ⌜ IsPack (now pack) × (name < 4096) ⌝ }
     ensures { λ r. ⌜ OwnPlace (now (pack .entry)) name r ⌝ }
 {
     let mut table = [0u32; 4096];
