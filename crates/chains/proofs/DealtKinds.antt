@@ -9,7 +9,7 @@ use Rattle.pack.specs.Pack.{Pack, yes, read}
 use Rattle.pack.specs.Dealt.{Dealt}
 use Rattle.pack.proofs.PackLaws.{words-read}
 use Rattle.pack.proofs.DealtLaws.{shuffled-length}
-use Rattle.chains.specs.Kinds.{allKinds, undeclaredSources}
+use Rattle.chains.specs.Kinds.{undeclaredSources}
 use Rattle.chains.specs.Operations.{allKindsWords, allKindsAnswer}
 use Rattle.chains.proofs.KindLaws.{KindsAlike, kinds-dealt, kinds-steps, distinct-names}
 

@@ -22,3 +22,4 @@ pub mod AllKindsLaws
 pub mod CheckedLaws
 pub mod OperationLaws
 pub mod DealtKinds
+pub mod ListAt

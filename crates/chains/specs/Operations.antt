@@ -3,11 +3,11 @@ use Prim.Native.Nat.{ℕ, zero, suc, _+_, _*_}
 use mathlib.Core.List.{List, [], _∷_, _++_, map}
 use mathlib.Core.Bool.{Bool, true, false}
 use mathlib.Core.Option.{Option, none, some}
-use lib.ListN.{length, drop}
+use lib.ListN.{length, getD, take, drop}
 use lib.Dec.{ltb, leb, eqb}
 use Rattle.pack.specs.declared.answer.Answer.{Answer}
 use Rattle.pack.specs.declared.answer.Answer.the-variants.{Given, Refused}
-use Rattle.pack.specs.Table.{pick}
+use Rattle.pack.specs.Table.{pick, valueOf}
 use Rattle.pack.specs.Table as table
 use Rattle.pack.specs.Form.{wordsBy}
 use Rattle.pack.specs.Pack.{Hop, Relation, relation, Pack, read}
@@ -48,6 +48,10 @@ unfoldable pub placeOf : Pack → kinds.Answer → ℕ
 placeOf p none = 0
 placeOf p (some s) =
     startOf (p .names) (s .owner) (firstRelation p) (p .relations) + countIn (find (s .owner) (p .relations)) (s .which)
+
+-- the names of the list whose count word stands at a place; at 0 there are no kinds
+unfoldable pub namesAt : List ℕ → ℕ → Option (List ℕ)
+namesAt ws place = pick (eqb place 0) none (some (map valueOf (take (valueOf (getD ws place 0)) (drop (suc place) ws))))
 
 -- what is settled for a name, in All kinds
 abbrev pub settledOf : Option kinds.Answer → kinds.Answer
