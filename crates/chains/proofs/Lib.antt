@@ -21,5 +21,5 @@ pub mod PlaceBounds
 pub mod AllKindsLaws
 pub mod CheckedLaws
 pub mod OperationLaws
-pub mod DealtKinds
 pub mod ListAt
+pub mod DealtChains
