@@ -23,14 +23,6 @@ use Rattle.chains.proofs.KindLaws.{in-row, kinds-own, words-own}
 use Rattle.chains.proofs.PackIndex.{zeros, zero-at}
 use Rattle.chains.proofs.PlaceBounds.{indexes}
 
--- walks from the starts in order, as defined and as they run
-walks-all : (table ds starts : List ℕ) (t : Settled ℕ) (k : ℕ) → walksIn table (suc (length ds)) starts t k ≡ walkAll 0 same (stepAt table) ds starts t k
-unfolding walksIn walkAll
-walks-all table ds [] t k = refl
-walks-all table ds (n ∷ starts) t k =
-    let w : Walked ℕ = walkIn table (suc (length ds)) t [] n in
-    walks-all table ds starts (w .settled) (k + w .steps)
-
 -- at first nothing is settled
 zeros-nothing : settledIn zeros ≡ nothing
 unfolding settledIn
@@ -90,7 +82,7 @@ module _ (p : Pack) (w : WellFormed p) where
       }
     where
       over : walksIn index (suc (length (declared rs))) (declared rs) (settledIn zeros) 0 ≡ walkAll 0 same (stepAt index) (declared rs) (declared rs) nothing 0
-      over = walks-all index (declared rs) (declared rs) (settledIn zeros) 0 ∙ ap (λ (t : Settled ℕ). walkAll 0 same (stepAt index) (declared rs) (declared rs) t 0) zeros-nothing
+      over = ap (λ (t : Settled ℕ). walkAll 0 same (stepAt index) (declared rs) (declared rs) t 0) zeros-nothing
 
       mark : (n : ℕ) → among n (declared rs) ≡ true → (2 ≤ getD marks n 0) × (getD marks n 0 - 2 ≡ placeOf p (ownAnswer rs n))
       mark n i =

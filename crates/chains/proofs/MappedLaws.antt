@@ -8,7 +8,7 @@ use lib.ListN.{length}
 use lib.Dec.{eqb}
 use Rattle.pack.specs.Table.{pick}
 use Rattle.pack.specs.Form.{among}
-use Rattle.chains.specs.Chain.{Step, end, next, mapped, Settled, nothing, put, Walked, walk, own, All, walkAll}
+use Rattle.chains.specs.Chain.{Step, end, next, mapped, Settled, nothing, put, Walked, walk, own, All, walkAll, walksFrom}
 
 module _ {R S : Type 0} (g : R → S) where
   abbrev mappedSettled : Settled R → Settled S
@@ -58,7 +58,7 @@ module _ {R S : Type 0} (g : R → S) where
 
     all-mapped : (declared starts : List ℕ) (t : Settled R) (k : ℕ)
         → walkAll (g stuck) along′ step′ declared starts (mappedSettled t) k ≡ mappedAll (walkAll stuck along step declared starts t k)
-    unfolding walkAll
+    unfolding walksFrom
     all-mapped declared [] t k = refl
     all-mapped declared (s ∷ starts) t k =
         let w : Walked R = walk stuck along step (suc (length declared)) t [] s in

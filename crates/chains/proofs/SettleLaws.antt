@@ -13,7 +13,7 @@ use lib.Dec.{ltb, eqb}
 use borrow.Author.Tests.{eq-eqb, ne-eqb, eqb-true, eqb-false, lt-ltb, le-ltb}
 use Rattle.pack.specs.Table.{pick}
 use Rattle.pack.specs.Form.{among}
-use Rattle.chains.specs.Chain.{Settled, put, Walked, walk, All}
+use Rattle.chains.specs.Chain.{Settled, put, Walked, walk, All, walksFrom}
 use Rattle.chains.specs.Settle.{stepAt, Leading, settledIn, OnPath, walkIn, Marked, Walkable, WalkedHere, walksIn, Settleable, SettledAll}
 
 -- a store at a name, by the name that is looked at
@@ -222,7 +222,7 @@ module _ (table marks₀ starts : List ℕ) (steps₀ fuel : ℕ) where
             }
 
         pub walk-on : {r : ℕ} {marks′ : List ℕ} {steps′ : ℕ} → WalkedHere table marks steps (getD starts j 0) fuel r marks′ steps′ → Settling marks′ steps′ (j + 1)
-        unfolding walksIn OnPath
+        unfolding walksFrom OnPath
         walk-on w =
             record {
               within = omega arith;
@@ -234,7 +234,7 @@ module _ (table marks₀ starts : List ℕ) (steps₀ fuel : ℕ) where
             }
 
       pub all-settled : length starts ≤ j → SettledAll table marks₀ starts steps₀ fuel marks steps
-      unfolding walksIn
+      unfolding walksFrom
       all-settled h =
           let e : goal ≡ walksIn table fuel [] (settledIn marks) steps = s .todo ∙ rw (drop-of-length-le starts h) refl in
           record { settles = sym (ap (λ (a : All ℕ). a .settled) e); counts = sym (ap (λ (a : All ℕ). a .steps) e); marked = s .marked; long = s .long }

@@ -11,7 +11,7 @@ use lib.Dec.{eqb}
 use borrow.Author.Tests.{eqb-true, eqb-false, eq-eqb, ne-eqb}
 use Rattle.pack.specs.Table.{pick}
 use Rattle.pack.specs.Form.{among}
-use Rattle.chains.specs.Chain.{Step, end, next, Settled, nothing, put, Walked, walk, own, All, walkAll, Distinct, OnlyDeclaredLead}
+use Rattle.chains.specs.Chain.{Step, end, next, Settled, nothing, put, Walked, walk, own, All, walkAll, Distinct, OnlyDeclaredLead, walksFrom}
 use Rattle.chains.proofs.Names.{apart, or-cases, or-left, or-right, nor-right, or-swap, false-of, among-append}
 
 -- how many names of a list are not on a path: with more fuel than that a walk goes on
@@ -245,7 +245,7 @@ module _ {R : Type 0} (stuck : R) (along : R → R) (step : ℕ → Step R) wher
 
     reads-all : (starts : List ℕ) (ns : List ℕ) (t : Settled R) (k : ℕ) → Distinct ns → k ≡ length ns → Holds ns t → Kept step (λ n. among n ns)
         → Read ns starts (walkAll stuck along step declared starts t k)
-    unfolding walkAll
+    unfolding walksFrom
     reads-all [] ns t k once count held kept =
         record { names = ns; distinct = once; counts = count; holds = held; closed = kept; begun = λ n i. i; least = λ P c h n i. h n i }
     reads-all (s ∷ starts) ns t k once count held kept =

@@ -8,7 +8,7 @@ use Rattle.pack.specs.Table.{pick}
 use Rattle.pack.specs.Tree.{node}
 use Rattle.pack.specs.Tree as trees
 use Rattle.pack.specs.Pack.{Hop, Relation}
-use Rattle.chains.specs.Chain.{walk, walkAll, own}
+use Rattle.chains.specs.Chain.{walk, walkAll, own, walksFrom}
 use Rattle.chains.specs.Kinds.{find, kindStep, namesOf, allKinds, kindsOf, declared}
 use Rattle.chains.specs.Operations.{settledOf}
 use Rattle.chains.specs.Filtered.{innermostBy}
@@ -68,5 +68,5 @@ pub record Worked : Type 0 where
   pub inner : map (innermostBy (directs ((3, 4) ∷ (4, 3) ∷ (5, 3) ∷ [])) 10) (3 ∷ 4 ∷ 5 ∷ 6 ∷ []) ≡ none ∷ none ∷ none ∷ none ∷ []
 
 worked : Worked
-unfolding walk walkAll own find kindStep kindsOf
+unfolding walk walksFrom own find kindStep kindsOf
 worked = record { kinds = refl; inner = refl }

@@ -71,13 +71,17 @@ pub record All (R : Type 0) : Type 0 where
   pub settled : Settled R
   pub steps : ℕ
 
-module _ {R : Type 0} (stuck : R) (along : R → R) (step : ℕ → Step R) (declared : List ℕ) where
-  -- "All kinds starts at each relation in record order"
-  unfoldable pub walkAll : List ℕ → Settled R → ℕ → All R
-  walkAll [] t k = record { settled = t; steps = k }
-  walkAll (n ∷ starts) t k =
-      let w : Walked R = walk stuck along step (suc (length declared)) t [] n in
-      walkAll starts (w .settled) (k + w .steps)
+-- walks from each start in order, with so much fuel each
+module _ {R : Type 0} (stuck : R) (along : R → R) (step : ℕ → Step R) (fuel : ℕ) where
+  unfoldable pub walksFrom : List ℕ → Settled R → ℕ → All R
+  walksFrom [] t k = record { settled = t; steps = k }
+  walksFrom (n ∷ starts) t k =
+      let w : Walked R = walk stuck along step fuel t [] n in
+      walksFrom starts (w .settled) (k + w .steps)
+
+-- "All kinds starts at each relation in record order"
+abbrev pub walkAll : {R : Type 0} → R → (R → R) → (ℕ → Step R) → List ℕ → List ℕ → Settled R → ℕ → All R
+walkAll stuck along step declared starts t k = walksFrom stuck along step (suc (length declared)) starts t k
 
 -- a list in which no name stands twice
 abbrev pub Distinct : List ℕ → Type 0

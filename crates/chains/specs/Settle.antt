@@ -7,7 +7,7 @@ use lib.ListN.{length, getD}
 use lib.Dec.{ltb, eqb}
 use Rattle.pack.specs.Table.{pick}
 use Rattle.pack.specs.Form.{among}
-use Rattle.chains.specs.Chain.{Step, end, next, Settled, Walked, walk, All}
+use Rattle.chains.specs.Chain.{Step, end, next, Settled, Walked, walk, All, walksFrom}
 
 -- what one entry of the index says
 unfoldable pub stepAt : List ℕ → ℕ → Step ℕ
@@ -60,12 +60,8 @@ pub record WalkedHere (table marks : List ℕ) (steps n fuel r : ℕ) (marks′ 
   pub small : r < 65536
   pub fits : steps′ ≤ steps + fuel
 
--- walks from each start in order, with so much fuel each
-unfoldable pub walksIn : List ℕ → ℕ → List ℕ → Settled ℕ → ℕ → All ℕ
-walksIn table fuel [] t k = record { settled = t; steps = k }
-walksIn table fuel (n ∷ starts) t k =
-    let w : Walked ℕ = walkIn table fuel t [] n in
-    walksIn table fuel starts (w .settled) (k + w .steps)
+abbrev pub walksIn : List ℕ → ℕ → List ℕ → Settled ℕ → ℕ → All ℕ
+walksIn table fuel starts t k = walksFrom 0 same (stepAt table) fuel starts t k
 
 -- what walks from all starts ask for
 pub record Settleable (table marks starts : List ℕ) (steps fuel : ℕ) : Type 0 where
