@@ -11,12 +11,12 @@ use borrow.Author.Tests.{ltb-false, eq-eqb}
 use Rattle.pack.specs.Table.{pick}
 use Rattle.pack.specs.Form.{among}
 use Rattle.pack.specs.Pack.{Relation, Pack, WellFormed, words}
-use Rattle.chains.specs.Chain.{Settled, nothing, Walked, own, All, walkAll}
+use Rattle.chains.specs.Chain.{Settled, nothing, Walked, own, All, walkAll, same}
 use Rattle.chains.specs.Kinds.{declared, kindStep, allKinds, ownAnswer}
 use Rattle.chains.specs.Kinds as kinds
 use Rattle.chains.specs.Operations.{placeOf, allKindsWords}
 use Rattle.chains.specs.Index.{scanFrom}
-use Rattle.chains.specs.Settle.{stepAt, settledIn, same, walkIn, walksIn, SettledAll, placesIn}
+use Rattle.chains.specs.Settle.{stepAt, settledIn, walkIn, walksIn, SettledAll, placesIn}
 use Rattle.chains.proofs.Names.{or-left, or-right}
 use Rattle.chains.proofs.MappedLaws.{AnswersMapped, answers-mapped}
 use Rattle.chains.proofs.KindLaws.{in-row, kinds-own, words-own}
@@ -64,8 +64,8 @@ module _ (p : Pack) (w : WellFormed p) where
   unfolding placeOf
   place-none = refl
 
-  over-index : AnswersMapped (placeOf p) none kinds.same (kindStep rs) 0 same (stepAt index) (declared rs) (declared rs)
-  over-index = answers-mapped (placeOf p) none 0 place-none kinds.same same (λ r. refl) (kindStep rs) (stepAt index) (indexes p w .says) (declared rs) (declared rs)
+  over-index : AnswersMapped (placeOf p) none same (kindStep rs) 0 same (stepAt index) (declared rs) (declared rs)
+  over-index = answers-mapped (placeOf p) none 0 place-none same same (λ r. refl) (kindStep rs) (stepAt index) (indexes p w .says) (declared rs) (declared rs)
 
   -- one name's own walk
   pub own-found : (n : ℕ) → walkIn index (suc (length (declared rs))) (settledIn zeros) [] n .answer ≡ placeOf p (ownAnswer rs n)

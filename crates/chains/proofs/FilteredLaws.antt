@@ -11,10 +11,10 @@ use Rattle.pack.specs.Table.{pick}
 use Rattle.pack.specs.Form.{among}
 use Rattle.pack.specs.Pack.{Derivation, Relation}
 use Rattle.pack.specs.Dealt.{nil, cons, swap, trans, InAnyOrder}
-use Rattle.chains.specs.Chain.{nothing, walkAll, next, Distinct, OnlyDeclaredLead}
+use Rattle.chains.specs.Chain.{nothing, walkAll, next, Distinct, OnlyDeclaredLead, same}
 use Rattle.chains.specs.Kinds.{kindsOf, declared}
 use Rattle.chains.specs.Reach.{any}
-use Rattle.chains.specs.Filtered.{kindAt, takes, takenFrom, taken, single, direct, alias, namesEntity, isNil, unresolved, innerAt, upTo, below, innerStep, keep, innermostBy, innermost}
+use Rattle.chains.specs.Filtered.{kindAt, takes, takenFrom, taken, single, direct, alias, namesEntity, isNil, unresolved, innerAt, upTo, below, innerStep, innermostBy, innermost}
 use Rattle.chains.proofs.Names.{shuffled-after, shuffled-rows, shuffled-any}
 use Rattle.chains.proofs.ChainLaws.{SettledOwn, settled-own}
 use Rattle.chains.proofs.KindLaws.{kinds-dealt}
@@ -95,13 +95,13 @@ module _ (d : ℕ → Option ℕ) (names : ℕ) where
       go false h f = let z : _≡_ {A = ℕ} 0 1 = cc in absurd (omega arith)
 
   -- walks from any starts settle them with their own walks' answers
-  pub inner-own : (starts : List ℕ) → SettledOwn none keep (innerStep names d) (upTo names) starts
-  inner-own starts = settled-own none keep refl (innerStep names d) (upTo names) inner-leads starts
+  pub inner-own : (starts : List ℕ) → SettledOwn none same (innerStep names d) (upTo names) starts
+  inner-own starts = settled-own none same refl (innerStep names d) (upTo names) inner-leads starts
 
   -- so what they settle for a name that has direct is its innermost kind; a name without gets none
   pub record Inner (starts : List ℕ) : Type 0 where
     pub settled : (e m : ℕ) → among e starts ≡ true → below names d e ≡ some m
-        → walkAll none keep (innerStep names d) (upTo names) starts nothing 0 .settled e ≡ some (innermostBy d names e)
+        → walkAll none same (innerStep names d) (upTo names) starts nothing 0 .settled e ≡ some (innermostBy d names e)
     pub without : (e : ℕ) → below names d e ≡ none → innermostBy d names e ≡ none
 
   pub inner-settled : (starts : List ℕ) → Inner starts

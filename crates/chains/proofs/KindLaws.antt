@@ -12,8 +12,8 @@ use Rattle.pack.specs.Table.{pick}
 use Rattle.pack.specs.Form.{among, items, Fine, FineAll}
 use Rattle.pack.specs.Pack.{Relation, Pack, WellFormed, newName, relation, nextUsed, relations, records, inner}
 use Rattle.pack.specs.Dealt.{nil, cons, swap, trans, InAnyOrder}
-use Rattle.chains.specs.Chain.{next, Distinct, OnlyDeclaredLead}
-use Rattle.chains.specs.Kinds.{find, readAt, kindStep, declared, same, Answer, allKinds, ownAnswer, undeclaredSources, listIn, namesOf, kindsOf}
+use Rattle.chains.specs.Chain.{next, Distinct, OnlyDeclaredLead, same}
+use Rattle.chains.specs.Kinds.{find, readAt, kindStep, declared, Answer, allKinds, ownAnswer, undeclaredSources, listIn, namesOf, kindsOf}
 use Rattle.chains.proofs.Names.{apart, or-left, or-right, shuffled-map, shuffled-distinct}
 use Rattle.chains.specs.Operations.{placeOf, settledOf, allKindsWords}
 use Rattle.chains.proofs.Outside.{outside-is}

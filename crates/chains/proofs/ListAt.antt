@@ -12,8 +12,8 @@ use Rattle.pack.specs.Table.{pick, wordOf, valueOf, judgment}
 use Rattle.pack.specs.Form.{among, wordsAll, FineAll, Fits, wordsBy, Fine, count, items}
 use Rattle.pack.specs.Pack.{Hop, Derivation, Relation, Pack, WellFormed, newName, nameList, hop, path, chain, member, derivation, optionalDerivation, relationTail, relation, words}
 use Rattle.pack.specs.Tree.{root}
-use Rattle.chains.specs.Chain.{Step, end, next, nothing, walk, own}
-use Rattle.chains.specs.Kinds.{Which, list9, list21, Answer, find, readAt, kindStep, same, declared, ownAnswer, listOf, namesOf, kindsOf}
+use Rattle.chains.specs.Chain.{Step, end, next, nothing, walk, own, same}
+use Rattle.chains.specs.Kinds.{Which, list9, list21, Answer, find, readAt, kindStep, declared, ownAnswer, listOf, namesOf, kindsOf}
 use Rattle.chains.specs.Operations.{relationWords, startOf, firstRelation, hops, countPlace, placeOf, namesAt, allKindsWords}
 use Rattle.chains.proofs.KindLaws.{in-row, words-own}
 use Rattle.chains.proofs.RelationScan.{relationsWords, RelationsFine}

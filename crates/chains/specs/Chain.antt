@@ -19,6 +19,10 @@ abbrev pub mapped : {R S : Type 0} → (R → S) → Step R → Step S
 mapped g (end r) = end (g r)
 mapped g (next n) = next n
 
+-- an answer that goes back over a link as it is
+abbrev pub same : {R : Type 0} → R → R
+same r = r
+
 -- the answers settled so far, by name
 abbrev pub Settled : Type 0 → Type 0
 Settled R = ℕ → Option R

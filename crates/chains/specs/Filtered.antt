@@ -7,7 +7,7 @@ use lib.ListN.{length, getD}
 use lib.Dec.{ltb, eqb}
 use Rattle.pack.specs.Table.{pick}
 use Rattle.pack.specs.Pack.{Derivation, Relation}
-use Rattle.chains.specs.Chain.{Step, end, next, own}
+use Rattle.chains.specs.Chain.{Step, end, next, own, same}
 use Rattle.chains.specs.Kinds.{kindsOf}
 use Rattle.chains.specs.Reach.{any}
 
@@ -70,12 +70,9 @@ below names d n = pick (ltb n names) (d n) none
 abbrev pub innerStep : ℕ → (ℕ → Option ℕ) → ℕ → Step (Option ℕ)
 innerStep names d n = innerAt n (below names d n)
 
-abbrev pub keep : Option ℕ → Option ℕ
-keep a = a
-
 -- "longer rings and all leading there are none; a name that itself has no direct gets none"
 abbrev pub innermostBy : (ℕ → Option ℕ) → ℕ → ℕ → Option ℕ
-innermostBy d names e = elim (below names d e) [ none ↦ none | some m ↦ own none keep (innerStep names d) (upTo names) e ]
+innermostBy d names e = elim (below names d e) [ none ↦ none | some m ↦ own none same (innerStep names d) (upTo names) e ]
 
 unfoldable pub innermost : List Relation → ℕ → ℕ → Option ℕ
 innermost rs names e = innermostBy (direct rs) names e

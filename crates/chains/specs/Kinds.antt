@@ -6,7 +6,7 @@ use lib.Dec.{eqb}
 use Rattle.pack.specs.Table.{pick}
 use Rattle.pack.specs.Table as table
 use Rattle.pack.specs.Pack.{Hop, Derivation, Relation}
-use Rattle.chains.specs.Chain.{Step, end, next, nothing, All, walkAll, own, outside}
+use Rattle.chains.specs.Chain.{Step, end, next, nothing, All, walkAll, own, outside, same}
 
 -- the list that settles a relation: list 9 or list 21 of its owner
 pub data Which : Type 0 where
@@ -59,10 +59,6 @@ kindStep rs n = readAt (find n rs)
 
 abbrev pub declared : List Relation → List ℕ
 declared rs = map (λ (r : Relation). r .name) rs
-
--- an answer goes back over a link as it is
-abbrev pub same : Answer → Answer
-same a = a
 
 abbrev pub allKinds : List Relation → All Answer
 allKinds rs = walkAll none same (kindStep rs) (declared rs) (declared rs) nothing 0

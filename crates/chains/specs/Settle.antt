@@ -7,7 +7,7 @@ use lib.ListN.{length, getD}
 use lib.Dec.{ltb, eqb}
 use Rattle.pack.specs.Table.{pick}
 use Rattle.pack.specs.Form.{among}
-use Rattle.chains.specs.Chain.{Step, end, next, Settled, Walked, walk, All, walksFrom}
+use Rattle.chains.specs.Chain.{Step, end, next, Settled, Walked, walk, All, walksFrom, same}
 
 -- what one entry of the index says
 unfoldable pub stepAt : List ℕ → ℕ → Step ℕ
@@ -24,9 +24,6 @@ settledIn marks n = pick (ltb (getD marks n 0) 2) none (some (getD marks n 0 - 2
 -- the names on the path have the mark 1
 unfoldable pub OnPath : List ℕ → List ℕ → Type 0
 OnPath marks path = (n : ℕ) → among n path ≡ eqb (getD marks n 0) 1
-
-abbrev pub same : ℕ → ℕ
-same r = r
 
 -- a walk in which every name's answer is a place, 0 in a ring
 abbrev pub walkIn : List ℕ → ℕ → Settled ℕ → List ℕ → ℕ → Walked ℕ
