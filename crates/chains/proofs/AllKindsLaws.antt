@@ -1,5 +1,5 @@
 -- The walks over the index from all relations give what All kinds writes.
-use Prim.Native.Nat.{ℕ, zero, suc, _+_, _-_, _<_, _≤_}
+use Prim.Native.Nat.{ℕ, zero, suc, _-_, _<_, _≤_}
 use native.Mathlib.Omega.{arith}
 use mathlib.Core.Path.{_≡_, refl, ap, sym, _∙_, fun-ext}
 use mathlib.Core.List.{List, [], _∷_, map}
@@ -11,7 +11,7 @@ use borrow.Author.Tests.{ltb-false, eq-eqb}
 use Rattle.pack.specs.Table.{pick}
 use Rattle.pack.specs.Form.{among}
 use Rattle.pack.specs.Pack.{Relation, Pack, WellFormed, words}
-use Rattle.chains.specs.Chain.{Settled, nothing, Walked, own, All, walkAll, same}
+use Rattle.chains.specs.Chain.{Settled, nothing, own, All, walkAll, same}
 use Rattle.chains.specs.Kinds.{declared, kindStep, allKinds, ownAnswer}
 use Rattle.chains.specs.Kinds as kinds
 use Rattle.chains.specs.Operations.{placeOf, allKindsWords}

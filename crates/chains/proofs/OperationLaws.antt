@@ -1,7 +1,7 @@
--- Operations that read first: what they answer and leave where Check refuses, and where it accepts.
+-- What All kinds and Kinds of one name answer and leave, in each of their ways out.
 use Prim.Native.Nat.{ℕ, _-_, _<_, _≤_}
 use native.Mathlib.Omega.{arith}
-use mathlib.Core.Path.{_≡_, refl, sym, _∙_}
+use mathlib.Core.Path.{_≡_, sym, _∙_}
 use mathlib.Core.List.{List, []}
 use lib.ListN.{length, length-map}
 use lib.Seq.{length-take-le}
@@ -12,9 +12,9 @@ use Rattle.pack.specs.declared.answer.Refusal.{Refusal}
 use Rattle.pack.specs.declared.answer.Answer.{Answer}
 use Rattle.pack.specs.declared.answer.Answer.the-variants.{Given, Refused}
 use Rattle.pack.specs.Table.{pick}
-use Rattle.pack.specs.Pack.{Pack, Reading, yes, refuse, read}
-use Rattle.pack.specs.Operations.{answer, buffer, noRoom, checkAnswer}
-use Rattle.pack.proofs.RewriteLaws.{accepted}
+use Rattle.pack.specs.Pack.{Pack}
+use Rattle.pack.specs.Operations.{noRoom, checkAnswer}
+use Rattle.pack.proofs.OperationLaws.{accepted, turned-away}
 use Rattle.chains.specs.Kinds.{allKinds, ownAnswer}
 use Rattle.chains.specs.Operations.{placeOf, unknown, kindsOfAnswer, allKindsWords, allKindsAnswer, allKindsBuffer, writeAnswer, writeBuffer}
 use Rattle.chains.specs.AllKinds.{IsPack, Counted, Named, OwnPlace, KindsAsked, KindsLeft, KindsAnswered}
@@ -22,16 +22,6 @@ use Rattle.chains.specs.AllKinds.{IsPack, Counted, Named, OwnPlace, Kind
 -- an answer of Check's
 pub checked : (ws : List ℕ) {a : Answer} {v s : ℕ} → a ≡ checkAnswer ws → a ≡ Given v s → IsPack ws
 checked ws e o = let c = accepted ws e o in record { pack = c .pack; reads = c .reads }
-
--- a refusal of Check's is the operation's, and changes nothing
-module _ (ws lent : List ℕ) {a : Answer} {r : Refusal} (e : a ≡ checkAnswer ws) (o : a ≡ Refused r) (f : Pack → Answer) (g : Pack → List ℕ) where
-  pub turned-away : (a ≡ answer (read ws) f) × (lent ≡ buffer (read ws) g lent)
-  unfolding checkAnswer
-  turned-away = go (read ws) (sym e ∙ o)
-    where
-      go : (m : Reading) → answer m (λ p. Given 1 0) ≡ Refused r → (a ≡ answer m f) × (lent ≡ buffer m g lent)
-      go (yes p) q = let z : _≡_ {A = ℕ} 0 1 = cc in absurd (omega arith)
-      go (refuse x) q = (o ∙ sym q, refl)
 
 -- ---- All kinds
 

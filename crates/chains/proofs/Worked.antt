@@ -8,7 +8,7 @@ use Rattle.pack.specs.Table.{pick}
 use Rattle.pack.specs.Tree.{node}
 use Rattle.pack.specs.Tree as trees
 use Rattle.pack.specs.Pack.{Hop, Relation}
-use Rattle.chains.specs.Chain.{walk, walkAll, own, walksFrom}
+use Rattle.chains.specs.Chain.{walk, own, walksFrom}
 use Rattle.chains.specs.Kinds.{find, kindStep, namesOf, allKinds, kindsOf, declared}
 use Rattle.chains.specs.Operations.{settledOf}
 use Rattle.chains.specs.Filtered.{innermostBy}

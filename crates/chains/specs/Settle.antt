@@ -1,7 +1,7 @@
 -- The chain walk over the index by name: answers are places, and marks say which names are settled or on the path.
 use Prim.Native.Nat.{ℕ, _+_, _-_, _*_, _<_, _≤_}
 use mathlib.Core.Path.{_≡_}
-use mathlib.Core.List.{List, [], _∷_, map}
+use mathlib.Core.List.{List, [], map}
 use mathlib.Core.Option.{none, some}
 use lib.ListN.{length, getD}
 use lib.Dec.{ltb, eqb}

@@ -1,4 +1,5 @@
 // All kinds: the effective kinds of every relation, as places, and how many declarations were read for them.
+use crate::header::relation_count;
 use crate::index::index;
 use crate::index::starts;
 use crate::settle::places;
@@ -6,18 +7,7 @@ use crate::settle::settle_all;
 use pack::answer::Answer;
 use pack::check::check;
 use pack::check::refuse;
-use pack::kinds::Pack;
-ghost use Rattle.chains.specs.AllKinds.{IsPack, Counted, KindsAsked, KindsLeft, KindsAnswered};
-
-// How many relations a checked pack has: the value of its word 5, which follows the defaulted names.
-pub fn relation_count(pack: &[u32]) -> usize
-    requires { ⌜ IsPack (now pack) ⌝ }
-    ensures { λ r. ⌜ Counted (now (pack .entry)) r ⌝ }
-{
-    let defaulted = (pack[2] % Pack::VALUES) as usize;
-    let at = defaulted + 3;
-    (pack[at] % Pack::VALUES) as usize
-}
+ghost use Rattle.chains.specs.AllKinds.{KindsAsked, KindsLeft, KindsAnswered};
 
 // The kinds of every relation of a checked pack, into a slice with one word for each; the answer is the number of declarations read.
 fn settle_kinds(pack: &[u32], out: &mut [u32]) -> u32

@@ -1,23 +1,15 @@
 // Kinds of one name: those of its own walk.
-use crate::all_kinds::relation_count;
+use crate::header::name_count;
+use crate::header::relation_count;
 use crate::index::index;
 use crate::settle::walk;
 use pack::answer::Answer;
 use pack::answer::Refusal;
 use pack::check::check;
-use pack::kinds::Pack;
 ghost use mathlib.Core.Path.{_≡_};
 ghost use Prim.Native.Nat.{_<_};
 ghost use Rattle.chains.specs.Operations.{unknown, kindsOfAnswer};
-ghost use Rattle.chains.specs.AllKinds.{IsPack, Named, OwnPlace};
-
-// N of a checked pack.
-pub fn name_count(pack: &[u32]) -> u32
-    requires { ⌜ IsPack (now pack) ⌝ }
-    ensures { λ r. ⌜ Named (now (pack .entry)) r ⌝ }
-{
-    pack[1] % Pack::VALUES
-}
+ghost use Rattle.chains.specs.AllKinds.{IsPack, OwnPlace};
 
 // The refusal of a name that is not below N.
 pub fn unknown_name(name: u32) -> Answer

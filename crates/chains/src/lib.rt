@@ -1,6 +1,8 @@
 // The chain walks: what relations inherit from their sources.
-// A file per idea: the index by name (index), the walk (settle), the kinds of all relations (all_kinds) and of one name (kinds_of).
+// Two operations: the kinds of all relations (all_kinds) and of one name (kinds_of). They share what a pack says of
+// itself (header), the index of declarations by name (index) and the walk (settle).
 pub mod all_kinds;
-pub mod index;
+mod header;
+mod index;
 pub mod kinds_of;
-pub mod settle;
+mod settle;

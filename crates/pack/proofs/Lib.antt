@@ -8,5 +8,6 @@ pub mod TreeLaws
 pub mod CodeLaws
 pub mod RecordLaws
 pub mod CheckLaws
+pub mod OperationLaws
 pub mod RewriteLaws
 pub mod Refusals

@@ -3,7 +3,7 @@ use Prim.Native.Nat.{ℕ, suc, _+_, _*_, _/_, _%_, _≤_, _<_}
 use native.Mathlib.Omega.{arith}
 use native.Mathlib.Numerals.{add-one}
 use mathlib.Core.Path.{_≡_, refl, ap, sym, _∙_}
-use mathlib.Core.List.{List, _++_, append-assoc}
+use mathlib.Core.List.{List, [], _++_, append-assoc}
 use lib.ListN.{length, take, drop, getD, set}
 use lib.Seq.{length-take-le, take-suc, drop-cons, set-at, take-length}
 use mathlib.Core.Bool.{Bool, true, false}
@@ -13,9 +13,10 @@ use Rattle.pack.specs.declared.answer.Refusal.{Refusal}
 use Rattle.pack.specs.declared.answer.Answer.{Answer}
 use Rattle.pack.specs.declared.answer.Answer.the-variants.{Given, Refused}
 use Rattle.pack.specs.Table.{pick}
-use Rattle.pack.specs.Pack.{Pack, Reading, yes, refuse, read, words}
+use Rattle.pack.specs.Pack.{Reading, yes, refuse, read, words}
 use Rattle.pack.specs.Operations.{answer, noRoom, checkAnswer, rewriteAnswer, rewriteBuffer, writtenOf}
-use Rattle.pack.proofs.PackLaws.{words-length, words-read}
+use Rattle.pack.proofs.PackLaws.{words-read}
+use Rattle.pack.proofs.OperationLaws.{Accepted, turned-away}
 
 -- one word more
 pub copy-next : (p o : List ℕ) (i : ℕ) {l : List ℕ} → i < length p → i < length o → l ≡ take i p ++ drop i o → set l i (getD p i 0) ≡ take (i + 1) p ++ drop (i + 1) o
@@ -28,38 +29,11 @@ copy-next p o i {l} h k e =
 pub anew : (w : ℕ) → w / 16777216 * 16777216 + w % 16777216 ≡ w
 anew w = omega arith
 
--- what is known of words that Check accepts: they are those of the pack read from them
-pub record Accepted (ws : List ℕ) : Type 0 where
-  pub pack : Pack
-  pub reads : read ws ≡ yes pack
-  pub same : words pack ≡ ws
-  pub short : length ws ≤ 8192
-
-no-given : {r : Refusal} {v s : ℕ} → Refused r ≡ Given v s → ⊥
-no-given e = let z : _≡_ {A = ℕ} 0 1 = cc in omega arith
-
-no-refusal : {r : Refusal} {v s : ℕ} → Given v s ≡ Refused r → ⊥
-no-refusal e = let z : _≡_ {A = ℕ} 0 1 = cc in omega arith
-
-pub accepted : (ws : List ℕ) {a : Answer} {v s : ℕ} → a ≡ checkAnswer ws → a ≡ Given v s → Accepted ws
-unfolding checkAnswer
-accepted ws {v = v} {s = s} e o = go (read ws) refl (sym e ∙ o)
-  where
-    go : (r : Reading) → read ws ≡ r → answer r (λ p. Given 1 0) ≡ Given v s → Accepted ws
-    go (yes p) h q =
-        let r = words-read ws p h in
-        record { pack = p; reads = h; same = r .same; short = rw (← r .same, words-length p) (r .fine .most) }
-    go (refuse r) h q = absurd (no-given q)
-
 -- what Rewrite answers, and that as many words as it says are written of the pack, and fit
 module _ (ws : List ℕ) (room : ℕ) where
   pub answer-refused : {a : Answer} {r : Refusal} → a ≡ checkAnswer ws → a ≡ Refused r → a ≡ rewriteAnswer ws room
-  unfolding checkAnswer rewriteAnswer
-  answer-refused {a} {r} e o = go (read ws) refl (sym e ∙ o)
-    where
-      go : (m : Reading) → read ws ≡ m → answer m (λ p. Given 1 0) ≡ Refused r → a ≡ answer (read ws) (λ p. pick (leb (length (words p)) room) (Given (length (words p)) 0) noRoom)
-      go (yes p) h q = absurd (no-refusal q)
-      go (refuse x) h q = o ∙ sym q ∙ sym (rw h refl)
+  unfolding rewriteAnswer
+  answer-refused e o = turned-away ws [] e o (λ p. pick (leb (length (words p)) room) (Given (length (words p)) 0) noRoom) (λ p. []) .0
 
   pub answer-room : Accepted ws → room < length ws → noRoom ≡ rewriteAnswer ws room
   unfolding rewriteAnswer

@@ -37,8 +37,9 @@ fn head(s: &[u32], t: &[u32; 256], at: usize, n: u32, sort: u32, left: u32) -> u
     }
     let w = s[at];
     let e = entry_of(t, w / Pack::VALUES);
+    let found = e.sort;
     let rule = e.rule;
-    if e.sort != sort {
+    if found != sort {
         return refused(2, at);
     }
     if left == 0 {

@@ -1,7 +1,8 @@
 -- `pack::rewrite::answer_for` meets its contract.
 use mathlib.Core.Path.{_∙_}
 use native.Mathlib.Omega.{arith}
-use Rattle.pack.proofs.RewriteLaws.{accepted, answer-refused, answer-room, answer-length}
+use Rattle.pack.proofs.OperationLaws.{accepted}
+use Rattle.pack.proofs.RewriteLaws.{answer-refused, answer-room, answer-length}
 use borrow.Author.Needs.{needs}
 use Rattle.pack.proofs.rewrite.answer_for.Statement.{statement}
 use Rattle.pack.proofs.rewrite.answer_for.Tie as tie

@@ -1,9 +1,9 @@
--- `chains::all_kinds::relation_count` meets its contract.
+-- `chains::header::relation_count` meets its contract.
 use native.Mathlib.Omega.{arith}
 use Rattle.chains.proofs.CheckedLaws.{count-word-of}
 use borrow.Author.Needs.{needs}
-use Rattle.chains.proofs.all_kinds.relation_count.Statement.{statement}
-use Rattle.chains.proofs.all_kinds.relation_count.Tie as tie
+use Rattle.chains.proofs.header.relation_count.Statement.{statement}
+use Rattle.chains.proofs.header.relation_count.Tie as tie
 
 shared-slice-read-defaulted : tie.Need-shared-slice-read-defaulted
 shared-slice-read-defaulted c = count-word-of _ (c .before .pre) .first

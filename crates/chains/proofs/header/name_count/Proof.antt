@@ -1,7 +1,7 @@
--- `chains::kinds_of::name_count` meets its contract.
+-- `chains::header::name_count` meets its contract.
 use Rattle.chains.proofs.CheckedLaws.{names-word-of}
-use Rattle.chains.proofs.kinds_of.name_count.Statement.{statement}
-use Rattle.chains.proofs.kinds_of.name_count.Tie as tie
+use Rattle.chains.proofs.header.name_count.Statement.{statement}
+use Rattle.chains.proofs.header.name_count.Tie as tie
 
 shared-slice-read-result : tie.Need-shared-slice-read-result
 shared-slice-read-result c = names-word-of _ (c .before .pre) .first
