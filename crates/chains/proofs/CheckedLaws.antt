@@ -69,6 +69,24 @@ pub record NamesWord (ws : List ℕ) : Type 0 where
 pub names-word-of : (ws : List ℕ) → IsPack ws → NamesWord ws
 names-word-of ws c = record { first = omega (arith, long-enough ws (c .pack) (c .reads)); named = record { names = names-word ws } }
 
+-- ---- the pack of the words
+
+module _ {ws : List ℕ} (c : IsPack ws) where
+  abbrev the-pack : Pack
+  the-pack = c .pack
+
+  its-words : words the-pack ≡ ws
+  its-words = words-read ws the-pack (c .reads) .same
+
+  is-fine : WellFormed the-pack
+  is-fine = words-read ws the-pack (c .reads) .fine
+
+  pub short-checked : length ws ≤ 8192
+  short-checked = let l : length (words the-pack) ≡ length ws = ap length its-words in omega (arith, words-length the-pack, is-fine .most)
+
+  pub below-most : {n : ℕ} → Named ws n → n ≤ 4096
+  below-most k = omega (arith, k .names the-pack (c .reads), parts the-pack is-fine .most)
+
 -- ---- the kinds
 
 names-below : (n : ℕ) → n ≤ 4096 → (used : List ℕ) (rs : List Relation) → RelationsFine n used rs → (j : ℕ) → getD (declared rs) j 0 < 4096
@@ -104,10 +122,10 @@ module _ {ws out₀ : List ℕ} (asked : KindsAsked ws out₀) where
   rs = p .relations
 
   fine : WellFormed p
-  fine = words-read ws p (asked .checked .reads) .fine
+  fine = is-fine (asked .checked)
 
   same : words p ≡ ws
-  same = words-read ws p (asked .checked .reads) .same
+  same = its-words (asked .checked)
 
   starts-are : startsIn ws ≡ declared rs
   starts-are = ap startsIn (sym same) ∙ starts-pack p fine
@@ -155,35 +173,20 @@ few-counted ws c k = omega (arith, k .relations (c .pack) (c .reads), parts (c .
 -- ---- one name
 
 module _ {ws : List ℕ} (c : IsPack ws) where
-  abbrev the-pack : Pack
-  the-pack = c .pack
-
-  its-words : words the-pack ≡ ws
-  its-words = words-read ws the-pack (c .reads) .same
-
-  is-fine : WellFormed the-pack
-  is-fine = words-read ws the-pack (c .reads) .fine
-
-  pub short-checked : length ws ≤ 8192
-  short-checked = let l : length (words the-pack) ≡ length ws = ap length its-words in omega (arith, words-length the-pack, is-fine .most)
-
-  pub below-most : {n : ℕ} → Named ws n → n ≤ 4096
-  below-most k = omega (arith, k .names the-pack (c .reads), parts the-pack is-fine .most)
-
   module _ {table : List ℕ} {count : ℕ} (indexed : table ≡ scanFrom 0 0 zeros ws) (k : Counted ws count) where
-    its-index : table ≡ scanFrom 0 0 zeros (words the-pack)
-    its-index = indexed ∙ ap (scanFrom 0 0 zeros) (sym its-words)
+    its-index : table ≡ scanFrom 0 0 zeros (words (c .pack))
+    its-index = indexed ∙ ap (scanFrom 0 0 zeros) (sym (its-words c))
 
-    its-fuel : count + 1 ≡ suc (length (declared (the-pack .relations)))
-    its-fuel = add-one count ∙ ap suc (k .relations the-pack (c .reads) ∙ sym (length-map (the-pack .relations) (λ (r : Relation). r .name)))
+    its-fuel : count + 1 ≡ suc (length (declared ((c .pack) .relations)))
+    its-fuel = add-one count ∙ ap suc (k .relations (c .pack) (c .reads) ∙ sym (length-map ((c .pack) .relations) (λ (r : Relation). r .name)))
 
     pub walkable-own : {name : ℕ} → name < 4096 → Walkable table zeros 0 name (count + 1)
     walkable-own h =
-        let s = settleable-pack the-pack is-fine in
+        let s = settleable-pack (c .pack) (is-fine c) in
         record { name = h; leading = rw its-index (s .leading); marked = s .marked; long = s .long; room = omega (arith, few-counted ws c k) }
 
     pub own-place : {name r steps : ℕ} {marks : List ℕ} → WalkedHere table zeros 0 name (count + 1) r marks steps → OwnPlace ws name r
     own-place {name} {r} w =
-        let e : r ≡ placeOf the-pack (ownAnswer (the-pack .relations) name) =
-        w .answers [] (settleable-pack the-pack is-fine .idle) ∙ rw (its-index, its-fuel) (own-found the-pack is-fine name) in
+        let e : r ≡ placeOf (c .pack) (ownAnswer ((c .pack) .relations) name) =
+        w .answers [] (settleable-pack (c .pack) (is-fine c) .idle) ∙ rw (its-index, its-fuel) (own-found (c .pack) (is-fine c) name) in
         record { says = λ q h. e ∙ ap (λ (p : Pack). placeOf p (ownAnswer (p .relations) name)) (same-pack ws (c .reads) h) }

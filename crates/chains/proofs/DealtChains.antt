@@ -2,7 +2,7 @@
 use Prim.Native.Nat.{ℕ, _+_, _≤_}
 use mathlib.Core.Path.{_≡_, refl, ap, sym, _∙_, fun-ext}
 use mathlib.Core.List.{List}
-use lib.ListN.{length, length-map}
+use lib.ListN.{length}
 use borrow.Author.Tests.{le-leb}
 use Rattle.pack.specs.declared.answer.Answer.the-variants.{Given}
 use Rattle.pack.specs.Pack.{Pack, yes, read}
@@ -15,11 +15,7 @@ use Rattle.chains.specs.Chain.{Distinct}
 use Rattle.chains.proofs.LeanLaws.{leans-dealt}
 use Rattle.chains.proofs.FilteredLaws.{filtered-dealt}
 use Rattle.chains.proofs.ListAt.{place-holds}
-use Rattle.chains.proofs.KindLaws.{kinds-dealt, kinds-steps, distinct-names}
-
-words-count : (p : Pack) → length (allKindsWords p) ≡ length (p .relations)
-unfolding allKindsWords
-words-count p = length-map (p .relations) _
+use Rattle.chains.proofs.KindLaws.{kinds-dealt, kinds-steps, distinct-names, words-count}
 
 -- "the step count is an exact sum": the relations, and the undeclared sources that inheriting relations name, each once
 pub all-kinds-steps : (ws : List ℕ) (p : Pack) → read ws ≡ yes p → (room : ℕ) → length (p .relations) ≤ room

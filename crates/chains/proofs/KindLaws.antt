@@ -54,6 +54,11 @@ words-own p =
     let rs : List Relation = p .relations in
     in-row (λ n. placeOf p (settledOf (allKinds rs .settled n))) (λ n. placeOf p (ownAnswer rs n)) rs (λ n i. ap (λ o. placeOf p (settledOf o)) (kinds-own rs .each n i))
 
+-- one for each relation
+pub words-count : (p : Pack) → length (allKindsWords p) ≡ length (p .relations)
+unfolding allKindsWords
+words-count p = length-map (p .relations) _
+
 -- "relations + distinct undeclared sources that inheriting relations name"
 pub kinds-steps : (rs : List Relation) → Distinct (declared rs) → allKinds rs .steps ≡ length rs + length (undeclaredSources rs)
 kinds-steps rs d =

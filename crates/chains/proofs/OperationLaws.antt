@@ -3,7 +3,7 @@ use Prim.Native.Nat.{ℕ, _-_, _<_, _≤_}
 use native.Mathlib.Omega.{arith}
 use mathlib.Core.Path.{_≡_, sym, _∙_}
 use mathlib.Core.List.{List, []}
-use lib.ListN.{length, length-map}
+use lib.ListN.{length}
 use lib.Seq.{length-take-le}
 use lib.Dec.{ltb}
 use borrow.Author.Tests.{le-leb, lt-leb, le-ltb, lt-ltb}
@@ -18,6 +18,7 @@ use Rattle.pack.proofs.OperationLaws.{accepted, turned-away}
 use Rattle.chains.specs.Kinds.{allKinds, ownAnswer}
 use Rattle.chains.specs.Operations.{placeOf, unknown, kindsOfAnswer, allKindsWords, allKindsAnswer, allKindsBuffer, writeAnswer, writeBuffer}
 use Rattle.chains.specs.AllKinds.{IsPack, Counted, Named, OwnPlace, KindsAsked, KindsLeft, KindsAnswered}
+use Rattle.chains.proofs.KindLaws.{words-count}
 
 -- an answer of Check's
 pub checked : (ws : List ℕ) {a : Answer} {v s : ℕ} → a ≡ checkAnswer ws → a ≡ Given v s → IsPack ws
@@ -36,8 +37,7 @@ module _ (ws lent : List ℕ) (c : IsPack ws) {count : ℕ} (k : Counted ws coun
   p = c .pack
 
   one-each : length (allKindsWords p) ≡ count
-  unfolding allKindsWords
-  one-each = length-map (p .relations) _ ∙ sym (k .relations p (c .reads))
+  one-each = words-count p ∙ sym (k .relations p (c .reads))
 
   pub kinds-room : length lent < count → {a : Answer} → a ≡ noRoom → KindsAnswered ws lent a lent
   unfolding allKindsAnswer allKindsBuffer
