@@ -15,7 +15,8 @@ use Rattle.chains.specs.Chain.{Settled, nothing, own, All, walkAll, same
 use Rattle.chains.specs.Kinds.{declared, kindStep, allKinds, ownAnswer}
 use Rattle.chains.specs.Kinds as kinds
 use Rattle.chains.specs.Operations.{placeOf, allKindsWords}
-use Rattle.chains.specs.Index.{scanFrom}
+use Rattle.chains.specs.Index.{entryAfter}
+use Rattle.chains.specs.Scan.{scanTable}
 use Rattle.chains.specs.Settle.{stepAt, settledIn, walkIn, walksIn, SettledAll, placesIn}
 use Rattle.chains.proofs.Names.{or-left, or-right}
 use Rattle.chains.proofs.MappedLaws.{AnswersMapped, answers-mapped}
@@ -58,7 +59,7 @@ module _ (p : Pack) (w : WellFormed p) where
   rs = p .relations
 
   abbrev index : List ℕ
-  index = scanFrom 0 0 zeros (words p)
+  index = scanTable entryAfter zeros (words p)
 
   place-none : placeOf p none ≡ 0
   unfolding placeOf

@@ -13,7 +13,8 @@ use Rattle.pack.specs.Pack.{Relation, Pack, WellFormed, yes, read, words}
 use Rattle.pack.proofs.PackLaws.{words-read, words-length}
 use Rattle.chains.specs.Kinds.{declared, allKinds, ownAnswer}
 use Rattle.chains.specs.Operations.{placeOf, allKindsWords}
-use Rattle.chains.specs.Index.{scanFrom, startsIn}
+use Rattle.chains.specs.Index.{entryAfter, startsIn}
+use Rattle.chains.specs.Scan.{scanTable}
 use Rattle.chains.specs.Settle.{Marked, OnPath, Walkable, WalkedHere, Settleable, SettledAll, placesIn, Placeable}
 use Rattle.chains.specs.AllKinds.{IsPack, Counted, Named, OwnPlace, KindsAsked, KindsLeft}
 use Rattle.chains.proofs.RelationScan.{RelationsFine, kept}
@@ -95,7 +96,7 @@ names-below n m used (r ∷ rs) f zero = omega (arith, kept n (λ v. among v use
 names-below n m used (r ∷ rs) f (suc j) = names-below n m (r .name ∷ used) rs (f .1) j
 
 -- what the walks from the relations of a pack ask for
-settleable-pack : (p : Pack) → WellFormed p → Settleable (scanFrom 0 0 zeros (words p)) zeros (declared (p .relations)) 0 (suc (length (declared (p .relations))))
+settleable-pack : (p : Pack) → WellFormed p → Settleable (scanTable entryAfter zeros (words p)) zeros (declared (p .relations)) 0 (suc (length (declared (p .relations))))
 unfolding Marked OnPath
 settleable-pack p w =
     let h = parts p w in
@@ -136,7 +137,7 @@ module _ {ws out₀ : List ℕ} (asked : KindsAsked ws out₀) where
   pub starts-fit : length (startsIn ws) ≤ length out₀
   starts-fit = rw starts-are (omega (arith, one-each))
 
-  module _ {out₁ table : List ℕ} {count : ℕ} (indexed : table ≡ scanFrom 0 0 zeros ws) (counted : count ≡ length (startsIn ws)) (started : out₁ ≡ startsIn ws ++ drop (length (startsIn ws)) out₀) where
+  module _ {out₁ table : List ℕ} {count : ℕ} (indexed : table ≡ scanTable entryAfter zeros ws) (counted : count ≡ length (startsIn ws)) (started : out₁ ≡ startsIn ws ++ drop (length (startsIn ws)) out₀) where
     names : out₁ ≡ declared rs
     names =
         let l : length out₀ ≤ length (startsIn ws) = rw starts-are (omega (arith, one-each)) in
@@ -149,7 +150,7 @@ module _ {ws out₀ : List ℕ} (asked : KindsAsked ws out₀) where
     count-small = let h = parts p fine .few-relations in let l : length (declared rs) ≡ length rs = length-map rs (λ (r : Relation). r .name) in omega (arith, fuel)
 
     pub settleable : Settleable table zeros out₁ 0 (count + 1)
-    settleable = rw (indexed, names, fuel) (subst (λ (v : List ℕ). Settleable (scanFrom 0 0 zeros v) zeros (declared rs) 0 (suc (length (declared rs)))) same (settleable-pack p fine))
+    settleable = rw (indexed, names, fuel) (subst (λ (v : List ℕ). Settleable (scanTable entryAfter zeros v) zeros (declared rs) 0 (suc (length (declared rs)))) same (settleable-pack p fine))
 
     module _ {marks : List ℕ} {steps : ℕ} (s : SettledAll table zeros out₁ 0 (count + 1) marks steps) where
       found : KindsFound p marks steps
@@ -173,9 +174,9 @@ few-counted ws c k = omega (arith, k .relations (c .pack) (c .reads), parts (c .
 -- ---- one name
 
 module _ {ws : List ℕ} (c : IsPack ws) where
-  module _ {table : List ℕ} {count : ℕ} (indexed : table ≡ scanFrom 0 0 zeros ws) (k : Counted ws count) where
-    its-index : table ≡ scanFrom 0 0 zeros (words (c .pack))
-    its-index = indexed ∙ ap (scanFrom 0 0 zeros) (sym (its-words c))
+  module _ {table : List ℕ} {count : ℕ} (indexed : table ≡ scanTable entryAfter zeros ws) (k : Counted ws count) where
+    its-index : table ≡ scanTable entryAfter zeros (words (c .pack))
+    its-index = indexed ∙ ap (scanTable entryAfter zeros) (sym (its-words c))
 
     its-fuel : count + 1 ≡ suc (length (declared ((c .pack) .relations)))
     its-fuel = add-one count ∙ ap suc (k .relations (c .pack) (c .reads) ∙ sym (length-map ((c .pack) .relations) (λ (r : Relation). r .name)))

@@ -13,10 +13,10 @@ use Rattle.pack.specs.Form.{count, listOrNone}
 use Rattle.pack.specs.Pack.{Hop, Derivation, Relation}
 use Rattle.chains.specs.Chain.{end, next, mapped}
 use Rattle.chains.specs.Kinds.{list21, inherits, plain, derived, declares}
-use Rattle.chains.specs.Operations.{countPlace}
+use Rattle.chains.specs.Operations.{hops, countPlace}
 use Rattle.chains.specs.Index.{coded, entryAfter, placed, declarationAt}
 use Rattle.chains.proofs.Hushed.{kind-word}
-use Rattle.chains.proofs.ScanLaws.{hops, afterOption, afterTail}
+use Rattle.chains.proofs.ScanLaws.{afterOption, afterTail, afterRelation}
 
 value-word : (k v : ℕ) → v < 16777216 → valueOf (wordOf k v) ≡ v
 value-word k v h = omega arith
@@ -39,6 +39,11 @@ module _ (x place v : ℕ) (fits : v < 16777216) where
   unfolding entryAfter
   after-13 = simp (kind-word 13 v fits, value-word 13 v fits)
 
+  -- and the others that the scan meets
+  after-other : (k : ℕ) → eqb k 9 ≡ false → eqb k 21 ≡ false → eqb k 12 ≡ false → eqb k 13 ≡ false → entryAfter x place (wordOf k v) ≡ x
+  unfolding entryAfter
+  after-other k a b c d = simp (kind-word k v fits, a, b, c, d)
+
 -- the entry after the source, and after the path
 abbrev at12 : ℕ → ℕ → ℕ
 at12 x s = pick (eqb x 0) (pick (eqb s 16777215) x (65536 + s)) x
@@ -54,6 +59,8 @@ pub record Fitting (d : Derivation) : Type 0 where
   pub source : d .source < 16777216
   pub path : count listOrNone (d .path) < 16777216
   pub steps : (l : List Hop) → d .path ≡ some l → length l < 16777215
+  pub current : d .current < 16777216
+  pub entity : d .entity < 16777216
   pub entities : length (d .slotEntities) < 16777216
 
 -- a path that is none, and one that is not
@@ -100,10 +107,10 @@ module _ (start : ℕ) (r : Relation) (short : start + 3 < 65536) where
   by-lists d [] [] x9 p21 f h k =
       ap (λ (x : ℕ). at13 (at12 x (d .source)) (count listOrNone (d .path))) h ∙ path-at (d .path) (f .steps) (at12 0 (d .source)) ∙ inherited (d .source) (d .path) start r
 
-  -- what follows the name leaves the declaration
-  pub tail-declares : length (r .slotKinds) < 16777216 → ((d : Derivation) → r .derivation ≡ some d → Fitting d) → afterTail r (start + 1) ≡ coded (declarationAt start r)
+  -- a relation's words leave its declaration
+  pub relation-declares : r .name < 16777216 → length (r .slotKinds) < 16777216 → ((d : Derivation) → r .derivation ≡ some d → Fitting d) → afterRelation entryAfter r start 0 ≡ coded (declarationAt start r)
   unfolding declarationAt
-  tail-declares l f = go (r .derivation) refl
+  relation-declares m l f = ap (λ (x : ℕ). afterTail entryAfter r (start + 1) x) (after-other 0 start (r .name) m 6 refl refl refl refl) ∙ go (r .derivation) refl
     where
       x9 : ℕ
       x9 = entryAfter 0 (start + 1 + 2) (wordOf 9 (length (r .slotKinds)))
@@ -115,18 +122,20 @@ module _ (start : ℕ) (r : Relation) (short : start + 3 < 65536) where
       plainly [] = refl
       plainly (k ∷ ks) = filled k ks 0 (start + 3)
 
-      place : (d : Derivation) → r .derivation ≡ some d → start + 1 + 4 + length (r .slotKinds) + 6 + 3 * hops (d .path) ≡ start + countPlace list21 r
+      place : (d : Derivation) → r .derivation ≡ some d → start + 1 + 4 + length (r .slotKinds) + 3 * hops (d .path) + 6 ≡ start + countPlace list21 r
       place d e = rw e (steps (d .path))
         where
-          steps : (p : Option (List Hop)) → start + 1 + 4 + length (r .slotKinds) + 6 + 3 * hops p ≡ start + (4 + length (r .slotKinds) + 3 + 3 * hops p + 4)
+          steps : (p : Option (List Hop)) → start + 1 + 4 + length (r .slotKinds) + 3 * hops p + 6 ≡ start + (4 + length (r .slotKinds) + 3 + 3 * hops p + 4)
           steps p = omega arith
 
-      go : (o : Option Derivation) → r .derivation ≡ o → afterOption o (start + 1 + 4 + length (r .slotKinds)) x9 ≡ coded (mapped (placed start r) (declares (r .name) (r .slotKinds) o))
+      go : (o : Option Derivation) → r .derivation ≡ o → afterOption entryAfter o (start + 1 + 4 + length (r .slotKinds)) x9 ≡ coded (mapped (placed start r) (declares (r .name) (r .slotKinds) o))
       go none e = nine ∙ plainly (r .slotKinds)
       go (some d) e =
           let g = f d e in
           let at : ℕ = start + 1 + 4 + length (r .slotKinds) in
-          after-21 _ (at + 6 + 3 * hops (d .path)) (length (d .slotEntities)) (g .entities)
-          ∙ ap (λ (x : ℕ). pick (eqb (length (d .slotEntities)) 0) x (at + 6 + 3 * hops (d .path)))
-          (after-13 _ (at + 1) (count listOrNone (d .path)) (g .path) ∙ ap (λ (x : ℕ). at13 x (count listOrNone (d .path))) (after-12 x9 at (d .source) (g .source)))
-          ∙ by-lists d (r .slotKinds) (d .slotEntities) x9 (at + 6 + 3 * hops (d .path)) g nine (place d e)
+          let far : ℕ = at + 3 * hops (d .path) in
+          after-21 _ (far + 6) (length (d .slotEntities)) (g .entities)
+          ∙ ap (λ (x : ℕ). pick (eqb (length (d .slotEntities)) 0) x (far + 6))
+          (after-other _ (far + 4) (d .entity) (g .entity) 19 refl refl refl refl ∙ after-other _ (far + 2) (d .current) (g .current) 17 refl refl refl refl
+          ∙ after-13 _ (at + 1) (count listOrNone (d .path)) (g .path) ∙ ap (λ (x : ℕ). at13 x (count listOrNone (d .path))) (after-12 x9 at (d .source) (g .source)))
+          ∙ by-lists d (r .slotKinds) (d .slotEntities) x9 (far + 6) g nine (place d e)

@@ -11,7 +11,8 @@ use lib.Seq.{drop-cons, set-at}
 use lib.Dec.{eqb}
 use borrow.Author.Tests.{eq-eqb, ne-eqb, eqb-true, eqb-false, lt-ltb, le-ltb}
 use Rattle.pack.specs.Table.{pick, kindOf, valueOf}
-use Rattle.chains.specs.Index.{entryAfter, nameAfter, scanFrom, Indexed, startsIn, Started}
+use Rattle.chains.specs.Scan.{scan, nameAfter, ByName, byName, scanTable}
+use Rattle.chains.specs.Index.{entryAfter, Indexed, startsIn, Started}
 
 module _ (x place w : ℕ) where
   pub list-none : (kindOf w ≡ 9) ⊎ (kindOf w ≡ 21) → valueOf w ≡ 0 → x ≡ entryAfter x place w
@@ -53,19 +54,46 @@ module _ (x place w : ℕ) where
   other-kind a b c d = sym (simp (ne-eqb (kindOf w) 9 a, ne-eqb (kindOf w) 21 b, ne-eqb (kindOf w) 12 c, ne-eqb (kindOf w) 13 d))
 
 -- the scan from a place of the words
-module _ (ws : List ℕ) (i name : ℕ) (t : List ℕ) where
-  pub scan-end : i < length ws → kindOf (getD ws i 0) ≡ 22 → scanFrom i name t (drop i ws) ≡ t
-  unfolding scanFrom
+module _ {S : Type 0} (step : S → ℕ → ℕ → S) (ws : List ℕ) (i : ℕ) (s : S) where
+  pub scan-end : i < length ws → kindOf (getD ws i 0) ≡ 22 → scan step i s (drop i ws) ≡ s
+  unfolding scan
   scan-end h k = rw (drop-cons ws i 0 h) (simp (eq-eqb (kindOf (getD ws i 0)) 22 k))
 
-  pub scan-next : i < length ws → (kindOf (getD ws i 0) ≡ 22 → ⊥) → {name′ : ℕ} {t′ : List ℕ} → Indexed t name i (getD ws i 0) name′ t′
-      → scanFrom i name t (drop i ws) ≡ scanFrom (i + 1) name′ t′ (drop (i + 1) ws)
-  unfolding scanFrom
-  scan-next h k e = rw (drop-cons ws i 0 h, add-one i, e .here, e .held) (simp (ne-eqb (kindOf (getD ws i 0)) 22 k))
+  pub scan-next : i < length ws → (kindOf (getD ws i 0) ≡ 22 → ⊥) → scan step i s (drop i ws) ≡ scan step (i + 1) (step s i (getD ws i 0)) (drop (i + 1) ws)
+  unfolding scan
+  scan-next h k = rw (drop-cons ws i 0 h, add-one i) (simp (ne-eqb (kindOf (getD ws i 0)) 22 k))
 
-  pub scan-done : length ws ≤ i → scanFrom i name t (drop i ws) ≡ t
-  unfolding scanFrom
+  pub scan-done : length ws ≤ i → scan step i s (drop i ws) ≡ s
+  unfolding scan
   scan-done h = rw (drop-of-length-le ws h) refl
+
+-- the scan of a table from here on gives what the whole gives
+pub record Scanned (after : ℕ → ℕ → ℕ → ℕ) (ws t₀ t : List ℕ) (name i : ℕ) : Type 0 where
+  pub within : i ≤ length ws
+  pub below : name < 4096
+  pub todo : scanTable after t₀ ws ≡ scan (byName after) i (record { name = name; table = t }) (drop i ws) .table
+
+module _ (after : ℕ → ℕ → ℕ → ℕ) (ws t₀ : List ℕ) where
+  pub scan-begins : Scanned after ws t₀ t₀ 0 0
+  scan-begins = record { within = omega arith; below = omega arith; todo = refl }
+
+  module _ {t : List ℕ} {name i : ℕ} (s : Scanned after ws t₀ t name i) where
+    pub scanned-22 : i < length ws → kindOf (getD ws i 0) ≡ 22 → t ≡ scanTable after t₀ ws
+    scanned-22 h k = sym (s .todo ∙ ap (λ (u : ByName). u .table) (scan-end (byName after) ws i (record { name = name; table = t }) h k))
+
+    pub scanned-all : length ws ≤ i → t ≡ scanTable after t₀ ws
+    scanned-all h = sym (s .todo ∙ ap (λ (u : ByName). u .table) (scan-done (byName after) ws i (record { name = name; table = t }) h))
+
+    pub scanned-next : i < length ws → (kindOf (getD ws i 0) ≡ 22 → ⊥) → {name′ : ℕ} {t′ : List ℕ} → Indexed after t name i (getD ws i 0) name′ t′ → Scanned after ws t₀ t′ name′ (i + 1)
+    scanned-next h k {name′} {t′} e =
+        let same : byName after (record { name = name; table = t }) i (getD ws i 0) ≡ record { name = name′; table = t′ } = λ j. record { name = sym (e .here) j; table = sym (e .held) j } in
+        record {
+          within = omega arith;
+          below = e .below;
+          todo = s .todo
+              ∙ ap (λ (u : ByName). u .table) (scan-next (byName after) ws i (record { name = name; table = t }) h k)
+              ∙ ap (λ (u : ByName). scan (byName after) (i + 1) u (drop (i + 1) ws) .table) same;
+        }
 
 -- the name after a word
 pub name-same : (name w : ℕ) → (kindOf w ≡ 6 → ⊥) → name ≡ nameAfter name w

@@ -13,6 +13,7 @@ pub mod Quiet
 pub mod ScanLaws
 pub mod DeclarationLaws
 pub mod RelationScan
+pub mod ByNameLaws
 pub mod PackIndex
 pub mod StartLaws
 pub mod SettleLaws

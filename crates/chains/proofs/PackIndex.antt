@@ -11,15 +11,18 @@ use borrow.Author.Tests.{eqb-true, leb-true}
 use Rattle.pack.specs.Table.{pick, wordOf, entryOf, table}
 use Rattle.pack.specs.Table as table
 use Rattle.pack.specs.Form.{among, allowedHere, wordsAll, FineAll, count, items, wordsBy, Fine}
-use Rattle.pack.specs.Pack.{Hop, Derivation, Relation, Edition, undated, firstKind, above, nextUsed, relation, rule, defaultedName, defaulted, relations, rules, blocks, records, inner, layout, Pack, total, words, WellFormed}
+use Rattle.pack.specs.Pack.{Hop, Derivation, Relation, Edition, undated, firstKind, above, newName, nextUsed, relation, rule, defaultedName, defaulted, relations, rules, blocks, records, inner, layout, Pack, total, words, WellFormed}
 use Rattle.chains.specs.Chain.{Step, end, next, mapped}
 use Rattle.chains.specs.Kinds.{Which, list9, list21, Answer, from, inherits, derived, declares, find, readAt, kindStep}
-use Rattle.chains.specs.Operations.{startOf, firstRelation, placeOf}
-use Rattle.chains.specs.Index.{coded, scanFrom, placed, declarationAt}
+use Rattle.chains.specs.Operations.{relationWords, startOf, firstRelation, placeOf}
+use Rattle.chains.specs.Scan.{scan, ByName, byName, scanTable}
+use Rattle.chains.specs.Index.{coded, entryAfter, placed, declarationAt}
 use Rattle.pack.proofs.PackLaws.{words-length}
 use Rattle.chains.proofs.Hushed.{Quiet, quiet-word, kind-word}
-use Rattle.chains.proofs.Quiet.{loud, scan-quiet}
-use Rattle.chains.proofs.RelationScan.{declarations, left, declared-at, RelationsFine, scan-relations}
+use Rattle.chains.proofs.Quiet.{loud, Unheard, Passing, scan-quiet}
+use Rattle.chains.proofs.DeclarationLaws.{relation-declares}
+use Rattle.chains.proofs.RelationScan.{RelationsFine, relationsWords, Kept, kept, afterRelations, scan-relations}
+use Rattle.chains.proofs.ByNameLaws.{by-name-passes, left, by-name-at}
 
 -- ---- the words before the relations
 
@@ -116,9 +119,9 @@ pub opening-length : (p : Pack) → length (opening p) ≡ 3 + length (p .defaul
 opening-length p = let e = defaulted-length (p .names) (p .defaulted) 0 in omega arith
 
 -- the count of rules ends the scan
-scan-rules : (at name v : ℕ) (t vs : List ℕ) → v < 16777216 → scanFrom at name t (wordOf 22 v ∷ vs) ≡ t
-unfolding scanFrom
-scan-rules at name v t vs h = simp (kind-word 22 v h)
+scan-rules : {S : Type 0} (step : S → ℕ → ℕ → S) (at : ℕ) (s : S) (v : ℕ) (vs : List ℕ) → v < 16777216 → scan step at s (wordOf 22 v ∷ vs) ≡ s
+unfolding scan
+scan-rules step at s v vs h = simp (kind-word 22 v h)
 
 -- the relations end before the pack does
 pub relations-room : (p : Pack) → WellFormed p → firstRelation p + length (relationsPart p) ≤ 8192
@@ -130,21 +133,31 @@ relations-room p w =
     ap length (s .same) ∙ length-append (opening p) five ∙ ap (λ (m : ℕ). length (opening p) + m) (let e = length-append (relationsPart p) rest in omega arith) in
     omega (arith, l, opening-length p, words-length p, w .most)
 
--- the whole scan
-scan-pack : (p : Pack) → WellFormed p → scanFrom 0 0 zeros (words p) ≡ declarations (p .names) (firstRelation p) (p .relations) zeros
-scan-pack p w =
+-- the whole scan: what is held after the relations
+pub scan-pack : {S : Type 0} (step : S → ℕ → ℕ → S) → Passing step → (p : Pack) → WellFormed p → (s : S) → scan step 0 s (words p) ≡ afterRelations step (p .names) (firstRelation p) (p .relations) s
+scan-pack step P p w s =
     let h = parts p w in
-    let s = split p in
-    let rest : List ℕ = wordOf 22 (length (p .rules)) ∷ s .more in
+    let d = split p in
+    let rest : List ℕ = wordOf 22 (length (p .rules)) ∷ d .more in
     let five : List ℕ = wordOf 5 (length (p .relations)) ∷ (relationsPart p ++ rest) in
     let o = opening-length p in
     let at : 0 + length (opening p) + 1 ≡ firstRelation p = omega arith in
-    ap (λ (ws : List ℕ). scanFrom 0 0 zeros ws) (s .same)
-    ∙ scan-quiet (opening p) five 0 0 zeros (opening-quiet p (w .most) h)
-    ∙ scan-quiet (wordOf 5 (length (p .relations)) ∷ []) (relationsPart p ++ rest) (0 + length (opening p)) 0 zeros (quiet-word loud 5 (length (p .relations)) (h .relation-count) refl)
-    ∙ ap (λ (a : ℕ). scanFrom a 0 zeros (relationsPart p ++ rest)) at
-    ∙ scan-relations (p .names) (h .most) (p .relations) [] (firstRelation p) 0 zeros rest (length-replicate {A = ℕ} 4096 0) (omega (arith, relations-room p w)) (λ v e. zero-at 4096 v) (h .relations-fine)
-    ∙ scan-rules _ _ (length (p .rules)) _ (s .more) (h .rule-count)
+    ap (λ (ws : List ℕ). scan step 0 s ws) (d .same)
+    ∙ scan-quiet P (opening p) five 0 s (opening-quiet p (w .most) h)
+    ∙ scan-quiet P (wordOf 5 (length (p .relations)) ∷ []) (relationsPart p ++ rest) (0 + length (opening p)) s (quiet-word loud 5 (length (p .relations)) (h .relation-count) refl)
+    ∙ ap (λ (a : ℕ). scan step a s (relationsPart p ++ rest)) at
+    ∙ scan-relations step P (p .names) (h .most) (p .relations) [] (firstRelation p) s rest (h .relations-fine)
+    ∙ scan-rules step _ _ (length (p .rules)) (d .more) (h .rule-count)
+
+-- a table by name after it
+pub scan-table : (after : ℕ → ℕ → ℕ → ℕ) → Passing after → (p : Pack) → WellFormed p → (m : ℕ)
+    → getD (scanTable after zeros (words p)) m 0 ≡ left after 0 (startOf (p .names) m (firstRelation p) (p .relations)) (find m (p .relations))
+scan-table after P p w m =
+    let h = parts p w in
+    let s : ByName = record { name = 0; table = zeros } in
+    ap (λ (u : ByName). getD (u .table) m 0) (scan-pack (byName after) (by-name-passes after P) p w s)
+    ∙ by-name-at after (p .names) (h .most) (p .relations) [] (firstRelation p) m s (length-replicate {A = ℕ} 4096 0) (λ v e. zero-at 4096 v) (h .relations-fine)
+    ∙ ap (λ (x : ℕ). left after x (startOf (p .names) m (firstRelation p) (p .relations)) (find m (p .relations))) (zero-at 4096 m)
 
 -- ---- places
 
@@ -183,19 +196,52 @@ find-name (s ∷ rs) m r e = go (find-name rs m r) (eqb m (s .name)) refl e
     go ih true h e = let q : s ≡ r = cc in eqb-true m (s .name) h ∙ ap (λ (x : Relation). x .name) q
     go ih false h e = ih e
 
--- at each name the index holds what one declaration read there says, with its list as the place of its count word
-pub index-declares : (p : Pack) → WellFormed p → (m : ℕ) → getD (scanFrom 0 0 zeros (words p)) m 0 ≡ coded (mapped (placeOf p) (kindStep (p .relations) m))
-unfolding kindStep declarationAt placeOf
-index-declares p w m =
-    let h = parts p w in
-    ap (λ (t : List ℕ). getD t m 0) (scan-pack p w)
-    ∙ declared-at (p .names) (p .relations) [] (firstRelation p) m zeros (h .most) (length-replicate {A = ℕ} 4096 0) (h .relations-fine)
-    ∙ ap (λ (x : ℕ). left x (startOf (p .names) m (firstRelation p) (p .relations)) (find m (p .relations))) (zero-at 4096 m)
-    ∙ go (find m (p .relations)) refl
+-- a record starts within the relations
+pub start-within : (n name at : ℕ) (used : List ℕ) (rs : List Relation) → startOf n name at rs ≤ at + length (relationsWords n used rs)
+unfolding startOf relation newName wordsBy
+start-within n name at used [] = omega arith
+start-within n name at used (r ∷ rs) = go (eqb name (r .name)) (start-within n name (at + length (relationWords n r)) (r .name ∷ used) rs)
   where
-    go : (o : Option Relation) → find m (p .relations) ≡ o → left 0 (startOf (p .names) m (firstRelation p) (p .relations)) o ≡ coded (mapped (placeOf p) (readAt o))
+    more : List ℕ
+    more = relationsWords n (r .name ∷ used) rs
+
+    both : length (relationsWords n used (r ∷ rs)) ≡ length (relationWords n r) + length more
+    both = length-append (relationWords n r) more
+
+    go : (b : Bool) → startOf n name (at + length (relationWords n r)) rs ≤ at + length (relationWords n r) + length more
+        → pick b at (startOf n name (at + length (relationWords n r)) rs) ≤ at + length (relationsWords n used (r ∷ rs))
+    go true h = omega arith
+    go false h = omega (arith, both)
+
+entry-passes : Passing entryAfter
+unfolding entryAfter
+entry-passes = record { passes = λ x place w k. simp (k .not-9, k .not-21, k .not-12, k .not-13) }
+
+-- the relation of a name keeps to its form
+pub find-kept : (n m : ℕ) (used : List ℕ) (rs : List Relation) (r : Relation) → RelationsFine n used rs → find m rs ≡ some r → (us : List ℕ) × Kept n (λ v. among v us) r
+unfolding find
+find-kept n m used [] r f e = let z : _≡_ {A = ℕ} 0 1 = cc in absurd (omega arith)
+find-kept n m used (s ∷ rs) r f e = go (eqb m (s .name)) e (find-kept n m (s .name ∷ used) rs r (f .1))
+  where
+    go : (b : Bool) → pick b (some s) (find m rs) ≡ some r → (find m rs ≡ some r → (us : List ℕ) × Kept n (λ v. among v us) r) → (us : List ℕ) × Kept n (λ v. among v us) r
+    go true e rest = let q : s ≡ r = cc in (used, rw (← q) (kept n (λ v. among v used) s (f .0)))
+    go false e rest = rest e
+
+-- at each name the index holds what one declaration read there says, with its list as the place of its count word
+pub index-declares : (p : Pack) → WellFormed p → (m : ℕ) → getD (scanTable entryAfter zeros (words p)) m 0 ≡ coded (mapped (placeOf p) (kindStep (p .relations) m))
+unfolding kindStep declarationAt placeOf
+index-declares p w m = scan-table entryAfter entry-passes p w m ∙ go (find m (p .relations)) refl
+  where
+    start : ℕ
+    start = startOf (p .names) m (firstRelation p) (p .relations)
+
+    go : (o : Option Relation) → find m (p .relations) ≡ o → left entryAfter 0 start o ≡ coded (mapped (placeOf p) (readAt o))
     go none e = refl
     go (some r) e =
+        let h = parts p w in
+        let k = find-kept (p .names) m [] (p .relations) r (h .relations-fine) e .1 in
         let q : m ≡ r .name = find-name (p .relations) m r e in
         let f : find (r .name) (p .relations) ≡ some r = ap (λ (v : ℕ). find v (p .relations)) (sym q) ∙ e in
-        ap coded (mapped-alike (placed (startOf (p .names) m (firstRelation p) (p .relations)) r) (placeOf p) (r .name) refl (λ c. rw (q, f) refl) (r .slotKinds) (r .derivation))
+        let room = relations-room p w in
+        relation-declares start r (omega (arith, room, start-within (p .names) m (firstRelation p) [] (p .relations))) (omega (arith, k .below, h .most)) (k .kinds) (k .derived)
+        ∙ ap coded (mapped-alike (placed start r) (placeOf p) (r .name) refl (λ c. rw (q, f) refl) (r .slotKinds) (r .derivation))

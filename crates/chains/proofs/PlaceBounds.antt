@@ -15,11 +15,12 @@ use Rattle.pack.specs.Pack.{Hop, Derivation, Relation, Pack, WellFormed, nameLi
 use Rattle.chains.specs.Chain.{Step, end, next, mapped}
 use Rattle.chains.specs.Kinds.{Which, list9, list21, from, find, readAt, kindStep}
 use Rattle.chains.specs.Operations.{relationWords, startOf, firstRelation, hops, countPlace, placeOf}
-use Rattle.chains.specs.Index.{coded, scanFrom}
+use Rattle.chains.specs.Index.{coded, entryAfter}
+use Rattle.chains.specs.Scan.{scanTable}
 use Rattle.chains.specs.Settle.{stepAt, Leading}
 use Rattle.chains.proofs.Names.{apart}
 use Rattle.chains.proofs.RelationScan.{relationsWords, RelationsFine, short-path}
-use Rattle.chains.proofs.PackIndex.{zeros, parts, index-declares, find-name, relations-room, each-way}
+use Rattle.chains.proofs.PackIndex.{zeros, parts, index-declares, find-name, relations-room, each-way, start-within}
 
 -- ---- what the table allows
 
@@ -90,22 +91,6 @@ found-small n name used (s ∷ rs) r f e = go (eqb name (s .name)) e (found-smal
     go true e rest = let q : s ≡ r = cc in rw (← q) (small n (λ v. among v used) s (f .0))
     go false e rest = rest e
 
-start-within : (n name at : ℕ) (used : List ℕ) (rs : List Relation) → startOf n name at rs ≤ at + length (relationsWords n used rs)
-unfolding startOf relation newName wordsBy
-start-within n name at used [] = omega arith
-start-within n name at used (r ∷ rs) = go (eqb name (r .name)) (start-within n name (at + length (relationWords n r)) (r .name ∷ used) rs)
-  where
-    more : List ℕ
-    more = relationsWords n (r .name ∷ used) rs
-
-    both : length (relationsWords n used (r ∷ rs)) ≡ length (relationWords n r) + length more
-    both = length-append (relationWords n r) more
-
-    go : (b : Bool) → startOf n name (at + length (relationWords n r)) rs ≤ at + length (relationWords n r) + length more
-        → pick b at (startOf n name (at + length (relationWords n r)) rs) ≤ at + length (relationsWords n used (r ∷ rs))
-    go true h = omega arith
-    go false h = omega (arith, both)
-
 -- ---- every step
 
 abbrev Decodes : Step ℕ → Type 0
@@ -141,9 +126,9 @@ pub record Indexes (p : Pack) (table : List ℕ) : Type 0 where
   pub says : (m : ℕ) → mapped (placeOf p) (kindStep (p .relations) m) ≡ stepAt table m
   pub leading : Leading table
 
-pub indexes : (p : Pack) → WellFormed p → Indexes p (scanFrom 0 0 zeros (words p))
+pub indexes : (p : Pack) → WellFormed p → Indexes p (scanTable entryAfter zeros (words p))
 unfolding Leading
 indexes p w =
-    let t : List ℕ = scanFrom 0 0 zeros (words p) in
+    let t : List ℕ = scanTable entryAfter zeros (words p) in
     let d : (m : ℕ) → (stepAt t m ≡ mapped (placeOf p) (kindStep (p .relations) m)) × (getD t m 0 < 69632) = λ m. decoded t m (mapped (placeOf p) (kindStep (p .relations) m)) (index-declares p w m) (step-small p w m) in
     record { says = λ m. sym (d m .0); leading = λ m. d m .1 }

@@ -1,8 +1,8 @@
--- The index of declarations by name, as a fold over the words of the relations.
-use Prim.Native.Nat.{ℕ, suc, _+_, _%_, _<_}
+-- What the scans over the words of the relations hold by name: declarations, and sources.
+use Prim.Native.Nat.{ℕ, _+_, _<_}
 use mathlib.Core.Path.{_≡_}
 use mathlib.Core.List.{List, [], _∷_}
-use lib.ListN.{getD, set}
+use lib.ListN.{set}
 use lib.Dec.{ltb, eqb}
 use Rattle.pack.specs.Table.{pick, kindOf, valueOf}
 use Rattle.pack.specs.Table as table
@@ -11,6 +11,7 @@ use Rattle.pack.specs.Pack.{Relation}
 use Rattle.chains.specs.Chain.{Step, end, next, mapped}
 use Rattle.chains.specs.Kinds.{Answer, declares}
 use Rattle.chains.specs.Operations.{countPlace}
+use Rattle.chains.specs.Scan.{nameAfter, tableAfter}
 
 -- a declaration as one number: the place where its list is counted, 0 for no kinds, or 65536 and the name that it leads on to
 abbrev pub coded : Step ℕ → ℕ
@@ -25,22 +26,14 @@ entryAfter x place w =
     (pick (eqb (kindOf w) 12) (pick (eqb x 0) (pick (eqb (valueOf w) table.none) x (65536 + valueOf w)) x)
     (pick (eqb (kindOf w) 13) (pick (eqb (valueOf w) table.none) x (pick (ltb x 65536) x 0)) x)))
 
--- the name of the relation that the scan is in
-unfoldable pub nameAfter : ℕ → ℕ → ℕ
-nameAfter name w = pick (eqb (kindOf w) 6) (w % 4096) name
-
-unfoldable pub tableAfter : List ℕ → ℕ → ℕ → ℕ → List ℕ
-tableAfter t name place w = set t (nameAfter name w) (entryAfter (getD t (nameAfter name w) 0) place w)
-
--- from a place on, up to a word of kind 22
-unfoldable pub scanFrom : ℕ → ℕ → List ℕ → List ℕ → List ℕ
-scanFrom place name t [] = t
-scanFrom place name t (w ∷ ws) = pick (eqb (kindOf w) 22) t (scanFrom (suc place) (nameAfter name w) (tableAfter t name place w) ws)
+-- what a word makes of its relation's source (12): the name and one, 0 for none
+unfoldable pub sourceAfter : ℕ → ℕ → ℕ → ℕ
+sourceAfter x place w = pick (eqb (kindOf w) 12) (pick (eqb (valueOf w) table.none) x (valueOf w + 1)) x
 
 -- what one word of the scan does
-pub record Indexed (t : List ℕ) (name place w name′ : ℕ) (t′ : List ℕ) : Type 0 where
+pub record Indexed (after : ℕ → ℕ → ℕ → ℕ) (t : List ℕ) (name place w name′ : ℕ) (t′ : List ℕ) : Type 0 where
   pub here : name′ ≡ nameAfter name w
-  pub held : t′ ≡ tableAfter t name place w
+  pub held : t′ ≡ tableAfter after t name place w
   pub below : name′ < 4096
 
 -- the declaration of a relation whose record starts at a place, with its list as a place

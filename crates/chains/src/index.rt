@@ -5,7 +5,8 @@ ghost use Prim.Native.Nat.{_<_, _≤_};
 ghost use mathlib.Core.List.{_++_};
 ghost use lib.ListN.{length, drop};
 ghost use Rattle.pack.specs.Table.{kindOf};
-ghost use Rattle.chains.specs.Index.{entryAfter, nameAfter, Indexed, scanFrom, Started, startsIn};
+ghost use Rattle.chains.specs.Scan.{nameAfter, scanTable};
+ghost use Rattle.chains.specs.Index.{entryAfter, sourceAfter, Indexed, Started, startsIn};
 
 // A declaration in one number: the place of the count word of the list that settles it, 0 for no kinds, or LEADS and the name that it leads on to.
 pub struct Declaration {}
@@ -63,7 +64,7 @@ fn name_after(name: usize, word: u32) -> usize
 // One word: the declaration of the relation that it belongs to, and that relation's name.
 fn index_word(table: &mut [u32; 4096], name: usize, place: u32, word: u32) -> usize
     requires { ⌜ name < 4096 ⌝ }
-    ensures { λ r. ⌜ Indexed (now (table .entry)) name place word r (now (table .exit)) ⌝ }
+    ensures { λ r. ⌜ Indexed entryAfter (now (table .entry)) name place word r (now (table .exit)) ⌝ }
 {
     let here = name_after(name, word);
     let x = table[here];
@@ -74,7 +75,7 @@ fn index_word(table: &mut [u32; 4096], name: usize, place: u32, word: u32) -> us
 // Every relation's declaration, from the words of a checked pack; the table holds zeros before.
 pub fn index(pack: &[u32], table: &mut [u32; 4096])
     requires { ⌜ length (now pack) ≤ 8192 ⌝ }
-    ensures { λ r. ⌜ now (table .exit) ≡ scanFrom 0 0 (now (table .entry)) (now (pack .entry)) ⌝ }
+    ensures { λ r. ⌜ now (table .exit) ≡ scanTable entryAfter (now (table .entry)) (now (pack .entry)) ⌝ }
 {
     let mut name: usize = 0;
     let mut i: usize = 0;

@@ -1,6 +1,6 @@
 -- `chains::index::index_word` meets its contract.
 use mathlib.Core.Path.{refl}
-use Rattle.chains.specs.Index.{tableAfter}
+use Rattle.chains.specs.Scan.{tableAfter}
 use borrow.Author.Needs.{needs}
 use Rattle.chains.proofs.index.index_word.Statement.{statement}
 use Rattle.chains.proofs.index.index_word.Tie as tie
