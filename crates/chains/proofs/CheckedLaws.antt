@@ -76,10 +76,10 @@ module _ {ws : List ℕ} (c : IsPack ws) where
   abbrev the-pack : Pack
   the-pack = c .pack
 
-  its-words : words the-pack ≡ ws
+  pub its-words : words the-pack ≡ ws
   its-words = words-read ws the-pack (c .reads) .same
 
-  is-fine : WellFormed the-pack
+  pub is-fine : WellFormed the-pack
   is-fine = words-read ws the-pack (c .reads) .fine
 
   pub short-checked : length ws ≤ 8192
@@ -112,7 +112,7 @@ settleable-pack p w =
       room = let m : k * suc k ≤ 512 * suc k = mul-le-mul-right (suc k) b in omega arith;
     }
 
-same-pack : (ws : List ℕ) {p q : Pack} → read ws ≡ yes p → read ws ≡ yes q → p ≡ q
+pub same-pack : (ws : List ℕ) {p q : Pack} → read ws ≡ yes p → read ws ≡ yes q → p ≡ q
 same-pack ws e f = cc
 
 module _ {ws out₀ : List ℕ} (asked : KindsAsked ws out₀) where

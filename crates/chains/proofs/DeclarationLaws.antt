@@ -18,7 +18,7 @@ use Rattle.chains.specs.Index.{coded, entryAfter, placed, declarationAt}
 use Rattle.chains.proofs.Hushed.{kind-word}
 use Rattle.chains.proofs.ScanLaws.{afterOption, afterTail, afterRelation}
 
-value-word : (k v : ℕ) → v < 16777216 → valueOf (wordOf k v) ≡ v
+pub value-word : (k v : ℕ) → v < 16777216 → valueOf (wordOf k v) ≡ v
 value-word k v h = omega arith
 
 -- what each of the four kinds does

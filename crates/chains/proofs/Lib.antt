@@ -21,6 +21,7 @@ pub mod PlaceLaws
 pub mod PlaceBounds
 pub mod AllKindsLaws
 pub mod CheckedLaws
+pub mod SourceLaws
 pub mod OperationLaws
 pub mod ListAt
 pub mod DealtChains

@@ -1,8 +1,9 @@
--- What All kinds and Kinds of one name answer and leave, in each of their ways out.
+-- What the operations answer and leave, in each of their ways out.
 use Prim.Native.Nat.{ℕ, _-_, _<_, _≤_}
 use native.Mathlib.Omega.{arith}
 use mathlib.Core.Path.{_≡_, sym, _∙_}
 use mathlib.Core.List.{List, []}
+use mathlib.Core.Bool.{Bool}
 use lib.ListN.{length}
 use lib.Seq.{length-take-le}
 use lib.Dec.{ltb}
@@ -16,8 +17,9 @@ use Rattle.pack.specs.Pack.{Pack}
 use Rattle.pack.specs.Operations.{noRoom, checkAnswer}
 use Rattle.pack.proofs.OperationLaws.{accepted, turned-away}
 use Rattle.chains.specs.Kinds.{allKinds, ownAnswer}
-use Rattle.chains.specs.Operations.{placeOf, unknown, kindsOfAnswer, allKindsWords, allKindsAnswer, allKindsBuffer, writeAnswer, writeBuffer}
-use Rattle.chains.specs.AllKinds.{IsPack, Counted, Named, OwnPlace, KindsAsked, KindsLeft, KindsAnswered}
+use Rattle.chains.specs.Reach.{leans}
+use Rattle.chains.specs.Operations.{placeOf, unknown, kindsOfAnswer, yesNo, leanAnswer, allKindsWords, allKindsAnswer, allKindsBuffer, writeAnswer, writeBuffer}
+use Rattle.chains.specs.AllKinds.{IsPack, Counted, Named, OwnPlace, Leaning, KindsAsked, KindsLeft, KindsAnswered}
 use Rattle.chains.proofs.KindLaws.{words-count}
 
 -- an answer of Check's
@@ -73,3 +75,26 @@ module _ (ws : List ℕ) (name : ℕ) where
     pub name-place : name < n → {place : ℕ} → OwnPlace ws name place → Given place 0 ≡ kindsOfAnswer ws name
     unfolding kindsOfAnswer
     name-place h o = sym (simp (c .reads, ← k .names (c .pack) (c .reads), lt-ltb name n h, ← o .says (c .pack) (c .reads)))
+
+-- ---- Lean
+
+module _ (ws : List ℕ) (a b : ℕ) where
+  abbrev leaningIn : Pack → Answer
+  leaningIn p = pick (ltb a (p .names)) (pick (ltb b (p .names)) (Given (yesNo (leans (p .relations) a b)) 0) (unknown b)) (unknown a)
+
+  pub lean-refused : {c : Answer} {r : Refusal} → c ≡ checkAnswer ws → c ≡ Refused r → c ≡ leanAnswer ws a b
+  unfolding leanAnswer
+  lean-refused e o = turned-away ws [] e o leaningIn (λ p. []) .0
+
+  module _ (c : IsPack ws) {n : ℕ} (k : Named ws n) where
+    pub first-unknown : n ≤ a → unknown a ≡ leanAnswer ws a b
+    unfolding leanAnswer
+    first-unknown h = sym (simp (c .reads, ← k .names (c .pack) (c .reads), le-ltb a n h))
+
+    pub second-unknown : a < n → n ≤ b → unknown b ≡ leanAnswer ws a b
+    unfolding leanAnswer
+    second-unknown h l = sym (simp (c .reads, ← k .names (c .pack) (c .reads), lt-ltb a n h, le-ltb b n l))
+
+    pub leans-or-not : a < n → b < n → {r : Bool} → Leaning ws a b r → Given (yesNo r) 0 ≡ leanAnswer ws a b
+    unfolding leanAnswer
+    leans-or-not h l o = sym (simp (c .reads, ← k .names (c .pack) (c .reads), lt-ltb a n h, lt-ltb b n l, ← o .says (c .pack) (c .reads)))

@@ -82,7 +82,7 @@ small n used r f = tail-small n r (f .1)
 
 -- ---- the relation of a name
 
-found-small : (n name : ℕ) (used : List ℕ) (rs : List Relation) (r : Relation) → RelationsFine n used rs → find name rs ≡ some r → Small n r
+pub found-small : (n name : ℕ) (used : List ℕ) (rs : List Relation) (r : Relation) → RelationsFine n used rs → find name rs ≡ some r → Small n r
 unfolding find
 found-small n name used [] r f e = let z : _≡_ {A = ℕ} 0 1 = cc in absurd (omega arith)
 found-small n name used (s ∷ rs) r f e = go (eqb name (s .name)) e (found-small n name (s .name ∷ used) rs r (f .1))

@@ -1,11 +1,13 @@
--- What the parts of All kinds and of Kinds of one name promise each other, of words that Check accepts.
+-- What the parts of the operations promise each other, of words that Check accepts.
 use Prim.Native.Nat.{ℕ}
 use mathlib.Core.Path.{_≡_}
 use mathlib.Core.List.{List}
+use mathlib.Core.Bool.{Bool}
 use lib.ListN.{length}
 use Rattle.pack.specs.declared.answer.Answer.{Answer}
 use Rattle.pack.specs.Pack.{Pack, yes, read}
 use Rattle.chains.specs.Kinds.{allKinds, ownAnswer}
+use Rattle.chains.specs.Reach.{leans}
 use Rattle.chains.specs.Operations.{placeOf, allKindsWords, allKindsAnswer, allKindsBuffer}
 
 -- the words are those of a pack
@@ -24,6 +26,10 @@ pub record Named (ws : List ℕ) (n : ℕ) : Type 0 where
 -- the place of the list that settles a name
 pub record OwnPlace (ws : List ℕ) (name place : ℕ) : Type 0 where
   pub says : (p : Pack) → read ws ≡ yes p → place ≡ placeOf p (ownAnswer (p .relations) name)
+
+-- whether sources lead from a name to another
+pub record Leaning (ws : List ℕ) (a b : ℕ) (r : Bool) : Type 0 where
+  pub says : (p : Pack) → read ws ≡ yes p → r ≡ leans (p .relations) a b
 
 -- a slice with one word for each relation
 pub record KindsAsked (ws out : List ℕ) : Type 0 where

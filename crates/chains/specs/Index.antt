@@ -27,14 +27,21 @@ entryAfter x place w =
     (pick (eqb (kindOf w) 13) (pick (eqb (valueOf w) table.none) x (pick (ltb x 65536) x 0)) x)))
 
 -- what a word makes of its relation's source (12): the name and one, 0 for none
-unfoldable pub sourceAfter : ℕ → ℕ → ℕ → ℕ
-sourceAfter x place w = pick (eqb (kindOf w) 12) (pick (eqb (valueOf w) table.none) x (valueOf w + 1)) x
+unfoldable pub sourceAfter : ℕ → ℕ → ℕ
+sourceAfter x w = pick (eqb (kindOf w) 12) (pick (eqb (valueOf w) table.none) x (valueOf w + 1)) x
+
+-- at any place
+abbrev pub anywhere : (ℕ → ℕ → ℕ) → ℕ → ℕ → ℕ → ℕ
+anywhere after x place w = after x w
 
 -- what one word of the scan does
 pub record Indexed (after : ℕ → ℕ → ℕ → ℕ) (t : List ℕ) (name place w name′ : ℕ) (t′ : List ℕ) : Type 0 where
   pub here : name′ ≡ nameAfter name w
   pub held : t′ ≡ tableAfter after t name place w
   pub below : name′ < 4096
+
+pub record IndexedAnywhere (after : ℕ → ℕ → ℕ) (t : List ℕ) (name w name′ : ℕ) (t′ : List ℕ) : Type 0 where
+  pub at : (place : ℕ) → Indexed (anywhere after) t name place w name′ t′
 
 -- the declaration of a relation whose record starts at a place, with its list as a place
 abbrev pub placed : ℕ → Relation → Answer → ℕ

@@ -85,7 +85,7 @@ unfoldable pub kindsOfAnswer : List ℕ → ℕ → Answer
 kindsOfAnswer ws name =
     answer (read ws) (λ p. pick (ltb name (p .names)) (Given (placeOf p (ownAnswer (p .relations) name)) 0) (unknown name))
 
-abbrev yesNo : Bool → ℕ
+abbrev pub yesNo : Bool → ℕ
 yesNo true = 1
 yesNo false = 0
 
@@ -100,7 +100,7 @@ abbrev pub tableFrom : (ℕ → ℕ) → ℕ → ℕ → List ℕ
 tableFrom f n zero = []
 tableFrom f n (suc k) = f n ∷ tableFrom f (suc n) k
 
-abbrev orNone : Option ℕ → ℕ
+abbrev pub orNone : Option ℕ → ℕ
 orNone none = table.none
 orNone (some n) = n
 

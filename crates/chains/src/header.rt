@@ -1,5 +1,9 @@
-// What a checked pack says of itself: how many names and relations it has.
+// What a checked pack says of itself: how many names and relations it has; and the refusal of a name that it does not have.
+use pack::answer::Answer;
+use pack::answer::Refusal;
 use pack::kinds::Pack;
+ghost use mathlib.Core.Path.{_≡_};
+ghost use Rattle.chains.specs.Operations.{unknown};
 ghost use Rattle.chains.specs.AllKinds.{IsPack, Named, Counted};
 
 // N of a checked pack.
@@ -18,4 +22,16 @@ pub fn relation_count(pack: &[u32]) -> usize
     let defaulted = (pack[2] % Pack::VALUES) as usize;
     let at = defaulted + 3;
     (pack[at] % Pack::VALUES) as usize
+}
+
+// The refusal of a name that is not below N.
+pub fn unknown_name(name: u32) -> Answer
+    ensures { λ r. ⌜ r ≡ unknown name ⌝ }
+{
+    Answer::Refused(Refusal {
+        number: 17,
+        place: 0,
+        name,
+        other: 0,
+    })
 }

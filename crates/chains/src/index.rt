@@ -6,7 +6,7 @@ ghost use mathlib.Core.List.{_++_};
 ghost use lib.ListN.{length, drop};
 ghost use Rattle.pack.specs.Table.{kindOf};
 ghost use Rattle.chains.specs.Scan.{nameAfter, scanTable};
-ghost use Rattle.chains.specs.Index.{entryAfter, sourceAfter, Indexed, Started, startsIn};
+ghost use Rattle.chains.specs.Index.{entryAfter, Indexed, Started, startsIn};
 
 // A declaration in one number: the place of the count word of the list that settles it, 0 for no kinds, or LEADS and the name that it leads on to.
 pub struct Declaration {}
@@ -50,7 +50,7 @@ fn entry_after(x: u32, place: u32, word: u32) -> u32
 }
 
 // The name of the relation that the scan is in after a word.
-fn name_after(name: usize, word: u32) -> usize
+pub fn name_after(name: usize, word: u32) -> usize
     requires { ⌜ name < 4096 ⌝ }
     ensures { λ r. ⌜ (r ≡ nameAfter name word) × (r < 4096) ⌝ }
 {

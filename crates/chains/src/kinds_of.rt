@@ -1,27 +1,15 @@
 // Kinds of one name: those of its own walk.
 use crate::header::name_count;
 use crate::header::relation_count;
+use crate::header::unknown_name;
 use crate::index::index;
 use crate::settle::walk;
 use pack::answer::Answer;
-use pack::answer::Refusal;
 use pack::check::check;
 ghost use mathlib.Core.Path.{_≡_};
 ghost use Prim.Native.Nat.{_<_};
-ghost use Rattle.chains.specs.Operations.{unknown, kindsOfAnswer};
+ghost use Rattle.chains.specs.Operations.{kindsOfAnswer};
 ghost use Rattle.chains.specs.AllKinds.{IsPack, OwnPlace};
-
-// The refusal of a name that is not below N.
-pub fn unknown_name(name: u32) -> Answer
-    ensures { λ r. ⌜ r ≡ unknown name ⌝ }
-{
-    Answer::Refused(Refusal {
-        number: 17,
-        place: 0,
-        name,
-        other: 0,
-    })
-}
 
 // The place of the list that settles a name in its own walk.
 fn own_place(pack: &[u32], name: usize) -> u32

@@ -1,0 +1,43 @@
+// Lean: whether a name leans on another.
+use crate::header::name_count;
+use crate::header::relation_count;
+use crate::header::unknown_name;
+use crate::sources::leads;
+use crate::sources::sources;
+use pack::answer::Answer;
+use pack::check::check;
+ghost use mathlib.Core.Path.{_≡_};
+ghost use Prim.Native.Nat.{_<_};
+ghost use Rattle.chains.specs.Operations.{leanAnswer};
+ghost use Rattle.chains.specs.AllKinds.{IsPack, Leaning};
+
+// Whether sources of a checked pack lead from a name to another.
+fn leaning(pack: &[u32], a: usize, b: usize) -> bool
+    requires { ⌜ IsPack (now pack) × (a < 4096) ⌝ }
+    ensures { λ r. ⌜ Leaning (now (pack .entry)) a b r ⌝ }
+{
+    let mut table = [0u32; 4096];
+    sources(pack, &mut table);
+    leads(&table, a, b, relation_count(pack))
+}
+
+// 1 if the first name leans on the second, 0 if not.
+pub fn lean(pack: &[u32], a: u32, b: u32) -> Answer
+    ensures { λ r. ⌜ r ≡ leanAnswer (now (pack .entry)) a b ⌝ }
+{
+    let checked = check(pack);
+    let Answer::Given(_, _) = checked else {
+        return checked;
+    };
+    let names = name_count(pack);
+    if names <= a {
+        return unknown_name(a);
+    }
+    if names <= b {
+        return unknown_name(b);
+    }
+    if leaning(pack, a as usize, b as usize) {
+        return Answer::Given(1, 0);
+    }
+    Answer::Given(0, 0)
+}
