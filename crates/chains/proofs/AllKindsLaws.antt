@@ -1,5 +1,5 @@
 -- The walks over the index from all relations give what All kinds writes.
-use Prim.Native.Nat.{ℕ, zero, suc, _-_, _<_, _≤_}
+use Prim.Native.Nat.{ℕ, suc, _+_, _-_}
 use native.Mathlib.Omega.{arith}
 use mathlib.Core.Path.{_≡_, refl, ap, sym, _∙_, fun-ext}
 use mathlib.Core.List.{List, [], _∷_, map}
@@ -25,34 +25,23 @@ use Rattle.chains.proofs.PackIndex.{zeros, zero-at}
 use Rattle.chains.proofs.PlaceBounds.{indexes}
 
 -- at first nothing is settled
-zeros-nothing : settledIn zeros ≡ nothing
+pub zeros-nothing : settledIn zeros ≡ nothing
 unfolding settledIn
 zeros-nothing = fun-ext (λ n. rw (zero-at 4096 n) refl)
 
 -- a settled name's mark
-settled-mark : (marks : List ℕ) (n x : ℕ) → settledIn marks n ≡ some x → (2 ≤ getD marks n 0) × (getD marks n 0 - 2 ≡ x)
+pub settled-mark : (marks : List ℕ) (n x : ℕ) → settledIn marks n ≡ some x → getD marks n 0 ≡ 2 + x
 unfolding settledIn
 settled-mark marks n x e = go (ltb (getD marks n 0) 2) refl e
   where
-    go : (b : Bool) → ltb (getD marks n 0) 2 ≡ b → pick b none (some (getD marks n 0 - 2)) ≡ some x → (2 ≤ getD marks n 0) × (getD marks n 0 - 2 ≡ x)
+    go : (b : Bool) → ltb (getD marks n 0) 2 ≡ b → pick b none (some (getD marks n 0 - 2)) ≡ some x → getD marks n 0 ≡ 2 + x
     go true h e = let z : _≡_ {A = ℕ} 0 1 = cc in absurd (omega arith)
-    go false h e = (ltb-false (getD marks n 0) 2 h, cc)
-
--- names of a list are among it
-among-at : (l : List ℕ) (j : ℕ) → j < length l → among (getD l j 0) l ≡ true
-among-at [] j h = absurd (omega arith)
-among-at (n ∷ l) zero h = or-left (among n l) (eq-eqb n n refl)
-among-at (n ∷ l) (suc j) h = or-right (eqb (getD l j 0) n) (among-at l j (omega arith))
-
-map-names : {B : Type 0} (f : ℕ → B) (rs : List Relation) → map f (declared rs) ≡ map (λ (r : Relation). f (r .name)) rs
-map-names f [] = refl
-map-names f (r ∷ rs) = ap (λ (l : List _). f (r .name) ∷ l) (map-names f rs)
+    go false h e = let q : getD marks n 0 - 2 ≡ x = cc in omega (arith, ltb-false (getD marks n 0) 2 h)
 
 -- what the walks leave
 pub record KindsFound (p : Pack) (marks : List ℕ) (steps : ℕ) : Type 0 where
   pub counts : steps ≡ allKinds (p .relations) .steps
-  pub places : placesIn marks (declared (p .relations)) ≡ allKindsWords p
-  pub settled : (j : ℕ) → j < length (declared (p .relations)) → 2 ≤ getD marks (getD (declared (p .relations)) j 0) 0
+  pub marked : (n : ℕ) → among n (declared (p .relations)) ≡ true → getD marks n 0 ≡ 2 + placeOf p (ownAnswer (p .relations) n)
 
 module _ (p : Pack) (w : WellFormed p) where
   abbrev rs : List Relation
@@ -74,18 +63,13 @@ module _ (p : Pack) (w : WellFormed p) where
   own-found n = ap (λ (t : Settled ℕ). walkIn index (suc (length (declared rs))) t [] n .answer) zeros-nothing ∙ over-index .own-walks n
 
   pub kinds-found : (marks : List ℕ) (steps : ℕ) → SettledAll index zeros (declared rs) 0 (suc (length (declared rs))) marks steps → KindsFound p marks steps
-  unfolding placesIn
   kinds-found marks steps s =
       record {
         counts = s .counts ∙ ap (λ (a : All ℕ). a .steps) over ∙ over-index .steps;
-        places = map-names (λ n. getD marks n 0 - 2) rs ∙ in-row (λ n. getD marks n 0 - 2) (λ n. placeOf p (ownAnswer rs n)) rs (λ n i. mark n i .1) ∙ sym (words-own p);
-        settled = λ j h. mark (getD (declared rs) j 0) (among-at (declared rs) j h) .0;
+        marked = λ n i.
+            settled-mark marks n (placeOf p (ownAnswer rs n))
+            (ap (λ (t : Settled ℕ). t n) (s .settles ∙ ap (λ (a : All ℕ). a .settled) over) ∙ over-index .settled n ∙ ap (Option·map (placeOf p)) (kinds-own rs .each n i));
       }
     where
       over : walksIn index (suc (length (declared rs))) (declared rs) (settledIn zeros) 0 ≡ walkAll 0 same (stepAt index) (declared rs) (declared rs) nothing 0
       over = ap (λ (t : Settled ℕ). walkAll 0 same (stepAt index) (declared rs) (declared rs) t 0) zeros-nothing
-
-      mark : (n : ℕ) → among n (declared rs) ≡ true → (2 ≤ getD marks n 0) × (getD marks n 0 - 2 ≡ placeOf p (ownAnswer rs n))
-      mark n i =
-          settled-mark marks n (placeOf p (ownAnswer rs n))
-          (ap (λ (t : Settled ℕ). t n) (s .settles ∙ ap (λ (a : All ℕ). a .settled) over) ∙ over-index .settled n ∙ ap (Option·map (placeOf p)) (kinds-own rs .each n i))

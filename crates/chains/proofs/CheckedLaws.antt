@@ -4,9 +4,12 @@ use native.Mathlib.Omega.{arith}
 use native.Mathlib.Nat.{mul-le-mul-right}
 use native.Mathlib.Numerals.{add-one}
 use mathlib.Core.Path.{_≡_, refl, ap, sym, _∙_, subst}
-use mathlib.Core.List.{List, [], _∷_, _++_, append-nil}
+use mathlib.Core.List.{List, [], _∷_, _++_, map, append-nil}
+use mathlib.Core.Bool.{true}
 use lib.ListN.{length, getD, drop, length-append, length-map, length-replicate, drop-of-length-le}
 use lib.Seq.{getD-at}
+use lib.Dec.{eqb}
+use borrow.Author.Tests.{eq-eqb}
 use Rattle.pack.specs.Table.{wordOf}
 use Rattle.pack.specs.Form.{among}
 use Rattle.pack.specs.Pack.{Relation, Pack, WellFormed, yes, read, words}
@@ -16,9 +19,11 @@ use Rattle.chains.specs.Operations.{placeOf, allKindsWords}
 use Rattle.chains.specs.Index.{entryAfter, startsIn}
 use Rattle.chains.specs.Scan.{scanTable}
 use Rattle.chains.specs.Settle.{Marked, OnPath, Walkable, WalkedHere, Settleable, SettledAll, placesIn, Placeable}
-use Rattle.chains.specs.AllKinds.{IsPack, Counted, Named, OwnPlace, KindsAsked, KindsLeft}
+use Rattle.chains.specs.AllKinds.{IsPack, Counted, Named, OwnPlace, KindsAsked, KindsMarked, KindsLeft}
 use Rattle.chains.proofs.RelationScan.{RelationsFine, kept}
 use Rattle.chains.proofs.PackIndex.{zeros, zero-at, parts, split, opening, opening-length, relationsPart}
+use Rattle.chains.proofs.Names.{or-left, or-right}
+use Rattle.chains.proofs.KindLaws.{in-row, words-own}
 use Rattle.chains.proofs.StartLaws.{starts-pack}
 use Rattle.chains.proofs.PlaceBounds.{indexes}
 use Rattle.chains.proofs.AllKindsLaws.{KindsFound, own-found, kinds-found}
@@ -152,19 +157,49 @@ module _ {ws out₀ : List ℕ} (asked : KindsAsked ws out₀) where
     pub settleable : Settleable table zeros out₁ 0 (count + 1)
     settleable = rw (indexed, names, fuel) (subst (λ (v : List ℕ). Settleable (scanTable entryAfter zeros v) zeros (declared rs) 0 (suc (length (declared rs)))) same (settleable-pack p fine))
 
-    module _ {marks : List ℕ} {steps : ℕ} (s : SettledAll table zeros out₁ 0 (count + 1) marks steps) where
-      found : KindsFound p marks steps
-      found = kinds-found p fine marks steps (rw (same, ← indexed, ← fuel, ← names) s)
+    pub kinds-marked : {marks : List ℕ} {steps : ℕ} → SettledAll table zeros out₁ 0 (count + 1) marks steps → KindsMarked ws steps out₁ marks
+    kinds-marked {marks} {steps} s =
+        let found : KindsFound p marks steps = kinds-found p fine marks steps (rw (same, ← indexed, ← fuel, ← names) s) in
+        let it : (q : Pack) → read ws ≡ yes q → p ≡ q = λ q h. same-pack ws (asked .checked .reads) h in
+        record {
+          counts = λ q h. found .counts ∙ ap (λ (p : Pack). allKinds (p .relations) .steps) (it q h);
+          named = λ q h. names ∙ ap (λ (p : Pack). declared (p .relations)) (it q h);
+          marked = λ q h. subst (λ (p : Pack). (n : ℕ) → among n (declared (p .relations)) ≡ true → getD marks n 0 ≡ 2 + placeOf p (ownAnswer (p .relations) n)) (it q h) (found .marked);
+        }
 
-      pub placeable : Placeable marks out₁
-      placeable = rw names (record { names-below = settleable-pack p fine .names; settled = found .settled })
+-- ---- the places of marked names
 
-      pub kinds-left : {out₂ : List ℕ} → out₂ ≡ placesIn marks out₁ → KindsLeft ws steps out₂
-      kinds-left {out₂} e =
-          record {
-            counts = λ q h. found .counts ∙ ap (λ (p : Pack). allKinds (p .relations) .steps) (same-pack ws (asked .checked .reads) h);
-            holds = λ q h. e ∙ ap (placesIn marks) names ∙ found .places ∙ ap allKindsWords (same-pack ws (asked .checked .reads) h);
-          }
+-- names of a list are among it
+among-at : (l : List ℕ) (j : ℕ) → j < length l → among (getD l j 0) l ≡ true
+among-at [] j h = absurd (omega arith)
+among-at (n ∷ l) zero h = or-left (among n l) (eq-eqb n n refl)
+among-at (n ∷ l) (suc j) h = or-right (eqb (getD l j 0) n) (among-at l j (omega arith))
+
+map-names : {B : Type 0} (f : ℕ → B) (rs : List Relation) → map f (declared rs) ≡ map (λ (r : Relation). f (r .name)) rs
+map-names f [] = refl
+map-names f (r ∷ rs) = ap (λ (l : List _). f (r .name) ∷ l) (map-names f rs)
+
+module _ {ws names marks : List ℕ} {steps : ℕ} (c : IsPack ws) (m : KindsMarked ws steps names marks) where
+  pub placeable : Placeable marks names
+  placeable =
+      let p : Pack = c .pack in
+      rw (m .named p (c .reads))
+      (record {
+        names-below = settleable-pack p (is-fine c) .names;
+        settled = λ j h. (let e = m .marked p (c .reads) (getD (declared (p .relations)) j 0) (among-at (declared (p .relations)) j h) in omega arith);
+      })
+
+  places-are : (p : Pack) → read ws ≡ yes p → placesIn marks names ≡ allKindsWords p
+  unfolding placesIn
+  places-are p h =
+      let rs : List Relation = p .relations in
+      rw (m .named p h)
+      (map-names (λ n. getD marks n 0 - 2) rs
+      ∙ in-row (λ n. getD marks n 0 - 2) (λ n. placeOf p (ownAnswer rs n)) rs (λ n i. (let e = m .marked p h n i in omega arith))
+      ∙ sym (words-own p))
+
+  pub kinds-left : {out : List ℕ} → out ≡ placesIn marks names → KindsLeft ws steps out
+  kinds-left e = record { counts = m .counts; holds = λ p h. e ∙ places-are p h }
 
 -- ---- a checked pack has few relations
 

@@ -11,10 +11,10 @@ use Rattle.pack.specs.Table.{pick}
 use Rattle.pack.specs.Form.{among}
 use Rattle.pack.specs.Pack.{Derivation, Relation}
 use Rattle.pack.specs.Dealt.{nil, cons, swap, trans, InAnyOrder}
-use Rattle.chains.specs.Chain.{nothing, walkAll, next, Distinct, OnlyDeclaredLead, same}
+use Rattle.chains.specs.Chain.{end, next, Distinct, OnlyDeclaredLead, same}
 use Rattle.chains.specs.Kinds.{kindsOf, declared}
 use Rattle.chains.specs.Reach.{any}
-use Rattle.chains.specs.Filtered.{kindAt, takes, takenFrom, taken, single, direct, alias, namesEntity, isNil, unresolved, innerAt, upTo, below, innerStep, innermostBy, innermost}
+use Rattle.chains.specs.Filtered.{kindAt, listed, takes, takenFrom, taken, single, direct, alias, namesEntity, isNil, unresolved, innerAt, upTo, innerStep, innermostBy, innermost}
 use Rattle.chains.proofs.Names.{shuffled-after, shuffled-rows, shuffled-any}
 use Rattle.chains.proofs.ChainLaws.{SettledOwn, settled-own}
 use Rattle.chains.proofs.KindLaws.{kinds-dealt}
@@ -48,7 +48,7 @@ module _ (rs : List Relation) (e : ℕ) where
 module _ (rs rs′ : List Relation) (kinds : (n : ℕ) → kindsOf rs n ≡ kindsOf rs′ n) (e : ℕ) where
   takes-alike : (n : ℕ) (o : Option Derivation) → takes rs e n o ≡ takes rs′ e n o
   takes-alike n none = refl
-  takes-alike n (some d) = ap (λ ks. pick (eqb (d .entity) e) (kindAt ks (d .current)) []) (kinds n)
+  takes-alike n (some d) = ap (λ ks. pick (eqb (d .entity) e) (listed (kindAt ks (d .current))) []) (kinds n)
 
   from-alike : (l : List Relation) → takenFrom rs e l ≡ takenFrom rs′ e l
   from-alike [] = refl
@@ -90,19 +90,10 @@ module _ (d : ℕ → Option ℕ) (names : ℕ) where
   pub inner-leads : OnlyDeclaredLead (innerStep names d) (upTo names)
   inner-leads n m e = go (ltb n names) refl e
     where
-      go : (b : Bool) → ltb n names ≡ b → innerAt n (pick b (d n) none) ≡ next m → among n (upTo names) ≡ true
+      go : (b : Bool) → ltb n names ≡ b → pick b (innerAt n (d n)) (end none) ≡ next m → among n (upTo names) ≡ true
       go true h f = up-to-among n names (ltb-true n names h)
       go false h f = let z : _≡_ {A = ℕ} 0 1 = cc in absurd (omega arith)
 
   -- walks from any starts settle them with their own walks' answers
   pub inner-own : (starts : List ℕ) → SettledOwn none same (innerStep names d) (upTo names) starts
   inner-own starts = settled-own none same refl (innerStep names d) (upTo names) inner-leads starts
-
-  -- so what they settle for a name that has direct is its innermost kind; a name without gets none
-  pub record Inner (starts : List ℕ) : Type 0 where
-    pub settled : (e m : ℕ) → among e starts ≡ true → below names d e ≡ some m
-        → walkAll none same (innerStep names d) (upTo names) starts nothing 0 .settled e ≡ some (innermostBy d names e)
-    pub without : (e : ℕ) → below names d e ≡ none → innermostBy d names e ≡ none
-
-  pub inner-settled : (starts : List ℕ) → Inner starts
-  inner-settled starts = record { settled = λ e m i h. rw (h, innermostBy) (inner-own starts .each e i); without = λ e h. rw (h, innermostBy) }

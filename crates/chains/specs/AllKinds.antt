@@ -1,12 +1,13 @@
 -- What the parts of the operations promise each other, of words that Check accepts.
-use Prim.Native.Nat.{ℕ}
+use Prim.Native.Nat.{ℕ, _+_}
 use mathlib.Core.Path.{_≡_}
 use mathlib.Core.List.{List}
-use mathlib.Core.Bool.{Bool}
-use lib.ListN.{length}
+use mathlib.Core.Bool.{Bool, true}
+use lib.ListN.{length, getD}
 use Rattle.pack.specs.declared.answer.Answer.{Answer}
+use Rattle.pack.specs.Form.{among}
 use Rattle.pack.specs.Pack.{Pack, yes, read}
-use Rattle.chains.specs.Kinds.{allKinds, ownAnswer}
+use Rattle.chains.specs.Kinds.{declared, allKinds, ownAnswer}
 use Rattle.chains.specs.Reach.{leans}
 use Rattle.chains.specs.Operations.{placeOf, allKindsWords, allKindsAnswer, allKindsBuffer}
 
@@ -35,6 +36,12 @@ pub record Leaning (ws : List ℕ) (a b : ℕ) (r : Bool) : Type 0 where
 pub record KindsAsked (ws out : List ℕ) : Type 0 where
   pub checked : IsPack ws
   pub fits : Counted ws (length out)
+
+-- the relations' names in record order, marks by name that are 2 and the place of the list that settles the name, and the number of declarations read
+pub record KindsMarked (ws : List ℕ) (steps : ℕ) (names marks : List ℕ) : Type 0 where
+  pub counts : (p : Pack) → read ws ≡ yes p → steps ≡ allKinds (p .relations) .steps
+  pub named : (p : Pack) → read ws ≡ yes p → names ≡ declared (p .relations)
+  pub marked : (p : Pack) → read ws ≡ yes p → (n : ℕ) → among n (declared (p .relations)) ≡ true → getD marks n 0 ≡ 2 + placeOf p (ownAnswer (p .relations) n)
 
 -- the places, and the number of declarations read
 pub record KindsLeft (ws : List ℕ) (steps : ℕ) (out : List ℕ) : Type 0 where

@@ -12,14 +12,18 @@ use Rattle.chains.specs.Kinds.{kindsOf}
 use Rattle.chains.specs.Reach.{any}
 
 -- the kind at a slot, where in range
-abbrev pub kindAt : Option (List ℕ) → ℕ → List ℕ
-kindAt none slot = []
-kindAt (some ks) slot = pick (ltb slot (length ks)) (getD ks slot 0 ∷ []) []
+abbrev pub kindAt : Option (List ℕ) → ℕ → Option ℕ
+kindAt none slot = none
+kindAt (some ks) slot = pick (ltb slot (length ks)) (some (getD ks slot 0)) none
+
+abbrev pub listed : Option ℕ → List ℕ
+listed none = []
+listed (some k) = k ∷ []
 
 -- "entity e takes the kind at the current slot of each derivation with entity e, where in range"; "Where the walk yields no kinds the relation is passed over."
 abbrev pub takes : List Relation → ℕ → ℕ → Option Derivation → List ℕ
 takes rs e n none = []
-takes rs e n (some d) = pick (eqb (d .entity) e) (kindAt (kindsOf rs n) (d .current)) []
+takes rs e n (some d) = pick (eqb (d .entity) e) (listed (kindAt (kindsOf rs n) (d .current))) []
 
 abbrev pub takenFrom : List Relation → ℕ → List Relation → List ℕ
 takenFrom rs e [] = []
@@ -64,15 +68,12 @@ abbrev pub upTo : ℕ → List ℕ
 upTo zero = []
 upTo (suc n) = n ∷ upTo n
 
-abbrev pub below : ℕ → (ℕ → Option ℕ) → ℕ → Option ℕ
-below names d n = pick (ltb n names) (d n) none
-
 abbrev pub innerStep : ℕ → (ℕ → Option ℕ) → ℕ → Step (Option ℕ)
-innerStep names d n = innerAt n (below names d n)
+innerStep names d n = pick (ltb n names) (innerAt n (d n)) (end none)
 
 -- "longer rings and all leading there are none; a name that itself has no direct gets none"
 abbrev pub innermostBy : (ℕ → Option ℕ) → ℕ → ℕ → Option ℕ
-innermostBy d names e = elim (below names d e) [ none ↦ none | some m ↦ own none same (innerStep names d) (upTo names) e ]
+innermostBy d names e = elim (d e) [ none ↦ none | some m ↦ own none same (innerStep names d) (upTo names) e ]
 
 unfoldable pub innermost : List Relation → ℕ → ℕ → Option ℕ
 innermost rs names e = innermostBy (direct rs) names e

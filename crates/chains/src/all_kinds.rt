@@ -1,9 +1,7 @@
 // All kinds: the effective kinds of every relation, as places, and how many declarations were read for them.
 use crate::header::relation_count;
-use crate::index::index;
-use crate::index::starts;
+use crate::mark_kinds::mark_kinds;
 use crate::settle::places;
-use crate::settle::settle_all;
 use pack::answer::Answer;
 use pack::check::check;
 use pack::check::refuse;
@@ -14,12 +12,8 @@ fn settle_kinds(pack: &[u32], out: &mut [u32]) -> u32
     requires { ⌜ KindsAsked (now pack) (now out) ⌝ }
     ensures { λ r. ⌜ KindsLeft (now (pack .entry)) r (now (out .exit)) ⌝ }
 {
-    let mut table = [0u32; 4096];
     let mut marks = [0u32; 4096];
-    let mut steps: u32 = 0;
-    index(pack, &mut table);
-    let count = starts(pack, out);
-    settle_all(&table, &mut marks, &mut steps, out, count as u32 + 1);
+    let steps = mark_kinds(pack, out, &mut marks);
     places(&marks, out);
     steps
 }

@@ -7,5 +7,6 @@ mod header;
 mod index;
 pub mod kinds_of;
 pub mod lean;
+mod mark_kinds;
 mod settle;
 mod sources;
