@@ -22,6 +22,8 @@ pub mod PlaceBounds
 pub mod AllKindsLaws
 pub mod CheckedLaws
 pub mod SourceLaws
+pub mod TakingLaws
 pub mod OperationLaws
 pub mod ListAt
+pub mod TakenKnown
 pub mod DealtChains

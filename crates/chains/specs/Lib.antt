@@ -7,3 +7,4 @@ pub mod Scan
 pub mod Index
 pub mod Settle
 pub mod AllKinds
+pub mod Taking

@@ -10,3 +10,4 @@ pub mod lean;
 mod mark_kinds;
 mod settle;
 mod sources;
+mod taking;

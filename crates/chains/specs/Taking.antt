@@ -1,0 +1,81 @@
+-- The kinds that entities take, by name, as one scan over the words of the relations.
+use Prim.Native.Nat.{ℕ, _+_, _-_, _<_}
+use mathlib.Core.Path.{_≡_}
+use mathlib.Core.List.{List, [], _∷_}
+use mathlib.Core.Bool.{Bool, not}
+use mathlib.Core.Option.{Option, none, some}
+use lib.ListN.{length, getD, set}
+use lib.Dec.{ltb, eqb}
+use Rattle.pack.specs.Table.{pick, kindOf, valueOf}
+use Rattle.pack.specs.Pack.{Pack, yes, read}
+use Rattle.chains.specs.declared.taking.Kind.{Kind}
+use Rattle.chains.specs.declared.taking.Kind.the-variants.{Is, Unknown}
+use Rattle.chains.specs.Reach.{any}
+use Rattle.chains.specs.Filtered.{kindAt, taken, namesEntity}
+use Rattle.chains.specs.Operations.{namesAt}
+use Rattle.chains.specs.Scan.{scan, nameAfter}
+
+-- the code's kind as an option
+abbrev pub kindIn : Kind → Option ℕ
+kindIn (Is k) = some k
+kindIn Unknown = none
+
+abbrev pub Small : Kind → Type 0
+Small (Is k) = k < 16777216
+Small Unknown = Unit {0}
+
+-- the kind at a slot of the list whose count word stands at a place
+pub record KindFound (ws : List ℕ) (place slot : ℕ) (kind : Kind) : Type 0 where
+  pub is : kindIn kind ≡ kindAt (namesAt ws place) slot
+  pub small : Small kind
+
+-- What is known of an entity, as one number: 0 no derivation names it, 1 one does and no kind is taken, 2 and the one kind taken, 16777218 several kinds.
+abbrev pub several : ℕ
+several = 16777218
+
+abbrev pub known : Bool → List ℕ → ℕ
+known named [] = pick named 1 0
+known named (k ∷ ks) = pick (any (λ x. not (eqb x k)) ks) several (2 + k)
+
+-- after one more derivation that names it, and after one more kind
+unfoldable pub namedAfter : ℕ → ℕ
+namedAfter x = pick (eqb x 0) 1 x
+
+unfoldable pub takenAfter : ℕ → Option ℕ → ℕ
+takenAfter x none = x
+takenAfter x (some k) = pick (ltb x 2) (2 + k) (pick (eqb x (2 + k)) x several)
+
+-- an entity that is no name is passed over
+unfoldable pub takeAt : List ℕ → ℕ → Option ℕ → List ℕ
+takeAt t e kind = pick (ltb e 4096) (set t e (takenAfter (namedAfter (getD t e 0)) kind)) t
+
+-- the scan holds the relation's name, its current slot (17) and the table, which its entity (19) changes
+pub record Taking : Type 0 where
+  pub name : ℕ
+  pub slot : ℕ
+  pub table : List ℕ
+
+unfoldable pub slotAfter : ℕ → ℕ → ℕ
+slotAfter slot w = pick (eqb (kindOf w) 17) (valueOf w) slot
+
+unfoldable pub takenBy : (ℕ → ℕ → Option ℕ) → List ℕ → ℕ → ℕ → ℕ → List ℕ
+takenBy kind t name slot w = pick (eqb (kindOf w) 19) (takeAt t (valueOf w) (kind name slot)) t
+
+abbrev pub takes : (ℕ → ℕ → Option ℕ) → Taking → ℕ → ℕ → Taking
+takes kind s place w =
+    record {
+      name = nameAfter (s .name) w;
+      slot = slotAfter (s .slot) w;
+      table = takenBy kind (s .table) (nameAfter (s .name) w) (slotAfter (s .slot) w) w;
+    }
+
+-- the kind at a slot of a name, from the marks of all names
+unfoldable pub kindMarked : List ℕ → List ℕ → ℕ → ℕ → Option ℕ
+kindMarked ws marks name slot = kindAt (namesAt ws (getD marks name 0 - 2)) slot
+
+unfoldable pub takenIn : List ℕ → List ℕ → List ℕ → List ℕ
+takenIn ws marks t = scan (takes (kindMarked ws marks)) 0 (record { name = 0; slot = 0; table = t }) ws .table
+
+-- what is known of every entity of a checked pack
+pub record Known (ws t : List ℕ) : Type 0 where
+  pub holds : (p : Pack) → read ws ≡ yes p → (e : ℕ) → e < 4096 → getD t e 0 ≡ known (any (λ r. namesEntity e (r .derivation)) (p .relations)) (taken (p .relations) e)
