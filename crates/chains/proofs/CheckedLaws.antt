@@ -18,7 +18,7 @@ use Rattle.chains.specs.Kinds.{declared, allKinds, ownAnswer}
 use Rattle.chains.specs.Operations.{placeOf, allKindsWords}
 use Rattle.chains.specs.Index.{entryAfter, startsIn}
 use Rattle.chains.specs.Scan.{scanTable}
-use Rattle.chains.specs.Settle.{Marked, OnPath, Walkable, WalkedHere, Settleable, SettledAll, placesIn, Placeable}
+use Rattle.chains.specs.Settle.{Leading, Marked, OnPath, Walkable, WalkedHere, Settleable, SettledAll, placesIn, Placeable}
 use Rattle.chains.specs.AllKinds.{IsPack, Counted, Named, OwnPlace, KindsAsked, KindsMarked, KindsLeft}
 use Rattle.chains.proofs.RelationScan.{RelationsFine, kept}
 use Rattle.chains.proofs.PackIndex.{zeros, zero-at, parts, split, opening, opening-length, relationsPart}
@@ -100,22 +100,27 @@ names-below n m used [] f j = omega arith
 names-below n m used (r ∷ rs) f zero = omega (arith, kept n (λ v. among v used) r (f .0) .below)
 names-below n m used (r ∷ rs) f (suc j) = names-below n m (r .name ∷ used) rs (f .1) j
 
--- what the walks from the relations of a pack ask for
-settleable-pack : (p : Pack) → WellFormed p → Settleable (scanTable entryAfter zeros (words p)) zeros (declared (p .relations)) 0 (suc (length (declared (p .relations))))
+-- what walks with nothing settled ask for
+pub settleable-zeros : (table starts : List ℕ) (fuel : ℕ) → ((j : ℕ) → getD starts j 0 < 4096) → Leading table → length starts ≤ 4096 → fuel ≤ 4097 → Settleable table zeros starts 0 fuel
 unfolding Marked OnPath
-settleable-pack p w =
-    let h = parts p w in
-    let l : length (declared (p .relations)) ≡ length (p .relations) = length-map (p .relations) (λ (r : Relation). r .name) in
-    let k : ℕ = length (declared (p .relations)) in
-    let b : k ≤ 512 = omega (arith, h .few-relations) in
+settleable-zeros table starts fuel names leading h l =
     record {
-      names = names-below (p .names) (h .most) [] (p .relations) (h .relations-fine);
-      leading = indexes p w .leading;
+      names = names;
+      leading = leading;
       marked = λ n. rw (zero-at 4096 n) (omega arith);
       long = length-replicate {A = ℕ} 4096 0;
       idle = λ n. rw (zero-at 4096 n) refl;
-      room = let m : k * suc k ≤ 512 * suc k = mul-le-mul-right (suc k) b in omega arith;
+      room = let m : length starts * fuel ≤ 4096 * fuel = mul-le-mul-right fuel h in omega arith;
     }
+
+-- and those from the relations of a pack
+settleable-pack : (p : Pack) → WellFormed p → Settleable (scanTable entryAfter zeros (words p)) zeros (declared (p .relations)) 0 (suc (length (declared (p .relations))))
+settleable-pack p w =
+    let h = parts p w in
+    let l : length (declared (p .relations)) ≡ length (p .relations) = length-map (p .relations) (λ (r : Relation). r .name) in
+    let b : length (declared (p .relations)) ≤ 512 = omega (arith, h .few-relations) in
+    settleable-zeros (scanTable entryAfter zeros (words p)) (declared (p .relations)) (suc (length (declared (p .relations)))) (names-below (p .names) (h .most) [] (p .relations) (h .relations-fine))
+    (indexes p w .leading) (omega arith) (omega arith)
 
 pub same-pack : (ws : List ℕ) {p q : Pack} → read ws ≡ yes p → read ws ≡ yes q → p ≡ q
 same-pack ws e f = cc

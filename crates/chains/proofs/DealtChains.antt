@@ -10,7 +10,9 @@ use Rattle.pack.specs.Dealt.{Dealt}
 use Rattle.pack.proofs.PackLaws.{words-read}
 use Rattle.pack.proofs.DealtLaws.{shuffled-length}
 use Rattle.chains.specs.Kinds.{declared, undeclaredSources, ownAnswer, kindsOf}
-use Rattle.chains.specs.Operations.{placeOf, namesAt, allKindsWords, allKindsAnswer, leanAnswer, tableFrom, Filter, directly, innermostly, aliased, unresolvedly, says, filterWords, filterAnswer, filterBuffer}
+use Rattle.chains.specs.Operations.{placeOf, namesAt, allKindsWords, allKindsAnswer, leanAnswer, tableFrom, says, filterWords, filterAnswer, filterBuffer}
+use Rattle.chains.specs.declared.filtered.Filter.{Filter}
+use Rattle.chains.specs.declared.filtered.Filter.the-variants.{Direct, Innermost, Alias, Unresolved}
 use Rattle.chains.specs.Chain.{Distinct}
 use Rattle.chains.proofs.LeanLaws.{leans-dealt}
 use Rattle.chains.proofs.FilteredLaws.{filtered-dealt}
@@ -25,10 +27,10 @@ all-kinds-steps ws p h room r =
     simp (h, words-count p, le-leb (length (p .relations)) room r, kinds-steps (p .relations) (distinct-names p (words-read ws p h .fine)))
 
 filter-alike : (p q : Pack) → Distinct (declared (p .relations)) → Dealt p q → (f : Filter) (e : ℕ) → says f p e ≡ says f q e
-filter-alike p q u d directly e = rw (filtered-dealt (d .relations) u .directs e) refl
-filter-alike p q u d innermostly e = rw (d .names, filtered-dealt (d .relations) u .innermosts (q .names) e) refl
-filter-alike p q u d aliased e = rw (filtered-dealt (d .relations) u .aliases e) refl
-filter-alike p q u d unresolvedly e = rw (filtered-dealt (d .relations) u .unresolveds e) refl
+filter-alike p q u d Direct e = rw (filtered-dealt (d .relations) u .directs e) refl
+filter-alike p q u d Innermost e = rw (d .names, filtered-dealt (d .relations) u .innermosts (q .names) e) refl
+filter-alike p q u d Alias e = rw (filtered-dealt (d .relations) u .aliases e) refl
+filter-alike p q u d Unresolved e = rw (filtered-dealt (d .relations) u .unresolveds e) refl
 
 -- what a pack and one dealt out of it have alike
 pub record DealtAlike (ws vs : List ℕ) (p q : Pack) : Type 0 where

@@ -23,7 +23,12 @@ pub mod AllKindsLaws
 pub mod CheckedLaws
 pub mod SourceLaws
 pub mod TakingLaws
-pub mod OperationLaws
 pub mod ListAt
 pub mod TakenKnown
+pub mod FillLaws
+pub mod SaidLaws
+pub mod KindBounds
+pub mod InnerLaws
+pub mod SaysLaws
+pub mod OperationLaws
 pub mod DealtChains

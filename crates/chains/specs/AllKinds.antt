@@ -4,12 +4,11 @@ use mathlib.Core.Path.{_≡_}
 use mathlib.Core.List.{List}
 use mathlib.Core.Bool.{Bool, true}
 use lib.ListN.{length, getD}
-use Rattle.pack.specs.declared.answer.Answer.{Answer}
 use Rattle.pack.specs.Form.{among}
 use Rattle.pack.specs.Pack.{Pack, yes, read}
 use Rattle.chains.specs.Kinds.{declared, allKinds, ownAnswer}
 use Rattle.chains.specs.Reach.{leans}
-use Rattle.chains.specs.Operations.{placeOf, allKindsWords, allKindsAnswer, allKindsBuffer}
+use Rattle.chains.specs.Operations.{placeOf, allKindsWords}
 
 -- the words are those of a pack
 pub record IsPack (ws : List ℕ) : Type 0 where
@@ -47,8 +46,3 @@ pub record KindsMarked (ws : List ℕ) (steps : ℕ) (names marks : List ℕ) : 
 pub record KindsLeft (ws : List ℕ) (steps : ℕ) (out : List ℕ) : Type 0 where
   pub counts : (p : Pack) → read ws ≡ yes p → steps ≡ allKinds (p .relations) .steps
   pub holds : (p : Pack) → read ws ≡ yes p → out ≡ allKindsWords p
-
--- what holds of All kinds' answer and of the lent slice after it
-pub record KindsAnswered (ws lent : List ℕ) (a : Answer) (left : List ℕ) : Type 0 where
-  pub answers : a ≡ allKindsAnswer ws (length lent)
-  pub leaves : left ≡ allKindsBuffer ws lent

@@ -8,3 +8,4 @@ pub mod Index
 pub mod Settle
 pub mod AllKinds
 pub mod Taking
+pub mod Said

@@ -1,5 +1,6 @@
 -- What the operations on chains answer, and what they leave in the lent slice.
 use Prim.Native.Nat.{ℕ, zero, suc, _+_, _*_}
+use mathlib.Core.Path.{_≡_}
 use mathlib.Core.List.{List, [], _∷_, _++_, map}
 use mathlib.Core.Bool.{Bool, true, false}
 use mathlib.Core.Option.{Option, none, some}
@@ -12,6 +13,8 @@ use Rattle.pack.specs.Table as table
 use Rattle.pack.specs.Form.{wordsBy}
 use Rattle.pack.specs.Pack.{Hop, Relation, relation, Pack, read}
 use Rattle.pack.specs.Operations.{answer, buffer, noRoom}
+use Rattle.chains.specs.declared.filtered.Filter.{Filter}
+use Rattle.chains.specs.declared.filtered.Filter.the-variants.{Direct, Innermost, Alias, Unresolved}
 use Rattle.chains.specs.Kinds.{Which, list9, list21, find, allKinds, ownAnswer}
 use Rattle.chains.specs.Kinds as kinds
 use Rattle.chains.specs.Reach.{leans}
@@ -68,6 +71,11 @@ writeAnswer out steps room = pick (leb (length out) room) (Given (length out) st
 abbrev pub writeBuffer : List ℕ → List ℕ → List ℕ
 writeBuffer out lent = pick (leb (length out) (length lent)) (out ++ drop (length out) lent) lent
 
+-- what holds of the answer of an operation that writes, and of the lent slice after it
+pub record Answered (answer : List ℕ → ℕ → Answer) (buffer : List ℕ → List ℕ → List ℕ) (ws lent : List ℕ) (a : Answer) (left : List ℕ) : Type 0 where
+  pub answers : a ≡ answer ws (length lent)
+  pub leaves : left ≡ buffer ws lent
+
 -- "All kinds gives Check's refusals, then 16 if the slice has fewer words than relations. It writes, per relation in record order, the place ..;
 -- the answer carries the number of declarations it read."
 unfoldable pub allKindsAnswer : List ℕ → ℕ → Answer
@@ -105,17 +113,11 @@ orNone none = table.none
 orNone (some n) = n
 
 -- the filtered tables: what each says of a name
-pub data Filter : Type 0 where
-  directly : Filter
-  innermostly : Filter
-  aliased : Filter
-  unresolvedly : Filter
-
 abbrev pub says : Filter → Pack → ℕ → ℕ
-says directly p e = orNone (direct (p .relations) e)
-says innermostly p e = orNone (innermost (p .relations) (p .names) e)
-says aliased p e = yesNo (alias (p .relations) e)
-says unresolvedly p e = yesNo (unresolved (p .relations) e)
+says Direct p e = orNone (direct (p .relations) e)
+says Innermost p e = orNone (innermost (p .relations) (p .names) e)
+says Alias p e = yesNo (alias (p .relations) e)
+says Unresolved p e = yesNo (unresolved (p .relations) e)
 
 abbrev pub filterWords : Filter → Pack → List ℕ
 filterWords f p = tableFrom (says f p) 0 (p .names)

@@ -5,7 +5,8 @@ use crate::settle::places;
 use pack::answer::Answer;
 use pack::check::check;
 use pack::check::refuse;
-ghost use Rattle.chains.specs.AllKinds.{KindsAsked, KindsLeft, KindsAnswered};
+ghost use Rattle.chains.specs.Operations.{Answered, allKindsAnswer, allKindsBuffer};
+ghost use Rattle.chains.specs.AllKinds.{KindsAsked, KindsLeft};
 
 // The kinds of every relation of a checked pack, into a slice with one word for each; the answer is the number of declarations read.
 fn settle_kinds(pack: &[u32], out: &mut [u32]) -> u32
@@ -20,7 +21,7 @@ fn settle_kinds(pack: &[u32], out: &mut [u32]) -> u32
 
 // Each relation's kinds in record order, as the place of the list that settles it, 0 for none; the steps are the declarations read.
 pub fn all_kinds(pack: &[u32], out: &mut [u32]) -> Answer
-    ensures { λ r. ⌜ KindsAnswered (now (pack .entry)) (now (out .entry)) r (now (out .exit)) ⌝ }
+    ensures { λ r. ⌜ Answered allKindsAnswer allKindsBuffer (now (pack .entry)) (now (out .entry)) r (now (out .exit)) ⌝ }
 {
     let a = check(pack);
     let Answer::Given(_, _) = a else {

@@ -1,8 +1,9 @@
 // The chain walks: what relations inherit from their sources.
-// Three operations: the kinds of all relations (all_kinds) and of one name (kinds_of), and where sources lead (lean).
-// They share what a pack says of itself (header), the index of declarations by name (index), the walk (settle) and the
-// sources by name (sources).
+// Four operations: the kinds of all relations (all_kinds) and of one name (kinds_of), where sources lead (lean), and the
+// filtered tables (filtered). They share what a pack says of itself (header), the index of declarations by name (index),
+// the walk (settle, mark_kinds), the sources by name (sources) and the kinds that entities take (taking).
 pub mod all_kinds;
+pub mod filtered;
 mod header;
 mod index;
 pub mod kinds_of;
