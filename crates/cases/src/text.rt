@@ -40,7 +40,11 @@ fn with_digit(value: u32, d: u32, hex: bool) -> u64
     requires { ⌜ d < 16 ⌝ }
 {
     let v = value as u64;
-    if hex { v * 16 + d as u64 } else { v * 10 + d as u64 }
+    if hex {
+        v * 16 + d as u64
+    } else {
+        v * 10 + d as u64
+    }
 }
 
 // The number whose digits begin here: 0 where there are none. It ends before a digit that does not fit.
