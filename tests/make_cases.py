@@ -173,9 +173,10 @@ class Chains:
     """The answers of the chain operations."""
 
     def __init__(self, p):
-        self.pack, self.n, self.relations = p, p.records['n'], p.records['relations']
+        self.n, self.relations = p.records['n'], p.records['relations']
         self.declared = {r.name: r for r in self.relations}
-        assert len(self.declared) == len(self.relations)
+        self.labels = {w.label: i for i, w in enumerate(p) if w.label}
+        assert len(self.declared) == len(self.relations) and len(self.labels) == sum(1 for w in p if w.label)
         self.taken = {e: self.kinds_taken(e) for e in {r.derived.entity for r in self.relations if r.derived}}
         self.places = [self.place(r.name) for r in self.relations]
         self.steps = self.steps_read()
@@ -197,7 +198,7 @@ class Chains:
 
     def place(self, name):
         found = self.walk(name)
-        return place(self.pack, f'{found[0].tag}.{found[1]}') if found else 0
+        return self.labels[f'{found[0].tag}.{found[1]}'] if found else 0
 
     def steps_read(self):
         """The names read from each relation in turn, where a walk stops at a settled name."""
@@ -520,6 +521,7 @@ def names():
     p = every_kind()
     assert {w.kind for w in p} == {*range(1, 34), *SCALARS, *range(80, 87), *JUDGMENTS}
     ok('every-kind', p)
+    ask('every-kind', p, edges=True)
     ok('every-kind-lists-empty', pack(relations=[relation(0, derived=derivation(path=[], kinds=[], predicate=J(97, 0)))],
                                       rules=[rule(0, bodies=[S(68, 0), J(98, 0)])], blocks=[block(items=[])]))
     needed = {'defaulted.2': 'defaulted', 'plain.name': 'relation', 'r.slots.0': 'slot-kind', 'r.entities.1': 'slot-entity',
@@ -764,6 +766,7 @@ def places():
     p = medium()
     section(f'every place of a pack of {len(p)} words: cut there with the total patched, and not; another kind there')
     ok('medium', p)
+    ask('medium', p, edges=True)
     for i in range(6, len(p)):
         refused(f'cut-{i}', totalled(p[:i]), 3, i)
         refused(f'cut-{i}-total-kept', p[:i], 4, 0)
@@ -893,6 +896,7 @@ def by_chance():
     for k in range(24):
         p = chance_pack(r, *((12, 5) if k < 18 else (60, 20)))
         ok(f'chance-{k}', p)
+        ask(f'chance-{k}', p, sorted(r.name for r in p.records['relations'])[:4])
         i = 6 + r.below(len(p) - 6) if len(p) > 6 else 6
         if k % 3 == 0 and i < len(p):
             refused(f'chance-{k}-cut', totalled(p[:i]), 3, i)
@@ -966,13 +970,11 @@ def worked():
     table(m, 'alias', [0, 0, 0, 1, 1, 0, 1, 0])
     table(m, 'unresolved', [1, 0, 0, 0, 0, 0, 0, 0])
     # field 12 leads on whatever else the declaration says
+    every = [(a, b) for a in range(8) for b in range(8)]
     m = chained_pack('leaning', 8, [follows(1, 2), follows(2, 3, kinds=[1]), follows(3, 4, path=[(7, 0, 1)]), relation(
-        4, kinds=[5], derived=derivation(source=5)), follows(6, 6), relation(7, kinds=[1])])
-    leans = {(1, 2), (1, 3), (1, 4), (1, 5), (2, 3), (2, 4), (2, 5), (3, 4), (3, 5), (4, 5), (6, 6)}
-    assert {(a, b) for a in range(8) for b in range(8) if m.lean(a, b)} == leans
-    for a in range(8):
-        for b in range(8):
-            call(cases[-1].name, 'lean', (a, b), f'given {int((a, b) in leans)} 0')
+        4, kinds=[5], derived=derivation(source=5)), follows(6, 6), relation(7, kinds=[1])], pairs=every)
+    leans = [(1, 2), (1, 3), (1, 4), (1, 5), (2, 3), (2, 4), (2, 5), (3, 4), (3, 5), (4, 5), (6, 6)]
+    assert [pair for pair in every if m.lean(*pair)] == leans
 
 
 def graphs():
@@ -1024,8 +1026,8 @@ def lists():
     chained_pack('lists-before-rules', 6, between, rules=[rule(1, bodies=[S(64, 0), tree])] * 2, blocks=[block(2, [item(3, 1, 4)])])
 
 
-def sizes():
-    section('chains: 512 relations, none, N = 1 and N = 4,096')
+def large_chains():
+    section('chains: 512 relations')
     n, some = 700, (0, 1, 255, 510, 511, 512, 699)
     pairs = [(0, 1), (0, 511), (511, 0), (0, 0), (511, 512), (512, 0), (255, 254), (600, 0)]
 
@@ -1049,6 +1051,10 @@ def sizes():
     large('pairs', flat([[relation(i, kinds=[i, i + 1]), follows(i + 1, i)] for i in range(0, 512, 2)]))
     large('own', [relation(i, kinds=[i]) for i in range(512)])
     large('plain', [relation(i) for i in range(512)], deal=False)
+
+
+def sizes():
+    section('chains: N = 1 and N = 4,096, no relations, and large rooms')
     ends = [0, 1, 511, 512, 4094, 4095]
     m = chained_pack('undeclared-512', 4096, [follows(i, 1000 + i) for i in range(512)], ends, [(0, 1000), (1000, 0), (511, 1511), (511, 1510)], [], True)
     assert m.steps == 1024
@@ -1135,15 +1141,11 @@ def chains_by_chance():
                      for x in range(n) if r.below(4)]
         dealt = [x for _, x in sorted((r.below(1000), x) for x in range(len(relations)))]
         chained_pack(f'graph-{i}', n, relations, deals=[[relations[x] for x in dealt]])
-    section('chains: packs of the sections above')
-    for title, p in (('every-kind', every_kind()), ('medium', medium())):
-        ok(f'{title}-chains', p, [len(p)])
-        ask(f'{title}-chains', p, edges=True)
 
 
 def main():
     for part in (lengths, limits, names, values, counts, any_values, depth, order, rising, used, places, heads, by_chance,
-                 worked, graphs, lists, sizes, entities, damaged_chains, chains_by_chance):
+                 worked, graphs, lists, large_chains, sizes, entities, damaged_chains, chains_by_chance):
         part()
     folder = os.path.join(os.path.dirname(os.path.abspath(__file__)), '..', 'crates', 'cases')
     words = [w for c in cases for w in c.words]
