@@ -997,13 +997,18 @@ def graphs():
     chained_pack('shared-tail', 8, [follows(0, 2), follows(1, 2), follows(2, 3), relation(3, kinds=[7]), follows(4, 2), follows(5, 3)])
     chained_pack('shared-tail-to-nothing', 8, [follows(0, 2), follows(1, 2), follows(2, 3), relation(3), follows(4, 2)])
     chained_pack('two-tails', 8, [follows(0, 2), follows(1, 3), relation(2, kinds=[4]), relation(3, kinds=[5, 6])])
-    chained_pack('undeclared-shared', 10, [follows(0, 9), follows(1, 9), follows(2, 8), follows(3, 9), follows(4, 0), follows(5, 8)])
-    chained_pack('undeclared-not-read', 10, [follows(0, 9, path=[]), follows(1, 8, kinds=[2]), follows(2, 7, path=[(9, 0, 1)] * 8),
-                                              relation(3, kinds=[6], derived=derivation(source=6)), follows(4, 0)])
-    chained_pack('undeclared-read-and-not', 10, [follows(0, 9, path=[]), follows(1, 9)])
+    m = chained_pack('undeclared-shared', 10, [follows(0, 9), follows(1, 9), follows(2, 8), follows(3, 9), follows(4, 0), follows(5, 8)])
+    assert m.steps == 6 + 2
+    m = chained_pack('undeclared-not-read', 10, [follows(0, 9, path=[]), follows(1, 8, kinds=[2]), follows(2, 7, path=[(9, 0, 1)] * 8),
+                                                 relation(3, kinds=[6], derived=derivation(source=6)), follows(4, 0)])
+    assert m.steps == 5
+    m = chained_pack('undeclared-read-and-not', 10, [follows(0, 9, path=[]), follows(1, 9)])
+    assert m.steps == 2 + 1
     for k in (0, 1, 8):
         chained_pack(f'path-of-{k}', 6, [follows(0, 1, path=[(1, 0, 1)] * k), relation(1, kinds=[4, 5]), follows(2, 0)])
-        chained_pack(f'path-of-{k}-list-21', 6, [follows(0, 1, path=[(1, 0, 1)] * k, kinds=[3]), relation(1, kinds=[4, 5]), follows(2, 0)])
+        m = chained_pack(f'path-of-{k}-list-21', 6, [follows(0, 1, path=[(1, 0, 1)] * k, kinds=[3]), relation(1, kinds=[4, 5]), follows(2, 0)])
+        # after 6 to 9, 11 to 13, the path and 17 to 20
+        assert m.places[0] == m.places[2] == 4 + 4 + 3 + 3 * k + 4
     chained_pack('source-none', 4, [relation(0, derived=derivation()), follows(1, 0), relation(2, kinds=[3], derived=derivation())])
     chained_pack('source-none-path', 4, [relation(0, derived=derivation(path=[])), follows(1, 0)])
 
@@ -1015,8 +1020,10 @@ def lists():
         chained_pack(f'list-9-of-{a}', 9, [relation(0, kinds=nine), follows(1, 0)])
         for b in (0, 1, 8):
             own = derivation(source=2, kinds=range(9 - b, 9))
-            chained_pack(f'list-9-of-{a}-and-21-of-{b}', 9, [
+            m = chained_pack(f'list-9-of-{a}-and-21-of-{b}', 9, [
                 relation(0, kinds=nine, derived=own), follows(1, 0), relation(2, kinds=[3, 4]), relation(3, kinds=[1])])
+            # list 21 after list 9, 11 to 13 and 17 to 20, else list 9, else that of relation 2
+            assert m.places[1] == (8 + a + 3 + 4 if b else 7 if a else 4 + 13 + 13 + 3)
     section('chains: where lists stand: defaulted names before, rules and blocks after, trees between')
     tree = J(97, 2, J(101, 1, F(80, 0), F(81, 1)), J(103, 1, F(85, 2), J(100, 0, J(104, 3))))
     between = [relation(2, kinds=[1], derived=derivation(source=1, predicate=tree)), follows(3, 2, predicate=tree),
@@ -1060,7 +1067,8 @@ def sizes():
     assert m.steps == 1024
     chained_pack('names-4096', 4096, [follows(4095, 0), follows(0, 4094), relation(4094, kinds=[4095, 0]), entity_of(7, 4095, [4095])], ends, edges=True)
     chained_pack('no-relations-4096', 4096, [], ends, edges=True)
-    chained_pack('after-512-defaulted', 4096, [follows(4095, 1), relation(1, kinds=[2])], ends, edges=True, defaulted=range(512))
+    m = chained_pack('after-512-defaulted', 4096, [follows(4095, 1), relation(1, kinds=[2])], ends, edges=True, defaulted=range(512))
+    assert m.places == [4 + 512 + 13 + 3] * 2
     chained_pack('names-1', 1, [follows(0, 0)], edges=True)
     chained_pack('names-1-kinds', 1, [relation(0, kinds=[0], derived=derivation(entity=0))], edges=True)
     chained_pack('names-1-nothing', 1, [], edges=True)
