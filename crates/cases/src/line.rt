@@ -158,7 +158,7 @@ pub fn is_call(line: &[u8]) -> bool {
     stands(line, name_end(line), b" > ")
 }
 
-// What stands before the answer: the case, the operation and its arguments.
+// Where the case, the operation and its arguments end, which stand before the answer.
 pub fn call_end(line: &[u8]) -> usize
     ensures { λ r. ⌜ r ≤ length (now (line .entry)) ⌝ }
 {
