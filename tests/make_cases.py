@@ -3,16 +3,22 @@
 
 Nothing here reads a pack. A good pack is put together from records and trees; a damaged one is a good one in which a word
 that is known by its label is changed. So the answer that document 01 gives to a pack follows from how the pack was made.
+What the chain operations answer follows from the records, by the model below.
 
-A line of the list is a comment, which begins with #, or a case:
+A line of the list is a comment, which begins with #, a case, or a call on the pack of the case above it:
 
     NAME | ok, or refused NUMBER PLACE NAME OTHER | WORDS | ROOM .. | the words of the pack
+    NAME > OPERATION ARGUMENT .. | given VALUE STEPS, or refused NUMBER PLACE NAME OTHER | the words written
 
-The number of words and the rooms for Rewrite are decimal, the words hexadecimal. `W*N` is the word W N times, `(V W)*N` the
-words V W N times, and a word with `+S` is larger by S each time.
+The number of words, the rooms for Rewrite and the arguments are decimal, the words hexadecimal. `W*N` is the word W N times,
+`(V W)*N` the words V W N times, and a word with `+S` is larger by S each time. The argument of an operation that writes is
+the room it is lent, that of kinds_of a name; lean has two names.
 """
 import os
 from collections import namedtuple
+
+# the operations that the program runs: calls of others are left out of the list
+RUN = ('all_kinds', 'kinds_of')
 
 NONE = 0xFFFFFF
 SCALARS = range(64, 79)
@@ -52,19 +58,33 @@ def names_list(kind, names, tag, label):
         F(10, n, dotted(tag, f'{label}.{i}')) for i, n in enumerate(names))
 
 
-def derivation(source=NONE, path=None, slots=(0, 1), entity=NONE, member=NONE, kinds=(), predicate=None, tag=None):
-    hops = path or ()
-    return (F(12, source, dotted(tag, 'source')) + F(13, NONE if path is None else len(path), dotted(tag, 'path'))
-            + flat(F(14, r, dotted(tag, f'step{i}.relation')) + F(15, a, dotted(tag, f'step{i}.current'))
-                   + F(16, b, dotted(tag, f'step{i}.related')) for i, (r, a, b) in enumerate(hops))
-            + F(17, slots[0], dotted(tag, 'current')) + F(18, slots[1], dotted(tag, 'related'))
-            + F(19, entity, dotted(tag, 'entity')) + F(20, member, dotted(tag, 'member'))
-            + names_list(21, kinds, tag, 'entities') + (J(104, 0) if predicate is None else predicate))
+# path: None for no path, or its steps; kinds: list 21
+Derivation = namedtuple('Derivation', 'source path slots entity member kinds predicate')
+# kinds: list 9; derived: its derivation or None; tag: what the labels of its words begin with
+Relation = namedtuple('Relation', 'name origin arity kinds derived tag')
+
+
+def derivation(source=NONE, path=None, slots=(0, 1), entity=NONE, member=NONE, kinds=(), predicate=None):
+    return Derivation(source, path, slots, entity, member, list(kinds), J(104, 0) if predicate is None else predicate)
 
 
 def relation(name, origin=NONE, arity=2, kinds=(), derived=None, tag=None):
-    return (F(6, name, dotted(tag, 'name')) + F(7, origin, dotted(tag, 'origin')) + F(8, arity, dotted(tag, 'arity'))
-            + names_list(9, kinds, tag, 'slots') + F(11, 0 if derived is None else 1, dotted(tag, 'flag')) + (derived or []))
+    return Relation(name, origin, arity, list(kinds), derived, f'relation {name}' if tag is None else tag)
+
+
+def derivation_words(d, tag):
+    return (F(12, d.source, dotted(tag, 'source')) + F(13, NONE if d.path is None else len(d.path), dotted(tag, 'path'))
+            + flat(F(14, r, dotted(tag, f'step{i}.relation')) + F(15, a, dotted(tag, f'step{i}.current'))
+                   + F(16, b, dotted(tag, f'step{i}.related')) for i, (r, a, b) in enumerate(d.path or ()))
+            + F(17, d.slots[0], dotted(tag, 'current')) + F(18, d.slots[1], dotted(tag, 'related'))
+            + F(19, d.entity, dotted(tag, 'entity')) + F(20, d.member, dotted(tag, 'member'))
+            + names_list(21, d.kinds, tag, 'entities') + d.predicate)
+
+
+def relation_words(r):
+    return (F(6, r.name, dotted(r.tag, 'name')) + F(7, r.origin, dotted(r.tag, 'origin')) + F(8, r.arity, dotted(r.tag, 'arity'))
+            + names_list(9, r.kinds, r.tag, 'slots') + F(11, 0 if r.derived is None else 1, dotted(r.tag, 'flag'))
+            + (derivation_words(r.derived, r.tag) if r.derived else []))
 
 
 def body(tree, tag=None):
@@ -85,13 +105,21 @@ def block(origin=NONE, items=None, tag=None):
     return F(29, origin, dotted(tag, 'origin')) + F(30, NONE if items is None else len(items), dotted(tag, 'items')) + flat(items or [])
 
 
+class Pack(list):
+    """The words of a good pack, with what it was made of. A changed copy is a plain list."""
+
+    def __init__(self, words, **records):
+        super().__init__(words)
+        self.records = records
+
+
 def pack(n=1, defaulted=(), relations=(), rules=(), blocks=()):
     p = (F(1, 0, 'total') + F(2, n, 'N') + F(3, len(defaulted), 'defaulted')
          + flat(F(4, d, f'defaulted.{i}') for i, d in enumerate(defaulted))
-         + F(5, len(relations), 'relations') + flat(relations)
+         + F(5, len(relations), 'relations') + flat(map(relation_words, relations))
          + F(22, len(rules), 'rules') + flat(rules)
          + F(28, len(blocks), 'blocks') + flat(blocks))
-    return totalled(p)
+    return Pack(totalled(p), n=n, defaulted=defaulted, relations=list(relations), rules=rules, blocks=blocks)
 
 
 # ---- changing a pack
@@ -126,11 +154,128 @@ def fits(w, kind):
     return kind in {'either': (82, 84), 'scalar': SCALARS, 'judgment': JUDGMENTS}[w.takes]
 
 
+# ---- what document 01 says of chains, over the records of a good pack
+
+TABLES = ('direct', 'innermost', 'alias', 'unresolved')
+
+
+def declaration(r):
+    """One declaration read, None where the name is undeclared: the list that settles it and the name that it leads on to, if any."""
+    d = r.derived if r else None
+    if d and d.kinds:
+        return 'entities', None
+    if d and not r.kinds:
+        return None, d.source if d.source != NONE and d.path is None else None
+    return 'slots' if r and r.kinds else None, None
+
+
+class Chains:
+    """The answers of the chain operations."""
+
+    def __init__(self, p):
+        self.n, self.relations = p.records['n'], p.records['relations']
+        self.declared = {r.name: r for r in self.relations}
+        self.labels = {w.label: i for i, w in enumerate(p) if w.label}
+        assert len(self.declared) == len(self.relations) and len(self.labels) == sum(1 for w in p if w.label)
+        self.taken = {e: self.kinds_taken(e) for e in {r.derived.entity for r in self.relations if r.derived}}
+        self.places = [self.place(r.name) for r in self.relations]
+        self.steps = self.steps_read()
+
+    def walk(self, name):
+        """A name's own walk: the relation whose list settles it and which of its lists, or None."""
+        path = set()
+        while name is not None and name not in path:
+            path.add(name)
+            found, onward = declaration(self.declared.get(name))
+            if found:
+                return self.declared[name], found
+            name = onward
+        return None
+
+    def kinds(self, name):
+        found = self.walk(name)
+        return found and (found[0].kinds if found[1] == 'slots' else found[0].derived.kinds)
+
+    def place(self, name):
+        found = self.walk(name)
+        return self.labels[f'{found[0].tag}.{found[1]}'] if found else 0
+
+    def steps_read(self):
+        """The names read from each relation in turn, where a walk stops at a settled name."""
+        settled, steps = set(), 0
+        for r in self.relations:
+            name, path = r.name, set()
+            while name is not None and name not in settled and name not in path:
+                path.add(name)
+                steps += 1
+                name = declaration(self.declared.get(name))[1]
+            settled |= path
+        # so each relation once, and each undeclared source that an inheriting relation names
+        sources = {declaration(r)[1] for r in self.relations} - {None} - self.declared.keys()
+        assert steps == len(self.relations) + len(sources)
+        return steps
+
+    def lean(self, a, b):
+        seen = set()
+        while a not in seen:
+            seen.add(a)
+            r = self.declared.get(a)
+            if r is None or r.derived is None or r.derived.source == NONE:
+                return 0
+            a = r.derived.source
+            if a == b:
+                return 1
+        return 0
+
+    def kinds_taken(self, e):
+        out = []
+        for r in self.relations:
+            if r.derived and r.derived.entity == e:
+                out += (self.kinds(r.name) or [])[r.derived.slots[0]:][:1]
+        return out
+
+    def direct(self, e):
+        kinds = set(self.taken.get(e, []))
+        return kinds.pop() if len(kinds) == 1 else NONE
+
+    def innermost(self, e):
+        if self.direct(e) == NONE:
+            return NONE
+        met = set()
+        while e not in met:
+            met.add(e)
+            onward = self.direct(e)
+            if onward in (NONE, e):
+                return e
+            e = onward
+        return NONE
+
+    def alias(self, e):
+        return int(any(k != e for k in self.taken.get(e, [])))
+
+    def unresolved(self, e):
+        return int(e in self.taken and not self.taken[e])
+
+    def answer(self, operation, args):
+        """The answer, and the words written."""
+        if operation == 'all_kinds' or operation in TABLES:
+            words = self.places if operation == 'all_kinds' else [getattr(self, operation)(e) for e in range(self.n)]
+            steps = self.steps if operation == 'all_kinds' else 0
+            return (f'given {len(words)} {steps}', words) if len(words) <= args[0] else ('refused 16 0 0 0', [])
+        for name in args:
+            if self.n <= name:
+                return f'refused 17 0 {name} 0', []
+        value = self.place(*args) if operation == 'kinds_of' else self.lean(*args)
+        return f'given {value} 0', []
+
+
 # ---- the list
 
 Case = namedtuple('Case', 'name expected words rooms')
+Call = namedtuple('Call', 'case operation args expected words')
 lines = []
 cases = []
+calls = []
 
 
 def section(text):
@@ -159,6 +304,45 @@ def refused(name, p, n, at, named=0, rooms=None):
     add(name, p, f'refused {n} {at} {named} 0', rooms)
 
 
+def call(case, operation, args, expected, words=()):
+    """A call on the pack of the last case."""
+    assert case == cases[-1].name and all(0 <= a < 2 ** 32 for a in args)
+    if operation in RUN:
+        calls.append(Call(case, operation, args, expected, words))
+        lines.append(calls[-1])
+
+
+def rooms_about(k):
+    return sorted({0, max(k - 1, 0), k, k + 3})
+
+
+def ask(name, p, known=None, pairs=None, edges=False):
+    """Calls of every operation on the good pack of the last case, for the names and the pairs of names given; at the edges of rooms and names too."""
+    model = Chains(p)
+    n = model.n
+    met = sorted(model.declared.keys() | {r.derived.source for r in model.relations if r.derived} - {NONE})
+    known = (range(n) if edges else met) if known is None else known
+    pairs = [(a, b) for a in met[:3] for b in met[:3]] if pairs is None else pairs
+    if edges:
+        known = [*known, n, 2 ** 32 - 1]
+        pairs = [*pairs, (0, n), (n, 0), (n, 2 ** 32 - 1), (2 ** 32 - 1, n)]
+    rooms = lambda k: [(r,) for r in (rooms_about(k) if edges else [k + len(cases) % 3])]
+    asked = [('all_kinds', rooms(len(model.relations))), ('kinds_of', [(x,) for x in known]), ('lean', pairs)]
+    for operation, each in asked + [(t, rooms(n)) for t in TABLES]:
+        for args in each:
+            call(name, operation, args, *model.answer(operation, args))
+
+
+def ask_refused(name, n, k):
+    """Calls of every operation on the damaged pack of the last case, of about so many names and relations: Check's refusal."""
+    for operation in ('all_kinds', *TABLES):
+        for room in rooms_about(k if operation == 'all_kinds' else n):
+            call(name, operation, (room,), cases[-1].expected)
+    for x in (0, n - 1, n, 2 ** 32 - 1):
+        call(name, 'kinds_of', (x,), cases[-1].expected)
+        call(name, 'lean', (x, n), cases[-1].expected)
+
+
 # ---- writing words short
 
 def turns(words, i, g):
@@ -172,23 +356,27 @@ def turns(words, i, g):
     return n, steps
 
 
-def short(words):
+def short(words, digits=8):
     out, i = [], 0
     while i < len(words):
         best = (8, 1, 1, [0])
-        for g in range(1, 25):
+        for g in range(1, 28):
             n, steps = turns(words, i, g)
             if n >= 3 and (n - 1) * g > best[0]:
                 best = ((n - 1) * g, g, n, steps)
         _, g, n, steps = best
-        texts = [f'{w:08X}' + (f'+{s}' if s else '') for w, s in zip(words[i:i + g], steps)]
+        texts = [f'{w:0{digits}X}' + (f'+{s}' if s else '') for w, s in zip(words[i:i + g], steps)]
         out.append(texts[0] if g == 1 else '(' + ' '.join(texts) + ')')
         out[-1] += f'*{n}' if n > 1 else ''
         i += g * n
     return ' '.join(out)
 
 
-def text_of(case):
+def text_of(line):
+    if isinstance(line, Call):
+        args = ' '.join(map(str, line.args))
+        return f'{line.case} > {line.operation} {args} | {line.expected} | {short(line.words, 1)}'.rstrip()
+    case = line
     rooms = ' '.join(map(str, case.rooms))
     return f'{case.name} | {case.expected} | {len(case.words)} | {rooms} | {short(case.words)}'.rstrip()
 
@@ -218,7 +406,7 @@ def every_kind():
             relation(1, kinds=[2, 3], tag='plain'),
             relation(5, origin=6, arity=0, derived=derivation(source=1, entity=9, member=1, predicate=J(101, 1, F(80, 0), F(81, 1)))),
             relation(11, origin=59, arity=NONE, kinds=[4], tag='r', derived=derivation(
-                source=5, path=[(1, 0, NONE)], slots=(NONE, NONE), entity=2, member=3, kinds=[6, 7], predicate=judgments, tag='r')),
+                source=5, path=[(1, 0, NONE)], slots=(NONE, NONE), entity=2, member=3, kinds=[6, 7], predicate=judgments)),
             relation(0, derived=derivation(path=[], kinds=list(range(8)), predicate=J(104, 1))),
             relation(58, kinds=list(range(10, 18)), derived=derivation(
                 path=[(i, i, i + 1) for i in range(8)], predicate=J(105, 59)))],
@@ -299,7 +487,7 @@ def limits():
     count('defaulted', lambda k: pack(n=4096, defaulted=range(k)), 512, 'defaulted')
     count('relations', lambda k: pack(n=4096, relations=[relation(i) for i in range(k)]), 512, 'relations')
     count('slots', lambda k: pack(n=9, relations=[relation(0, kinds=range(k), tag='r')]), 8, 'r.slots')
-    count('entities', lambda k: pack(n=9, relations=[relation(0, derived=derivation(kinds=range(k), tag='r'))]), 8, 'r.entities')
+    count('entities', lambda k: pack(n=9, relations=[relation(0, tag='r', derived=derivation(kinds=range(k)))]), 8, 'r.entities')
     count('rules', lambda k: pack(rules=[rule(0)] * k), 1024, 'rules')
     count('bodies', lambda k: pack(rules=[rule(0, bodies=[S(64, 0)] * k, tag='r')]), 64, 'r.bodies')
     count('blocks', lambda k: pack(blocks=[block()] * k), 64, 'blocks')
@@ -308,7 +496,7 @@ def limits():
     refused('bodies-0', none, 4, 'r.bodies')
 
     def path(k):
-        return pack(relations=[relation(0, derived=derivation(path=[(0, 1, 0)] * k, tag='r'))])
+        return pack(relations=[relation(0, tag='r', derived=derivation(path=[(0, 1, 0)] * k))])
 
     def items(k):
         return pack(n=2, blocks=[block(items=[item(1, 1, 0)] * k, tag='b')])
@@ -333,6 +521,7 @@ def names():
     p = every_kind()
     assert {w.kind for w in p} == {*range(1, 34), *SCALARS, *range(80, 87), *JUDGMENTS}
     ok('every-kind', p)
+    ask('every-kind', p, edges=True)
     ok('every-kind-lists-empty', pack(relations=[relation(0, derived=derivation(path=[], kinds=[], predicate=J(97, 0)))],
                                       rules=[rule(0, bodies=[S(68, 0), J(98, 0)])], blocks=[block(items=[])]))
     needed = {'defaulted.2': 'defaulted', 'plain.name': 'relation', 'r.slots.0': 'slot-kind', 'r.entities.1': 'slot-entity',
@@ -577,6 +766,7 @@ def places():
     p = medium()
     section(f'every place of a pack of {len(p)} words: cut there with the total patched, and not; another kind there')
     ok('medium', p)
+    ask('medium', p, edges=True)
     for i in range(6, len(p)):
         refused(f'cut-{i}', totalled(p[:i]), 3, i)
         refused(f'cut-{i}-total-kept', p[:i], 4, 0)
@@ -706,6 +896,7 @@ def by_chance():
     for k in range(24):
         p = chance_pack(r, *((12, 5) if k < 18 else (60, 20)))
         ok(f'chance-{k}', p)
+        ask(f'chance-{k}', p, sorted(r.name for r in p.records['relations'])[:4])
         i = 6 + r.below(len(p) - 6) if len(p) > 6 else 6
         if k % 3 == 0 and i < len(p):
             refused(f'chance-{k}-cut', totalled(p[:i]), 3, i)
@@ -717,8 +908,252 @@ def by_chance():
             refused(f'chance-{k}-left-over', totalled(p + F(r.below(256), r.below(2 ** 24))), 8, len(p))
 
 
+# ---- sections of the list for the chain operations
+
+def chained_pack(name, n, relations, known=None, pairs=None, deals=None, edges=False, **rest):
+    """A case with calls of every operation, and copies with the relations dealt out again: reversed, unless it is said how."""
+    p = pack(n=n, relations=relations, **rest)
+    ok(name, p, [len(p)])
+    ask(name, p, known, pairs, edges)
+    if deals is None:
+        deals = [relations[::-1]] if len(relations) > 1 else []
+    for i, dealt in enumerate(deals):
+        assert sorted(r.name for r in dealt) == sorted(r.name for r in relations)
+        q = pack(n=n, relations=dealt, **rest)
+        ok(f'{name}-dealt-{i}', q, [len(q)])
+        ask(f'{name}-dealt-{i}', q, known, None if pairs is None else pairs[:4])
+    return Chains(p)
+
+
+def follows(name, source, **rest):
+    """A relation with both lists empty that inherits from its source, unless more is said."""
+    return relation(name, derived=derivation(source=source, **rest))
+
+
+def entity_of(name, entity, kinds, slot=0):
+    """A derived relation of the entity, with list 21."""
+    return relation(name, derived=derivation(slots=(slot, 9), entity=entity, kinds=kinds))
+
+
+def worked():
+    section("chains: 01's worked cases; the values are the paper's, and the places counted by hand")
+
+    def by_hand(name, relations, kinds, steps, words):
+        m = chained_pack(name, 10, relations, edges=True)
+        assert [m.kinds(r.name) for r in relations] == kinds and m.steps == steps and m.places == words, name
+
+    by_hand('K1', [relation(5, kinds=[1, 2]), follows(6, 5)], [[1, 2], [1, 2]], 2, [7, 7])
+    by_hand('K2', [follows(5, 6), follows(6, 5)], [None, None], 2, [0, 0])
+    by_hand('K3', [follows(5, 9)], [None], 2, [0])
+    by_hand('K4', [follows(5, 5)], [None], 1, [0])
+    by_hand('K5', [follows(6, 5, path=[])], [None], 1, [0])
+    by_hand('K5-declared', [relation(5, kinds=[1, 2]), follows(6, 5, path=[])], [[1, 2], None], 2, [7, 0])
+    by_hand('K6', [relation(5, kinds=[1, 2], derived=derivation(kinds=[2, 1]))], [[2, 1]], 1, [17])
+
+    def table(m, name, words):
+        assert m.answer(name, (m.n,)) == (f'given {m.n} 0', words), (name, m.answer(name, (m.n,)))
+
+    x = NONE
+    m = chained_pack('I1', 7, [entity_of(0, 3, [4]), entity_of(1, 4, [3]), entity_of(2, 5, [3])], edges=True)
+    table(m, 'direct', [x, x, x, 4, 3, 3, x])
+    table(m, 'innermost', [x] * 7)
+    table(m, 'alias', [0, 0, 0, 1, 1, 1, 0])
+    table(m, 'unresolved', [0] * 7)
+    m = chained_pack('A4', 6, [relation(5, kinds=[1, 2]), entity_of(4, 3, [2, 0])])
+    table(m, 'direct', [x, x, x, 2, x, x])
+    table(m, 'innermost', [x, x, x, 2, x, x])
+    # 3 on to 4, 4 on to 5, 5 to itself; 6 takes 0 and 1; 0 is named and takes nothing
+    m = chained_pack('innermost-itself', 8, [entity_of(1, 3, [4]), entity_of(2, 4, [5]), entity_of(3, 5, [5]),
+                                              entity_of(4, 6, [0]), entity_of(5, 6, [1]), entity_of(6, 0, [])])
+    table(m, 'direct', [x, x, x, 4, 5, 5, x, x])
+    table(m, 'innermost', [x, x, x, 5, 5, 5, x, x])
+    table(m, 'alias', [0, 0, 0, 1, 1, 0, 1, 0])
+    table(m, 'unresolved', [1, 0, 0, 0, 0, 0, 0, 0])
+    # field 12 leads on whatever else the declaration says
+    every = [(a, b) for a in range(8) for b in range(8)]
+    m = chained_pack('leaning', 8, [follows(1, 2), follows(2, 3, kinds=[1]), follows(3, 4, path=[(7, 0, 1)]), relation(
+        4, kinds=[5], derived=derivation(source=5)), follows(6, 6), relation(7, kinds=[1])], pairs=every)
+    leans = [(1, 2), (1, 3), (1, 4), (1, 5), (2, 3), (2, 4), (2, 5), (3, 4), (3, 5), (4, 5), (6, 6)]
+    assert [pair for pair in every if m.lean(*pair)] == leans
+
+
+def graphs():
+    section('chains: chains and rings of 1, 2 and 3, what leads there, and sources that are not declared')
+    owner = relation(4, kinds=[1, 2])
+    for k in (1, 2, 3):
+        links = [follows(i, i + 1 if i + 1 < k else 4) for i in range(k)]
+        chained_pack(f'chain-{k}', 6, links + [owner])
+        chained_pack(f'chain-{k}-owner-first', 6, [owner] + links)
+        chained_pack(f'chain-{k}-to-nothing', 6, links + [relation(4)])
+        chained_pack(f'chain-{k}-undeclared', 6, links)
+        ring = [follows(i, (i + 1) % k) for i in range(k)]
+        chained_pack(f'ring-{k}', 4, ring)
+        chained_pack(f'ring-{k}-fed', 7, [follows(5, 4), follows(4, k - 1)] + ring + [follows(6, 0)])
+        chained_pack(f'ring-{k}-fed-after', 7, ring + [follows(4, 0), follows(5, 4), follows(6, k - 1)])
+    chained_pack('two-rings', 8, [follows(0, 1), follows(1, 0), follows(2, 3), follows(3, 4), follows(4, 2), follows(5, 2), follows(6, 0)])
+    chained_pack('ring-cut-by-a-list', 6, [follows(0, 1), follows(1, 2, kinds=[5]), follows(2, 0)])
+    chained_pack('ring-cut-by-list-9', 6, [follows(0, 1), relation(1, kinds=[5], derived=derivation(source=2)), follows(2, 0)])
+    chained_pack('ring-cut-by-a-path', 6, [follows(0, 1), follows(1, 2, path=[]), follows(2, 0)])
+    chained_pack('shared-tail', 8, [follows(0, 2), follows(1, 2), follows(2, 3), relation(3, kinds=[7]), follows(4, 2), follows(5, 3)])
+    chained_pack('shared-tail-to-nothing', 8, [follows(0, 2), follows(1, 2), follows(2, 3), relation(3), follows(4, 2)])
+    chained_pack('two-tails', 8, [follows(0, 2), follows(1, 3), relation(2, kinds=[4]), relation(3, kinds=[5, 6])])
+    m = chained_pack('undeclared-shared', 10, [follows(0, 9), follows(1, 9), follows(2, 8), follows(3, 9), follows(4, 0), follows(5, 8)])
+    assert m.steps == 6 + 2
+    m = chained_pack('undeclared-not-read', 10, [follows(0, 9, path=[]), follows(1, 8, kinds=[2]), follows(2, 7, path=[(9, 0, 1)] * 8),
+                                                 relation(3, kinds=[6], derived=derivation(source=6)), follows(4, 0)])
+    assert m.steps == 5
+    m = chained_pack('undeclared-read-and-not', 10, [follows(0, 9, path=[]), follows(1, 9)])
+    assert m.steps == 2 + 1
+    for k in (0, 1, 8):
+        chained_pack(f'path-of-{k}', 6, [follows(0, 1, path=[(1, 0, 1)] * k), relation(1, kinds=[4, 5]), follows(2, 0)])
+        m = chained_pack(f'path-of-{k}-list-21', 6, [follows(0, 1, path=[(1, 0, 1)] * k, kinds=[3]), relation(1, kinds=[4, 5]), follows(2, 0)])
+        # after 6 to 9, 11 to 13, the path and 17 to 20
+        assert m.places[0] == m.places[2] == 4 + 4 + 3 + 3 * k + 4
+    chained_pack('source-none', 4, [relation(0, derived=derivation()), follows(1, 0), relation(2, kinds=[3], derived=derivation())])
+    chained_pack('source-none-path', 4, [relation(0, derived=derivation(path=[])), follows(1, 0)])
+
+
+def lists():
+    section('chains: lists of 1 and 8 in list 9 and in list 21, alone and both, and which settles')
+    for a in (0, 1, 8):
+        nine = list(range(a))
+        chained_pack(f'list-9-of-{a}', 9, [relation(0, kinds=nine), follows(1, 0)])
+        for b in (0, 1, 8):
+            own = derivation(source=2, kinds=range(9 - b, 9))
+            m = chained_pack(f'list-9-of-{a}-and-21-of-{b}', 9, [
+                relation(0, kinds=nine, derived=own), follows(1, 0), relation(2, kinds=[3, 4]), relation(3, kinds=[1])])
+            # list 21 after list 9, 11 to 13 and 17 to 20, else list 9, else that of relation 2
+            assert m.places[1] == (8 + a + 3 + 4 if b else 7 if a else 4 + 13 + 13 + 3)
+    section('chains: where lists stand: defaulted names before, rules and blocks after, trees between')
+    tree = J(97, 2, J(101, 1, F(80, 0), F(81, 1)), J(103, 1, F(85, 2), J(100, 0, J(104, 3))))
+    between = [relation(2, kinds=[1], derived=derivation(source=1, predicate=tree)), follows(3, 2, predicate=tree),
+               relation(1, kinds=[4, 5], derived=derivation(kinds=[5, 4], path=[(1, 0, 0)] * 3, predicate=tree)), follows(4, 1)]
+    for k in (0, 1, 6):
+        chained_pack(f'lists-after-{k}-defaulted', 6, between, defaulted=range(k))
+    chained_pack('lists-before-rules', 6, between, rules=[rule(1, bodies=[S(64, 0), tree])] * 2, blocks=[block(2, [item(3, 1, 4)])])
+
+
+def large_chains():
+    section('chains: 512 relations')
+    n, some = 700, (0, 1, 255, 510, 511, 512, 699)
+    pairs = [(0, 1), (0, 511), (511, 0), (0, 0), (511, 512), (512, 0), (255, 254), (600, 0)]
+
+    def large(name, relations, deal=True):
+        orders = [relations[::2] + relations[1::2], relations[200:] + relations[:200]] if deal else []
+        return chained_pack(f'{name}-512', n, relations, some, pairs, orders, edges=deal)
+
+    m = large('chain', [follows(i, i + 1) for i in range(511)] + [relation(511, kinds=[1, 2])])
+    assert m.steps == 512 and m.places == [4 + 511 * 13 + 3] * 512
+    m = large('chain-undeclared', [follows(i, i + 1) for i in range(512)])
+    assert m.steps == 513 and m.places == [0] * 512
+    large('chain-back', [relation(0, derived=derivation(kinds=[3]))] + [follows(i, i - 1) for i in range(1, 512)])
+    m = large('ring', [follows(i, (i + 1) % 512) for i in range(512)])
+    assert m.steps == 512 and m.places == [0] * 512
+    large('ring-fed', [follows(i, i + 1 if i < 511 else 256) for i in range(512)])
+    large('rings-of-2', [follows(i, i + 1 - 2 * (i % 2)) for i in range(512)])
+    large('rings-of-1', [follows(i, i) for i in range(512)], deal=False)
+    m = large('one-undeclared', [follows(i, 699) for i in range(512)], deal=False)
+    assert m.steps == 513
+    large('one-source', [follows(i, 511) for i in range(511)] + [relation(511, kinds=[9])])
+    large('pairs', flat([[relation(i, kinds=[i, i + 1]), follows(i + 1, i)] for i in range(0, 512, 2)]))
+    large('own', [relation(i, kinds=[i]) for i in range(512)])
+    large('plain', [relation(i) for i in range(512)], deal=False)
+
+
+def sizes():
+    section('chains: N = 1 and N = 4,096, no relations, and large rooms')
+    ends = [0, 1, 511, 512, 4094, 4095]
+    m = chained_pack('undeclared-512', 4096, [follows(i, 1000 + i) for i in range(512)], ends, [(0, 1000), (1000, 0), (511, 1511), (511, 1510)], [], True)
+    assert m.steps == 1024
+    chained_pack('names-4096', 4096, [follows(4095, 0), follows(0, 4094), relation(4094, kinds=[4095, 0]), entity_of(7, 4095, [4095])], ends, edges=True)
+    chained_pack('no-relations-4096', 4096, [], ends, edges=True)
+    m = chained_pack('after-512-defaulted', 4096, [follows(4095, 1), relation(1, kinds=[2])], ends, edges=True, defaulted=range(512))
+    assert m.places == [4 + 512 + 13 + 3] * 2
+    chained_pack('names-1', 1, [follows(0, 0)], edges=True)
+    chained_pack('names-1-kinds', 1, [relation(0, kinds=[0], derived=derivation(entity=0))], edges=True)
+    chained_pack('names-1-nothing', 1, [], edges=True)
+    chained_pack('no-relations', 3, [], edges=True)
+    p = pack(n=3, relations=[relation(0, kinds=[1]), follows(2, 0)])
+    ok('rooms-far', p, [len(p)])
+    for operation, room in (('all_kinds', 100), ('all_kinds', 8448), ('direct', 8448), ('innermost', 4096), ('alias', 8448), ('unresolved', 8448)):
+        call('rooms-far', operation, (room,), *Chains(p).answer(operation, (room,)))
+
+
+def entities():
+    section('chains: the kinds that entities take')
+    for slot, k in ((0, 1), (1, 1), (1, 2), (2, 2), (7, 8), (8, 8), (NONE, 8), (0, 8)):
+        chained_pack(f'slot-{slot}-of-{k}', 10, [entity_of(1, 9, range(1, 1 + k), slot)])
+        chained_pack(f'slot-{slot}-of-{k}-inherited', 10, [
+            relation(2, kinds=range(1, 1 + k)), relation(1, derived=derivation(source=2, entity=9, slots=(slot, 0)))])
+    chained_pack('entity-none', 6, [relation(1, derived=derivation(kinds=[4])), entity_of(2, 5, [4])])
+    chained_pack('entity-no-kinds', 6, [follows(1, 1, entity=5), follows(2, 3, entity=4), entity_of(3, 2, [1]), follows(4, 3, path=[], entity=0)])
+    for name, kinds in (('one', [4]), ('equal', [4, 4, 4]), ('unlike', [4, 3]), ('unlike-last', [4, 4, 3]), ('itself', [5]), ('itself-twice', [5, 5]),
+                        ('itself-and-another', [5, 1]), ('zero', [0])):
+        chained_pack(f'entity-{name}', 6, [entity_of(i, 5, [k]) for i, k in enumerate(kinds)])
+        out_of_range = [entity_of(4, 5, [1, 2], 2), follows(5, 5, entity=5)]
+        chained_pack(f'entity-{name}-and-nothing', 6, [entity_of(i, 5, [k]) for i, k in enumerate(kinds)] + out_of_range)
+    chained_pack('entity-list-9', 6, [relation(1, kinds=[2, 3], derived=derivation(slots=(1, 0), entity=5))])
+    chained_pack('entity-both-lists', 6, [relation(1, kinds=[2, 3], derived=derivation(slots=(1, 0), entity=5, kinds=[3, 4]))])
+    section('chains: direct leading on, in rings and to itself')
+    for k in (1, 2, 3, 5):
+        steps = [entity_of(i, i, [i + 1]) for i in range(k)]
+        chained_pack(f'direct-chain-{k}', 8, steps)
+        chained_pack(f'direct-chain-{k}-to-itself', 8, steps + [entity_of(k, k, [k])])
+        chained_pack(f'direct-chain-{k}-to-unlike', 8, steps + [entity_of(k, k, [0]), entity_of(k + 1, k, [7])])
+        chained_pack(f'direct-ring-{k}', 8, [entity_of(i, i, [(i + 1) % k]) for i in range(k)])
+        chained_pack(f'direct-ring-{k}-fed', 8, [entity_of(i, i, [(i + 1) % k]) for i in range(k)] + [entity_of(6, 7, [6]), entity_of(7, 6, [k - 1])])
+    chained_pack('direct-chain-512', 700, [entity_of(i, i, [i + 1]) for i in range(512)], [0, 511], [], [])
+    chained_pack('direct-ring-512', 700, [entity_of(i, i, [(i + 1) % 512]) for i in range(512)], [0, 511], [], [])
+
+
+def damaged_chains():
+    section("chains: Check's refusals come first")
+    n, k = 10, 3
+    p = pack(n=n, defaulted=[1, 2], relations=[follows(5, 6), follows(6, 9), relation(7, kinds=[1, 2])])
+    deep = J(104, 0)
+    for _ in range(32):
+        deep = J(100, 0, deep)
+    too_deep = pack(n=n, relations=[follows(5, 6), follows(6, 9, predicate=deep), relation(7)])
+
+    def damaged(name, q, number, at, named=0):
+        refused(f'chains-{name}', q, number, at, named, rooms=[len(q)])
+        ask_refused(f'chains-{name}', n, k)
+
+    damaged('empty', [], 1, 0)
+    damaged('short', totalled(p[:5]), 1, 0)
+    damaged('long', [0] * 8193, 1, 0)
+    damaged('kind', put(p, 'relation 5.source', kind=13), 2, 'relation 5.source')
+    damaged('last-kind', put(p, 'blocks', kind=29), 2, 'blocks')
+    damaged('cut', totalled(p[:-1]), 3, len(p) - 1)
+    damaged('value', put(p, 'relation 5.source', n), 4, 'relation 5.source')
+    damaged('total', put(p, 'total', 6), 4, 'total')
+    damaged('deep', too_deep, 5, len(too_deep) - 3 - 5)
+    damaged('falling', put(p, 'defaulted.1', 1), 6, 'defaulted.1')
+    damaged('used', put(p, 'relation 7.name', 5), 7, 'relation 7.name', 5)
+    damaged('left-over', totalled(p + F(28, 0)), 8, len(p))
+
+
+def chains_by_chance():
+    section('chains: packs made by chance, and dealt out again by chance')
+    r = Chance(20241201)
+    for i in range(40):
+        n = 1 + r.below(10)
+        name = lambda: r.below(n)
+        some = lambda: [name() for _ in range(1 + r.below(3))]
+
+        def derived():
+            return derivation(NONE if r.below(6) == 0 else name(), [(name(), 0, 1)] * r.below(3) if r.below(5) == 0 else None,
+                              (r.below(3), r.below(3)), NONE if r.below(5) == 0 else name(), kinds=some() if r.below(4) == 0 else ())
+
+        relations = [relation(x, kinds=some() if r.below(4) == 0 else (), derived=derived() if r.below(6) else None)
+                     for x in range(n) if r.below(4)]
+        dealt = [x for _, x in sorted((r.below(1000), x) for x in range(len(relations)))]
+        chained_pack(f'graph-{i}', n, relations, deals=[[relations[x] for x in dealt]])
+
+
 def main():
-    for part in (lengths, limits, names, values, counts, any_values, depth, order, rising, used, places, heads, by_chance):
+    for part in (lengths, limits, names, values, counts, any_values, depth, order, rising, used, places, heads, by_chance,
+                 worked, graphs, lists, large_chains, sizes, entities, damaged_chains, chains_by_chance):
         part()
     folder = os.path.join(os.path.dirname(os.path.abspath(__file__)), '..', 'crates', 'cases')
     words = [w for c in cases for w in c.words]
@@ -727,7 +1162,7 @@ def main():
     with open(os.path.join(folder, 'stdin'), 'w') as f:
         f.write(''.join(t + '\n' for t in texts))
     with open(os.path.join(folder, 'stdout'), 'w') as f:
-        f.write(f'{len(words)} words, sum {sum(words) % 2 ** 32:08x}, {sum(len(c.rooms) for c in cases)} rewrites\n')
+        f.write(f'{len(words)} words, sum {sum(words) % 2 ** 32:08x}, {sum(len(c.rooms) for c in cases)} rewrites, {len(calls)} calls\n')
         f.write(f'{len(cases)} cases, 0 differ\n')
 
 

@@ -57,22 +57,22 @@ pub fn fill(out: &mut [u32]) {
     }
 }
 
-// What a buffer has to hold at i, where so many words of the pack are written.
-fn after(pack: &[u32], count: usize, i: usize) -> u32 {
+// What a buffer has to hold at i, where so many of these words are written.
+fn after(words: &[u32], count: usize, i: usize) -> u32 {
     if count <= i {
         return before(i);
     }
-    if pack.len() <= i {
+    if words.len() <= i {
         return before(i);
     }
-    pack[i]
+    words[i]
 }
 
 // The first place of the buffer that is not as it has to be, or its length.
-pub fn unlike(out: &[u32], pack: &[u32], count: usize) -> usize {
+pub fn unlike(out: &[u32], words: &[u32], count: usize) -> usize {
     let mut i = 0;
     while i < out.len() {
-        if out[i] != after(pack, count, i) {
+        if out[i] != after(words, count, i) {
             return i;
         }
         i += 1;

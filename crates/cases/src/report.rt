@@ -1,4 +1,5 @@
 // What the program writes to standard output.
+use crate::line::call_end;
 use crate::line::name_end;
 use libc::STDOUT_FILENO;
 use pack::answer::Answer;
@@ -64,8 +65,8 @@ pub fn rewrite_found(line: &[u8], room: u32, a: Answer) {
     answer(a);
 }
 
-pub fn word_found(line: &[u8], room: u32, place: usize, word: u32) {
-    rewrite_in(line, room);
+// A word of a buffer, and the end of the line.
+fn leaves(place: usize, word: u32) {
     text(b"leaves ");
     io::print_hex(STDOUT_FILENO, word as u64, 8);
     text(b" at ");
@@ -73,14 +74,37 @@ pub fn word_found(line: &[u8], room: u32, place: usize, word: u32) {
     text(b"\n");
 }
 
+pub fn word_found(line: &[u8], room: u32, place: usize, word: u32) {
+    rewrite_in(line, room);
+    leaves(place, word);
+}
+
+// A call, as its line begins.
+fn call(line: &[u8]) {
+    let end = call_end(line);
+    text(&line[0..end]);
+}
+
+pub fn call_found(line: &[u8], a: Answer) {
+    call(line);
+    answer(a);
+}
+
+pub fn call_word_found(line: &[u8], place: usize, word: u32) {
+    call(line);
+    leaves(place, word);
+}
+
 // What was read: so that a list that is read wrong is seen.
-pub fn read(words: u64, sum: u32, rewrites: u64) {
+pub fn read(words: u64, sum: u32, rewrites: u64, calls: u64) {
     number(words);
     text(b" words, sum ");
     io::print_hex(STDOUT_FILENO, sum as u64, 8);
     text(b", ");
     number(rewrites);
-    text(b" rewrites\n");
+    text(b" rewrites, ");
+    number(calls);
+    text(b" calls\n");
 }
 
 pub fn end(cases: u64, differ: u64) {

@@ -1,4 +1,5 @@
 // Running the cases of a list.
+use crate::call::run_call;
 use crate::compare::fill;
 use crate::compare::rewrite_answer;
 use crate::compare::same;
@@ -10,6 +11,7 @@ use crate::input::lines_end;
 use crate::input::read_more;
 use crate::line::Case;
 use crate::line::case_of;
+use crate::line::is_call;
 use crate::report;
 use crate::text::byte;
 use crate::text::find;
@@ -22,13 +24,15 @@ use pack::rewrite::rewrite;
 ghost use Prim.Native.Nat.{_≤_};
 ghost use lib.ListN.{length};
 
-// What was run so far.
+// What was run so far, and how many words the last pack has.
 pub struct Totals {
     pub cases: u64,
+    pub calls: u64,
     pub differ: u64,
     pub words: u64,
     pub sum: u32,
     pub rewrites: u64,
+    pub last: usize,
 }
 
 // How many rooms a case was rewritten into, and whether all was as expected.
@@ -140,10 +144,26 @@ fn counted(t: Totals, pack: &[u32], tried: Tried) -> Totals {
     let differ = if tried.same { t.differ } else { more(t.differ) };
     Totals {
         cases: more(t.cases),
+        calls: t.calls,
         differ,
         words: std::num::wrapping_add_u64(t.words, pack.len() as u64),
         sum: sum(pack, t.sum),
         rewrites: std::num::wrapping_add_u64(t.rewrites, tried.rooms),
+        last: pack.len(),
+    }
+}
+
+// The totals with one call more.
+fn called(t: Totals, same: bool) -> Totals {
+    let differ = if same { t.differ } else { more(t.differ) };
+    Totals {
+        cases: t.cases,
+        calls: more(t.calls),
+        differ,
+        words: t.words,
+        sum: t.sum,
+        rewrites: t.rewrites,
+        last: t.last,
     }
 }
 
@@ -152,16 +172,22 @@ fn run_case(line: &[u8], c: Case, good: bool, pack: &[u32], out: &mut [u32], t: 
     counted(t, pack, tried)
 }
 
-// A line of the list: a comment or a case.
+// A line of the list: a comment, a call or a case.
 fn run_line(
     line: &[u8],
     pack: &mut [u32],
     steps: &mut [u32],
+    words: &mut [u32],
     out: &mut [u32],
     t: Totals,
 ) -> Totals {
     if byte(line, 0) == b'#' {
         return t;
+    }
+    if is_call(line) {
+        let last = least(t.last, pack.len());
+        let same = run_call(line, &pack[0..last], words, steps, out);
+        return called(t, same);
     }
     let c = case_of(line);
     let w = read_words(line, c.words, pack, steps);
@@ -173,6 +199,7 @@ fn run_lines(
     list: &[u8],
     pack: &mut [u32],
     steps: &mut [u32],
+    words: &mut [u32],
     out: &mut [u32],
     before: Totals,
 ) -> Totals {
@@ -180,7 +207,7 @@ fn run_lines(
     let mut at = 0;
     while at < list.len() {
         let end = find(list, at, b'\n');
-        t = run_line(&list[at..end], pack, steps, out, t);
+        t = run_line(&list[at..end], pack, steps, words, out, t);
         at = end + 1;
     }
     t
@@ -191,6 +218,7 @@ fn run_piece(
     buf: &mut [u8],
     pack: &mut [u32],
     steps: &mut [u32],
+    words: &mut [u32],
     out: &mut [u32],
     p: Piece,
 ) -> Piece
@@ -208,7 +236,7 @@ fn run_piece(
         };
     }
     let end = lines_end(buf, n);
-    let totals = run_lines(&buf[0..end], pack, steps, out, before);
+    let totals = run_lines(&buf[0..end], pack, steps, words, out, before);
     Piece {
         len: keep(buf, end, n),
         ended: false,
@@ -218,13 +246,21 @@ fn run_piece(
 
 // The whole of standard input, of which `buf` has room for a line at least.
 // A proved loop has to end: it counts its turns down, from a number that no run uses up.
-pub fn run_list(buf: &mut [u8], pack: &mut [u32], steps: &mut [u32], out: &mut [u32]) {
+pub fn run_list(
+    buf: &mut [u8],
+    pack: &mut [u32],
+    steps: &mut [u32],
+    words: &mut [u32],
+    out: &mut [u32],
+) {
     let totals = Totals {
         cases: 0,
+        calls: 0,
         differ: 0,
         words: 0,
         sum: 0,
         rewrites: 0,
+        last: 0,
     };
     let mut p = Piece {
         len: 0,
@@ -233,7 +269,7 @@ pub fn run_list(buf: &mut [u8], pack: &mut [u32], steps: &mut [u32], out: &mut [
     };
     let mut turns = u64::MAX;
     while 0 < turns && !p.ended {
-        p = run_piece(buf, pack, steps, out, p);
+        p = run_piece(buf, pack, steps, words, out, p);
         turns -= 1;
     }
     let len = p.len;
@@ -246,6 +282,6 @@ fn finish(left: &[u8], t: Totals) {
     if 0 < left.len() {
         report::not_read(left);
     }
-    report::read(t.words, t.sum, t.rewrites);
+    report::read(t.words, t.sum, t.rewrites, t.calls);
     report::end(t.cases, t.differ);
 }

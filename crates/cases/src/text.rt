@@ -36,14 +36,18 @@ fn base(hex: bool) -> u32
 }
 
 // The number with one digit more.
-fn with_digit(value: u32, d: u32, hex: bool) -> u32
-    requires { ⌜ value < 268435456 ⌝ }
+fn with_digit(value: u32, d: u32, hex: bool) -> u64
     requires { ⌜ d < 16 ⌝ }
 {
-    if hex { value * 16 + d } else { value * 10 + d }
+    let v = value as u64;
+    if hex {
+        v * 16 + d as u64
+    } else {
+        v * 10 + d as u64
+    }
 }
 
-// The number whose digits begin here: 0 where there are none. It ends before a digit that might not fit.
+// The number whose digits begin here: 0 where there are none. It ends before a digit that does not fit.
 pub fn number_at(text: &[u8], from: usize, hex: bool) -> Number {
     let most = base(hex);
     let mut value: u32 = 0;
@@ -53,10 +57,11 @@ pub fn number_at(text: &[u8], from: usize, hex: bool) -> Number {
         if most <= d {
             break;
         }
-        if 268435456 <= value {
+        let next = with_digit(value, d, hex);
+        if 4294967295 < next {
             break;
         }
-        value = with_digit(value, d, hex);
+        value = next as u32;
         at += 1;
     }
     Number { value, at }

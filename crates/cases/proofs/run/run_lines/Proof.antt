@@ -7,10 +7,10 @@ use Rattle.cases.proofs.run.run_lines.Statement.{statement}
 use Rattle.cases.proofs.run.run_lines.Tie as tie
 
 abbrev Inv-loop : tie.InvT-loop
-Inv-loop list pack₀ steps₀ out₀ t₀ at₀ pack steps out t at = (length pack ≡ length pack₀) × (length steps ≡ length steps₀) × (length out ≡ length out₀)
+Inv-loop list pack₀ steps₀ words₀ out₀ t₀ at₀ pack steps words out t at = (length pack ≡ length pack₀) × (length steps ≡ length steps₀) × (length words ≡ length words₀) × (length out ≡ length out₀)
 
 abbrev μ-loop : tie.MeasureT-loop
-μ-loop list pack₀ steps₀ out₀ t₀ at₀ pack steps out t at = length list - at
+μ-loop list pack₀ steps₀ words₀ out₀ t₀ at₀ pack steps words out t at = length list - at
 
 loop-holds : tie.Need-loop-holds Inv-loop μ-loop
 loop-holds c = search needs
@@ -48,6 +48,9 @@ same-length-2 c = search needs
 same-length-3 : tie.Need-same-length-3 Inv-loop μ-loop
 same-length-3 c = search needs
 
+same-length-4 : tie.Need-same-length-4 Inv-loop μ-loop
+same-length-4 c = search needs
+
 returns : tie.Need-returns Inv-loop μ-loop
 returns c = search needs
 
@@ -69,4 +72,5 @@ run-lines-spec =
     same-length
     same-length-2
     same-length-3
+    same-length-4
     returns)

@@ -7,10 +7,10 @@ use Rattle.cases.proofs.run.run_list.Statement.{statement}
 use Rattle.cases.proofs.run.run_list.Tie as tie
 
 abbrev Inv-loop : tie.InvT-loop
-Inv-loop buf₀ pack₀ steps₀ out₀ p₀ turns₀ buf pack steps out p turns = (length buf ≡ length buf₀) × (length pack ≡ length pack₀) × (length steps ≡ length steps₀) × (length out ≡ length out₀) × (p .len ≤ length buf)
+Inv-loop buf₀ pack₀ steps₀ words₀ out₀ p₀ turns₀ buf pack steps words out p turns = (length buf ≡ length buf₀) × (length pack ≡ length pack₀) × (length steps ≡ length steps₀) × (length words ≡ length words₀) × (length out ≡ length out₀) × (p .len ≤ length buf)
 
 abbrev μ-loop : tie.MeasureT-loop
-μ-loop buf₀ pack₀ steps₀ out₀ p₀ turns₀ buf pack steps out p turns = turns
+μ-loop buf₀ pack₀ steps₀ words₀ out₀ p₀ turns₀ buf pack steps words out p turns = turns
 
 loop-holds : tie.Need-loop-holds Inv-loop μ-loop
 loop-holds c = search needs
@@ -51,6 +51,9 @@ same-length-3 c = search needs
 same-length-4 : tie.Need-same-length-4 Inv-loop μ-loop
 same-length-4 c = search needs
 
+same-length-5 : tie.Need-same-length-5 Inv-loop μ-loop
+same-length-5 c = search needs
+
 returns : tie.Need-returns Inv-loop μ-loop
 returns c = search needs
 
@@ -73,4 +76,5 @@ run-list-spec =
     same-length-2
     same-length-3
     same-length-4
+    same-length-5
     returns)

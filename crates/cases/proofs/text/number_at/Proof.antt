@@ -26,6 +26,9 @@ digit-requires c κs = search needs
 with-digit-requires : tie.Need-with-digit-requires Inv-loop μ-loop
 with-digit-requires c κs = search needs
 
+cast-value : tie.Need-cast-value Inv-loop μ-loop
+cast-value c = search needs
+
 add-at : tie.Need-add-at Inv-loop μ-loop
 add-at c = search needs
 
@@ -55,6 +58,7 @@ number-at-spec =
     shared-slice-read-digit
     digit-requires
     with-digit-requires
+    cast-value
     add-at
     loop-less
     loop-again
