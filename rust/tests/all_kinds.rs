@@ -53,6 +53,14 @@ fn worked_cases() {
 }
 
 #[test]
+fn the_sample() {
+    // One relation inherits from the other, whose list is at word 8.
+    let mut out = [9; 12];
+    assert_eq!(all_kinds(&bytes_of(&packs::household()), &mut out), Ok(Written { words: 2, steps: 2 }));
+    assert_eq!(out, [8, 0, 0, 0, 8, 0, 0, 0, 9, 9, 9, 9]);
+}
+
+#[test]
 fn one_declaration() {
     // No lists: with and without a derivation, with a path alone, with no source.
     for relation in [named(3), named(3).derived(), named(3).path(2), named(3).path(0)] {
