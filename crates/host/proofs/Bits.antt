@@ -14,7 +14,7 @@ use Rattle.pack.specs.Table.{pick}
 use Rattle.pack.specs.Form.{among}
 use Rattle.pack.specs.Pack.{Relation, Pack, WellFormed, Reading, yes, refuse, read, words}
 use Rattle.pack.specs.Operations.{answer, noRoom, checkAnswer, rewriteAnswer}
-use Rattle.pack.proofs.PackLaws.{words-length, words-read}
+use Rattle.pack.proofs.PackLaws.{words-read}
 use Rattle.pack.proofs.Refusals.{read-numbers}
 use Rattle.chains.specs.Chain.{Step, end, next, mapped, same, withNext, outside}
 use Rattle.chains.specs.Kinds as kinds
@@ -27,6 +27,7 @@ use Rattle.chains.proofs.PackIndex.{zeros, parts}
 use Rattle.chains.proofs.PlaceBounds.{indexes}
 use Rattle.chains.proofs.ListAt.{own-holds}
 use Rattle.host.specs.Bytes.{encode, areWords, notWords, overBytes, wordsOf}
+use Rattle.host.proofs.Writes.{few-words, few-places}
 use Rattle.host.proofs.Faithful.{parts-again}
 
 abbrev pub FitsBits : Answer → Type 0
@@ -81,7 +82,7 @@ check-fits ws = reads ws _ (λ p e. (omega arith, omega arith))
 
 pub rewrite-fits : (ws : List ℕ) (room : ℕ) → FitsBits (rewriteAnswer ws room)
 unfolding rewriteAnswer
-rewrite-fits ws room = reads ws _ (λ p e. writes (words p) 0 room (omega (arith, words-length p, words-read ws p e .fine .most)) (omega arith))
+rewrite-fits ws room = reads ws _ (λ p e. writes (words p) 0 room (omega (arith, few-words ws p e)) (omega arith))
 
 -- a relation inherits from one name, so there are no more undeclared sources than relations
 few-outside : {R : Type 0} (step : ℕ → Step R) (ds ns : List ℕ) → length (outside step ds ns) ≤ length ns
@@ -106,14 +107,10 @@ few-steps p w =
     let l : length (declared rs) ≡ length rs = length-map rs (λ (r : Relation). r .name) in
     omega (arith, kinds-steps rs (distinct-names p w), few-outside (kindStep rs) (declared rs) (declared rs), parts p w .few-relations)
 
-few-words : (p : Pack) → WellFormed p → length (allKindsWords p) ≤ 512
-unfolding allKindsWords
-few-words p w = simp length-map (parts p w .few-relations)
-
 pub all-kinds-fits : (ws : List ℕ) (room : ℕ) → FitsBits (allKindsAnswer ws room)
 unfolding allKindsAnswer
 all-kinds-fits ws room =
-    reads ws _ (λ p e. let w = words-read ws p e .fine in writes (allKindsWords p) (allKinds (p .relations) .steps) room (omega (arith, few-words p w)) (omega (arith, few-steps p w)))
+    reads ws _ (λ p e. writes (allKindsWords p) (allKinds (p .relations) .steps) room (omega (arith, few-places ws p e)) (omega (arith, few-steps p (words-read ws p e .fine))))
 
 -- a place is that of a step's end, and the index has those as small numbers
 coded-small : (x place : ℕ) → end place ≡ pick (ltb x 65536) (end x) (next (x - 65536)) → place < 65536

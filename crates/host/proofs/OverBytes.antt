@@ -1,5 +1,5 @@
 -- Operations over bytes: what a function that loads, runs the operation and gives its words answers and leaves, from what each step ensures.
-use Prim.Native.Nat.{ℕ, _*_, _/_, _%_, _≤_}
+use Prim.Native.Nat.{ℕ, _/_, _%_, _≤_, min}
 use native.Mathlib.Omega.{arith}
 use mathlib.Core.Path.{_≡_, refl, ap, sym, _∙_}
 use mathlib.Core.Bool.{Bool, true, false, not, _&&_}
@@ -11,7 +11,7 @@ use borrow.Author.Tests.{leb-true, not-true, not-false}
 use Rattle.pack.specs.declared.answer.Answer.{Answer}
 use Rattle.pack.specs.declared.answer.Answer.the-variants.{Given, Refused}
 use Rattle.pack.specs.Table.{pick}
-use Rattle.host.specs.Bytes.{wordsOf, encode, areWords, notWords, overBytes, room, lent, outAfter, inRoom, outBytes, Gives, loadedOf, Loaded, Fits}
+use Rattle.host.specs.Bytes.{wordsOf, encode, areWords, notWords, overBytes, outAfter, inRoom, outBytes, Gives, loadedOf, Loaded, Fits}
 use Rattle.host.proofs.ByteLaws.{words-length}
 use Rattle.host.proofs.Writes.{Within, Writes}
 
@@ -52,16 +52,12 @@ pub answered : (answer : List ℕ → Answer) → answer [] ≡ notWords → {by
     → Loaded bytes n words → a ≡ answer (take n words) → r ≡ encode a → r ≡ encode (overBytes answer bytes)
 answered answer none {bytes} l e h = h ∙ ap encode (e ∙ ap answer (l .front) ∙ overs answer none bytes)
 
--- an output lends as many words as it has room for
-lent-length : (out : List ℕ) → length (lent out) ≡ room (length out)
-lent-length out = simp (length-take, words-length) (omega arith)
-
 -- a part that was lent from the front of an array and came back leaves it as long as it was
 pub whole : (m : ℕ) (before part : List ℕ) → m ≤ length before → length part ≡ length (take m before) → length before ≡ length (part ++ drop m before)
 whole m before part h e = simp (length-append, length-drop) (omega (arith, e, length-take-le m before h))
 
--- an answer that says no more words than a part has, which an output has room for: they fit it, and what stands past the part is not given
-fits : (a : Answer) (part rest : List ℕ) (b : ℕ) → Within a (length part) → length part ≡ room b → Fits a (length (part ++ rest)) b
+-- an answer that says no more words than a part has, for which an output has room: they fit it, and what stands past the part is not given
+fits : (a : Answer) (part rest : List ℕ) (b : ℕ) → Within a (length part) → length part ≤ b / 4 → Fits a (length (part ++ rest)) b
 fits (Given n steps) part rest b h e = (omega (arith, length-append part rest), omega arith)
 fits (Refused r) part rest b h e = tt
 
@@ -71,39 +67,40 @@ of-part (Given n steps) part rest out h = rw (take-append-le n part rest h)
 of-part (Refused r) part rest out h = refl
 
 -- an operation that writes works in the front of a blank array, with as many words as the output has room for
-module _ {answer : List ℕ → ℕ → Answer} {buffer : List ℕ → List ℕ → List ℕ} (W : Writes answer buffer) where
+module _ {answer : List ℕ → ℕ → Answer} {buffer : List ℕ → List ℕ → List ℕ} {most : ℕ} (W : Writes answer buffer most) where
   -- what it writes fits the output
-  pub fits-out : (ws blank part : List ℕ) (m b : ℕ) {a : Answer} → length blank ≡ 8192 → m ≡ room b → a ≡ answer ws (length (take m blank)) → length part ≡ length (take m blank)
+  pub fits-out : (ws blank part : List ℕ) (m b : ℕ) {a : Answer} → length blank ≡ most → m ≡ min (b / 4) most → a ≡ answer ws (length (take m blank)) → length part ≡ length (take m blank)
       → Fits a (length (part ++ drop m blank)) b
   fits-out ws blank part m b {a} k l e s =
-      let t : length part ≡ room b = s ∙ length-take-le m blank (omega arith) ∙ l in
-      fits a part (drop m blank) b (rw (e, ← s, t) (W .fits ws (room b))) t
+      let t : length part ≡ m = s ∙ length-take-le m blank (omega arith) in
+      fits a part (drop m blank) b (rw (e, ← s) (W .fits ws (length part))) (omega arith)
 
   -- and the output is given as many words as it answers
-  outs : (bytes out : List ℕ) → outAfter (answer (loadedOf bytes) (room (length out))) (buffer (loadedOf bytes) (lent out)) out ≡ outBytes answer buffer bytes out
+  outs : (bytes out : List ℕ) → outAfter (answer (loadedOf bytes) (length out / 4)) (buffer (loadedOf bytes) (wordsOf out)) out ≡ outBytes answer buffer bytes out
   unfolding overBytes loadedOf outAfter
   outs bytes out = go (areWords (length bytes))
     where
       go : (b : Bool)
-          → outAfter (answer (pick b (wordsOf bytes) []) (room (length out))) (buffer (pick b (wordsOf bytes) []) (lent out)) out
-          ≡ outAfter (pick b (answer (wordsOf bytes) (room (length out))) notWords) (buffer (wordsOf bytes) (lent out)) out
+          → outAfter (answer (pick b (wordsOf bytes) []) (length out / 4)) (buffer (pick b (wordsOf bytes) []) (wordsOf out)) out
+          ≡ outAfter (pick b (answer (wordsOf bytes) (length out / 4)) notWords) (buffer (wordsOf bytes) (wordsOf out)) out
       go true = refl
-      go false = rw (W .none (room (length out)))
+      go false = rw (W .none (length out / 4))
 
   pub given : (out blank : List ℕ) {bytes words part after : List ℕ} {n m : ℕ} {a : Answer} {r : ℕ}
-      → Loaded bytes n words → length blank ≡ 8192 → m ≡ room (length out)
+      → Loaded bytes n words → length blank ≡ most → m ≡ min (length out / 4) most
       → a ≡ answer (take n words) (length (take m blank)) → part ≡ buffer (take n words) (take m blank) → length part ≡ length (take m blank)
       → (r ≡ encode a) × (after ≡ outAfter a (part ++ drop m blank) out)
       → Gives answer buffer bytes out r after
   given out blank {bytes} {words} {part} {after} {n} {m} {a} l k e f g s h =
       let ws = loadedOf bytes in
-      let space = room (length out) in
-      let t : length (take m blank) ≡ space = length-take-le m blank (omega arith) ∙ e in
-      let its-answer : a ≡ answer ws space = rw (← t, ← l .front) f in
+      let space = length out / 4 in
+      let t : length (take m blank) ≡ min space most = length-take-le m blank (omega arith) ∙ e in
+      let here : a ≡ answer ws (length (take m blank)) = rw (← l .front) f in
+      let its-answer : a ≡ answer ws space = here ∙ ap (answer ws) t ∙ W .enough ws space in
       let its-part : part ≡ buffer ws (take m blank) = rw (← l .front) g in
-      let own : outAfter (answer ws space) (buffer ws (take m blank)) out ≡ outAfter (answer ws space) (buffer ws (lent out)) out =
-      rw t at (W .own ws (take m blank) (lent out) out (t ∙ sym (lent-length out))) in
+      let own : outAfter (answer ws space) (buffer ws (take m blank)) out ≡ outAfter (answer ws space) (buffer ws (wordsOf out)) out =
+      rw (words-length out) at (W .own ws (take m blank) (wordsOf out) out (rw (words-length out) t)) in
       record {
         answers = h .0 ∙ ap encode (its-answer ∙ overs (λ vs. answer vs space) (W .none space) bytes);
-        leaves = h .1 ∙ of-part a part (drop m blank) out (rw (its-answer, s, t) (W .fits ws space)) ∙ rw (its-answer, its-part) (own ∙ outs bytes out);
+        leaves = h .1 ∙ of-part a part (drop m blank) out (rw (here, s) (W .fits ws (length (take m blank)))) ∙ rw (its-answer, its-part) (own ∙ outs bytes out);
       }

@@ -1,5 +1,5 @@
 -- The host's functions: packs and outputs as bytes, each answer as one number.
-use Prim.Native.Nat.{ℕ, _+_, _*_, _/_, _%_, _^_, _≤_, min}
+use Prim.Native.Nat.{ℕ, _+_, _*_, _/_, _%_, _^_, _≤_}
 use mathlib.Core.Path.{_≡_}
 use mathlib.Core.Bool.{Bool, _&&_}
 use mathlib.Core.List.{List, [], _∷_, _++_}
@@ -46,24 +46,17 @@ notWords = Refused (record { number = 1; place = 0; name = 0; other = 0 })
 unfoldable pub overBytes : (List ℕ → Answer) → List ℕ → Answer
 overBytes answer bytes = pick (areWords (length bytes)) (answer (wordsOf bytes)) notWords
 
--- "of an output of b bytes it uses the first 4 · (b div 4)", and no more than 8,192 words, since no result is longer
-abbrev pub room : ℕ → ℕ
-room b = min (b / 4) 8192
-
-abbrev pub lent : List ℕ → List ℕ
-lent out = take 8192 (wordsOf out)
-
 -- the output after an answer, whose value is the number of words written: "bytes past the words written stay", "a refusal changes no lent buffer"
 unfoldable pub outAfter : Answer → List ℕ → List ℕ → List ℕ
 outAfter (Given n steps) written out = bytesOf (take n written) ++ drop (4 * n) out
 outAfter (Refused r) written out = out
 
--- an operation that writes: its answer for an output of b bytes, and the output afterwards
+-- An operation that writes: its answer for an output of b bytes, and the output afterwards. "of an output of b bytes it uses the first 4 · (b div 4)"
 abbrev pub inRoom : (List ℕ → ℕ → Answer) → ℕ → List ℕ → Answer
-inRoom answer b = overBytes (λ ws. answer ws (room b))
+inRoom answer b = overBytes (λ ws. answer ws (b / 4))
 
 abbrev pub outBytes : (List ℕ → ℕ → Answer) → (List ℕ → List ℕ → List ℕ) → List ℕ → List ℕ → List ℕ
-outBytes answer buffer bytes out = outAfter (inRoom answer (length out) bytes) (buffer (wordsOf bytes) (lent out)) out
+outBytes answer buffer bytes out = outAfter (inRoom answer (length out) bytes) (buffer (wordsOf bytes) (wordsOf out)) out
 
 -- what holds of the number that such a function answers, and of the output afterwards
 pub record Gives (answer : List ℕ → ℕ → Answer) (buffer : List ℕ → List ℕ → List ℕ) (bytes out : List ℕ) (r : ℕ) (after : List ℕ) : Type 0 where

@@ -2,9 +2,9 @@
 use pack::kinds::Pack;
 ghost use mathlib.Core.Path.{_≡_};
 ghost use mathlib.Core.List.{_++_, [], _∷_};
-ghost use Prim.Native.Nat.{_+_, _*_, _≤_};
+ghost use Prim.Native.Nat.{_+_, _*_, _/_, _≤_, min};
 ghost use lib.ListN.{length, take, drop};
-ghost use Rattle.host.specs.Bytes.{wordFrom, bytesOf, areWords, room, Loaded};
+ghost use Rattle.host.specs.Bytes.{wordFrom, bytesOf, areWords, Loaded};
 
 // Whether so many bytes are words, and not more than a pack may have.
 fn are_words(count: usize) -> bool
@@ -13,16 +13,12 @@ fn are_words(count: usize) -> bool
     count % 4 == 0 && count <= 4 * Pack::MOST_WORDS
 }
 
-// The words that an output of so many bytes has room for, as far as any operation writes.
-pub fn room(count: usize) -> usize
-    ensures { λ r. ⌜ r ≡ room count ⌝ }
+// The words that an output of so many bytes has room for, but no more than the operation ever writes.
+pub fn room(count: usize, most: usize) -> usize
+    ensures { λ r. ⌜ r ≡ min (count / 4) most ⌝ }
 {
     let n = count / 4;
-    if n < Pack::MOST_WORDS {
-        n
-    } else {
-        Pack::MOST_WORDS
-    }
+    if n < most { n } else { most }
 }
 
 fn word_from(a: u8, b: u8, c: u8, d: u8) -> u32

@@ -35,7 +35,7 @@ pub extern "C" fn cogunwa_rewrite(pack: &[u8], out: &mut [u8]) -> u64
     let mut words = [0u32; Pack::MOST_WORDS];
     let mut written = [0u32; Pack::MOST_WORDS];
     let n = load(pack, &mut words);
-    let m = room(out.len());
+    let m = room(out.len(), written.len());
     let a = rewrite(&words[..n], &mut written[..m]);
     give(a, &written, out)
 }
@@ -46,9 +46,9 @@ pub extern "C" fn cogunwa_all_kinds(pack: &[u8], out: &mut [u8]) -> u64
     ensures { λ r. ⌜ Gives allKindsAnswer allKindsBuffer (now (pack .entry)) (now (out .entry)) r (now (out .exit)) ⌝ }
 {
     let mut words = [0u32; Pack::MOST_WORDS];
-    let mut written = [0u32; Pack::MOST_WORDS];
+    let mut written = [0u32; Pack::MOST_RELATIONS as usize];
     let n = load(pack, &mut words);
-    let m = room(out.len());
+    let m = room(out.len(), written.len());
     let a = all_kinds(&words[..n], &mut written[..m]);
     give(a, &written, out)
 }
