@@ -225,23 +225,3 @@ fn packs_made_by_chance() {
         }
     }
 }
-
-#[test]
-fn the_plain_walks_agree() {
-    let mut chance = Chance(27_182);
-    let (mut longest, mut rings, mut kinds) = (0, 0, 0);
-    for _ in 0..1500 {
-        let words = packs::tangled(&mut chance);
-        let pack = plain::read(&words).unwrap();
-        let (places, steps) = pack.all_kinds(8192).unwrap();
-        assert_eq!(steps, pack.steps());
-        for (relation, &place) in pack.relations.iter().zip(&places) {
-            assert_eq!(pack.kinds_of(relation.name).unwrap().unwrap_or(0), place as usize);
-            rings += usize::from(pack.lean(relation.name, relation.name).unwrap());
-        }
-        kinds += places.iter().filter(|&&place| place != 0).count();
-        longest = longest.max(places.len());
-    }
-    // The packs are not all alike.
-    assert!(longest > 150 && rings > 1000 && kinds > 1000, "{longest} {rings} {kinds}");
-}
