@@ -4,14 +4,14 @@ use native.Mathlib.Omega.{arith}
 use mathlib.Core.Path.{_≡_, refl, ap, sym, _∙_}
 use mathlib.Core.Bool.{Bool, true, false, not, _&&_}
 use mathlib.Core.List.{List, [], _++_}
-use lib.ListN.{length, take, drop, length-take, length-drop, length-append}
+use lib.ListN.{length, take, drop, length-drop, length-append}
 use lib.Seq.{take-append-le, length-take-le}
 use lib.Dec.{eqb, leb}
 use borrow.Author.Tests.{leb-true, not-true, not-false}
 use Rattle.pack.specs.declared.answer.Answer.{Answer}
 use Rattle.pack.specs.declared.answer.Answer.the-variants.{Given, Refused}
 use Rattle.pack.specs.Table.{pick}
-use Rattle.host.specs.Bytes.{wordsOf, encode, areWords, notWords, overBytes, outAfter, inRoom, outBytes, Gives, loadedOf, Loaded, Fits}
+use Rattle.host.specs.Bytes.{wordsOf, encode, areWords, notWords, overBytes, outAfter, outBytes, Gives, loadedOf, Loaded, Fits}
 use Rattle.host.proofs.ByteLaws.{words-length}
 use Rattle.host.proofs.Writes.{Within, Writes}
 
