@@ -4,7 +4,7 @@ use native.Mathlib.Omega.{arith}
 use mathlib.Core.Path.{_≡_, refl, ap, sym, _∙_}
 use mathlib.Core.Bool.{Bool, true, false, not, _&&_}
 use mathlib.Core.List.{List, [], _++_}
-use lib.ListN.{length, take, drop, length-drop, length-append}
+use lib.ListN.{length, take, drop, length-append}
 use lib.Seq.{take-append-le, length-take-le}
 use lib.Dec.{eqb, leb}
 use borrow.Author.Tests.{leb-true, not-true, not-false}
@@ -52,10 +52,6 @@ pub answered : (answer : List ℕ → Answer) → answer [] ≡ notWords → {by
     → Loaded bytes n words → a ≡ answer (take n words) → r ≡ encode a → r ≡ encode (overBytes answer bytes)
 answered answer none {bytes} l e h = h ∙ ap encode (e ∙ ap answer (l .front) ∙ overs answer none bytes)
 
--- a part that was lent from the front of an array and came back leaves it as long as it was
-pub whole : (m : ℕ) (before part : List ℕ) → m ≤ length before → length part ≡ length (take m before) → length before ≡ length (part ++ drop m before)
-whole m before part h e = simp (length-append, length-drop) (omega (arith, e, length-take-le m before h))
-
 -- an answer that says no more words than a part has, for which an output has room: they fit it, and what stands past the part is not given
 fits : (a : Answer) (part rest : List ℕ) (b : ℕ) → Within a (length part) → length part ≤ b / 4 → Fits a (length (part ++ rest)) b
 fits (Given n steps) part rest b h e = (omega (arith, length-append part rest), omega arith)
@@ -66,10 +62,10 @@ unfolding outAfter
 of-part (Given n steps) part rest out h = rw (take-append-le n part rest h)
 of-part (Refused r) part rest out h = refl
 
--- an operation that writes works in the front of a blank array, with as many words as the output has room for
+-- an operation that writes works in the front of a blank slice, with as many words as the output has room for
 module _ {answer : List ℕ → ℕ → Answer} {buffer : List ℕ → List ℕ → List ℕ} {most : ℕ} (W : Writes answer buffer most) where
   -- what it writes fits the output
-  pub fits-out : (ws blank part : List ℕ) (m b : ℕ) {a : Answer} → length blank ≡ most → m ≡ min (b / 4) most → a ≡ answer ws (length (take m blank)) → length part ≡ length (take m blank)
+  pub fits-out : (ws blank part : List ℕ) (m b : ℕ) {a : Answer} → length blank ≡ most → m ≡ min (b / 4) (length blank) → a ≡ answer ws (length (take m blank)) → length part ≡ length (take m blank)
       → Fits a (length (part ++ drop m blank)) b
   fits-out ws blank part m b {a} k l e s =
       let t : length part ≡ m = s ∙ length-take-le m blank (omega arith) in
@@ -87,14 +83,14 @@ module _ {answer : List ℕ → ℕ → Answer} {buffer : List ℕ → List ℕ 
       go false = rw (W .none (length out / 4))
 
   pub given : (out blank : List ℕ) {bytes words part after : List ℕ} {n m : ℕ} {a : Answer} {r : ℕ}
-      → Loaded bytes n words → length blank ≡ most → m ≡ min (length out / 4) most
+      → Loaded bytes n words → length blank ≡ most → m ≡ min (length out / 4) (length blank)
       → a ≡ answer (take n words) (length (take m blank)) → part ≡ buffer (take n words) (take m blank) → length part ≡ length (take m blank)
       → (r ≡ encode a) × (after ≡ outAfter a (part ++ drop m blank) out)
       → Gives answer buffer bytes out r after
   given out blank {bytes} {words} {part} {after} {n} {m} {a} l k e f g s h =
       let ws = loadedOf bytes in
       let space = length out / 4 in
-      let t : length (take m blank) ≡ min space most = length-take-le m blank (omega arith) ∙ e in
+      let t : length (take m blank) ≡ min space most = rw (← k) (length-take-le m blank (omega arith) ∙ e) in
       let here : a ≡ answer ws (length (take m blank)) = rw (← l .front) f in
       let its-answer : a ≡ answer ws space = here ∙ ap (answer ws) t ∙ W .enough ws space in
       let its-part : part ≡ buffer ws (take m blank) = rw (← l .front) g in

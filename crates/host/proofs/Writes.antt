@@ -17,7 +17,12 @@ use Rattle.pack.proofs.PackLaws.{words-length, words-read}
 use Rattle.chains.specs.Kinds.{allKinds}
 use Rattle.chains.specs.Operations.{writeAnswer, writeBuffer, allKindsWords, allKindsAnswer, allKindsBuffer, kindsOfAnswer}
 use Rattle.chains.proofs.PackIndex.{parts}
+use Rattle.host.specs.declared.operations.Question.{Question}
+use Rattle.host.specs.declared.operations.Question.the-variants.{Check, KindsOf}
+use Rattle.host.specs.declared.operations.Writing.{Writing}
+use Rattle.host.specs.declared.operations.Writing.the-variants.{Rewrite, AllKinds}
 use Rattle.host.specs.Bytes.{notWords, outAfter}
+use Rattle.host.specs.Operations.{answerTo, answerOf, bufferOf, mostOf}
 
 -- an answer that says no more words than so many
 abbrev pub Within : Answer → ℕ → Type 0
@@ -29,13 +34,10 @@ pub none-refused : (f : Pack → Answer) → answer (read []) f ≡ notWords
 unfolding read
 none-refused f = refl
 
-pub check-none : checkAnswer [] ≡ notWords
-unfolding checkAnswer
-check-none = none-refused _
-
-pub kinds-of-none : (name : ℕ) → kindsOfAnswer [] name ≡ notWords
-unfolding kindsOfAnswer
-kinds-of-none name = none-refused _
+pub asks-none : (q : Question) → answerTo q [] ≡ notWords
+unfolding checkAnswer kindsOfAnswer
+asks-none Check = none-refused _
+asks-none (KindsOf name) = none-refused _
 
 -- an operation that writes no more words than so many, however much room there is
 pub record Writes (answer : List ℕ → ℕ → Answer) (buffer : List ℕ → List ℕ → List ℕ) (most : ℕ) : Type 0 where
@@ -104,10 +106,14 @@ pub few-places : (ws : List ℕ) (p : Pack) → read ws ≡ yes p → length (al
 unfolding allKindsWords
 few-places ws p e = simp length-map (parts p (words-read ws p e .fine) .few-relations)
 
-pub rewrite-writes : Writes rewriteAnswer rewriteBuffer 8192
+rewrite-writes : Writes rewriteAnswer rewriteBuffer 8192
 unfolding rewriteAnswer rewriteBuffer
 rewrite-writes = writes-made words (λ p. 0) 8192 few-words
 
-pub all-kinds-writes : Writes allKindsAnswer allKindsBuffer 512
+all-kinds-writes : Writes allKindsAnswer allKindsBuffer 512
 unfolding allKindsAnswer allKindsBuffer
 all-kinds-writes = writes-made allKindsWords (λ p. allKinds (p .relations) .steps) 512 few-places
+
+pub writes : (w : Writing) → Writes (answerOf w) (bufferOf w) (mostOf w)
+writes Rewrite = rewrite-writes
+writes AllKinds = all-kinds-writes
