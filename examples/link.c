@@ -1,4 +1,4 @@
-/* Check and Rewrite from C. Build it from the repository's folder, after `rt staticlib host`:
+/* Cogunwa's operations from C. Build it from the repository's folder, after `rt staticlib host`:
  *
  *   cc -Iinclude examples/link.c target/staticlib/libhost.a -o target/link
  */
@@ -25,6 +25,10 @@ int main(void)
     show("check", cogunwa_check(pack, sizeof pack));
     show("rewrite", cogunwa_rewrite(pack, sizeof pack, out, sizeof out));
     printf("the same bytes: %s\n", memcmp(pack, out, sizeof pack) == 0 ? "yes" : "no");
+
+    show("all kinds", cogunwa_all_kinds(pack, sizeof pack, out, sizeof out));
+    show("kinds of the name 0", cogunwa_kinds_of(pack, sizeof pack, 0));
+    show("kinds of the name 1", cogunwa_kinds_of(pack, sizeof pack, 1));
 
     pack[4] = 0; /* a pack has at least one name */
     show("check of a damaged pack", cogunwa_check(pack, sizeof pack));

@@ -30,9 +30,15 @@
  *    8  words left over after the last block
  *                                            place: the first of them
  *   16  `out` has too few words
+ *   17  a name handed over that is not below the pack's N (the value of its kind 2 word)
+ *                                            name: that name
  *
  * Of several that hold, 1 comes first, then the one at the leftmost word (at one word 3, 2, 5, 4, 6, 7
- * in this order), then 8, then 16.
+ * in this order), then 8, then 16 or 17.
+ *
+ * A relation's kinds are the names of one list in the pack, its own or that of the relation that it
+ * inherits from. They are answered as a place: the index of the list's count word, which is of kind 9
+ * or 21; the names are the values of as many words behind it. Place 0 means that it has no kinds.
  */
 #ifndef COGUNWA_H
 #define COGUNWA_H
@@ -52,13 +58,23 @@ uint64_t cogunwa_check(const uint8_t *pack, size_t pack_len);
  * has fewer whole words than the pack. Bytes of `out` past those words stay as they are. */
 uint64_t cogunwa_rewrite(const uint8_t *pack, size_t pack_len, uint8_t *out, size_t out_len);
 
+/* All kinds: writes to `out`, one word for each relation in record order, the place of its kinds, or 0.
+ * Value: the number of words written, which is the number of relations. Steps: the number of names
+ * read on the way, declared or not, each once. Or Check's refusal; or 16 where `out` has fewer whole
+ * words than the pack has relations. Bytes of `out` past those words stay as they are. */
+uint64_t cogunwa_all_kinds(const uint8_t *pack, size_t pack_len, uint8_t *out, size_t out_len);
+
+/* Kinds of one name: value: the place of the name's kinds, or 0, also for a name that no relation has;
+ * or Check's refusal; or 17 where the name is not below N. */
+uint64_t cogunwa_kinds_of(const uint8_t *pack, size_t pack_len, uint32_t name);
+
 /* The fields of an answer. */
 static inline uint32_t cogunwa_number(uint64_t answer) { return (uint32_t)(answer & 0x3F); }
 static inline uint32_t cogunwa_place(uint64_t answer) { return (uint32_t)(answer >> 6 & 0x3FFF); }
 static inline uint32_t cogunwa_name(uint64_t answer) { return (uint32_t)(answer >> 20 & 0xFFFFFFFFu); }
 static inline uint32_t cogunwa_other(uint64_t answer) { return (uint32_t)(answer >> 52); }
 
-/* The same bits of an answer whose number is 0. Neither Check nor Rewrite counts steps: 0. */
+/* The same bits of an answer whose number is 0. Only All kinds counts steps; of the others they are 0. */
 static inline uint32_t cogunwa_value(uint64_t answer) { return cogunwa_name(answer); }
 static inline uint32_t cogunwa_steps(uint64_t answer) { return cogunwa_other(answer); }
 

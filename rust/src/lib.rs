@@ -4,7 +4,7 @@
 //! byte first; [`bytes_of`] makes them from words. Any bytes and any lengths may be handed over. A refusal changes no
 //! byte of an output buffer.
 //!
-//! There are two operations so far: [`check`] and [`rewrite`].
+//! The operations so far: [`check`], [`rewrite`], [`all_kinds`] and [`kinds_of`].
 //!
 //! ```
 //! // The smallest pack: its length, one name, and no defaulted names, relations, rules and blocks.
@@ -19,6 +19,10 @@
 //! let refusal = cogunwa::check(&pack[..3]).unwrap_err();
 //! assert_eq!(refusal.number, 1);
 //! ```
+//!
+//! A relation's kinds are the names of one list in the pack, its own or that of the relation that it inherits from. They
+//! are answered as the place of the list's count word, which is of kind 9 or 21; the names are the values of as many
+//! words behind it.
 
 use std::error::Error;
 use std::fmt;
@@ -26,6 +30,8 @@ use std::fmt;
 unsafe extern "C" {
     fn cogunwa_check(pack: *const u8, pack_len: usize) -> u64;
     fn cogunwa_rewrite(pack: *const u8, pack_len: usize, out: *mut u8, out_len: usize) -> u64;
+    fn cogunwa_all_kinds(pack: *const u8, pack_len: usize, out: *mut u8, out_len: usize) -> u64;
+    fn cogunwa_kinds_of(pack: *const u8, pack_len: usize, name: u32) -> u64;
 }
 
 /// Why an operation refused. Fields that the number does not fill are 0.
@@ -51,6 +57,7 @@ impl fmt::Display for Refusal {
             7 => write!(f, "word {place} gives a relation the name {name}, which was used before"),
             8 => write!(f, "words are left over after the last block, from word {place} on"),
             16 => write!(f, "the output buffer has too few words"),
+            17 => write!(f, "the name {name} is not one of the pack's names"),
             _ => write!(f, "refusal {number}: place {place}, name {name}, other {other}"),
         }
     }
@@ -61,17 +68,27 @@ impl Error for Refusal {}
 /// What an operation gives when it does not refuse.
 struct Given {
     value: u32,
+    steps: u32,
+}
+
+/// What [`all_kinds`] has written.
+#[derive(Clone, Copy, Debug, PartialEq, Eq)]
+pub struct Written {
+    pub words: usize,
+    /// How many names were read on the way.
+    pub steps: u32,
 }
 
 /// Takes an answer apart: number in bits 0 to 5, place in 6 to 19, name in 20 to 51, other in 52 to 63. With the number
-/// 0 the name is the value.
+/// 0 the name is the value and the other the steps.
 fn take_apart(answer: u64) -> Result<Given, Refusal> {
     let number = (answer & 0x3F) as u32;
     let name = (answer >> 20) as u32;
+    let other = (answer >> 52) as u32;
     if number == 0 {
-        return Ok(Given { value: name });
+        return Ok(Given { value: name, steps: other });
     }
-    Err(Refusal { number, place: (answer >> 6 & 0x3FFF) as usize, name, other: (answer >> 52) as u32 })
+    Err(Refusal { number, place: (answer >> 6 & 0x3FFF) as usize, name, other })
 }
 
 /// Whether the bytes are a pack, or the first refusal.
@@ -87,6 +104,23 @@ pub fn rewrite(pack: &[u8], out: &mut [u8]) -> Result<usize, Refusal> {
     // with it.
     let answer = unsafe { cogunwa_rewrite(pack.as_ptr(), pack.len(), out.as_mut_ptr(), out.len()) };
     take_apart(answer).map(|given| given.value as usize)
+}
+
+/// Settles the kinds of every relation. Writes to `out`, one word for each relation in record order, the place of its
+/// kinds, or 0 where it has none. Bytes past those words stay as they are, and a refusal leaves all of `out` as it is. Of
+/// `out` only whole words count.
+pub fn all_kinds(pack: &[u8], out: &mut [u8]) -> Result<Written, Refusal> {
+    // SAFETY: as in `rewrite`.
+    let answer = unsafe { cogunwa_all_kinds(pack.as_ptr(), pack.len(), out.as_mut_ptr(), out.len()) };
+    take_apart(answer).map(|given| Written { words: given.value as usize, steps: given.steps })
+}
+
+/// The place of a name's kinds; `None` where it has none, also where no relation has the name. A name that is not below
+/// the pack's N is refused.
+pub fn kinds_of(pack: &[u8], name: u32) -> Result<Option<usize>, Refusal> {
+    // SAFETY: as in `check`.
+    let answer = unsafe { cogunwa_kinds_of(pack.as_ptr(), pack.len(), name) };
+    take_apart(answer).map(|given| Some(given.value as usize).filter(|&place| place != 0))
 }
 
 /// A word of this kind and value.
@@ -128,7 +162,8 @@ mod tests {
         let answer = 7 | 8192 << 6 | 0xFFFF_FFFF << 20 | 4095 << 52;
         let refusal = take_apart(answer).err();
         assert_eq!(refusal, Some(Refusal { number: 7, place: 8192, name: 0xFFFF_FFFF, other: 4095 }));
-        assert_eq!(take_apart(8192 << 20 | 1024 << 52).ok().map(|given| given.value), Some(8192));
+        let given = take_apart(8192 << 20 | 1024 << 52).ok().map(|given| (given.value, given.steps));
+        assert_eq!(given, Some((8192, 1024)));
     }
 
     #[test]
@@ -136,6 +171,7 @@ mod tests {
         let said = |number, place, name| Refusal { number, place, name, other: 0 }.to_string();
         assert_eq!(said(2, 5, 0), "word 5 is of the wrong kind");
         assert_eq!(said(7, 12, 9), "word 12 gives a relation the name 9, which was used before");
+        assert_eq!(said(17, 0, 4_000_000_000), "the name 4000000000 is not one of the pack's names");
         assert_eq!(said(33, 1, 2), "refusal 33: place 1, name 2, other 0");
     }
 

@@ -2,7 +2,7 @@
 mod packs;
 mod plain;
 
-use cogunwa::{bytes_of, check, rewrite};
+use cogunwa::{all_kinds, bytes_of, check, kinds_of, rewrite, words_of};
 use packs::Chance;
 
 #[test]
@@ -13,22 +13,29 @@ fn several_threads_at_once() {
         let words = packs::mixed(&mut chance);
         all.push(bytes_of(&words));
         all.push(bytes_of(&packs::damaged(&words, &mut chance)));
+        all.push(bytes_of(&packs::tangled(&mut chance)));
     }
     let expected: Vec<_> = all.iter().map(|pack| plain::check_bytes(pack)).collect();
+    let read = |pack: &Vec<u8>| plain::read_bytes(pack);
+    let settled: Vec<_> = all.iter().map(|pack| read(pack)?.all_kinds(8192)).collect();
+    let first: Vec<_> = all.iter().map(|pack| read(pack)?.kinds_of(0)).collect();
     std::thread::scope(|scope| {
-        for first in 0..8 {
-            let (all, expected) = (&all, &expected);
+        for thread in 0..8 {
+            let (all, expected, settled, first) = (&all, &expected, &settled, &first);
             scope.spawn(move || {
                 let mut out = vec![0; 32_768];
                 for turn in 0..50 * all.len() {
-                    let i = (first * 11 + turn) % all.len();
+                    let i = (thread * 11 + turn) % all.len();
                     assert_eq!(check(&all[i]), expected[i]);
-                    out.fill(first as u8);
+                    out.fill(thread as u8);
                     let answer = rewrite(&all[i], &mut out);
                     assert_eq!(answer, expected[i].map(|()| all[i].len() / 4));
                     let written = answer.map_or(0, |words| 4 * words);
                     assert_eq!(out[..written], all[i][..written]);
-                    assert!(out[written..].iter().all(|&b| b == first as u8));
+                    assert!(out[written..].iter().all(|&b| b == thread as u8));
+                    let answer = all_kinds(&all[i], &mut out).map(|w| (words_of(&out[..4 * w.words]), w.steps));
+                    assert_eq!(answer, settled[i]);
+                    assert_eq!(kinds_of(&all[i], 0), first[i]);
                 }
             });
         }

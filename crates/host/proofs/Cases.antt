@@ -3,7 +3,8 @@ use Prim.Native.Nat.{_+_, _*_, _^_}
 use mathlib.Core.Path.{_≡_, refl}
 use mathlib.Core.List.{[], _∷_}
 use Rattle.pack.specs.declared.answer.Answer.the-variants.{Given, Refused}
-use Rattle.host.specs.Bytes.{wordsOf, bytesOf, encode, overBytes, outAfter, checkBytes, rewriteBytes, rewriteOut}
+use Rattle.pack.specs.Operations.{checkAnswer, rewriteAnswer, rewriteBuffer}
+use Rattle.host.specs.Bytes.{wordsOf, bytesOf, encode, overBytes, outAfter, Gives}
 
 -- "For 01000006 02000001 .. (hexadecimal)", low byte first
 words : wordsOf (0x06 ∷ 0x00 ∷ 0x00 ∷ 0x01 ∷ 0x01 ∷ 0x00 ∷ 0x00 ∷ 0x02 ∷ []) ≡ 0x01000006 ∷ 0x02000001 ∷ []
@@ -15,13 +16,13 @@ unfolding bytesOf
 bytes = refl
 
 -- "A refusal prints `refused 1 0 0 0`, here for 3 bytes"
-three-bytes : checkBytes (6 ∷ 0 ∷ 0 ∷ []) ≡ 1
+three-bytes : encode (overBytes checkAnswer (6 ∷ 0 ∷ 0 ∷ [])) ≡ 1
 unfolding overBytes
 three-bytes = refl
 
-three-bytes-rewritten : (rewriteBytes (6 ∷ 0 ∷ 0 ∷ []) 5 ≡ 1) × (rewriteOut (6 ∷ 0 ∷ 0 ∷ []) (1 ∷ 2 ∷ 3 ∷ 4 ∷ 5 ∷ []) ≡ 1 ∷ 2 ∷ 3 ∷ 4 ∷ 5 ∷ [])
+three-bytes-rewritten : Gives rewriteAnswer rewriteBuffer (6 ∷ 0 ∷ 0 ∷ []) (1 ∷ 2 ∷ 3 ∷ 4 ∷ 5 ∷ []) 1 (1 ∷ 2 ∷ 3 ∷ 4 ∷ 5 ∷ [])
 unfolding overBytes outAfter
-three-bytes-rewritten = (refl, refl)
+three-bytes-rewritten = record { answers = refl; leaves = refl }
 
 -- six words and no steps; and a refusal with all its parts
 answer : encode (Given 6 0) ≡ 0x0060_0000

@@ -1,5 +1,6 @@
 pub mod ByteLaws
-pub mod OverBytes
 pub mod Writes
+pub mod OverBytes
 pub mod Faithful
+pub mod Bits
 pub mod Cases

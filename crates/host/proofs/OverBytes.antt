@@ -1,17 +1,19 @@
--- Operations over bytes: what a function that tests, loads, runs the operation and gives its words answers and leaves, from what each step ensures.
-use Prim.Native.Nat.{ℕ, _*_, _/_, _%_, _≤_}
+-- Operations over bytes: what a function that loads, runs the operation and gives its words answers and leaves, from what each step ensures.
+use Prim.Native.Nat.{ℕ, _/_, _%_, _≤_, min}
 use native.Mathlib.Omega.{arith}
-use mathlib.Core.Path.{_≡_, ap, sym, _∙_}
+use mathlib.Core.Path.{_≡_, refl, ap, sym, _∙_}
 use mathlib.Core.Bool.{Bool, true, false, not, _&&_}
-use mathlib.Core.List.{List, _++_}
-use lib.ListN.{length, take, drop, length-take, length-append}
-use lib.Seq.{take-at, length-take-le}
+use mathlib.Core.List.{List, [], _++_}
+use lib.ListN.{length, take, drop, length-append}
+use lib.Seq.{take-append-le, length-take-le}
 use lib.Dec.{eqb, leb}
 use borrow.Author.Tests.{leb-true, not-true, not-false}
 use Rattle.pack.specs.declared.answer.Answer.{Answer}
-use Rattle.host.specs.Bytes.{wordsOf, encode, areWords, notWords, overBytes, room, lent, outAfter, inRoom, outBytes, Within}
+use Rattle.pack.specs.declared.answer.Answer.the-variants.{Given, Refused}
+use Rattle.pack.specs.Table.{pick}
+use Rattle.host.specs.Bytes.{wordsOf, encode, areWords, notWords, overBytes, outAfter, outBytes, Gives, loadedOf, Loaded, Fits}
 use Rattle.host.proofs.ByteLaws.{words-length}
-use Rattle.host.proofs.Writes.{Writes}
+use Rattle.host.proofs.Writes.{Within, Writes}
 
 -- what the test of the byte count tells
 yes-words : (count : ℕ) {t : Bool} → t ≡ areWords count → not t ≡ false → areWords count ≡ true
@@ -28,54 +30,73 @@ and-right false b e = cc
 pub few : (count : ℕ) {t : Bool} → t ≡ areWords count → not t ≡ false → count ≤ 32768
 few count e f = leb-true count 32768 (and-right (eqb (count % 4) 0) (leb count 32768) (yes-words count e f))
 
--- their words are at the front of an array of 8,192
-pub in-front : (count : ℕ) {t : Bool} {k : ℕ} → t ≡ areWords count → not t ≡ false → k ≡ 8192 → count / 4 ≤ k
-in-front count e f l = omega (arith, few count e f)
+-- what is loaded of bytes that are no words, and of bytes that are
+pub none-loaded : (bytes words : List ℕ) {t : Bool} → t ≡ areWords (length bytes) → not t ≡ true → Loaded bytes 0 words
+unfolding loadedOf
+none-loaded bytes words e f = record { front = rw (no-words (length bytes) e f); fits = omega arith }
 
--- bytes that are no words
-pub turned-away : (answer : List ℕ → Answer) (bytes : List ℕ) {t : Bool} {a : Answer} {r : ℕ} → t ≡ areWords (length bytes) → not t ≡ true → a ≡ notWords → r ≡ encode a
-    → r ≡ encode (overBytes answer bytes)
-unfolding overBytes
-turned-away answer bytes e f n h = rw (no-words (length bytes) e f) (h ∙ ap encode n)
+pub all-loaded : (bytes words : List ℕ) {t : Bool} {n : ℕ} → t ≡ areWords (length bytes) → not t ≡ false → n ≡ length bytes / 4 → take n words ≡ wordsOf bytes → Loaded bytes n words
+unfolding loadedOf
+all-loaded bytes words e f l h = record { front = rw (yes-words (length bytes) e f) h; fits = omega (arith, few (length bytes) e f) }
 
--- bytes that are words
-overs : (answer : List ℕ → Answer) (bytes : List ℕ) {t : Bool} → t ≡ areWords (length bytes) → not t ≡ false → overBytes answer bytes ≡ answer (wordsOf bytes)
-unfolding overBytes
-overs answer bytes e f = rw (yes-words (length bytes) e f)
+-- an operation that refuses no words as the host does bytes that are none
+overs : (answer : List ℕ → Answer) → answer [] ≡ notWords → (bytes : List ℕ) → answer (loadedOf bytes) ≡ overBytes answer bytes
+unfolding overBytes loadedOf
+overs answer none bytes = go (areWords (length bytes))
+  where
+    go : (b : Bool) → answer (pick b (wordsOf bytes) []) ≡ pick b (answer (wordsOf bytes)) notWords
+    go true = refl
+    go false = none
 
-pub answered : (answer : List ℕ → Answer) (bytes : List ℕ) {ws : List ℕ} {t : Bool} {a : Answer} {r : ℕ} → t ≡ areWords (length bytes) → not t ≡ false → ws ≡ wordsOf bytes
-    → a ≡ answer ws → r ≡ encode a → r ≡ encode (overBytes answer bytes)
-answered answer bytes e f w n h = h ∙ ap encode (n ∙ ap answer w ∙ sym (overs answer bytes e f))
+pub answered : (answer : List ℕ → Answer) → answer [] ≡ notWords → {bytes words : List ℕ} {n : ℕ} {a : Answer} {r : ℕ}
+    → Loaded bytes n words → a ≡ answer (take n words) → r ≡ encode a → r ≡ encode (overBytes answer bytes)
+answered answer none {bytes} l e h = h ∙ ap encode (e ∙ ap answer (l .front) ∙ overs answer none bytes)
 
--- an output lends as many words as it has room for
-lent-length : (out : List ℕ) → length (lent out) ≡ room (length out)
-lent-length out = simp (length-take, words-length) (omega arith)
+-- an answer that says no more words than a part has, for which an output has room: they fit it, and what stands past the part is not given
+fits : (a : Answer) (part rest : List ℕ) (b : ℕ) → Within a (length part) → length part ≤ b / 4 → Fits a (length (part ++ rest)) b
+fits (Given n steps) part rest b h e = (omega (arith, length-append part rest), omega arith)
+fits (Refused r) part rest b h e = tt
 
--- an operation that writes leaves the output alone where the bytes are no words
-pub left-alone : (answer : List ℕ → ℕ → Answer) (buffer : List ℕ → List ℕ → List ℕ) (bytes out : List ℕ) {t : Bool} → t ≡ areWords (length bytes) → not t ≡ true
-    → out ≡ outBytes answer buffer bytes out
-unfolding overBytes outAfter
-left-alone answer buffer bytes out e f = rw (no-words (length bytes) e f)
+of-part : (a : Answer) (part rest out : List ℕ) → Within a (length part) → outAfter a (part ++ rest) out ≡ outAfter a part out
+unfolding outAfter
+of-part (Given n steps) part rest out h = rw (take-append-le n part rest h)
+of-part (Refused r) part rest out h = refl
 
--- else it works in a blank slice, of which the output is given as many words as it answers
-pub given : {answer : List ℕ → ℕ → Answer} {buffer : List ℕ → List ℕ → List ℕ} → Writes answer buffer → (bytes out : List ℕ) {ws blank written after : List ℕ} {t : Bool} {a : Answer} {r : ℕ}
-    → t ≡ areWords (length bytes) → not t ≡ false → ws ≡ wordsOf bytes → length blank ≡ room (length out) → a ≡ answer ws (length blank) → written ≡ buffer ws blank
-    → (r ≡ encode a) × (after ≡ outAfter a written out)
-    → (r ≡ encode (inRoom answer (length out) bytes)) × (after ≡ outBytes answer buffer bytes out)
-given {answer} {buffer} W bytes out {ws} {blank} e f w l n b h =
-    let s : length blank ≡ length (lent out) = l ∙ sym (lent-length out) in
-    let m : answer ws (length blank) ≡ inRoom answer (length out) bytes =
-    ap (λ (k : ℕ). answer ws k) l ∙ ap (λ (vs : List ℕ). answer vs (room (length out))) w ∙ sym (overs (λ vs. answer vs (room (length out))) bytes e f) in
-    (h .0 ∙ ap encode (n ∙ m), h .1 ∙ rw (n, b, W .own ws blank (lent out) out s, m, w))
+-- an operation that writes works in the front of a blank slice, with as many words as the output has room for
+module _ {answer : List ℕ → ℕ → Answer} {buffer : List ℕ → List ℕ → List ℕ} {most : ℕ} (W : Writes answer buffer most) where
+  -- what it writes fits the output
+  pub fits-out : (ws blank part : List ℕ) (m b : ℕ) {a : Answer} → length blank ≡ most → m ≡ min (b / 4) (length blank) → a ≡ answer ws (length (take m blank)) → length part ≡ length (take m blank)
+      → Fits a (length (part ++ drop m blank)) b
+  fits-out ws blank part m b {a} k l e s =
+      let t : length part ≡ m = s ∙ length-take-le m blank (omega arith) in
+      fits a part (drop m blank) b (rw (e, ← s) (W .fits ws (length part))) (omega arith)
 
--- a part that was lent from the front of a slice and came back
-pub back : (m : ℕ) (before part : List ℕ) → m ≤ length before → length part ≡ length (take m before) → take m (part ++ drop m before) ≡ part
-back m before part h e = take-at part (drop m before) m (e ∙ length-take-le m before h)
+  -- and the output is given as many words as it answers
+  outs : (bytes out : List ℕ) → outAfter (answer (loadedOf bytes) (length out / 4)) (buffer (loadedOf bytes) (wordsOf out)) out ≡ outBytes answer buffer bytes out
+  unfolding overBytes loadedOf outAfter
+  outs bytes out = go (areWords (length bytes))
+    where
+      go : (b : Bool)
+          → outAfter (answer (pick b (wordsOf bytes) []) (length out / 4)) (buffer (pick b (wordsOf bytes) []) (wordsOf out)) out
+          ≡ outAfter (pick b (answer (wordsOf bytes) (length out / 4)) notWords) (buffer (wordsOf bytes) (wordsOf out)) out
+      go true = refl
+      go false = rw (W .none (length out / 4))
 
-pub back-within : (m : ℕ) (before part : List ℕ) → m ≤ length before → length part ≡ length (take m before) → m ≤ length (part ++ drop m before)
-back-within m before part h e = omega (arith, length-append part (drop m before), e, length-take-le m before h)
-
--- what an operation writes fits the output
-pub fits-out : {answer : List ℕ → ℕ → Answer} {buffer : List ℕ → List ℕ → List ℕ} → Writes answer buffer → (ws : List ℕ) {blank written m b : ℕ} {a : Answer}
-    → a ≡ answer ws blank → m ≡ blank → m ≡ written → m ≡ room b → Within a written × (4 * written ≤ b)
-fits-out W ws {blank} n l w r = (rw (n, ← w, l) (W .fits ws blank), omega (arith, w, r))
+  pub given : (out blank : List ℕ) {bytes words part after : List ℕ} {n m : ℕ} {a : Answer} {r : ℕ}
+      → Loaded bytes n words → length blank ≡ most → m ≡ min (length out / 4) (length blank)
+      → a ≡ answer (take n words) (length (take m blank)) → part ≡ buffer (take n words) (take m blank) → length part ≡ length (take m blank)
+      → (r ≡ encode a) × (after ≡ outAfter a (part ++ drop m blank) out)
+      → Gives answer buffer bytes out r after
+  given out blank {bytes} {words} {part} {after} {n} {m} {a} l k e f g s h =
+      let ws = loadedOf bytes in
+      let space = length out / 4 in
+      let t : length (take m blank) ≡ min space most = rw (← k) (length-take-le m blank (omega arith) ∙ e) in
+      let here : a ≡ answer ws (length (take m blank)) = rw (← l .front) f in
+      let its-answer : a ≡ answer ws space = here ∙ ap (answer ws) t ∙ W .enough ws space in
+      let its-part : part ≡ buffer ws (take m blank) = rw (← l .front) g in
+      let own : outAfter (answer ws space) (buffer ws (take m blank)) out ≡ outAfter (answer ws space) (buffer ws (wordsOf out)) out =
+      rw (words-length out) at (W .own ws (take m blank) (wordsOf out) out (rw (words-length out) t)) in
+      record {
+        answers = h .0 ∙ ap encode (its-answer ∙ overs (λ vs. answer vs space) (W .none space) bytes);
+        leaves = h .1 ∙ of-part a part (drop m blank) out (rw (here, s) (W .fits ws (length (take m blank)))) ∙ rw (its-answer, its-part) (own ∙ outs bytes out);
+      }

@@ -1,31 +1,70 @@
--- The operations that write: what each writes fits its room, and does not depend on what the slice held.
-use Prim.Native.Nat.{ℕ}
-use mathlib.Core.Path.{_≡_, refl}
+-- No words are refused by 1, as bytes that are no words are; and of the operations that write, what each writes fits its room and depends neither on what the slice held nor on room past the most that it writes.
+use Prim.Native.Nat.{ℕ, _≤_, min}
+use native.Mathlib.Omega.{arith}
+use mathlib.Core.Path.{_≡_, refl, sym, _∙_}
 use mathlib.Core.Bool.{Bool, true, false}
-use mathlib.Core.List.{List, _++_}
-use lib.ListN.{length, drop}
+use mathlib.Core.List.{List, [], _++_}
+use lib.ListN.{length, drop, length-map}
 use lib.Seq.{take-append-seam}
 use lib.Dec.{leb}
-use borrow.Author.Tests.{leb-true}
+use borrow.Author.Tests.{leb-true, leb-false, le-leb, lt-leb}
 use Rattle.pack.specs.declared.answer.Answer.{Answer}
-use Rattle.pack.specs.declared.answer.Answer.the-variants.{Given}
+use Rattle.pack.specs.declared.answer.Answer.the-variants.{Given, Refused}
 use Rattle.pack.specs.Table.{pick}
 use Rattle.pack.specs.Pack.{Pack, Reading, yes, refuse, read, words}
-use Rattle.pack.specs.Operations.{answer, buffer, noRoom, rewriteAnswer, rewriteBuffer}
-use Rattle.host.specs.Bytes.{outAfter, Within}
+use Rattle.pack.specs.Operations.{answer, buffer, noRoom, checkAnswer, rewriteAnswer, rewriteBuffer}
+use Rattle.pack.proofs.PackLaws.{words-length, words-read}
+use Rattle.chains.specs.Kinds.{allKinds}
+use Rattle.chains.specs.Operations.{writeAnswer, writeBuffer, allKindsWords, allKindsAnswer, allKindsBuffer, kindsOfAnswer}
+use Rattle.chains.proofs.PackIndex.{parts}
+use Rattle.host.specs.declared.operations.Question.{Question}
+use Rattle.host.specs.declared.operations.Question.the-variants.{Check, KindsOf}
+use Rattle.host.specs.declared.operations.Writing.{Writing}
+use Rattle.host.specs.declared.operations.Writing.the-variants.{Rewrite, AllKinds}
+use Rattle.host.specs.Bytes.{notWords, outAfter}
+use Rattle.host.specs.Operations.{answerTo, answerOf, bufferOf, mostOf}
 
-pub record Writes (answer : List ℕ → ℕ → Answer) (buffer : List ℕ → List ℕ → List ℕ) : Type 0 where
+-- an answer that says no more words than so many
+abbrev pub Within : Answer → ℕ → Type 0
+Within (Given n steps) m = n ≤ m
+Within (Refused r) m = Unit {0}
+
+-- every operation reads the pack first
+pub none-refused : (f : Pack → Answer) → answer (read []) f ≡ notWords
+unfolding read
+none-refused f = refl
+
+pub asks-none : (q : Question) → answerTo q [] ≡ notWords
+unfolding checkAnswer kindsOfAnswer
+asks-none Check = none-refused _
+asks-none (KindsOf name) = none-refused _
+
+-- an operation that writes no more words than so many, however much room there is
+pub record Writes (answer : List ℕ → ℕ → Answer) (buffer : List ℕ → List ℕ → List ℕ) (most : ℕ) : Type 0 where
+  pub none : (room : ℕ) → answer [] room ≡ notWords
   pub fits : (ws : List ℕ) (room : ℕ) → Within (answer ws room) room
-  pub own : (ws lent other out : List ℕ) → length lent ≡ length other
-      → outAfter (answer ws (length lent)) (buffer ws lent) out ≡ outAfter (answer ws (length lent)) (buffer ws other) out
+  pub enough : (ws : List ℕ) (room : ℕ) → answer ws (min room most) ≡ answer ws room
+  pub own : (ws lent other out : List ℕ) → length lent ≡ min (length other) most
+      → outAfter (answer ws (length other)) (buffer ws lent) out ≡ outAfter (answer ws (length other)) (buffer ws other) out
+
+leb-min : (n room most : ℕ) → n ≤ most → leb n (min room most) ≡ leb n room
+leb-min n room most h = go (leb n room) refl
+  where
+    go : (b : Bool) → leb n room ≡ b → leb n (min room most) ≡ leb n room
+    go true e = let k = leb-true n room e in le-leb n (min room most) (omega arith) ∙ sym e
+    go false e = let k = leb-false n room e in lt-leb n (min room most) (omega arith) ∙ sym e
 
 -- an operation that makes words of a pack and writes them if there is room, with a number of steps
-module _ (make : Pack → List ℕ) (steps : Pack → ℕ) where
+module _ (make : Pack → List ℕ) (steps : Pack → ℕ) (most : ℕ) where
   abbrev made : ℕ → Pack → Answer
-  made room p = pick (leb (length (make p)) room) (Given (length (make p)) (steps p)) noRoom
+  made room p = writeAnswer (make p) (steps p) room
 
   abbrev after : List ℕ → Pack → List ℕ
-  after lent p = pick (leb (length (make p)) (length lent)) (make p ++ drop (length (make p)) lent) lent
+  after lent p = writeBuffer (make p) lent
+
+  -- what is read makes no more words than that
+  abbrev Short : Reading → Type 0
+  Short r = (p : Pack) → r ≡ yes p → length (make p) ≤ most
 
   made-fits : (r : Reading) (room : ℕ) → Within (answer r (made room)) room
   made-fits (yes p) room = go (leb (length (make p)) room) refl
@@ -35,21 +74,46 @@ module _ (make : Pack → List ℕ) (steps : Pack → ℕ) where
       go false e = tt
   made-fits (refuse r) room = tt
 
-  made-own : (r : Reading) (lent other out : List ℕ) → length lent ≡ length other
-      → outAfter (answer r (made (length lent))) (buffer r (after lent) lent) out ≡ outAfter (answer r (made (length lent))) (buffer r (after other) other) out
+  made-enough : (r : Reading) → Short r → (room : ℕ) → answer r (made (min room most)) ≡ answer r (made room)
+  made-enough (yes p) h room = rw (leb-min (length (make p)) room most (h p refl))
+  made-enough (refuse r) h room = refl
+
+  made-own : (r : Reading) → Short r → (lent other out : List ℕ) → length lent ≡ min (length other) most
+      → outAfter (answer r (made (length other))) (buffer r (after lent) lent) out ≡ outAfter (answer r (made (length other))) (buffer r (after other) other) out
   unfolding outAfter
-  made-own (yes p) lent other out e = rw (← e) (go (leb (length (make p)) (length lent)))
+  made-own (yes p) h lent other out e = rw (e, leb-min (length (make p)) (length other) most (h p refl)) (go (leb (length (make p)) (length other)))
     where
       go : (b : Bool)
           → outAfter (pick b (Given (length (make p)) (steps p)) noRoom) (pick b (make p ++ drop (length (make p)) lent) lent) out
           ≡ outAfter (pick b (Given (length (make p)) (steps p)) noRoom) (pick b (make p ++ drop (length (make p)) other) other) out
       go true = rw (take-append-seam (make p) (drop (length (make p)) lent), take-append-seam (make p) (drop (length (make p)) other))
       go false = refl
-  made-own (refuse r) lent other out e = refl
+  made-own (refuse r) h lent other out e = refl
 
-  pub writes-made : Writes (λ ws room. answer (read ws) (made room)) (λ ws lent. buffer (read ws) (after lent) lent)
-  writes-made = record { fits = λ ws. made-fits (read ws); own = λ ws. made-own (read ws) }
+  pub writes-made : ((ws : List ℕ) → Short (read ws)) → Writes (λ ws room. answer (read ws) (made room)) (λ ws lent. buffer (read ws) (after lent) lent) most
+  writes-made h =
+      record {
+        none = λ room. none-refused (made room);
+        fits = λ ws. made-fits (read ws);
+        enough = λ ws. made-enough (read ws) (h ws);
+        own = λ ws. made-own (read ws) (h ws);
+      }
 
-pub rewrite-writes : Writes rewriteAnswer rewriteBuffer
+pub few-words : (ws : List ℕ) (p : Pack) → read ws ≡ yes p → length (words p) ≤ 8192
+few-words ws p e = omega (arith, words-length p, words-read ws p e .fine .most)
+
+pub few-places : (ws : List ℕ) (p : Pack) → read ws ≡ yes p → length (allKindsWords p) ≤ 512
+unfolding allKindsWords
+few-places ws p e = simp length-map (parts p (words-read ws p e .fine) .few-relations)
+
+rewrite-writes : Writes rewriteAnswer rewriteBuffer 8192
 unfolding rewriteAnswer rewriteBuffer
-rewrite-writes = writes-made words (λ p. 0)
+rewrite-writes = writes-made words (λ p. 0) 8192 few-words
+
+all-kinds-writes : Writes allKindsAnswer allKindsBuffer 512
+unfolding allKindsAnswer allKindsBuffer
+all-kinds-writes = writes-made allKindsWords (λ p. allKinds (p .relations) .steps) 512 few-places
+
+pub writes : (w : Writing) → Writes (answerOf w) (bufferOf w) (mostOf w)
+writes Rewrite = rewrite-writes
+writes AllKinds = all-kinds-writes

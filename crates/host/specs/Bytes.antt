@@ -1,5 +1,6 @@
 -- The host's functions: packs and outputs as bytes, each answer as one number.
-use Prim.Native.Nat.{ℕ, _+_, _*_, _/_, _%_, _^_, _≤_, min}
+use Prim.Native.Nat.{ℕ, _+_, _*_, _/_, _%_, _^_, _≤_}
+use mathlib.Core.Path.{_≡_}
 use mathlib.Core.Bool.{Bool, _&&_}
 use mathlib.Core.List.{List, [], _∷_, _++_}
 use lib.ListN.{length, take, drop}
@@ -7,7 +8,6 @@ use lib.Dec.{eqb, leb}
 use Rattle.pack.specs.declared.answer.Answer.{Answer}
 use Rattle.pack.specs.declared.answer.Answer.the-variants.{Given, Refused}
 use Rattle.pack.specs.Table.{pick}
-use Rattle.pack.specs.Operations.{checkAnswer, rewriteAnswer, rewriteBuffer}
 
 -- "A host in Rust hands over the pack as bytes, four a word, low byte first."
 abbrev pub wordFrom : ℕ → ℕ → ℕ → ℕ → ℕ
@@ -46,37 +46,35 @@ notWords = Refused (record { number = 1; place = 0; name = 0; other = 0 })
 unfoldable pub overBytes : (List ℕ → Answer) → List ℕ → Answer
 overBytes answer bytes = pick (areWords (length bytes)) (answer (wordsOf bytes)) notWords
 
--- "of an output of b bytes it uses the first 4 · (b div 4)", and no more than 8,192 words, since no result is longer
-abbrev pub room : ℕ → ℕ
-room b = min (b / 4) 8192
-
-abbrev pub lent : List ℕ → List ℕ
-lent out = take 8192 (wordsOf out)
-
 -- the output after an answer, whose value is the number of words written: "bytes past the words written stay", "a refusal changes no lent buffer"
 unfoldable pub outAfter : Answer → List ℕ → List ℕ → List ℕ
 outAfter (Given n steps) written out = bytesOf (take n written) ++ drop (4 * n) out
 outAfter (Refused r) written out = out
 
--- an operation that writes: its answer for an output of b bytes, and the output afterwards
+-- An operation that writes: its answer for an output of b bytes, and the output afterwards. "of an output of b bytes it uses the first 4 · (b div 4)"
 abbrev pub inRoom : (List ℕ → ℕ → Answer) → ℕ → List ℕ → Answer
-inRoom answer b = overBytes (λ ws. answer ws (room b))
+inRoom answer b = overBytes (λ ws. answer ws (b / 4))
 
 abbrev pub outBytes : (List ℕ → ℕ → Answer) → (List ℕ → List ℕ → List ℕ) → List ℕ → List ℕ → List ℕ
-outBytes answer buffer bytes out = outAfter (inRoom answer (length out) bytes) (buffer (wordsOf bytes) (lent out)) out
+outBytes answer buffer bytes out = outAfter (inRoom answer (length out) bytes) (buffer (wordsOf bytes) (wordsOf out)) out
 
--- an answer that says no more words than so many
-abbrev pub Within : Answer → ℕ → Type 0
-Within (Given n steps) m = n ≤ m
-Within (Refused r) m = Unit {0}
+-- what holds of the number that such a function answers, and of the output afterwards
+pub record Gives (answer : List ℕ → ℕ → Answer) (buffer : List ℕ → List ℕ → List ℕ) (bytes out : List ℕ) (r : ℕ) (after : List ℕ) : Type 0 where
+  pub answers : r ≡ encode (inRoom answer (length out) bytes)
+  pub leaves : after ≡ outBytes answer buffer bytes out
 
--- Check
-abbrev pub checkBytes : List ℕ → ℕ
-checkBytes bytes = encode (overBytes checkAnswer bytes)
+-- Below: what the parts of the host's functions promise each other.
 
--- Rewrite: the answer for an output of b bytes, and the output afterwards
-abbrev pub rewriteBytes : List ℕ → ℕ → ℕ
-rewriteBytes bytes b = encode (inRoom rewriteAnswer b bytes)
+-- the words that are loaded: none where the bytes are no words
+unfoldable pub loadedOf : List ℕ → List ℕ
+loadedOf bytes = pick (areWords (length bytes)) (wordsOf bytes) []
 
-abbrev pub rewriteOut : List ℕ → List ℕ → List ℕ
-rewriteOut bytes out = outBytes rewriteAnswer rewriteBuffer bytes out
+-- they stand at the front of a slice
+pub record Loaded (bytes : List ℕ) (n : ℕ) (words : List ℕ) : Type 0 where
+  pub front : take n words ≡ loadedOf bytes
+  pub fits : n ≤ 8192
+
+-- as many words as an answer says are there, and their bytes fit the output
+abbrev pub Fits : Answer → ℕ → ℕ → Type 0
+Fits (Given n steps) words bytes = (n ≤ words) × (4 * n ≤ bytes)
+Fits (Refused r) words bytes = Unit {0}

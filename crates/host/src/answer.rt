@@ -2,9 +2,8 @@
 use crate::bytes::store;
 use pack::answer::Answer;
 ghost use mathlib.Core.Path.{_≡_};
-ghost use Prim.Native.Nat.{_*_, _≤_};
 ghost use lib.ListN.{length};
-ghost use Rattle.host.specs.Bytes.{inBits, encode, outAfter, Within};
+ghost use Rattle.host.specs.Bytes.{inBits, encode, outAfter, Fits};
 
 // The number takes 6 bits, the place 14, the name 32 and the other 12.
 fn in_bits(number: u32, place: usize, name: u32, other: u32) -> u64
@@ -25,7 +24,7 @@ pub fn encode(a: Answer) -> u64
 
 // An answer, with as many of the words as it says as bytes in the output.
 pub fn give(a: Answer, words: &[u32], out: &mut [u8]) -> u64
-    requires { ⌜ Within a (length (now words)) × (4 * length (now words) ≤ length (now out)) ⌝ }
+    requires { ⌜ Fits a (length (now words)) (length (now out)) ⌝ }
     ensures { λ r. ⌜ (r ≡ encode a) × (now (out .exit) ≡ outAfter a (now (words .entry)) (now (out .entry))) ⌝ }
 {
     let Answer::Given(n, _) = a else {

@@ -2,27 +2,23 @@
 use pack::kinds::Pack;
 ghost use mathlib.Core.Path.{_≡_};
 ghost use mathlib.Core.List.{_++_, [], _∷_};
-ghost use Prim.Native.Nat.{_+_, _*_, _/_, _≤_};
+ghost use Prim.Native.Nat.{_+_, _*_, _/_, _≤_, min};
 ghost use lib.ListN.{length, take, drop};
-ghost use Rattle.host.specs.Bytes.{wordFrom, wordsOf, bytesOf, areWords, room};
+ghost use Rattle.host.specs.Bytes.{wordFrom, bytesOf, areWords, Loaded};
 
 // Whether so many bytes are words, and not more than a pack may have.
-pub fn are_words(count: usize) -> bool
+fn are_words(count: usize) -> bool
     ensures { λ r. ⌜ r ≡ areWords count ⌝ }
 {
     count % 4 == 0 && count <= 4 * Pack::MOST_WORDS
 }
 
-// The words that an output of so many bytes has room for, as far as any operation writes.
-pub fn room(count: usize) -> usize
-    ensures { λ r. ⌜ r ≡ room count ⌝ }
+// The words that an output of so many bytes has room for, but no more than the operation ever writes.
+pub fn room(count: usize, most: usize) -> usize
+    ensures { λ r. ⌜ r ≡ min (count / 4) most ⌝ }
 {
     let n = count / 4;
-    if n < Pack::MOST_WORDS {
-        n
-    } else {
-        Pack::MOST_WORDS
-    }
+    if n < most { n } else { most }
 }
 
 fn word_from(a: u8, b: u8, c: u8, d: u8) -> u32
@@ -31,11 +27,14 @@ fn word_from(a: u8, b: u8, c: u8, d: u8) -> u32
     a as u32 + b as u32 * 256 + c as u32 * 65536 + d as u32 * 16777216
 }
 
-// The words of the bytes, at the front of the slice.
-pub fn load(bytes: &[u8], words: &mut [u32])
-    requires { ⌜ length (now bytes) ≤ 4 * length (now words) ⌝ }
-    ensures { λ r. ⌜ take (length (now (bytes .entry)) / 4) (now (words .exit)) ≡ wordsOf (now (bytes .entry)) ⌝ }
+// The words of the bytes, at the front of the slice, and how many there are. Bytes that are no words give none, which every operation refuses by 1.
+pub fn load(bytes: &[u8], words: &mut [u32]) -> usize
+    requires { ⌜ length (now words) ≡ 8192 ⌝ }
+    ensures { λ r. ⌜ Loaded (now (bytes .entry)) r (now (words .exit)) ⌝ }
 {
+    if !are_words(bytes.len()) {
+        return 0;
+    }
     let count = bytes.len() / 4;
     let mut i = 0;
     while i < count {
@@ -43,6 +42,7 @@ pub fn load(bytes: &[u8], words: &mut [u32])
         words[i] = word_from(bytes[at], bytes[at + 1], bytes[at + 2], bytes[at + 3]);
         i += 1;
     }
+    count
 }
 
 fn store_word(w: u32, out: &mut [u8], at: usize)

@@ -1,47 +1,48 @@
 // The host's functions: a pack and an output as bytes, each answer as one number.
 mod answer;
 mod bytes;
+mod operations;
 
-use crate::answer::encode;
-use crate::answer::give;
-use crate::bytes::are_words;
-use crate::bytes::load;
-use crate::bytes::room;
-use pack::check::check;
-use pack::check::refuse;
+use crate::operations::Question;
+use crate::operations::Writing;
+use crate::operations::ask;
+use crate::operations::write;
 use pack::kinds::Pack;
-use pack::rewrite::rewrite;
 ghost use mathlib.Core.Path.{_≡_};
-ghost use lib.ListN.{length};
-ghost use Rattle.host.specs.Bytes.{checkBytes, rewriteBytes, rewriteOut};
+ghost use Rattle.pack.specs.Operations.{checkAnswer, rewriteAnswer, rewriteBuffer};
+ghost use Rattle.chains.specs.Operations.{allKindsAnswer, allKindsBuffer, kindsOfAnswer};
+ghost use Rattle.host.specs.Bytes.{encode, overBytes, Gives};
 
 // Check.
 #[no_mangle]
 pub extern "C" fn cogunwa_check(pack: &[u8]) -> u64
-    ensures { λ r. ⌜ r ≡ checkBytes (now (pack .entry)) ⌝ }
+    ensures { λ r. ⌜ r ≡ encode (overBytes checkAnswer (now (pack .entry))) ⌝ }
 {
-    let len = pack.len();
-    if !are_words(len) {
-        return encode(refuse(1, 0));
-    }
-    let mut words = [0u32; Pack::MOST_WORDS];
-    load(pack, &mut words);
-    encode(check(&words[..len / 4]))
+    ask(Question::Check, pack)
 }
 
-// Rewrite. It writes into an array of words, of which the output is given as many as the answer says.
+// Rewrite.
 #[no_mangle]
 pub extern "C" fn cogunwa_rewrite(pack: &[u8], out: &mut [u8]) -> u64
-    ensures { λ r. ⌜ (r ≡ rewriteBytes (now (pack .entry)) (length (now (out .entry)))) × (now (out .exit) ≡ rewriteOut (now (pack .entry)) (now (out .entry))) ⌝ }
+    ensures { λ r. ⌜ Gives rewriteAnswer rewriteBuffer (now (pack .entry)) (now (out .entry)) r (now (out .exit)) ⌝ }
 {
-    let len = pack.len();
-    if !are_words(len) {
-        return encode(refuse(1, 0));
-    }
-    let mut words = [0u32; Pack::MOST_WORDS];
-    load(pack, &mut words);
     let mut written = [0u32; Pack::MOST_WORDS];
-    let m = room(out.len());
-    let a = rewrite(&words[..len / 4], &mut written[..m]);
-    give(a, &written[..m], out)
+    write(Writing::Rewrite, pack, &mut written, out)
+}
+
+// All kinds.
+#[no_mangle]
+pub extern "C" fn cogunwa_all_kinds(pack: &[u8], out: &mut [u8]) -> u64
+    ensures { λ r. ⌜ Gives allKindsAnswer allKindsBuffer (now (pack .entry)) (now (out .entry)) r (now (out .exit)) ⌝ }
+{
+    let mut written = [0u32; Pack::MOST_RELATIONS as usize];
+    write(Writing::AllKinds, pack, &mut written, out)
+}
+
+// Kinds of one name.
+#[no_mangle]
+pub extern "C" fn cogunwa_kinds_of(pack: &[u8], name: u32) -> u64
+    ensures { λ r. ⌜ r ≡ encode (overBytes (λ ws. kindsOfAnswer ws name) (now (pack .entry))) ⌝ }
+{
+    ask(Question::KindsOf(name), pack)
 }

@@ -184,9 +184,7 @@ pub fn mixed(c: &mut Chance) -> Vec<u32> {
         w.put(4, name);
     }
     let mut relations: Vec<u32> = (0..names.min(60)).filter(|_| c.often(20)).collect();
-    for i in (1..relations.len()).rev() {
-        relations.swap(i, c.below(i as u32 + 1) as usize);
-    }
+    mix(&mut relations, c);
     w.put(5, relations.len() as u32);
     for name in relations {
         relation(&mut w, c, names, name);
@@ -329,4 +327,138 @@ pub fn damaged(words: &[u32], c: &mut Chance) -> Vec<u32> {
     }
     // A wrong total hides what comes after it, so most get a right one.
     if !words.is_empty() && words[0] >> 24 == 1 && c.often(80) { with_total(words) } else { words }
+}
+
+/// A relation for a graph of sources: at first without lists and without a derivation.
+#[derive(Clone, Default)]
+pub struct Relation {
+    name: u32,
+    kinds: Vec<u32>,
+    derivation: Option<Derivation>,
+}
+
+#[derive(Clone, Default)]
+struct Derivation {
+    source: Option<u32>,
+    path: Option<u32>,
+    current: u32,
+    entity: Option<u32>,
+    entities: Vec<u32>,
+}
+
+pub fn relation_named(name: u32) -> Relation {
+    Relation { name, ..Relation::default() }
+}
+
+impl Relation {
+    /// List 9.
+    pub fn kinds(mut self, kinds: &[u32]) -> Relation {
+        self.kinds = kinds.to_vec();
+        self
+    }
+
+    fn derive(mut self, change: impl FnOnce(&mut Derivation)) -> Relation {
+        change(self.derivation.get_or_insert_default());
+        self
+    }
+
+    pub fn derived(self) -> Relation {
+        self.derive(|_| ())
+    }
+
+    pub fn source(self, source: u32) -> Relation {
+        self.derive(|d| d.source = Some(source))
+    }
+
+    /// A path of so many steps; without this there is none.
+    pub fn path(self, steps: u32) -> Relation {
+        self.derive(|d| d.path = Some(steps))
+    }
+
+    /// List 21.
+    pub fn entities(self, kinds: &[u32]) -> Relation {
+        self.derive(|d| d.entities = kinds.to_vec())
+    }
+
+    pub fn current(self, slot: u32) -> Relation {
+        self.derive(|d| d.current = slot)
+    }
+
+    pub fn entity(self, entity: u32) -> Relation {
+        self.derive(|d| d.entity = Some(entity))
+    }
+
+    fn put(&self, w: &mut Words) {
+        let list = |w: &mut Words, kind, names: &[u32]| {
+            w.put(kind, names.len() as u32);
+            for &name in names {
+                w.put(10, name);
+            }
+        };
+        w.put(6, self.name).put(7, NONE).put(8, 2);
+        list(w, 9, &self.kinds);
+        w.put(11, self.derivation.is_some().into());
+        let Some(d) = &self.derivation else { return };
+        w.put(12, d.source.unwrap_or(NONE)).put(13, d.path.unwrap_or(NONE));
+        for _ in 0..d.path.unwrap_or(0) {
+            w.put(14, self.name).put(15, 0).put(16, 1);
+        }
+        w.put(17, d.current).put(18, 1).put(19, d.entity.unwrap_or(NONE)).put(20, NONE);
+        list(w, 21, &d.entities);
+        w.put(104, 0);
+    }
+}
+
+/// A pack of these relations and nothing else. The first of them starts at word 4.
+pub fn graph(names: u32, relations: &[Relation]) -> Vec<u32> {
+    let mut w = Words::start(names);
+    w.put(3, 0).put(5, relations.len() as u32);
+    for relation in relations {
+        relation.put(&mut w);
+    }
+    w.put(22, 0).put(28, 0);
+    w.done()
+}
+
+/// A graph with many chains, rings, shared tails, paths and undeclared sources.
+pub fn tangled(c: &mut Chance) -> Vec<u32> {
+    let names = if c.often(90) { 1 + c.below(30) } else { 4096 };
+    // The names in use are the last ones.
+    let used = names.min(2 + c.below(300));
+    let declared = 10 + c.below(90);
+    let mut relations = vec![];
+    for name in names - used..names {
+        if !c.often(declared) {
+            continue;
+        }
+        let any = |c: &mut Chance| names - used + c.below(used);
+        let list = |c: &mut Chance, percent| {
+            let count = if c.often(percent) { 1 + c.below(8) } else { 0 };
+            (0..count).map(|_| any(c)).collect::<Vec<u32>>()
+        };
+        let mut relation = relation_named(name).kinds(&list(c, 15));
+        if c.often(90) {
+            relation = relation.entities(&list(c, 10)).current(c.below(3));
+            if c.often(95) {
+                // Sources near by make long chains, any others rings and shared tails.
+                relation = relation.source(if c.often(50) { (name + 1).min(names - 1) } else { any(c) });
+            }
+            if c.often(10) {
+                relation = relation.path(c.below(9));
+            }
+            if c.often(70) {
+                relation = relation.entity(any(c));
+            }
+        }
+        relations.push(relation);
+    }
+    mix(&mut relations, c);
+    graph(names, &relations)
+}
+
+/// Another order, by chance.
+pub fn mix<T>(items: &mut [T], c: &mut Chance) {
+    for i in (1..items.len()).rev() {
+        items.swap(i, c.below(i as u32 + 1) as usize);
+    }
 }

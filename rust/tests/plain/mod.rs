@@ -1,30 +1,42 @@
-//! Check once more, in plain Rust straight from the description of packs: what the linked library is compared with.
+//! The operations once more, in plain Rust straight from the description of packs: what the linked library is compared
+//! with. Check is here, the chain walks are in `chains`.
 #![allow(dead_code)]
 
+pub mod chains;
+
+use chains::{Derivation, List, Pack, Relation};
 use cogunwa::Refusal;
 
 const NONE: u32 = 0xFF_FFFF;
 
-type Outcome<T> = Result<T, Refusal>;
+pub type Outcome<T> = Result<T, Refusal>;
 
-fn refuse<T>(number: u32, place: usize, name: u32) -> Outcome<T> {
+pub fn refuse<T>(number: u32, place: usize, name: u32) -> Outcome<T> {
     Err(Refusal { number, place, name, other: 0 })
 }
 
 pub fn check_bytes(bytes: &[u8]) -> Outcome<()> {
-    if !bytes.len().is_multiple_of(4) {
-        return refuse(1, 0, 0);
-    }
-    check(&cogunwa::words_of(bytes))
+    read_bytes(bytes).map(|_| ())
 }
 
 pub fn check(words: &[u32]) -> Outcome<()> {
+    read(words).map(|_| ())
+}
+
+pub fn read_bytes(bytes: &[u8]) -> Outcome<Pack> {
+    if !bytes.len().is_multiple_of(4) {
+        return refuse(1, 0, 0);
+    }
+    read(&cogunwa::words_of(bytes))
+}
+
+pub fn read(words: &[u32]) -> Outcome<Pack> {
     if words.len() < 6 || words.len() > 8192 {
         return refuse(1, 0, 0);
     }
     let mut reader = Reader { words, at: 0, names: 0 };
-    reader.pack()?;
-    if reader.at < words.len() { refuse(8, reader.at, 0) } else { Ok(()) }
+    let pack = reader.pack()?;
+    if reader.at < words.len() { refuse(8, reader.at, 0) } else { Ok(pack) }
 }
 
 struct Reader<'a> {
@@ -63,10 +75,9 @@ impl Reader<'_> {
         self.field(kind, |v| v <= most)
     }
 
-    // None counts nothing.
-    fn count_or_none(&mut self, kind: u32, most: u32) -> Outcome<u32> {
+    fn count_or_none(&mut self, kind: u32, most: u32) -> Outcome<Option<u32>> {
         let count = self.field(kind, |v| v <= most || v == NONE)?;
-        Ok(if count == NONE { 0 } else { count })
+        Ok(Some(count).filter(|&v| v != NONE))
     }
 
     fn name(&mut self, kind: u32) -> Outcome<u32> {
@@ -74,12 +85,13 @@ impl Reader<'_> {
         self.field(kind, |v| v < names)
     }
 
-    fn name_or_none(&mut self, kind: u32) -> Outcome<u32> {
+    fn name_or_none(&mut self, kind: u32) -> Outcome<Option<u32>> {
         let names = self.names;
-        self.field(kind, |v| v < names || v == NONE)
+        let name = self.field(kind, |v| v < names || v == NONE)?;
+        Ok(Some(name).filter(|&v| v != NONE))
     }
 
-    fn pack(&mut self) -> Outcome<()> {
+    fn pack(&mut self) -> Outcome<Pack> {
         let length = self.words.len() as u32;
         self.field(1, |v| v == length)?;
         self.names = self.field(2, |v| (1..=4096).contains(&v))?;
@@ -93,13 +105,13 @@ impl Reader<'_> {
             before = Some(name);
         }
 
-        let mut used = std::collections::HashSet::new();
+        let mut relations: Vec<Relation> = vec![];
         for _ in 0..self.count(5, 512)? {
             let name = self.name(6)?;
-            if !used.insert(name) {
+            if relations.iter().any(|r| r.name == name) {
                 return refuse(7, self.at - 1, name);
             }
-            self.relation()?;
+            relations.push(self.relation(name)?);
         }
 
         for _ in 0..self.count(22, 1024)? {
@@ -114,41 +126,47 @@ impl Reader<'_> {
 
         for _ in 0..self.count(28, 64)? {
             self.name_or_none(29)?;
-            for _ in 0..self.count_or_none(30, 1024)? {
+            for _ in 0..self.count_or_none(30, 1024)?.unwrap_or(0) {
                 self.name_or_none(31)?;
                 self.flag(32)?;
                 self.name_or_none(33)?;
             }
         }
-        Ok(())
+        Ok(Pack { names: self.names, relations })
     }
 
-    fn slot_kinds(&mut self, kind: u32) -> Outcome<()> {
+    fn slot_kinds(&mut self, kind: u32) -> Outcome<List> {
+        let place = self.at;
+        let mut names = vec![];
         for _ in 0..self.count(kind, 8)? {
-            self.name(10)?;
+            names.push(self.name(10)?);
         }
-        Ok(())
+        Ok(List { place, names })
     }
 
-    fn relation(&mut self) -> Outcome<()> {
+    fn relation(&mut self, name: u32) -> Outcome<Relation> {
         self.name_or_none(7)?;
         self.any(8)?;
-        self.slot_kinds(9)?;
-        if self.flag(11)? == 0 {
-            return Ok(());
-        }
-        self.name_or_none(12)?;
-        for _ in 0..self.count_or_none(13, 8)? {
+        let kinds = self.slot_kinds(9)?;
+        let derivation = if self.flag(11)? == 1 { Some(self.derivation()?) } else { None };
+        Ok(Relation { name, kinds, derivation })
+    }
+
+    fn derivation(&mut self) -> Outcome<Derivation> {
+        let source = self.name_or_none(12)?;
+        let path = self.count_or_none(13, 8)?;
+        for _ in 0..path.unwrap_or(0) {
             self.name(14)?;
             self.any(15)?;
             self.any(16)?;
         }
-        self.any(17)?;
+        let current = self.any(17)?;
         self.any(18)?;
-        self.name_or_none(19)?;
+        let entity = self.name_or_none(19)?;
         self.name_or_none(20)?;
-        self.slot_kinds(21)?;
-        self.tree(true, 1)
+        let entities = self.slot_kinds(21)?;
+        self.tree(true, 1)?;
+        Ok(Derivation { source, path: path.is_some(), current, entity, entities })
     }
 
     fn tree(&mut self, judgment: bool, depth: u32) -> Outcome<()> {

@@ -1,6 +1,5 @@
 -- `host::answer::give` meets its contract, by the two kinds of answers.
 use borrow.Author.Needs.{needs}
-use native.Mathlib.Omega.{arith}
 use Rattle.host.specs.Bytes.{outAfter}
 use Rattle.host.proofs.answer.give.Statement.{statement}
 use Rattle.host.proofs.answer.give.Tie as tie
@@ -23,9 +22,7 @@ cast-len c = search needs
 
 store-requires : tie.Need-store-requires
 store-requires c κs =
-    let start = c .before .before .before .before .before .before in
-    let few = rw (c .before .before .a .given .1) at (start .pre .0) in
-    omega (arith, few, start .pre .1)
+    rw (c .before .before .a .given .1) at (c .before .before .before .before .before .before .pre)
 
 encode-requires-2 : tie.Need-encode-requires-2
 encode-requires-2 c κs = search needs

@@ -7,22 +7,30 @@ use mathlib.Core.List.{List, _++_}
 use lib.ListN.{length, take, drop, length-set}
 use Rattle.host.specs.Bytes.{wordsOf}
 use Rattle.host.proofs.ByteLaws.{load-turn, load-done}
+use Rattle.host.proofs.OverBytes.{few, none-loaded, all-loaded}
 use Rattle.host.proofs.bytes.load.Statement.{statement}
 use Rattle.host.proofs.bytes.load.Tie as tie
 
-record Loaded (bytes before : List ℕ) (n : ℕ) (words : List ℕ) (i : ℕ) : Type 0 where
+record Loading (bytes before : List ℕ) (n : ℕ) (words : List ℕ) (i : ℕ) : Type 0 where
   within : i ≤ n
+  few : n ≤ 8192
   long : length words ≡ length before
   rest : take i words ++ wordsOf (drop (4 * i) bytes) ≡ wordsOf bytes
 
 abbrev Inv-loop : tie.InvT-loop
-Inv-loop bytes words₀ n i₀ words i = Loaded bytes words₀ n words i
+Inv-loop bytes words₀ n i₀ words i = Loading bytes words₀ n words i
 
 abbrev μ-loop : tie.MeasureT-loop
 μ-loop bytes words₀ n i₀ words i = n - i
 
+are-words-requires : tie.Need-are-words-requires Inv-loop μ-loop
+are-words-requires c κs = search needs
+
+returns : tie.Need-returns Inv-loop μ-loop
+returns c = none-loaded _ _ (c .before .are-words .ensures) (c .if1 .taken)
+
 loop-holds : tie.Need-loop-holds Inv-loop μ-loop
-loop-holds c = record { within = omega arith; long = refl; rest = refl }
+loop-holds c = record { within = omega arith; few = omega (arith, few (length (c .before .before .before .before .args .bytes .now)) (c .before .are-words .ensures) (c .if1 .left)); long = refl; rest = refl }
 
 mul-at : tie.Need-mul-at Inv-loop μ-loop
 mul-at c = omega arith
@@ -68,6 +76,7 @@ loop-again c =
     let l = c .before .before .before .before .before .before .loop in
     record {
       within = omega arith;
+      few = omega arith;
       long = simp length-set (l .inv .long);
       rest = rw (c .word-from .ensures) (sym (load-turn _ (l .words) (l .i) (omega arith) (omega arith)) ∙ l .inv .rest);
     }
@@ -75,10 +84,11 @@ loop-again c =
 same-length : tie.Need-same-length Inv-loop μ-loop
 same-length c = c .before .loop .inv .long
 
-returns : tie.Need-returns Inv-loop μ-loop
-returns c =
+returns-2 : tie.Need-returns-2 Inv-loop μ-loop
+returns-2 c =
     let l = c .before .loop in
-    sym (load-done _ (l .words) (l .i) (omega arith)) ∙ l .inv .rest
+    let tested = c .before .before .before in
+    all-loaded _ _ (tested .are-words .ensures) (c .before .before .if1 .left) refl (sym (load-done _ (l .words) (l .i) (omega arith)) ∙ l .inv .rest)
 
 pub load-spec : {M : Type 1} → statement M
 load-spec =
@@ -86,6 +96,8 @@ load-spec =
     (tie.spec
     Inv-loop
     μ-loop
+    are-words-requires
+    returns
     loop-holds
     mul-at
     shared-slice-read-word-from
@@ -102,4 +114,4 @@ load-spec =
     loop-less
     loop-again
     same-length
-    returns)
+    returns-2)

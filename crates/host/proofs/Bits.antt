@@ -1,0 +1,150 @@
+-- No answer is too large for its bits: the number that a function of the host answers gives the operation's answer back.
+use Prim.Native.Nat.{ℕ, _-_, _^_, _<_, _≤_}
+use native.Mathlib.Omega.{arith}
+use mathlib.Core.Path.{_≡_, refl, ap, sym, _∙_}
+use mathlib.Core.Bool.{Bool, true, false, _||_}
+use mathlib.Core.List.{List, [], _∷_}
+use mathlib.Core.Option.{none}
+use lib.ListN.{length, getD, length-map}
+use lib.Dec.{leb, ltb}
+use borrow.Author.Tests.{ltb-true}
+use Rattle.pack.specs.declared.answer.Answer.{Answer}
+use Rattle.pack.specs.declared.answer.Answer.the-variants.{Given, Refused}
+use Rattle.pack.specs.Table.{pick}
+use Rattle.pack.specs.Form.{among}
+use Rattle.pack.specs.Pack.{Relation, Pack, WellFormed, Reading, yes, refuse, read, words}
+use Rattle.pack.specs.Operations.{answer, noRoom, checkAnswer, rewriteAnswer}
+use Rattle.pack.proofs.PackLaws.{words-read}
+use Rattle.pack.proofs.Refusals.{read-numbers}
+use Rattle.chains.specs.Chain.{Step, end, next, mapped, same, withNext, outside}
+use Rattle.chains.specs.Kinds as kinds
+use Rattle.chains.specs.Kinds.{kindStep, declared, ownAnswer, allKinds}
+use Rattle.chains.specs.Operations.{placeOf, writeAnswer, allKindsWords, allKindsAnswer, unknown, kindsOfAnswer}
+use Rattle.chains.specs.Settle.{stepAt}
+use Rattle.chains.specs.Index.{scanFrom}
+use Rattle.chains.proofs.KindLaws.{kinds-steps, distinct-names}
+use Rattle.chains.proofs.PackIndex.{zeros, parts}
+use Rattle.chains.proofs.PlaceBounds.{indexes}
+use Rattle.chains.proofs.ListAt.{own-holds}
+use Rattle.host.specs.Bytes.{encode, areWords, notWords, overBytes, wordsOf}
+use Rattle.host.proofs.Writes.{few-words, few-places}
+use Rattle.host.proofs.Faithful.{parts-again}
+
+abbrev pub FitsBits : Answer → Type 0
+FitsBits (Given value steps) = (value < 2 ^ 32) × (steps < 2 ^ 12)
+FitsBits (Refused r) = (0 < r .number) × (r .number < 2 ^ 6) × (r .place < 2 ^ 14) × (r .name < 2 ^ 32) × (r .other < 2 ^ 12)
+
+same-refusal : {n p m o n′ p′ m′ o′ : ℕ} → n ≡ n′ → p ≡ p′ → m ≡ m′ → o ≡ o′
+    → Refused (record { number = n; place = p; name = m; other = o }) ≡ Refused (record { number = n′; place = p′; name = m′; other = o′ })
+same-refusal e f g h = cc
+
+-- two answers with one number are one answer
+pub answers-again : (a b : Answer) → FitsBits a → FitsBits b → encode a ≡ encode b → a ≡ b
+answers-again (Given v s) (Given v′ s′) (f, g) (f′, g′) e =
+    let x = parts-again 0 0 v s (omega arith) (omega arith) f g in
+    let y = parts-again 0 0 v′ s′ (omega arith) (omega arith) f′ g′ in
+    let value : v ≡ v′ = sym (x .2) ∙ rw e (y .2) in
+    let steps : s ≡ s′ = sym (x .3) ∙ rw e (y .3) in
+    cc
+answers-again (Given v s) (Refused r) (f, g) (a, b, c, d, h) e =
+    let x = parts-again 0 0 v s (omega arith) (omega arith) f g in
+    let y = parts-again (r .number) (r .place) (r .name) (r .other) b c d h in
+    let number : 0 ≡ r .number = sym (x .0) ∙ rw e (y .0) in
+    absurd (omega arith)
+answers-again (Refused r) (Given v s) (a, b, c, d, h) (f, g) e =
+    let x = parts-again 0 0 v s (omega arith) (omega arith) f g in
+    let y = parts-again (r .number) (r .place) (r .name) (r .other) b c d h in
+    let number : r .number ≡ 0 = sym (y .0) ∙ rw e (x .0) in
+    absurd (omega arith)
+answers-again (Refused r) (Refused r′) (a, b, c, d, h) (a′, b′, c′, d′, h′) e =
+    let x = parts-again (r .number) (r .place) (r .name) (r .other) b c d h in
+    let y = parts-again (r′ .number) (r′ .place) (r′ .name) (r′ .other) b′ c′ d′ h′ in
+    same-refusal (sym (x .0) ∙ rw e (y .0)) (sym (x .1) ∙ rw e (y .1)) (sym (x .2) ∙ rw e (y .2)) (sym (x .3) ∙ rw e (y .3))
+
+-- Check's refusals, and what is answered for a pack
+reads : (ws : List ℕ) (f : Pack → Answer) → ((p : Pack) → read ws ≡ yes p → FitsBits (f p)) → FitsBits (answer (read ws) f)
+reads ws f h = go (read ws) refl
+  where
+    go : (m : Reading) → read ws ≡ m → FitsBits (answer m f)
+    go (yes p) e = h p e
+    go (refuse r) e = let b = read-numbers ws r e in (omega arith, omega arith, omega arith, omega arith, omega arith)
+
+writes : (out : List ℕ) (steps room : ℕ) → length out < 2 ^ 32 → steps < 2 ^ 12 → FitsBits (writeAnswer out steps room)
+writes out steps room h k = go (leb (length out) room)
+  where
+    go : (b : Bool) → FitsBits (pick b (Given (length out) steps) noRoom)
+    go true = (h, k)
+    go false = (omega arith, omega arith, omega arith, omega arith, omega arith)
+
+pub check-fits : (ws : List ℕ) → FitsBits (checkAnswer ws)
+unfolding checkAnswer
+check-fits ws = reads ws _ (λ p e. (omega arith, omega arith))
+
+pub rewrite-fits : (ws : List ℕ) (room : ℕ) → FitsBits (rewriteAnswer ws room)
+unfolding rewriteAnswer
+rewrite-fits ws room = reads ws _ (λ p e. writes (words p) 0 room (omega (arith, few-words ws p e)) (omega arith))
+
+-- a relation inherits from one name, so there are no more undeclared sources than relations
+few-outside : {R : Type 0} (step : ℕ → Step R) (ds ns : List ℕ) → length (outside step ds ns) ≤ length ns
+unfolding outside
+few-outside step ds [] = omega arith
+few-outside {R} step ds (n ∷ ns) = go (step n) (few-outside step ds ns)
+  where
+    rest : List ℕ
+    rest = outside step ds ns
+
+    added : (b : Bool) (m : ℕ) → length rest ≤ length ns → length (pick b rest (m ∷ rest)) ≤ length (n ∷ ns)
+    added true m h = omega arith
+    added false m h = omega arith
+
+    go : (s : Step R) → length rest ≤ length ns → length (withNext ds s rest) ≤ length (n ∷ ns)
+    go (end r) h = omega arith
+    go (next m) h = added (among m ds || among m rest) m h
+
+few-steps : (p : Pack) → WellFormed p → allKinds (p .relations) .steps ≤ 1024
+few-steps p w =
+    let rs = p .relations in
+    let l : length (declared rs) ≡ length rs = length-map rs (λ (r : Relation). r .name) in
+    omega (arith, kinds-steps rs (distinct-names p w), few-outside (kindStep rs) (declared rs) (declared rs), parts p w .few-relations)
+
+pub all-kinds-fits : (ws : List ℕ) (room : ℕ) → FitsBits (allKindsAnswer ws room)
+unfolding allKindsAnswer
+all-kinds-fits ws room =
+    reads ws _ (λ p e. writes (allKindsWords p) (allKinds (p .relations) .steps) room (omega (arith, few-places ws p e)) (omega (arith, few-steps p (words-read ws p e .fine))))
+
+-- a place is that of a step's end, and the index has those as small numbers
+coded-small : (x place : ℕ) → end place ≡ pick (ltb x 65536) (end x) (next (x - 65536)) → place < 65536
+coded-small x place e = go (ltb x 65536) refl e
+  where
+    go : (b : Bool) → ltb x 65536 ≡ b → end place ≡ pick b (end x) (next (x - 65536)) → place < 65536
+    go true h q = let k : place ≡ x = cc in omega (arith, ltb-true x 65536 h)
+    go false h q = let z : _≡_ {A = ℕ} 0 1 = cc in absurd (omega arith)
+
+step-places : (p : Pack) → WellFormed p → (n : ℕ) (a : kinds.Answer) → kindStep (p .relations) n ≡ end a → placeOf p a < 65536
+unfolding stepAt
+step-places p w n a e = coded-small (getD (scanFrom 0 0 zeros (words p)) n 0) (placeOf p a) (ap (mapped (placeOf p)) (sym e) ∙ indexes p w .says n)
+
+no-place : (p : Pack) → placeOf p none < 65536
+unfolding placeOf
+no-place p = omega arith
+
+place-small : (p : Pack) → WellFormed p → (n : ℕ) → placeOf p (ownAnswer (p .relations) n) < 65536
+place-small p w n =
+    own-holds (λ a. placeOf p a < 65536) none (no-place p) same (λ a h. h) (kindStep (p .relations)) (step-places p w) (declared (p .relations)) n
+
+pub kinds-of-fits : (ws : List ℕ) (name : ℕ) → name < 2 ^ 32 → FitsBits (kindsOfAnswer ws name)
+unfolding kindsOfAnswer
+kinds-of-fits ws name h = reads ws _ (λ p e. go p (words-read ws p e .fine) (ltb name (p .names)))
+  where
+    go : (p : Pack) → WellFormed p → (b : Bool) → FitsBits (pick b (Given (placeOf p (ownAnswer (p .relations) name)) 0) (unknown name))
+    go p w true = (omega (arith, place-small p w name), omega arith)
+    go p w false = (omega arith, omega arith, omega arith, h, omega arith)
+
+-- and so from bytes
+pub over-bytes-fits : (answer : List ℕ → Answer) → ((ws : List ℕ) → FitsBits (answer ws)) → (bytes : List ℕ) → FitsBits (overBytes answer bytes)
+unfolding overBytes
+over-bytes-fits answer h bytes = go (areWords (length bytes))
+  where
+    go : (b : Bool) → FitsBits (pick b (answer (wordsOf bytes)) notWords)
+    go true = h (wordsOf bytes)
+    go false = (omega arith, omega arith, omega arith, omega arith, omega arith)

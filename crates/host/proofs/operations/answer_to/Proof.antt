@@ -1,0 +1,26 @@
+-- `host::operations::answer_to` meets its contract, by the operations that only answer.
+use borrow.Author.Needs.{needs}
+use Rattle.host.proofs.operations.answer_to.Statement.{statement}
+use Rattle.host.proofs.operations.answer_to.Tie as tie
+
+enum-told : tie.Need-enum-told
+enum-told c = search needs
+
+check-requires : tie.Need-check-requires
+check-requires c κs = search needs
+
+enum-known-q : tie.Need-enum-known-q
+enum-known-q c = search needs
+
+kinds-of-requires : tie.Need-kinds-of-requires
+kinds-of-requires c κs = search needs
+
+returns : tie.Need-returns
+returns c = rw (c .before .enum-told .given .1) (c .check .ensures)
+
+returns-2 : tie.Need-returns-2
+returns-2 c = rw (c .before .before .q .given .1) (c .kinds-of .ensures)
+
+pub answer-to-spec : {M : Type 1} → statement M
+answer-to-spec =
+    tie.close (tie.spec enum-told check-requires enum-known-q kinds-of-requires returns returns-2)
