@@ -12,6 +12,8 @@ ghost use Rattle.chains.specs.Index.{entryAfter, Indexed, Started, start
 pub struct Declaration {}
 
 impl Declaration {
+    pub const NO_KINDS: u32 = 0;
+
     pub const LEADS: u32 = 65536;
 }
 
@@ -37,13 +39,14 @@ fn entry_after(x: u32, place: u32, word: u32) -> u32
             Declaration::LEADS + v
         }
         Pack::PATH => {
-            if v == Pack::NONE {
+            let steps = v;
+            if steps == Pack::NONE {
                 return x;
             }
             if x < Declaration::LEADS {
                 return x;
             }
-            0
+            Declaration::NO_KINDS
         }
         _ => x,
     }

@@ -44,7 +44,7 @@ pub fn walk(
         return m - Mark::SETTLED;
     }
     if m == Mark::ON_PATH {
-        return 0;
+        return Declaration::NO_KINDS;
     }
     marks[n] = Mark::ON_PATH;
     let x = read_name(table, n, steps);
