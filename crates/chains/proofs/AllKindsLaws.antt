@@ -1,26 +1,24 @@
 -- The walks over the index from all relations give what All kinds writes.
 use Prim.Native.Nat.{ℕ, suc, _+_, _-_}
 use native.Mathlib.Omega.{arith}
-use mathlib.Core.Path.{_≡_, refl, ap, sym, _∙_, fun-ext}
-use mathlib.Core.List.{List, [], _∷_, map}
+use mathlib.Core.Path.{_≡_, refl, ap, _∙_, fun-ext}
+use mathlib.Core.List.{List, []}
 use mathlib.Core.Bool.{Bool, true, false}
 use mathlib.Core.Option.{none, some, Option·map}
 use lib.ListN.{length, getD}
-use lib.Dec.{eqb, ltb}
-use borrow.Author.Tests.{ltb-false, eq-eqb}
+use lib.Dec.{ltb}
+use borrow.Author.Tests.{ltb-false}
 use Rattle.pack.specs.Table.{pick}
 use Rattle.pack.specs.Form.{among}
 use Rattle.pack.specs.Pack.{Relation, Pack, WellFormed, words}
 use Rattle.chains.specs.Chain.{Settled, nothing, own, All, walkAll, same}
 use Rattle.chains.specs.Kinds.{declared, kindStep, allKinds, ownAnswer}
-use Rattle.chains.specs.Kinds as kinds
-use Rattle.chains.specs.Operations.{placeOf, allKindsWords}
+use Rattle.chains.specs.Operations.{placeOf}
 use Rattle.chains.specs.Index.{entryAfter}
 use Rattle.chains.specs.Scan.{scanTable}
-use Rattle.chains.specs.Settle.{stepAt, settledIn, walkIn, walksIn, SettledAll, placesIn}
-use Rattle.chains.proofs.Names.{or-left, or-right}
+use Rattle.chains.specs.Settle.{stepAt, settledIn, walkIn, walksIn, SettledAll}
 use Rattle.chains.proofs.MappedLaws.{AnswersMapped, answers-mapped}
-use Rattle.chains.proofs.KindLaws.{in-row, kinds-own, words-own}
+use Rattle.chains.proofs.KindLaws.{kinds-own}
 use Rattle.chains.proofs.PackIndex.{zeros, zero-at}
 use Rattle.chains.proofs.PlaceBounds.{indexes}
 

@@ -1,7 +1,7 @@
 -- Tables by name: after the scan each name has what the words of its own relation made of its number.
 use Prim.Native.Nat.{ℕ, _+_, _*_, _%_, _<_, _≤_}
 use native.Mathlib.Omega.{arith}
-use mathlib.Core.Path.{_≡_, refl, ap, sym, _∙_}
+use mathlib.Core.Path.{_≡_, refl, ap, _∙_}
 use mathlib.Core.List.{List, [], _∷_}
 use mathlib.Core.Bool.{Bool, true, false, _||_}
 use mathlib.Core.Option.{Option, none, some}
@@ -16,10 +16,10 @@ use Rattle.chains.specs.Kinds.{find}
 use Rattle.chains.specs.Operations.{relationWords, startOf, hops}
 use Rattle.chains.specs.Scan.{nameAfter, ByName, tableAfter, byName}
 use Rattle.chains.proofs.Hushed.{kind-word}
-use Rattle.chains.proofs.Quiet.{Unheard, Passing}
-use Rattle.chains.proofs.ScanLaws.{afterDerivation, afterOption, afterRelation}
+use Rattle.chains.proofs.Quiet.{Passing}
+use Rattle.chains.proofs.ScanLaws.{afterOption, afterRelation}
 use Rattle.chains.proofs.DeclarationLaws.{Fitting}
-use Rattle.chains.proofs.RelationScan.{RelationsFine, relationsWords, Kept, kept, afterRelations}
+use Rattle.chains.proofs.RelationScan.{RelationsFine, Kept, kept, afterRelations}
 
 module _ (after : ℕ → ℕ → ℕ → ℕ) where
   pub by-name-passes : Passing after → Passing (byName after)

@@ -3,17 +3,17 @@ use Prim.Native.Nat.{ℕ, zero, suc, _+_, _-_, _<_, _≤_}
 use native.Mathlib.Omega.{arith}
 use native.Mathlib.Numerals.{add-one}
 use mathlib.Core.Path.{_≡_, refl, ap, sym, _∙_}
-use mathlib.Core.List.{List, [], _∷_, _++_, append-nil}
+use mathlib.Core.List.{List, [], _++_, append-nil}
 use mathlib.Core.Bool.{Bool, true, false}
 use mathlib.Core.Option.{Option, none, some, Option·map}
 use lib.ListN.{length, getD, drop}
 use lib.Seq.{getD-drop}
 use lib.Dec.{eqb, ltb}
-use borrow.Author.Tests.{eq-eqb, eqb-true, eqb-false, lt-ltb, le-ltb, ltb-true, ltb-false}
+use borrow.Author.Tests.{eq-eqb, eqb-false, lt-ltb, le-ltb, ltb-true, ltb-false}
 use Rattle.pack.specs.Table.{pick}
 use Rattle.pack.specs.Table as table
 use Rattle.pack.specs.Form.{among}
-use Rattle.chains.specs.Chain.{Step, end, next, mapped, Settled, nothing, All, walkAll, own, same}
+use Rattle.chains.specs.Chain.{end, next, mapped, Settled, nothing, All, walkAll, own, same}
 use Rattle.chains.specs.Filtered.{innerAt, upTo, innerStep}
 use Rattle.chains.specs.Operations.{tableFrom}
 use Rattle.chains.specs.Settle.{stepAt, Leading, settledIn, walksIn, Settleable, SettledAll}

@@ -9,12 +9,11 @@ use lib.ListN.{length, getD}
 use lib.Dec.{eqb, ltb}
 use borrow.Author.Tests.{ltb-true}
 use Rattle.pack.specs.Table.{pick, entryOf, table}
-use Rattle.pack.specs.Form.{allowedHere, FineAll, field, Fine, items, count}
-use Rattle.pack.specs.Pack.{Derivation, Relation, Pack, WellFormed, nameList, chain, member, derivation, optionalDerivation, relationTail}
+use Rattle.pack.specs.Form.{allowedHere, FineAll, field, Fine, items}
+use Rattle.pack.specs.Pack.{Derivation, Relation, Pack, WellFormed, nameList, member, derivation, optionalDerivation, relationTail}
 use Rattle.chains.specs.Kinds.{Which, list9, list21, Answer, find, listOf, listIn, namesOf, kindsOf, ownAnswer}
 use Rattle.chains.specs.Reach.{any}
 use Rattle.chains.specs.Filtered.{kindAt, listed, takes, takenFrom, taken, single, direct}
-use Rattle.chains.proofs.RelationScan.{Kept}
 use Rattle.chains.proofs.PackIndex.{parts, find-kept}
 
 abbrev pub Below : ℕ → List ℕ → Type 0

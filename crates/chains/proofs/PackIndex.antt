@@ -19,7 +19,7 @@ use Rattle.chains.specs.Scan.{scan, ByName, byName, scanTable}
 use Rattle.chains.specs.Index.{coded, entryAfter, placed, declarationAt}
 use Rattle.pack.proofs.PackLaws.{words-length}
 use Rattle.chains.proofs.Hushed.{Quiet, quiet-word, kind-word}
-use Rattle.chains.proofs.Quiet.{loud, Unheard, Passing, scan-quiet}
+use Rattle.chains.proofs.Quiet.{loud, Passing, scan-quiet}
 use Rattle.chains.proofs.DeclarationLaws.{relation-declares}
 use Rattle.chains.proofs.RelationScan.{RelationsFine, relationsWords, Kept, kept, afterRelations, scan-relations}
 use Rattle.chains.proofs.ByNameLaws.{by-name-passes, left, by-name-at}

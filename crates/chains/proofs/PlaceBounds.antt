@@ -5,21 +5,21 @@ use mathlib.Core.Path.{_≡_, refl, ap, sym, _∙_}
 use mathlib.Core.List.{List, [], _∷_}
 use mathlib.Core.Bool.{Bool, true, false, _||_}
 use mathlib.Core.Option.{Option, none, some}
-use lib.ListN.{length, getD, length-append}
+use lib.ListN.{length, getD}
 use lib.Dec.{eqb}
 use borrow.Author.Tests.{ne-eqb, leb-true, ltb-true, lt-ltb, le-ltb}
 use Rattle.pack.specs.Table.{pick, entryOf, table}
 use Rattle.pack.specs.Table as table
-use Rattle.pack.specs.Form.{among, allowedHere, says, count, items, wordsBy, Fine}
-use Rattle.pack.specs.Pack.{Hop, Derivation, Relation, Pack, WellFormed, nameList, path, chain, derivation, optionalDerivation, relationTail, relation, newName, words}
+use Rattle.pack.specs.Form.{among, allowedHere, says, count, items, Fine}
+use Rattle.pack.specs.Pack.{Hop, Derivation, Relation, Pack, WellFormed, nameList, path, chain, derivation, optionalDerivation, relationTail, relation, words}
 use Rattle.chains.specs.Chain.{Step, end, next, mapped}
 use Rattle.chains.specs.Kinds.{Which, list9, list21, from, find, readAt, kindStep}
-use Rattle.chains.specs.Operations.{relationWords, startOf, firstRelation, hops, countPlace, placeOf}
+use Rattle.chains.specs.Operations.{firstRelation, hops, countPlace, placeOf}
 use Rattle.chains.specs.Index.{coded, entryAfter}
 use Rattle.chains.specs.Scan.{scanTable}
 use Rattle.chains.specs.Settle.{stepAt, Leading}
 use Rattle.chains.proofs.Names.{apart}
-use Rattle.chains.proofs.RelationScan.{relationsWords, RelationsFine, short-path}
+use Rattle.chains.proofs.RelationScan.{RelationsFine, short-path}
 use Rattle.chains.proofs.PackIndex.{zeros, parts, index-declares, find-name, relations-room, each-way, start-within}
 
 -- ---- what the table allows

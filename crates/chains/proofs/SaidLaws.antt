@@ -3,7 +3,6 @@ use Prim.Native.Nat.{ℕ, _+_, _-_, _<_, _≤_}
 use mathlib.Core.Path.{_≡_, refl, sym}
 use native.Mathlib.Omega.{arith}
 use borrow.Author.Tests.{eq-eqb, ne-eqb, lt-ltb, le-ltb, le-leb, lt-leb}
-use Rattle.pack.specs.Table.{pick}
 use Rattle.chains.specs.Taking.{several}
 use Rattle.chains.specs.Said.{directOf, aliasOf, unresolvedOf, innerEntry, innerOf}
 

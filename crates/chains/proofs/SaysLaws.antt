@@ -7,7 +7,7 @@ use mathlib.Core.Bool.{Bool, true, false, _||_, _&&_, not}
 use mathlib.Core.Option.{Option, none, some}
 use lib.ListN.{length, getD}
 use lib.Dec.{eqb, ltb, leb}
-use borrow.Author.Tests.{eq-eqb, ne-eqb, eqb-true, eqb-false, lt-ltb, le-ltb, le-leb, lt-leb, ltb-true}
+use borrow.Author.Tests.{eq-eqb, ne-eqb, eqb-true, eqb-false, le-ltb, lt-leb, ltb-true}
 use Rattle.pack.specs.Table.{pick}
 use Rattle.pack.specs.Table as table
 use Rattle.pack.specs.Pack.{Relation, Pack, WellFormed, yes, read}
@@ -18,9 +18,8 @@ use Rattle.chains.specs.Chain.{Step, end, own, same}
 use Rattle.chains.specs.Reach.{any}
 use Rattle.chains.specs.Filtered.{taken, single, direct, alias, namesEntity, isNil, unresolved, innerAt, upTo, innerStep, innermost}
 use Rattle.chains.specs.Operations.{yesNo, orNone, tableFrom, says, filterWords}
-use Rattle.chains.specs.AllKinds.{IsPack, Named}
 use Rattle.chains.specs.Taking.{several, known, Known}
-use Rattle.chains.specs.Said.{directOf, aliasOf, unresolvedOf, innerOf, said, saidIn, directIn, Directed, answered, InnerMarked, InnerFor, FilterAsked, FilterLeft}
+use Rattle.chains.specs.Said.{directOf, aliasOf, unresolvedOf, innerOf, saidIn, directIn, Directed, answered, InnerMarked, InnerFor, FilterAsked, FilterLeft}
 use Rattle.chains.proofs.PackIndex.{parts}
 use Rattle.chains.proofs.CheckedLaws.{below-most}
 use Rattle.chains.proofs.KindBounds.{Below, taken-below, direct-below}

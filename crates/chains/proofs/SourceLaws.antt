@@ -10,18 +10,17 @@ use lib.Dec.{eqb}
 use borrow.Author.Tests.{eq-eqb, ne-eqb}
 use Rattle.pack.specs.Table.{pick, kindOf, valueOf, wordOf}
 use Rattle.pack.specs.Table as table
-use Rattle.pack.specs.Pack.{Derivation, Relation, Pack, WellFormed, yes, read, words}
+use Rattle.pack.specs.Pack.{Derivation, Relation, Pack, WellFormed, words}
 use Rattle.chains.specs.Kinds.{find}
 use Rattle.chains.specs.Operations.{startOf, firstRelation}
-use Rattle.chains.specs.Reach.{leadsWithin, sourceOf, sourceAt, sources, leans, coded, sourcesIn, Sourced}
+use Rattle.chains.specs.Reach.{leadsWithin, sourceOf, sourceAt, sources, leans}
 use Rattle.chains.specs.Scan.{scanTable}
-use Rattle.chains.specs.Index.{sourceAfter, anywhere}
+use Rattle.chains.specs.Index.{sourceAfter, anywhere, sourceCode, sourcesIn, Sourced}
 use Rattle.chains.specs.AllKinds.{IsPack, Counted, Leaning}
 use Rattle.chains.proofs.Hushed.{kind-word}
 use Rattle.chains.proofs.Quiet.{Passing}
 use Rattle.chains.proofs.ScanLaws.{afterOption, afterRelation}
 use Rattle.chains.proofs.DeclarationLaws.{value-word, Fitting}
-use Rattle.chains.proofs.RelationScan.{Kept}
 use Rattle.chains.proofs.ByNameLaws.{left}
 use Rattle.chains.proofs.PackIndex.{zeros, parts, scan-table, find-kept}
 use Rattle.chains.proofs.PlaceBounds.{found-small}
@@ -56,7 +55,7 @@ module _ (x v : ℕ) (fits : v < 16777216) where
 
 -- a relation's words leave its source
 relation-source : (r : Relation) (start : ℕ) → r .name < 16777216 → length (r .slotKinds) < 16777216 → ((d : Derivation) → r .derivation ≡ some d → Fitting d)
-    → afterRelation (anywhere sourceAfter) r start 0 ≡ coded (sourceOf (r .derivation))
+    → afterRelation (anywhere sourceAfter) r start 0 ≡ sourceCode (sourceOf (r .derivation))
 relation-source r start m l f = go (r .derivation) f
   where
     x9 : ℕ
@@ -65,11 +64,11 @@ relation-source r start m l f = go (r .derivation) f
     nothing : x9 ≡ 0
     nothing = at-other _ (length (r .slotKinds)) l 9 refl ∙ at-other 0 (r .name) m 6 refl
 
-    named : (s : ℕ) (b : Bool) → pick b x9 (s + 1) ≡ coded (pick b [] (s ∷ []))
+    named : (s : ℕ) (b : Bool) → pick b x9 (s + 1) ≡ sourceCode (pick b [] (s ∷ []))
     named s true = nothing
     named s false = refl
 
-    go : (o : Option Derivation) → ((d : Derivation) → o ≡ some d → Fitting d) → afterOption (anywhere sourceAfter) o (start + 1 + 4 + length (r .slotKinds)) x9 ≡ coded (sourceOf o)
+    go : (o : Option Derivation) → ((d : Derivation) → o ≡ some d → Fitting d) → afterOption (anywhere sourceAfter) o (start + 1 + 4 + length (r .slotKinds)) x9 ≡ sourceCode (sourceOf o)
     go none f = nothing
     go (some d) f =
         let g = f d refl in
@@ -85,26 +84,26 @@ module _ (p : Pack) (w : WellFormed p) where
   abbrev t : List ℕ
   t = scanTable (anywhere sourceAfter) zeros (words p)
 
-  source-at : (m : ℕ) → getD t m 0 ≡ coded (sources (p .relations) m)
+  source-at : (m : ℕ) → getD t m 0 ≡ sourceCode (sources (p .relations) m)
   unfolding sources
   source-at m = scan-table (anywhere sourceAfter) source-passes p w m ∙ go (find m (p .relations)) refl
     where
-      go : (o : Option Relation) → find m (p .relations) ≡ o → left (anywhere sourceAfter) 0 (startOf (p .names) m (firstRelation p) (p .relations)) o ≡ coded (sourceAt o)
+      go : (o : Option Relation) → find m (p .relations) ≡ o → left (anywhere sourceAfter) 0 (startOf (p .names) m (firstRelation p) (p .relations)) o ≡ sourceCode (sourceAt o)
       go none e = refl
       go (some r) e =
           let h = parts p w in
           let k = find-kept (p .names) m [] (p .relations) r (h .relations-fine) e .1 in
           relation-source r _ (omega (arith, k .below, h .most)) (k .kinds) (k .derived)
 
-  decoded : (x : ℕ) (o : Option Derivation) → x ≡ coded (sourceOf o) → pick (eqb x 0) [] ((x - 1) ∷ []) ≡ sourceOf o
+  decoded : (x : ℕ) (o : Option Derivation) → x ≡ sourceCode (sourceOf o) → pick (eqb x 0) [] ((x - 1) ∷ []) ≡ sourceOf o
   decoded x none e = rw (e) refl
   decoded x (some d) e = go (eqb (d .source) table.none) e
     where
-      go : (b : Bool) → x ≡ coded (pick b [] (d .source ∷ [])) → pick (eqb x 0) [] ((x - 1) ∷ []) ≡ pick b [] (d .source ∷ [])
+      go : (b : Bool) → x ≡ sourceCode (pick b [] (d .source ∷ [])) → pick (eqb x 0) [] ((x - 1) ∷ []) ≡ pick b [] (d .source ∷ [])
       go true e = rw (e) refl
       go false e = let m : x - 1 ≡ d .source = omega arith in rw (ne-eqb x 0 (λ z. omega arith), m) refl
 
-  at-relation : (x : ℕ) (o : Option Relation) → x ≡ coded (sourceAt o) → pick (eqb x 0) [] ((x - 1) ∷ []) ≡ sourceAt o
+  at-relation : (x : ℕ) (o : Option Relation) → x ≡ sourceCode (sourceAt o) → pick (eqb x 0) [] ((x - 1) ∷ []) ≡ sourceAt o
   at-relation x none e = rw (e) refl
   at-relation x (some r) e = decoded x (r .derivation) e
 
@@ -116,15 +115,15 @@ module _ (p : Pack) (w : WellFormed p) where
   unfolding Sourced sources
   sourced m = rw (source-at m) (go (find m (p .relations)) refl)
     where
-      named : (r : Relation) (o : Option Derivation) → r .derivation ≡ o → find m (p .relations) ≡ some r → coded (sourceOf o) ≤ 4096
+      named : (r : Relation) (o : Option Derivation) → r .derivation ≡ o → find m (p .relations) ≡ some r → sourceCode (sourceOf o) ≤ 4096
       named r none q e = omega arith
       named r (some d) q e = below (eqb (d .source) table.none) refl
         where
-          below : (b : Bool) → eqb (d .source) table.none ≡ b → coded (pick b [] (d .source ∷ [])) ≤ 4096
+          below : (b : Bool) → eqb (d .source) table.none ≡ b → sourceCode (pick b [] (d .source ∷ [])) ≤ 4096
           below true z = omega arith
           below false z = omega (arith, found-small (p .names) m [] (p .relations) r (parts p w .relations-fine) e .leads d q z, parts p w .most)
 
-      go : (o : Option Relation) → find m (p .relations) ≡ o → coded (sourceAt o) ≤ 4096
+      go : (o : Option Relation) → find m (p .relations) ≡ o → sourceCode (sourceAt o) ≤ 4096
       go none e = omega arith
       go (some r) e = named r (r .derivation) refl e
 

@@ -1,7 +1,7 @@
 -- After the scan of a checked pack the table says of every entity what is known of it: whether a derivation names it, and the kinds that it takes.
 use Prim.Native.Nat.{ℕ, suc, _+_, _-_, _*_, _%_, _<_, _≤_}
 use native.Mathlib.Omega.{arith}
-use mathlib.Core.Path.{_≡_, refl, ap, sym, _∙_, subst}
+use mathlib.Core.Path.{_≡_, refl, ap, sym, _∙_}
 use mathlib.Core.List.{List, [], _∷_, _++_, map, append-nil, append-assoc}
 use mathlib.Core.Bool.{Bool, true, false, _||_, not}
 use mathlib.Core.Option.{Option, none, some}
@@ -9,7 +9,7 @@ use lib.ListN.{length, getD, take, drop, set, length-set, length-replicate, List
 use lib.Seq.{getD-set-same, getD-set-other}
 use lib.Dec.{eqb, ltb}
 use borrow.Author.Tests.{eq-eqb, ne-eqb, eqb-true, eqb-false, lt-ltb, le-ltb}
-use Rattle.pack.specs.Table.{pick, kindOf, valueOf, wordOf}
+use Rattle.pack.specs.Table.{pick, valueOf, wordOf}
 use Rattle.pack.specs.Form.{among, count, listOrNone}
 use Rattle.pack.specs.Pack.{Derivation, Relation, Pack, WellFormed, yes, read, words}
 use Rattle.chains.specs.Kinds.{declared, ownAnswer, kindsOf}
@@ -23,8 +23,8 @@ use Rattle.chains.specs.Taking.{several, known, namedAfter, takenAfter, 
 use Rattle.pack.proofs.PackLaws.{words-read}
 use Rattle.chains.proofs.Names.{or-left, or-right}
 use Rattle.chains.proofs.Hushed.{kind-word}
-use Rattle.chains.proofs.Quiet.{Unheard, Passing}
-use Rattle.chains.proofs.ScanLaws.{afterDerivation, afterOption, afterTail, afterRelation}
+use Rattle.chains.proofs.Quiet.{Passing}
+use Rattle.chains.proofs.ScanLaws.{afterOption, afterTail, afterRelation}
 use Rattle.chains.proofs.DeclarationLaws.{value-word, Fitting}
 use Rattle.chains.proofs.RelationScan.{RelationsFine, Kept, kept, afterRelations}
 use Rattle.chains.proofs.PackIndex.{zeros, zero-at, parts, scan-pack}

@@ -1,22 +1,20 @@
 -- Laws of taking kinds: what one word does, and what the scan of a checked pack holds of every entity.
-use Prim.Native.Nat.{ℕ, zero, suc, _+_, _-_, _*_, _%_, _<_, _≤_, min}
+use Prim.Native.Nat.{ℕ, suc, _+_, _-_, _<_, _≤_, min}
 use native.Mathlib.Omega.{arith}
-use native.Mathlib.Numerals.{add-one}
 use mathlib.Core.Path.{_≡_, refl, ap, sym, _∙_}
-use mathlib.Core.List.{List, [], _∷_, _++_, map, append-nil, append-assoc}
-use mathlib.Core.Bool.{Bool, true, false, _||_, not}
+use mathlib.Core.List.{List, map}
 use mathlib.Core.Option.{Option, none, some}
-use lib.ListN.{length, getD, take, drop, set, length-set, length-map, length-take, length-drop, List·getD-map}
-use lib.Seq.{getD-set-same, getD-set-other, getD-take, getD-drop}
-use lib.Dec.{eqb, ltb}
-use borrow.Author.Tests.{eq-eqb, ne-eqb, eqb-true, eqb-false, lt-ltb, le-ltb, ltb-true}
-use Rattle.pack.specs.Table.{pick, kindOf, valueOf, wordOf}
+use lib.ListN.{length, getD, take, drop, set, length-map, length-take, length-drop, List·getD-map}
+use lib.Seq.{getD-take, getD-drop}
+use lib.Dec.{ltb}
+use borrow.Author.Tests.{eq-eqb, ne-eqb, lt-ltb, le-ltb}
+use Rattle.pack.specs.Table.{pick, kindOf, valueOf}
 use Rattle.chains.specs.declared.taking.Kind.{Kind}
 use Rattle.chains.specs.declared.taking.Kind.the-variants.{Is, Unknown}
 use Rattle.chains.specs.Filtered.{kindAt}
 use Rattle.chains.specs.Operations.{namesAt}
 use Rattle.chains.specs.Scan.{scan, nameAfter}
-use Rattle.chains.specs.Taking.{kindIn, Small, KindFound, several, known, namedAfter, takenAfter, takeAt, Taking, slotAfter, takenBy, takes, kindMarked, takenIn}
+use Rattle.chains.specs.Taking.{kindIn, Small, KindFound, several, namedAfter, takenAfter, takeAt, Taking, slotAfter, takenBy, takes, kindMarked, takenIn}
 use Rattle.chains.proofs.IndexLaws.{scan-end, scan-next, scan-done}
 
 -- ---- the kind at a slot

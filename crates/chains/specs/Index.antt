@@ -1,8 +1,8 @@
 -- What the scans over the words of the relations hold by name: declarations, and sources.
-use Prim.Native.Nat.{ℕ, _+_, _<_}
+use Prim.Native.Nat.{ℕ, _+_, _-_, _<_, _≤_}
 use mathlib.Core.Path.{_≡_}
 use mathlib.Core.List.{List, [], _∷_}
-use lib.ListN.{set}
+use lib.ListN.{getD, set}
 use lib.Dec.{ltb, eqb}
 use Rattle.pack.specs.Table.{pick, kindOf, valueOf}
 use Rattle.pack.specs.Table as table
@@ -33,6 +33,18 @@ sourceAfter x w = pick (eqb (kindOf w) 12) (pick (eqb (valueOf w) table.none) x 
 -- at any place
 abbrev pub anywhere : (ℕ → ℕ → ℕ) → ℕ → ℕ → ℕ → ℕ
 anywhere after x place w = after x w
+
+-- sources by name in a table: the name and one, 0 for none
+abbrev pub sourceCode : List ℕ → ℕ
+sourceCode [] = 0
+sourceCode (s ∷ l) = s + 1
+
+unfoldable pub sourcesIn : List ℕ → ℕ → List ℕ
+sourcesIn t n = pick (eqb (getD t n 0) 0) [] ((getD t n 0 - 1) ∷ [])
+
+-- they are names below 4,096
+unfoldable pub Sourced : List ℕ → Type 0
+Sourced t = (n : ℕ) → getD t n 0 ≤ 4096
 
 -- what one word of the scan does
 pub record Indexed (after : ℕ → ℕ → ℕ → ℕ) (t : List ℕ) (name place w name′ : ℕ) (t′ : List ℕ) : Type 0 where

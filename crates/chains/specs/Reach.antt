@@ -1,10 +1,10 @@
 -- What leads where. 01: "A leans on B if one or more source fields (12) lead from A to B, settled lists or not."
-use Prim.Native.Nat.{ℕ, zero, suc, _+_, _-_, _≤_}
+use Prim.Native.Nat.{ℕ, zero, suc}
 use mathlib.Core.Path.{_≡_}
 use mathlib.Core.List.{List, [], _∷_}
 use mathlib.Core.Bool.{Bool, true, false, _||_}
 use mathlib.Core.Option.{Option, none, some}
-use lib.ListN.{length, getD}
+use lib.ListN.{length}
 use lib.Dec.{eqb}
 use Rattle.pack.specs.Table.{pick}
 use Rattle.pack.specs.Table as table
@@ -41,15 +41,3 @@ sources rs n = sourceAt (find n rs)
 -- only declared names have sources, so more edges than relations lead to no further name
 unfoldable pub leans : List Relation → ℕ → ℕ → Bool
 leans rs a b = leadsWithin (sources rs) (length rs) a b
-
--- sources by name in a table: the name and one, 0 for none
-abbrev pub coded : List ℕ → ℕ
-coded [] = 0
-coded (s ∷ l) = s + 1
-
-unfoldable pub sourcesIn : List ℕ → ℕ → List ℕ
-sourcesIn t n = pick (eqb (getD t n 0) 0) [] ((getD t n 0 - 1) ∷ [])
-
--- they are names below 4,096
-unfoldable pub Sourced : List ℕ → Type 0
-Sourced t = (n : ℕ) → getD t n 0 ≤ 4096

@@ -2,11 +2,10 @@
 use crate::index::name_after;
 use pack::kinds::Pack;
 ghost use mathlib.Core.Path.{_≡_};
-ghost use mathlib.Core.Bool.{Bool};
 ghost use Prim.Native.Nat.{_<_};
 ghost use Rattle.chains.specs.Scan.{scanTable};
-ghost use Rattle.chains.specs.Index.{sourceAfter, anywhere, IndexedAnywhere};
-ghost use Rattle.chains.specs.Reach.{leadsWithin, sourcesIn, Sourced};
+ghost use Rattle.chains.specs.Index.{sourceAfter, anywhere, IndexedAnywhere, sourcesIn, Sourced};
+ghost use Rattle.chains.specs.Reach.{leadsWithin};
 
 // A relation's source after one more of its words: the name and one, 0 for none.
 fn source_after(x: u32, word: u32) -> u32

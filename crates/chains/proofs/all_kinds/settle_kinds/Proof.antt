@@ -1,5 +1,4 @@
 -- `chains::all_kinds::settle_kinds` meets its contract.
-use mathlib.Core.Path.{refl}
 use Rattle.chains.proofs.CheckedLaws.{placeable, kinds-left}
 use borrow.Author.Needs.{needs}
 use Rattle.chains.proofs.all_kinds.settle_kinds.Statement.{statement}

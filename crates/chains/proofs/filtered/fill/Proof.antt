@@ -1,5 +1,4 @@
 -- `chains::filtered::fill` meets its contract.
-use native.Mathlib.Omega.{arith}
 use lib.ListN.{length}
 use mathlib.Core.Path.{refl}
 use Rattle.chains.proofs.SaysLaws.{few-names, is-directed, filter-left}

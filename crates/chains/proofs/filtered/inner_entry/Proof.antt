@@ -1,6 +1,6 @@
 -- `chains::filtered::inner_entry` meets its contract.
 use native.Mathlib.Omega.{arith}
-use mathlib.Core.Path.{sym, _∙_}
+use mathlib.Core.Path.{_∙_}
 use Rattle.chains.proofs.SaidLaws.{entry-none, entry-itself, entry-leads}
 use borrow.Author.Needs.{needs}
 use Rattle.chains.proofs.filtered.inner_entry.Statement.{statement}

@@ -1,5 +1,4 @@
 -- `chains::filtered::say` meets its contract.
-use mathlib.Core.Path.{refl}
 use borrow.Author.Needs.{needs}
 use Rattle.chains.proofs.filtered.say.Statement.{statement}
 use Rattle.chains.proofs.filtered.say.Tie as tie

@@ -1,7 +1,4 @@
 -- `chains::filtered::walk_inner` meets its contract.
-use native.Mathlib.Omega.{arith}
-use lib.ListN.{length-replicate}
-use Prim.Native.Nat.{ℕ}
 use Rattle.chains.proofs.InnerLaws.{walks-asked, walks-left}
 use borrow.Author.Needs.{needs}
 use Rattle.chains.proofs.filtered.walk_inner.Statement.{statement}

@@ -1,9 +1,6 @@
 -- `chains::lean::lean` meets its contract.
 use native.Mathlib.Omega.{arith}
-use mathlib.Core.Path.{_∙_, ap}
-use mathlib.Core.Bool.{Bool}
-use Rattle.pack.specs.declared.answer.Answer.the-variants.{Given}
-use Rattle.chains.specs.Operations.{yesNo}
+use mathlib.Core.Path.{_∙_}
 use Rattle.chains.proofs.CheckedLaws.{below-most}
 use Rattle.chains.proofs.OperationLaws.{checked, lean-refused, first-unknown, second-unknown, leans-or-not}
 use borrow.Author.Needs.{needs}

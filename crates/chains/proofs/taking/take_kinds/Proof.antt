@@ -1,7 +1,6 @@
 -- `chains::taking::take_kinds` meets its contract.
 use native.Mathlib.Omega.{arith}
 use mathlib.Core.Path.{refl, _∙_, ap}
-use lib.ListN.{length-replicate}
 use Rattle.chains.specs.Taking.{takenIn}
 use Rattle.chains.proofs.CheckedLaws.{few-counted}
 use Rattle.chains.proofs.OperationLaws.{kinds-asked}
