@@ -15,6 +15,7 @@ use Rattle.pack.specs.Pack.{Derivation, Relation}
 use Rattle.chains.specs.Kinds.{find}
 use Rattle.chains.specs.Operations.{relationWords, startOf, hops}
 use Rattle.chains.specs.Scan.{nameAfter, ByName, tableAfter, byName}
+use Rattle.chains.proofs.Names.{neither}
 use Rattle.chains.proofs.Hushed.{kind-word}
 use Rattle.chains.proofs.Quiet.{Passing}
 use Rattle.chains.proofs.ScanLaws.{afterOption, afterRelation}
@@ -69,12 +70,8 @@ module _ (after : ℕ → ℕ → ℕ → ℕ) where
 abbrev pub Blank : List ℕ → List ℕ → Type 0
 Blank used t = (v : ℕ) → among v used ≡ false → getD t v 0 ≡ 0
 
-or-false : (a b : Bool) → (a || b) ≡ false → (a ≡ false) × (b ≡ false)
-or-false true b e = let z : _≡_ {A = ℕ} 0 1 = cc in absurd (omega arith)
-or-false false b e = (refl, e)
-
 blank-next : (used t : List ℕ) (v x : ℕ) → Blank used t → Blank (v ∷ used) (set t v x)
-blank-next used t v x h u e = let o = or-false (eqb u v) (among u used) e in getD-set-other t v u x 0 (eqb-false u v (o .0)) ∙ h u (o .1)
+blank-next used t v x h u e = let o = neither (eqb u v) (among u used) e in getD-set-other t v u x 0 (eqb-false u v (o .0)) ∙ h u (o .1)
 
 -- what a name's relation that starts at a place leaves for it
 abbrev pub left : (ℕ → ℕ → ℕ → ℕ) → ℕ → ℕ → Option Relation → ℕ

@@ -37,6 +37,17 @@ pub nor-right : (a b : Bool) → (a || b) ≡ false → b ≡ false
 nor-right true b e = apart refl e
 nor-right false b e = e
 
+pub neither : (a b : Bool) → (a || b) ≡ false → (a ≡ false) × (b ≡ false)
+neither a b e = (nor-left a b e, nor-right a b e)
+
+pub or-false : (b : Bool) → (b || false) ≡ b
+or-false true = refl
+or-false false = refl
+
+pub or-true : (b : Bool) → (b || true) ≡ true
+or-true true = refl
+or-true false = refl
+
 pub or-swap : (a b c : Bool) → (a || (b || c)) ≡ (b || (a || c))
 or-swap true true c = refl
 or-swap true false c = refl

@@ -4,12 +4,13 @@ use native.Mathlib.Omega.{arith}
 use native.Mathlib.Nat.{add-zero}
 use mathlib.Core.Path.{_≡_, refl, _∙_}
 use mathlib.Core.List.{List, [], _∷_, _++_}
-use mathlib.Core.Bool.{Bool, true, false, _||_}
+use mathlib.Core.Bool.{Bool, false, _||_}
 use lib.ListN.{length}
 use lib.Dec.{eqb}
 use borrow.Author.Tests.{ne-eqb}
 use Rattle.pack.specs.Table.{kindOf}
 use Rattle.chains.specs.Scan.{scan}
+use Rattle.chains.proofs.Names.{neither}
 use Rattle.chains.proofs.Hushed.{Quiet}
 
 -- the kinds that a scan may look at
@@ -20,10 +21,6 @@ pub high : (k : ℕ) → 64 ≤ k → loud k ≡ false
 high k h =
     simp
     (ne-eqb k 6 (λ e. omega arith), ne-eqb k 22 (λ e. omega arith), ne-eqb k 9 (λ e. omega arith), ne-eqb k 12 (λ e. omega arith), ne-eqb k 13 (λ e. omega arith), ne-eqb k 17 (λ e. omega arith), ne-eqb k 19 (λ e. omega arith), ne-eqb k 21 (λ e. omega arith))
-
-or-false : (a b : Bool) → (a || b) ≡ false → (a ≡ false) × (b ≡ false)
-or-false true b e = let z : _≡_ {A = ℕ} 0 1 = cc in absurd (omega arith)
-or-false false b e = (refl, e)
 
 -- what a word that is not looked at is not
 pub record Unheard (k : ℕ) : Type 0 where
@@ -38,13 +35,13 @@ pub record Unheard (k : ℕ) : Type 0 where
 
 pub unheard : (k : ℕ) → loud k ≡ false → Unheard k
 unheard k q =
-    let a = or-false (eqb k 6) _ q in
-    let b = or-false (eqb k 22) _ (a .1) in
-    let c = or-false (eqb k 9) _ (b .1) in
-    let d = or-false (eqb k 12) _ (c .1) in
-    let e = or-false (eqb k 13) _ (d .1) in
-    let f = or-false (eqb k 17) _ (e .1) in
-    let g = or-false (eqb k 19) _ (f .1) in
+    let a = neither (eqb k 6) _ q in
+    let b = neither (eqb k 22) _ (a .1) in
+    let c = neither (eqb k 9) _ (b .1) in
+    let d = neither (eqb k 12) _ (c .1) in
+    let e = neither (eqb k 13) _ (d .1) in
+    let f = neither (eqb k 17) _ (e .1) in
+    let g = neither (eqb k 19) _ (f .1) in
     record { not-6 = a .0; not-22 = b .0; not-9 = c .0; not-12 = d .0; not-13 = e .0; not-17 = f .0; not-19 = g .0; not-21 = g .1 }
 
 -- a step that looks at no other kinds

@@ -17,6 +17,7 @@ use Rattle.chains.specs.Reach.{leadsWithin, sourceOf, sourceAt, sources,
 use Rattle.chains.specs.Scan.{scanTable}
 use Rattle.chains.specs.Index.{sourceAfter, anywhere, sourceCode, sourcesIn, Sourced}
 use Rattle.chains.specs.AllKinds.{IsPack, Counted, Leaning}
+use Rattle.chains.proofs.Names.{or-false}
 use Rattle.chains.proofs.Hushed.{kind-word}
 use Rattle.chains.proofs.Quiet.{Passing}
 use Rattle.chains.proofs.ScanLaws.{afterOption, afterRelation}
@@ -164,13 +165,9 @@ module _ (t : List ℕ) (a b most : ℕ) where
       unfolding leadsWithin sourcesIn
       onward = go left h
         where
-          plain : (x : Bool) → (x || false) ≡ x
-          plain true = refl
-          plain false = refl
-
           go : (k : ℕ) → 0 < k → leadsWithin (sourcesIn t) k n b ≡ eqb (getD t n 0 - 1) b || leadsWithin (sourcesIn t) (k - 1) (getD t n 0 - 1) b
           go zero h = absurd (omega arith)
-          go (suc k) h = let m : suc k - 1 ≡ k = omega arith in rw (m, ne-eqb (getD t n 0) 0 s) (plain _)
+          go (suc k) h = let m : suc k - 1 ≡ k = omega arith in rw (m, ne-eqb (getD t n 0) 0 s) (or-false _)
 
       pub arrived : getD t n 0 - 1 ≡ b → true ≡ leadsWithin (sourcesIn t) most a b
       arrived e = sym (f .todo ∙ onward ∙ rw (eq-eqb (getD t n 0 - 1) b e) refl)

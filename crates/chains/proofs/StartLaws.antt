@@ -3,7 +3,7 @@ use Prim.Native.Nat.{ℕ, _<_, _≤_}
 use native.Mathlib.Omega.{arith}
 use mathlib.Core.Path.{_≡_, refl, ap, _∙_}
 use mathlib.Core.List.{List, [], _∷_, _++_, append-assoc, append-nil}
-use mathlib.Core.Bool.{Bool, true, false, _||_}
+use mathlib.Core.Bool.{Bool, false, _||_}
 use lib.ListN.{length}
 use lib.Dec.{eqb}
 use borrow.Author.Tests.{ne-eqb}
@@ -13,6 +13,7 @@ use Rattle.pack.specs.Tree.{root}
 use Rattle.pack.specs.Pack.{Relation, newName, nameList, hop, path, chain, member, derivation, optionalDerivation, relationTail, relation, nextUsed, above, defaultedName, Pack, total, words, WellFormed}
 use Rattle.chains.specs.Kinds.{declared}
 use Rattle.chains.specs.Index.{startsIn}
+use Rattle.chains.proofs.Names.{neither}
 use Rattle.chains.proofs.Hushed.{Quiet, quiet-word, kind-word, Hushed, field-hushed, then-hushed, via-hushed, counted-hushed, tree-hushed}
 use Rattle.chains.proofs.RelationScan.{RelationsFine, kept}
 use Rattle.chains.proofs.PackIndex.{opening, relationsPart, parts, split}
@@ -24,15 +25,11 @@ loud k = eqb k 6 || eqb k 22
 high : (k : ℕ) → 64 ≤ k → loud k ≡ false
 high k h = simp (ne-eqb k 6 (λ e. omega arith), ne-eqb k 22 (λ e. omega arith))
 
-or-false : (a b : Bool) → (a || b) ≡ false → (a ≡ false) × (b ≡ false)
-or-false true b e = let z : _≡_ {A = ℕ} 0 1 = cc in absurd (omega arith)
-or-false false b e = (refl, e)
-
 -- other words are passed over
 starts-quiet : (us vs : List ℕ) → Quiet loud us → startsIn (us ++ vs) ≡ startsIn vs
 unfolding startsIn
 starts-quiet [] vs q = refl
-starts-quiet (u ∷ us) vs q = let o = or-false (eqb (kindOf u) 6) (eqb (kindOf u) 22) (q .0) in simp (o .0, o .1) (starts-quiet us vs (q .1))
+starts-quiet (u ∷ us) vs q = let o = neither (eqb (kindOf u) 6) (eqb (kindOf u) 22) (q .0) in simp (o .0, o .1) (starts-quiet us vs (q .1))
 
 -- what follows a relation's name has no such word
 module _ (n : ℕ) where

@@ -3,7 +3,7 @@ use Prim.Native.Nat.{ℕ, suc, _+_, _-_, _*_, _%_, _<_, _≤_}
 use native.Mathlib.Omega.{arith}
 use mathlib.Core.Path.{_≡_, refl, ap, sym, _∙_}
 use mathlib.Core.List.{List, [], _∷_, _++_, map, append-nil, append-assoc}
-use mathlib.Core.Bool.{Bool, true, false, _||_, not}
+use mathlib.Core.Bool.{Bool, true, false, _||_, not, or-assoc}
 use mathlib.Core.Option.{Option, none, some}
 use lib.ListN.{length, getD, take, drop, set, length-set, length-replicate, List·getD-map}
 use lib.Seq.{getD-set-same, getD-set-other}
@@ -18,10 +18,10 @@ use Rattle.chains.specs.Filtered as filtered
 use Rattle.chains.specs.Filtered.{kindAt, listed, takenFrom, taken, namesEntity}
 use Rattle.chains.specs.Operations.{placeOf, namesAt, relationWords, firstRelation, hops}
 use Rattle.chains.specs.Scan.{scan, nameAfter}
-use Rattle.chains.specs.AllKinds.{IsPack, KindsMarked}
+use Rattle.chains.specs.AllKinds.{KindsMarked}
 use Rattle.chains.specs.Taking.{several, known, namedAfter, takenAfter, takeAt, Taking, slotAfter, takenBy, takes, kindMarked, takenIn, Known}
 use Rattle.pack.proofs.PackLaws.{words-read}
-use Rattle.chains.proofs.Names.{or-left, or-right}
+use Rattle.chains.proofs.Names.{or-left, or-right, or-false, or-true}
 use Rattle.chains.proofs.Hushed.{kind-word}
 use Rattle.chains.proofs.Quiet.{Passing}
 use Rattle.chains.proofs.ScanLaws.{afterOption, afterTail, afterRelation}
@@ -43,16 +43,8 @@ named-known b (k ∷ ks) = go (any (λ x. not (eqb x k)) ks)
     go false = rw (ne-eqb (2 + k) 0 (λ e. omega arith)) refl
 
 any-last : (f : ℕ → Bool) (ks : List ℕ) (k : ℕ) → any f (ks ++ (k ∷ [])) ≡ (any f ks || f k)
-any-last f [] k = go (f k)
-  where
-    go : (b : Bool) → (b || false) ≡ b
-    go true = refl
-    go false = refl
-any-last f (j ∷ ks) k = go (f j) (any-last f ks k)
-  where
-    go : (b : Bool) → any f (ks ++ (k ∷ [])) ≡ (any f ks || f k) → (b || any f (ks ++ (k ∷ []))) ≡ ((b || any f ks) || f k)
-    go true e = refl
-    go false e = e
+any-last f [] k = or-false (f k)
+any-last f (j ∷ ks) k = ap (λ (b : Bool). f j || b) (any-last f ks k) ∙ sym (or-assoc (f j) (any f ks) (f k))
 
 kind-known : (ks : List ℕ) (k : ℕ) → k < 16777216 → takenAfter (known true ks) (some k) ≡ known true (ks ++ (k ∷ []))
 unfolding takenAfter
@@ -159,26 +151,11 @@ module _ (kind : ℕ → ℕ → Option ℕ) where
     take-known : (t : List ℕ) (n : ℕ) (o : Option Derivation) (b : Bool) (ks : List ℕ) → length t ≡ 4096 → getD t e 0 ≡ known b ks
         → getD (tableAfter n o t) e 0 ≡ known (b || namesEntity e o) (ks ++ takesBy e n o)
     unfolding takeAt
-    take-known t n none b ks l h = h ∙ rw (append-nil ks) (ap (λ (c : Bool). known c ks) (go b))
-      where
-        go : (c : Bool) → c ≡ (c || false)
-        go true = refl
-        go false = refl
+    take-known t n none b ks l h = h ∙ rw (append-nil ks, or-false b) refl
     take-known t n (some d) b ks l h = go (eqb (d .entity) e) refl
       where
-        or-true : (c : Bool) → (c || true) ≡ true
-        or-true true = refl
-        or-true false = refl
-
-        or-false : (c : Bool) → (c || false) ≡ c
-        or-false true = refl
-        or-false false = refl
-
         k : Option ℕ
         k = kind n (d .current)
-
-        other : d .entity < 4096 → (e ≡ d .entity → ⊥) → getD (set t (d .entity) (takenAfter (namedAfter (getD t (d .entity) 0)) k)) e 0 ≡ getD t e 0
-        other i z = getD-set-other t (d .entity) e _ 0 z
 
         kept-or : (c : Bool) → ltb (d .entity) 4096 ≡ c → (e ≡ d .entity → ⊥) → getD (pick c (set t (d .entity) (takenAfter (namedAfter (getD t (d .entity) 0)) k)) t) e 0 ≡ getD t e 0
         kept-or true q z = getD-set-other t (d .entity) e _ 0 z
@@ -202,19 +179,11 @@ module _ (kind : ℕ → ℕ → Option ℕ) where
         go true = rw length-set l
         go false = l
 
-    or-assoc : (a b c : Bool) → ((a || b) || c) ≡ (a || (b || c))
-    or-assoc true b c = refl
-    or-assoc false b c = refl
-
     relations-known : (n : ℕ) → n ≤ 4096 → (rs : List Relation) (used : List ℕ) (at : ℕ) (s : Taking) (b : Bool) (ks : List ℕ) → RelationsFine n used rs → length (s .table) ≡ 4096
         → getD (s .table) e 0 ≡ known b ks
         → getD (afterRelations step n at rs s .table) e 0 ≡ known (b || any (λ (r : Relation). namesEntity e (r .derivation)) rs) (ks ++ takenOf e rs)
     unfolding afterRelations
-    relations-known n m [] used at s b ks f l h = h ∙ rw (append-nil ks) (ap (λ (c : Bool). known c ks) (go b))
-      where
-        go : (c : Bool) → c ≡ (c || false)
-        go true = refl
-        go false = refl
+    relations-known n m [] used at s b ks f l h = h ∙ rw (append-nil ks, or-false b) refl
     relations-known n m (r ∷ rs) used at s b ks f l h =
         let k = kept n (λ v. among v used) r (f .0) in
         let q = after-relation n (λ v. among v used) r at s m k in
@@ -262,9 +231,9 @@ kind-of {ws} {marks = marks} m p h same fine n i slot =
     let q : getD marks n 0 - 2 ≡ placeOf p (ownAnswer (p .relations) n) = (let k = m .marked p h n i in omega arith) in
     ap (λ (o : Option (List ℕ)). kindAt o slot) (ap (namesAt ws) q ∙ ap (λ (v : List ℕ). namesAt v (placeOf p (ownAnswer (p .relations) n))) (sym same) ∙ place-holds p fine n)
 
-pub all-known : {ws names marks t : List ℕ} {steps : ℕ} → IsPack ws → KindsMarked ws steps names marks → t ≡ takenIn ws marks zeros → Known ws t
+pub all-known : {ws names marks t : List ℕ} {steps : ℕ} → KindsMarked ws steps names marks → t ≡ takenIn ws marks zeros → Known ws t
 unfolding takenIn taken
-all-known {ws} {names} {marks} {t} c m e =
+all-known {ws} {names} {marks} {t} m e =
     record {
       holds = λ p h n i.
           let same : words p ≡ ws = words-read ws p h .same in

@@ -54,11 +54,7 @@ fn alias_of(x: u32, e: u32) -> u32
 fn unresolved_of(x: u32) -> u32
     ensures { λ r. ⌜ r ≡ unresolvedOf x ⌝ }
 {
-    if x == Taken::NAMED {
-        1
-    } else {
-        0
-    }
+    if x == Taken::NAMED { 1 } else { 0 }
 }
 
 // Its innermost kind, by the mark of its walk; a name that has no direct kind gets none.

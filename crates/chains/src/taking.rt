@@ -67,11 +67,7 @@ fn place_of(marks: &[u32; 4096], name: usize) -> u32
 fn named_after(x: u32) -> u32
     ensures { λ r. ⌜ r ≡ namedAfter x ⌝ }
 {
-    if x == 0 {
-        Taken::NAMED
-    } else {
-        x
-    }
+    if x == 0 { Taken::NAMED } else { x }
 }
 
 // An entity with one more kind; where none is known it stays as it is.

@@ -28,7 +28,7 @@ take-all-requires : tie.Need-take-all-requires
 take-all-requires c κs = search needs
 
 returns : tie.Need-returns
-returns c = all-known ((c .before .before .before .before .before .before .before .before .before .pre) .0) ((c .before .before .before .before .mark-kinds) .ensures) ((c .take-all) .ensures ∙ ap (takenIn _ _) ((c .before .before .before .before .before .before .before .before .before .pre) .1))
+returns c = all-known ((c .before .before .before .before .mark-kinds) .ensures) ((c .take-all) .ensures ∙ ap (takenIn _ _) ((c .before .before .before .before .before .before .before .before .before .pre) .1))
 
 pub take-kinds-spec : {M : Type 1} → statement M
 take-kinds-spec =
