@@ -1,0 +1,1 @@
+// Resolving: directions of aggregates and of membership tests, from the kinds of relations.
