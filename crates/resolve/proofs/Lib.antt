@@ -1,1 +1,6 @@
 pub mod Worked
+pub mod OutcomeLaws
+pub mod PlaceFree
+pub mod Numbers
+pub mod InputLaws
+pub mod DealtResolving

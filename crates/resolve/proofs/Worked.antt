@@ -17,7 +17,7 @@ use Rattle.resolve.specs.Direction.{turn}
 use Rattle.resolve.specs.Direction as direction
 use Rattle.resolve.specs.Inputs.{input}
 use Rattle.resolve.specs.Turning.{Outcome, done, refused, stepBy, size, resolveTree}
-use Rattle.resolve.specs.Resolving.{defaultedEqual, resolveBodies, resolveRule, resolveRules, resolveRelation, resolveRelations, holds, atomNames, stamp, resolved}
+use Rattle.resolve.specs.Resolving.{defaultedEqual, resolveBodies, ruleBy, resolveRules, predicateBy, resolveRelation, resolveRelations, holds, atomNames, stamp, resolved}
 
 -- a relation without derivation, and one of the name 6 that is derived
 abbrev plain : ℕ → List ℕ → Relation
@@ -84,5 +84,5 @@ cases =
     ∷ []
 
 pub worked : map (λ (c : Case). resolved (c .given)) cases ≡ map (λ (c : Case). c .comes) cases
-unfolding entryOf table wordsBy count items tree root follow fields relation newName relationTail nameList optionalDerivation derivation chain path hop member walk own find kindStep kindsOf taken direct startOf tables turn direction.member input stepBy size resolveTree defaultedEqual resolveBodies resolveRule resolveRules resolveRelation resolveRelations holds atomNames stamp resolved
+unfolding entryOf table wordsBy count items tree root follow fields relation newName relationTail nameList optionalDerivation derivation chain path hop member walk own find kindStep kindsOf taken direct startOf tables turn direction.member input stepBy size resolveTree defaultedEqual resolveBodies ruleBy resolveRules predicateBy resolveRelation resolveRelations holds atomNames stamp resolved
 worked = refl

@@ -1,6 +1,6 @@
 -- Resolving a pack. 01, "Resolving": its four steps.
 use Prim.Native.Nat.{ℕ, _+_, _*_}
-use mathlib.Core.List.{List, [], _∷_}
+use mathlib.Core.List.{List, [], _∷_, map}
 use mathlib.Core.Bool.{Bool, true, false, _||_, _&&_, not}
 use mathlib.Core.Option.{Option, none, some}
 use lib.ListN.{length}
@@ -16,7 +16,7 @@ use Rattle.chains.specs.Filtered.{kindAt}
 use Rattle.chains.specs.Reach.{any}
 use Rattle.chains.specs.Operations.{relationWords, startOf, firstRelation, hops}
 use Rattle.resolve.specs.Tables.{Derived, Tables, tables}
-use Rattle.resolve.specs.Direction.{orElse, membership}
+use Rattle.resolve.specs.Direction.{kindOrZero, membership}
 use Rattle.resolve.specs.Inputs.{input}
 use Rattle.resolve.specs.Turning.{Outcome, done, refused, andThen, mapDone, Citing, size, resolveTree}
 
@@ -58,12 +58,14 @@ resolveBodies C entity at [] = done []
 resolveBodies C entity at (b ∷ bs) = andThen (resolveBody C entity at b) (λ b′. mapDone (λ l. b′ ∷ l) (resolveBodies C entity (at + bodySize b) bs))
 
 -- the bodies stand after 23, 24, 25 and 26
-unfoldable pub resolveRule : Pack → ℕ → Rule → Outcome Rule
-resolveRule p at r =
-    let C : Citing = cites p (r .citing) (r .origin) in
+unfoldable pub ruleBy : Citing → ℕ → Rule → Outcome Rule
+ruleBy C at r =
     andThen (resolveBody C (r .entity) (at + 4) (r .semantics))
     (λ b. mapDone (λ bs. record { citing = r .citing; origin = r .origin; entity = r .entity; semantics = b; versions = bs })
     (resolveBodies C (r .entity) (at + 4 + bodySize (r .semantics)) (r .versions)))
+
+abbrev pub resolveRule : Pack → ℕ → Rule → Outcome Rule
+resolveRule p at r = ruleBy (cites p (r .citing) (r .origin)) at r
 
 abbrev pub ruleWords : ℕ → Rule → List ℕ
 ruleWords n r = wordsBy (rule n) r
@@ -82,16 +84,16 @@ abbrev pub withPredicate : Derivation → Tree → Derivation
 withPredicate d t =
     record { source = d .source; path = d .path; current = d .current; related = d .related; entity = d .entity; member = d .member; slotEntities = d .slotEntities; predicate = t }
 
-abbrev pub resolvePredicate : Pack → ℕ → Relation → Derivation → Outcome Derivation
-resolvePredicate p at r d =
-    let kinds : Option (List ℕ) = kindsOf (p .relations) (r .name) in
-    let related : Option ℕ = kindAt kinds (d .related) in
-    mapDone (withPredicate d)
-    (resolveTree (cites p (r .name) (r .origin)) (orElse related 0) (membership (kindAt kinds (d .current)) related) (at + predicatePlace r d) (d .predicate))
+unfoldable pub predicateBy : Citing → Option (List ℕ) → ℕ → Relation → Derivation → Outcome Tree
+predicateBy C kinds at r d =
+    resolveTree C (kindOrZero kinds (d .related)) (membership (kindAt kinds (d .current)) (kindAt kinds (d .related))) (at + predicatePlace r d) (d .predicate)
+
+abbrev pub resolvePredicate : Pack → ℕ → Relation → Derivation → Outcome Tree
+resolvePredicate p at r d = predicateBy (cites p (r .name) (r .origin)) (kindsOf (p .relations) (r .name)) at r d
 
 abbrev pub resolveDerivation : Pack → ℕ → Relation → Option Derivation → Outcome (Option Derivation)
 resolveDerivation p at r none = done none
-resolveDerivation p at r (some d) = mapDone some (resolvePredicate p at r d)
+resolveDerivation p at r (some d) = mapDone (λ t. some (withPredicate d t)) (resolvePredicate p at r d)
 
 unfoldable pub resolveRelation : Pack → ℕ → Relation → Outcome Relation
 resolveRelation p at r =
@@ -172,10 +174,6 @@ stamp p r = stampDerived p r (r .derivation)
 
 -- ---- the whole
 
-abbrev pub stampAll : Pack → List Relation → List Relation
-stampAll p [] = []
-stampAll p (r ∷ rs) = stamp p r ∷ stampAll p rs
-
 -- the first rule stands after the relations and their count of rules
 abbrev pub relationsEnd : ℕ → ℕ → List Relation → ℕ
 relationsEnd n at [] = at
@@ -188,7 +186,7 @@ abbrev pub resolveRecords : Pack → Outcome Pack
 resolveRecords p =
     andThen (resolveRules p (firstRule p) (p .rules))
     (λ rules. mapDone
-    (λ relations. record { edition = p .edition; names = p .names; defaulted = p .defaulted; relations = stampAll p relations; rules = rules; blocks = p .blocks })
+    (λ relations. record { edition = p .edition; names = p .names; defaulted = p .defaulted; relations = map (stamp p) relations; rules = rules; blocks = p .blocks })
     (resolveRelations p (firstRelation p) (p .relations)))
 
 unfoldable pub resolved : Pack → Outcome Pack
