@@ -4,3 +4,5 @@ pub mod PlaceFree
 pub mod Numbers
 pub mod InputLaws
 pub mod DealtResolving
+pub mod KeepsForm
+pub mod ResolvedFine

@@ -1,0 +1,113 @@
+-- A resolved pack keeps to the description, so that it reads back.
+use Prim.Native.Nat.{ℕ, suc, _+_, _<_, _≤_}
+use native.Mathlib.Omega.{arith}
+use mathlib.Core.Path.{_≡_, refl, ap, sym, _∙_, subst}
+use mathlib.Core.List.{List, [], _∷_, map}
+use mathlib.Core.Bool.{Bool, true, false, _&&_}
+use mathlib.Core.Option.{Option, none, some}
+use lib.ListN.{length, length-map}
+use Rattle.pack.specs.Table.{pick, judgment, table, entryOf}
+use Rattle.pack.specs.Form.{among, allowedHere, FineAll, says, count, items, Fine}
+use Rattle.pack.specs.Tree.{Tree, root, tree}
+use Rattle.pack.specs.Pack.{Derivation, Relation, Body, Rule, Pack, WellFormed, nameList, chain, member, derivation, optionalDerivation, relationTail, newName, relation, nextUsed, body, bodies, rule, defaulted, relations, rules, blocks, records, inner}
+use Rattle.chains.specs.Kinds.{find, kindsOf, ownAnswer, namesOf, listIn, listOf, Which, list9, list21}
+use Rattle.chains.specs.Kinds as kinds
+use Rattle.chains.specs.Filtered.{kindAt}
+use Rattle.chains.specs.Operations.{relationWords}
+use Rattle.chains.proofs.RelationScan.{RelationsFine}
+use Rattle.chains.proofs.PackIndex.{parts, find-kept}
+use Rattle.resolve.specs.Tables.{Derived, derivedBy, derivedAt, pair, typedBy, typedAt, Tables, tables}
+use Rattle.resolve.specs.Turning.{Outcome, done, refused, Citing, resolveTree}
+use Rattle.resolve.specs.Resolving.{cites, resolveBody, resolveBodies, bodySize, ruleBy, resolveRule, ruleWords, resolveRules, predicatePlace, withPredicate, predicateBy, resolvePredicate, resolveDerivation, resolveRelation, resolveRelations, empty, passedOver, unlike, orKinds, withEntities, stampedWith, stampBy, stampDerived, stamp}
+use Rattle.resolve.proofs.KeepsForm.{Good, map-good, then-good, TablesFit, tree-good}
+
+-- ---- the tables of a checked pack
+
+derivation-slots : (n : ℕ) (d : Derivation) → Fine (derivation n) d → (d .current < 16777216) × (d .related < 16777216)
+unfolding derivation chain Fine
+derivation-slots n d f = (f .0 .1 .1 .0 .0, f .0 .1 .1 .1 .0)
+
+option-slots : (n : ℕ) (o : Option Derivation) → Fine (optionalDerivation n) o → (d : Derivation) → o ≡ some d → (d .current < 16777216) × (d .related < 16777216)
+unfolding optionalDerivation Fine items
+option-slots n none f d e = let z : _≡_ {A = ℕ} 0 1 = cc in absurd (omega arith)
+option-slots n (some b) f d e = let s : b ≡ d = cc in rw (← s) (derivation-slots n b (f .2 .0))
+
+tail-derivation : (n : ℕ) (r : Relation) → Fine (relationTail n) (r .origin, (r .arity, (r .slotKinds, r .derivation))) → Fine (optionalDerivation n) (r .derivation)
+unfolding relationTail Fine
+tail-derivation n r f = f .1 .1 .1
+
+pair-short : (ks js : List ℕ) → pair ks ≡ some js → length js ≤ 8
+pair-short [] js e = let z : _≡_ {A = ℕ} 0 1 = cc in absurd (omega arith)
+pair-short (a ∷ []) js e = let z : _≡_ {A = ℕ} 0 1 = cc in absurd (omega arith)
+pair-short (a ∷ b ∷ []) js e = let q : a ∷ b ∷ [] ≡ js = cc in rw (← q) (omega arith)
+pair-short (a ∷ b ∷ c ∷ ks) js e = let z : _≡_ {A = ℕ} 0 1 = cc in absurd (omega arith)
+
+module _ (p : Pack) (w : WellFormed p) where
+  abbrev rs : List Relation
+  rs = p .relations
+
+  abbrev n : ℕ
+  n = p .names
+
+  derived-fit : (m : ℕ) (o : Option Relation) → find m rs ≡ o → (k : Option (List ℕ)) (d : Derived) → derivedAt k o ≡ some d → (d .current < 16777216) × (d .related < 16777216)
+  derived-fit m none q k d e = let z : _≡_ {A = ℕ} 0 1 = cc in absurd (omega arith)
+  derived-fit m (some r) q k d e = go (r .derivation) refl e
+    where
+      fine : Fine (optionalDerivation n) (r .derivation)
+      fine = tail-derivation n r (find-kept n m [] rs r (parts p w .relations-fine) q .1 .tail)
+
+      go : (o : Option Derivation) → r .derivation ≡ o → derivedBy k o ≡ some d → (d .current < 16777216) × (d .related < 16777216)
+      go none g e = let z : _≡_ {A = ℕ} 0 1 = cc in absurd (omega arith)
+      go (some b) g e =
+          let s : record { current = b .current; related = b .related; kinds = k } ≡ d = cc in
+          rw (← s) (option-slots n (r .derivation) fine b g)
+
+  typed-fit : (o : Option Relation) (ks : List ℕ) → typedAt o ≡ some ks → length ks ≤ 8
+  typed-fit none ks e = let z : _≡_ {A = ℕ} 0 1 = cc in absurd (omega arith)
+  typed-fit (some r) ks e = go (r .derivation) e
+    where
+      go : (o : Option Derivation) → typedBy (r .slotKinds) o ≡ some ks → length ks ≤ 8
+      go none e = pair-short (r .slotKinds) ks e
+      go (some d) e = let z : _≡_ {A = ℕ} 0 1 = cc in absurd (omega arith)
+
+  tables-fit : TablesFit (tables rs)
+  unfolding tables
+  tables-fit = record { slots = λ m d e. derived-fit m (find m rs) refl (kindsOf rs m) d e; few = λ m ks e. typed-fit (find m rs) ks e }
+
+  -- ---- rules
+
+  abbrev BodiesFine : List Body → Type 0
+  BodiesFine bs = FineAll {S = Unit {0}} (λ u b. u) (λ u b. Fine (body n) b) tt bs
+
+  body-good : (C : Citing) → TablesFit (C .tables) → (entity at : ℕ) (b : Body) → Fine (body n) b → Good (Fine (body n)) (resolveBody C entity at b)
+  unfolding body root Fine
+  body-good C fit entity at b h =
+      map-good (Fine (tree n 32 (b .sort))) _ _ (resolveTree C entity none (at + 1) (b .tree)) (tree-good C fit n (b .tree) 32 (b .sort) entity none (at + 1) (h .1)) (λ t q. (h .0, q))
+
+  bodies-good : (C : Citing) → TablesFit (C .tables) → (entity at : ℕ) (bs : List Body) → BodiesFine bs → Good (λ l. BodiesFine l × (length l ≡ length bs)) (resolveBodies C entity at bs)
+  unfolding resolveBodies
+  bodies-good C fit entity at [] h = (tt, refl)
+  bodies-good C fit entity at (b ∷ bs) h =
+      then-good (Fine (body n)) _ (resolveBody C entity at b) _ (body-good C fit entity at b (h .0))
+      (λ b′ q. map-good (λ l. BodiesFine l × (length l ≡ length bs)) _ (λ l. b′ ∷ l) (resolveBodies C entity (at + bodySize b) bs) (bodies-good C fit entity (at + bodySize b) bs (h .1))
+      (λ l g. ((q, g .0), ap suc (g .1))))
+
+  rule-good : (at : ℕ) (r : Rule) → Fine (rule n) r → Good (Fine (rule n)) (resolveRule p at r)
+  unfolding rule bodies ruleBy Fine
+  rule-good at r h =
+      let C : Citing = cites p (r .citing) (r .origin) in
+      then-good (Fine (body n)) _ (resolveBody C (r .entity) (at + 4) (r .semantics)) _ (body-good C tables-fit (r .entity) (at + 4) (r .semantics) (h .1 .1 .1 .1))
+      (λ b q. map-good (λ l. BodiesFine l × (length l ≡ length (r .versions))) _ _ (resolveBodies C (r .entity) (at + 4 + bodySize (r .semantics)) (r .versions))
+      (bodies-good C tables-fit (r .entity) (at + 4 + bodySize (r .semantics)) (r .versions) (h .1 .1 .1 .2))
+      (λ l g. (h .0, (h .1 .0, (h .1 .1 .0, (rw (g .1) (h .1 .1 .1 .0), q, g .0))))))
+
+  abbrev RulesFine : List Rule → Type 0
+  RulesFine l = FineAll {S = Unit {0}} (λ u r. u) (λ u r. Fine (rule n) r) tt l
+
+  rules-good : (at : ℕ) (l : List Rule) → RulesFine l → Good (λ m. RulesFine m × (length m ≡ length l)) (resolveRules p at l)
+  unfolding resolveRules
+  rules-good at [] h = (tt, refl)
+  rules-good at (r ∷ l) h =
+      then-good (Fine (rule n)) _ (resolveRule p at r) _ (rule-good at r (h .0))
+      (λ r′ q. map-good (λ m. RulesFine m × (length m ≡ length l)) _ (λ m. r′ ∷ m) (resolveRules p (at + length (ruleWords n r)) l) (rules-good (at + length (ruleWords n r)) l (h .1))
+      (λ m g. ((q, g .0), ap suc (g .1))))
