@@ -18,7 +18,7 @@ import os
 from collections import namedtuple
 
 # the operations that the program runs: calls of others are left out of the list
-RUN = ('all_kinds', 'kinds_of')
+RUN = ('all_kinds', 'kinds_of', 'lean', 'direct', 'innermost', 'alias', 'unresolved')
 
 NONE = 0xFFFFFF
 SCALARS = range(64, 79)
