@@ -1,4 +1,4 @@
-// Calls of the operations on chains, on the pack of the last case.
+// Calls of the operations on chains, on the pack of the last case: All kinds, Kinds of one name, Lean and the filtered tables.
 use crate::compare::fill;
 use crate::compare::same;
 use crate::compare::unlike;
