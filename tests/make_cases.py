@@ -1085,8 +1085,8 @@ def entities():
             relation(2, kinds=range(1, 1 + k)), relation(1, derived=derivation(source=2, entity=9, slots=(slot, 0)))])
     chained_pack('entity-none', 6, [relation(1, derived=derivation(kinds=[4])), entity_of(2, 5, [4])])
     chained_pack('entity-no-kinds', 6, [follows(1, 1, entity=5), follows(2, 3, entity=4), entity_of(3, 2, [1]), follows(4, 3, path=[], entity=0)])
-    for name, kinds in (('one', [4]), ('equal', [4, 4, 4]), ('unlike', [4, 3]), ('unlike-last', [4, 4, 3]), ('itself', [5]), ('itself-twice', [5, 5]),
-                        ('itself-and-another', [5, 1]), ('zero', [0])):
+    for name, kinds in (('one', [4]), ('equal', [4, 4, 4]), ('unlike', [4, 3]), ('unlike-last', [4, 4, 3]), ('unlike-between', [4, 3, 4]),
+                        ('itself', [5]), ('itself-twice', [5, 5]), ('itself-and-another', [5, 1]), ('zero', [0])):
         chained_pack(f'entity-{name}', 6, [entity_of(i, 5, [k]) for i, k in enumerate(kinds)])
         out_of_range = [entity_of(4, 5, [1, 2], 2), follows(5, 5, entity=5)]
         chained_pack(f'entity-{name}-and-nothing', 6, [entity_of(i, 5, [k]) for i, k in enumerate(kinds)] + out_of_range)
@@ -1132,6 +1132,7 @@ def tables_by_hand():
         'entity-equal': one,
         'entity-unlike': ({}, {}, {5}, set()),
         'entity-unlike-last': ({}, {}, {5}, set()),
+        'entity-unlike-between': ({}, {}, {5}, set()),
         'entity-itself': ({5: 5}, {5: 5}, set(), set()),
         'entity-itself-twice': ({5: 5}, {5: 5}, set(), set()),
         'entity-itself-and-another': ({}, {}, {5}, set()),
