@@ -4,7 +4,10 @@ use crate::answer::give;
 use crate::bytes::load;
 use crate::bytes::room;
 use chains::all_kinds::all_kinds;
+use chains::filtered::Filter;
+use chains::filtered::filtered;
 use chains::kinds_of::kinds_of;
+use chains::lean::lean;
 use pack::answer::Answer;
 use pack::check::check;
 use pack::kinds::Pack;
@@ -18,12 +21,14 @@ ghost use Rattle.host.specs.Operations.{answerTo, answerOf, bufferOf, mo
 pub enum Question {
     Check,
     KindsOf(u32),
+    Lean(u32, u32),
 }
 
 // The operations that write words.
 pub enum Writing {
     Rewrite,
     AllKinds,
+    Filtered(Filter),
 }
 
 fn answer_to(q: Question, words: &[u32]) -> Answer
@@ -32,6 +37,7 @@ fn answer_to(q: Question, words: &[u32]) -> Answer
     match q {
         Question::Check => check(words),
         Question::KindsOf(name) => kinds_of(words, name),
+        Question::Lean(a, b) => lean(words, a, b),
     }
 }
 
@@ -49,6 +55,7 @@ fn run(w: Writing, words: &[u32], out: &mut [u32]) -> Answer
     match w {
         Writing::Rewrite => rewrite(words, out),
         Writing::AllKinds => all_kinds(words, out),
+        Writing::Filtered(filter) => filtered(words, filter, out),
     }
 }
 
