@@ -6,6 +6,7 @@ mod operations;
 use crate::operations::Question;
 use crate::operations::Writing;
 use crate::operations::ask;
+use crate::operations::table;
 use crate::operations::write;
 use chains::filtered::Filter;
 use pack::kinds::Pack;
@@ -62,8 +63,7 @@ pub extern "C" fn cogunwa_lean(pack: &[u8], a: u32, b: u32) -> u64
 pub extern "C" fn cogunwa_direct(pack: &[u8], out: &mut [u8]) -> u64
     ensures { λ r. ⌜ Gives (filterAnswer Direct) (filterBuffer Direct) (now (pack .entry)) (now (out .entry)) r (now (out .exit)) ⌝ }
 {
-    let mut written = [0u32; Pack::MOST_NAMES as usize];
-    write(Writing::Filtered(Filter::Direct), pack, &mut written, out)
+    table(Filter::Direct, pack, out)
 }
 
 // Innermost.
@@ -71,13 +71,7 @@ pub extern "C" fn cogunwa_direct(pack: &[u8], out: &mut [u8]) -> u64
 pub extern "C" fn cogunwa_innermost(pack: &[u8], out: &mut [u8]) -> u64
     ensures { λ r. ⌜ Gives (filterAnswer Innermost) (filterBuffer Innermost) (now (pack .entry)) (now (out .entry)) r (now (out .exit)) ⌝ }
 {
-    let mut written = [0u32; Pack::MOST_NAMES as usize];
-    write(
-        Writing::Filtered(Filter::Innermost),
-        pack,
-        &mut written,
-        out,
-    )
+    table(Filter::Innermost, pack, out)
 }
 
 // Alias.
@@ -85,8 +79,7 @@ pub extern "C" fn cogunwa_innermost(pack: &[u8], out: &mut [u8]) -> u64
 pub extern "C" fn cogunwa_alias(pack: &[u8], out: &mut [u8]) -> u64
     ensures { λ r. ⌜ Gives (filterAnswer Alias) (filterBuffer Alias) (now (pack .entry)) (now (out .entry)) r (now (out .exit)) ⌝ }
 {
-    let mut written = [0u32; Pack::MOST_NAMES as usize];
-    write(Writing::Filtered(Filter::Alias), pack, &mut written, out)
+    table(Filter::Alias, pack, out)
 }
 
 // Unresolved.
@@ -94,11 +87,5 @@ pub extern "C" fn cogunwa_alias(pack: &[u8], out: &mut [u8]) -> u64
 pub extern "C" fn cogunwa_unresolved(pack: &[u8], out: &mut [u8]) -> u64
     ensures { λ r. ⌜ Gives (filterAnswer Unresolved) (filterBuffer Unresolved) (now (pack .entry)) (now (out .entry)) r (now (out .exit)) ⌝ }
 {
-    let mut written = [0u32; Pack::MOST_NAMES as usize];
-    write(
-        Writing::Filtered(Filter::Unresolved),
-        pack,
-        &mut written,
-        out,
-    )
+    table(Filter::Unresolved, pack, out)
 }

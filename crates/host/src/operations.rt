@@ -14,6 +14,7 @@ use pack::kinds::Pack;
 use pack::rewrite::rewrite;
 ghost use mathlib.Core.Path.{_≡_};
 ghost use lib.ListN.{length};
+ghost use Rattle.chains.specs.Operations.{filterAnswer, filterBuffer};
 ghost use Rattle.host.specs.Bytes.{encode, overBytes, Gives};
 ghost use Rattle.host.specs.Operations.{answerTo, answerOf, bufferOf, mostOf, Ran};
 
@@ -69,4 +70,12 @@ pub fn write(w: Writing, pack: &[u8], written: &mut [u32], out: &mut [u8]) -> u6
     let m = room(out.len(), written.len());
     let a = run(w, &words[..n], &mut written[..m]);
     give(a, written, out)
+}
+
+// A filtered table, with one word for each name.
+pub fn table(filter: Filter, pack: &[u8], out: &mut [u8]) -> u64
+    ensures { λ r. ⌜ Gives (filterAnswer filter) (filterBuffer filter) (now (pack .entry)) (now (out .entry)) r (now (out .exit)) ⌝ }
+{
+    let mut written = [0u32; Pack::MOST_NAMES as usize];
+    write(Writing::Filtered(filter), pack, &mut written, out)
 }
