@@ -62,9 +62,7 @@ fn names_around_n() {
         let pack = bytes_of(&graph(names, &[named(last).source(0)]));
         assert_eq!(lean(&pack, last, 0), Ok(true));
         assert_eq!(lean(&pack, 0, last), Ok(false));
-        for name in
-            [names, names + 1, 4096, 65_536 + last, 0xFF_FFFF, (1 << 24) + last, u32::MAX - 1, u32::MAX]
-        {
+        for name in [names, names + 1, 4096, 65_536 + last, 0xFF_FFFF, (1 << 24) + last, u32::MAX - 1, u32::MAX] {
             assert_eq!(lean(&pack, name, 0), unknown(name), "{name} of {names}");
             assert_eq!(lean(&pack, last, name), unknown(name), "{name} of {names}");
             // The first name comes first.
@@ -156,5 +154,5 @@ fn packs_made_by_chance() {
             assert_eq!(lean(&damaged, a, b), expected(&damaged, a, b));
         }
     }
-    assert!(counts[0] > 10_000 && counts[1] > 10_000, "{counts:?}");
+    assert!(counts[0] > 5_000 && counts[1] > 5_000, "{counts:?}");
 }
