@@ -3,7 +3,7 @@
 //!     cargo bench --offline --bench chains
 //!
 //! Check of the same pack, which each of them starts with, and a plain copy of the pack's bytes are measured beside them,
-//! in the same rounds. The smallest pack, without relations, shows what a call takes however small the pack is.
+//! in the same rounds. A pack without relations shows what a call takes however small the pack is.
 #[path = "../tests/packs/mod.rs"]
 mod packs;
 mod timed;
@@ -33,8 +33,8 @@ fn row(count: u32, last: Relation) -> Vec<Relation> {
 }
 
 fn kinds() {
-    headed("", &["copy", "check", "all kinds", "one name", "lean"]);
-    measure_kinds("smallest", 0, &packs::smallest());
+    headed(&["copy", "check", "all kinds", "one name", "lean"]);
+    measure_kinds("no relations", 0, &graph(4096, &[]));
     for count in COUNTS {
         let chain = row(count, named(count - 1).kinds(&[1, 2]));
         measure_kinds("one chain", count, &graph(4096, &chain));
@@ -50,29 +50,28 @@ fn kinds() {
 }
 
 fn tables() {
-    headed("", &["copy", "check", "direct", "innermost", "alias", "unresolved"]);
+    headed(&["copy", "check", "direct", "innermost", "alias", "unresolved"]);
     measure_tables("no relations", 0, &graph(4096, &[]));
-    // Each derivation gives its entity the next name: innermost goes all the way.
-    let way = |count| (0..count).map(|name| named(name).entity(name).entities(&[name + 1])).collect::<Vec<_>>();
+    let takes = |name, kind| named(name).entity(name).entities(&[kind]);
+    // Each derivation gives its entity the next name, so that innermost goes all the way.
     for count in COUNTS {
-        measure_tables("own lists", count, &graph(4096, &way(count)));
-    }
-    // The kinds of all are those at the end of one chain of sources.
-    for count in COUNTS {
-        let mut relations: Vec<Relation> =
-            (0..count - 1).map(|name| named(name).source(name + 1).entity(name)).collect();
-        relations.push(named(count - 1).kinds(&[1, 2]).entity(count - 1));
-        measure_tables("one chain", count, &graph(4096, &relations));
+        let on: Vec<Relation> = (0..count).map(|name| takes(name, name + 1)).collect();
+        measure_tables("kinds lead on", count, &graph(4096, &on));
     }
     for count in COUNTS {
-        let mut relations: Vec<Relation> = (0..count).map(|name| named(name).source((name + 1) % count)).collect();
-        relations = relations.into_iter().zip(0..).map(|(relation, name)| relation.entity(name)).collect();
-        measure_tables("one ring", count, &graph(4096, &relations));
+        let round: Vec<Relation> = (0..count).map(|name| takes(name, (name + 1) % count)).collect();
+        measure_tables("and round", count, &graph(4096, &round));
+    }
+    // All derivations have the list at the end of one chain of sources.
+    for count in COUNTS {
+        let chain = row(count, named(count - 1).kinds(&[1, 2]));
+        let entities: Vec<Relation> = chain.into_iter().zip(0..).map(|(link, name)| link.entity(name)).collect();
+        measure_tables("one chain", count, &graph(4096, &entities));
     }
 }
 
-fn headed(shape: &str, columns: &[&str]) {
-    print!("{shape:12} {:>9} {:>6}", "relations", "words");
+fn headed(columns: &[&str]) {
+    print!("{:13} {:>9} {:>6}", "", "relations", "words");
     for column in columns {
         print!(" {column:>14}");
     }
@@ -80,7 +79,7 @@ fn headed(shape: &str, columns: &[&str]) {
 }
 
 fn shown(shape: &str, count: u32, words: usize, times: &[f64]) {
-    print!("{shape:12} {count:>9} {words:>6}");
+    print!("{shape:13} {count:>9} {words:>6}");
     for time in times {
         let each = if count == 0 { String::new() } else { format!(" ({:.1})", time / f64::from(count)) };
         print!(" {:>14}", format!("{:.2}{each}", time / 1000.0));
