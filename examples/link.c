@@ -16,6 +16,11 @@ static void show(const char *what, uint64_t answer)
                (unsigned)cogunwa_name(answer), (unsigned)cogunwa_other(answer));
 }
 
+static uint32_t first_word(const uint8_t *bytes)
+{
+    return bytes[0] | (uint32_t)bytes[1] << 8 | (uint32_t)bytes[2] << 16 | (uint32_t)bytes[3] << 24;
+}
+
 int main(void)
 {
     /* The smallest pack: six words, one name, no records. */
@@ -29,6 +34,18 @@ int main(void)
     show("all kinds", cogunwa_all_kinds(pack, sizeof pack, out, sizeof out));
     show("kinds of the name 0", cogunwa_kinds_of(pack, sizeof pack, 0));
     show("kinds of the name 1", cogunwa_kinds_of(pack, sizeof pack, 1));
+
+    show("lean of the name 0 on itself", cogunwa_lean(pack, sizeof pack, 0, 0));
+    show("lean of the name 0 on the name 1", cogunwa_lean(pack, sizeof pack, 0, 1));
+
+    /* The tables have one word for the one name. */
+    show("direct", cogunwa_direct(pack, sizeof pack, out, sizeof out));
+    printf("direct of the name 0: %u\n", (unsigned)first_word(out));
+    show("innermost", cogunwa_innermost(pack, sizeof pack, out, sizeof out));
+    show("alias", cogunwa_alias(pack, sizeof pack, out, sizeof out));
+    show("unresolved", cogunwa_unresolved(pack, sizeof pack, out, sizeof out));
+    printf("unresolved of the name 0: %u\n", (unsigned)first_word(out));
+    show("direct into three bytes", cogunwa_direct(pack, sizeof pack, out, 3));
 
     pack[4] = 0; /* a pack has at least one name */
     show("check of a damaged pack", cogunwa_check(pack, sizeof pack));

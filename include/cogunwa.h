@@ -68,6 +68,31 @@ uint64_t cogunwa_all_kinds(const uint8_t *pack, size_t pack_len, uint8_t *out, s
  * or Check's refusal; or 17 where the name is not below N. */
 uint64_t cogunwa_kinds_of(const uint8_t *pack, size_t pack_len, uint32_t name);
 
+/* Lean: value 1 where one or more source fields lead from the name `a` to the name `b`, otherwise 0;
+ * lists and paths do not matter. A name leans on itself where its sources lead back to it. A name
+ * that no relation has leans on nothing. Or Check's refusal; or 17 where a name is not below N, for
+ * `a` before `b`. */
+uint64_t cogunwa_lean(const uint8_t *pack, size_t pack_len, uint32_t a, uint32_t b);
+
+/* The filtered tables: each writes to `out` N words, one for each name e from 0 on, what it says of e
+ * as an entity. e takes the kind at the current slot of each derivation whose entity is e, where the
+ * relation has kinds and the slot is in range. "None" is 16777215 (COGUNWA_NONE).
+ * Value: the number of words written, which is N; or Check's refusal; or 16 where `out` has fewer
+ * whole words than N. Bytes of `out` past those words stay as they are.
+ *
+ * Direct: the one kind that e takes, however often; none where it takes none, or several.
+ * Innermost: where direct leads from e, step by step, until a name without direct or one whose direct
+ * is itself; none where e has no direct, and where the steps go round in a longer ring.
+ * Alias: 1 where e takes a kind other than e, otherwise 0.
+ * Unresolved: 1 where some derivation has the entity e and e takes no kind, otherwise 0. */
+uint64_t cogunwa_direct(const uint8_t *pack, size_t pack_len, uint8_t *out, size_t out_len);
+uint64_t cogunwa_innermost(const uint8_t *pack, size_t pack_len, uint8_t *out, size_t out_len);
+uint64_t cogunwa_alias(const uint8_t *pack, size_t pack_len, uint8_t *out, size_t out_len);
+uint64_t cogunwa_unresolved(const uint8_t *pack, size_t pack_len, uint8_t *out, size_t out_len);
+
+/* What direct and innermost say of a name for which they have none. */
+#define COGUNWA_NONE 16777215u
+
 /* The fields of an answer. */
 static inline uint32_t cogunwa_number(uint64_t answer) { return (uint32_t)(answer & 0x3F); }
 static inline uint32_t cogunwa_place(uint64_t answer) { return (uint32_t)(answer >> 6 & 0x3FFF); }

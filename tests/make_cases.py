@@ -10,15 +10,14 @@ A line of the list is a comment, which begins with #, a case, or a call on the p
     NAME | ok, or refused NUMBER PLACE NAME OTHER | WORDS | ROOM .. | the words of the pack
     NAME > OPERATION ARGUMENT .. | given VALUE STEPS, or refused NUMBER PLACE NAME OTHER | the words written
 
+Check and Rewrite are run on the pack of every case. A call runs one of the operations on chains: all_kinds, direct, innermost,
+alias and unresolved write, and their argument is the room they are lent; the argument of kinds_of is a name, lean has two names.
+
 The number of words, the rooms for Rewrite and the arguments are decimal, the words hexadecimal. `W*N` is the word W N times,
-`(V W)*N` the words V W N times, and a word with `+S` is larger by S each time. The argument of an operation that writes is
-the room it is lent, that of kinds_of a name; lean has two names.
+`(V W)*N` the words V W N times, and a word with `+S` is larger by S each time.
 """
 import os
 from collections import namedtuple
-
-# the operations that the program runs: calls of others are left out of the list
-RUN = ('all_kinds', 'kinds_of')
 
 NONE = 0xFFFFFF
 SCALARS = range(64, 79)
@@ -177,6 +176,7 @@ class Chains:
         self.declared = {r.name: r for r in self.relations}
         self.labels = {w.label: i for i, w in enumerate(p) if w.label}
         assert len(self.declared) == len(self.relations) and len(self.labels) == sum(1 for w in p if w.label)
+        self.met = sorted(self.declared.keys() | {r.derived.source for r in self.relations if r.derived} - {NONE})
         self.taken = {e: self.kinds_taken(e) for e in {r.derived.entity for r in self.relations if r.derived}}
         self.places = [self.place(r.name) for r in self.relations]
         self.steps = self.steps_read()
@@ -215,17 +215,24 @@ class Chains:
         assert steps == len(self.relations) + len(sources)
         return steps
 
-    def lean(self, a, b):
-        seen = set()
-        while a not in seen:
-            seen.add(a)
+    def leads_to(self, a):
+        """The names that sources lead to from a name, nearest first."""
+        out = []
+        while True:
             r = self.declared.get(a)
-            if r is None or r.derived is None or r.derived.source == NONE:
-                return 0
+            if r is None or r.derived is None or r.derived.source == NONE or r.derived.source in out:
+                return out
             a = r.derived.source
-            if a == b:
-                return 1
-        return 0
+            out.append(a)
+
+    def lean(self, a, b):
+        return int(b in self.leads_to(a))
+
+    def pairs(self):
+        """Pairs of names that lean, the farthest, one between and the nearest, and as many that do not."""
+        yes = [(a, b) for _, a, b in sorted((-i, a, b) for a in self.met for i, b in enumerate(self.leads_to(a)))]
+        no = [(a, b) for a in self.met for b in self.met if not self.lean(a, b)]
+        return [each[i] for each in (yes, no) if each for i in sorted({0, len(each) // 2, len(each) - 1})]
 
     def kinds_taken(self, e):
         out = []
@@ -307,9 +314,8 @@ def refused(name, p, n, at, named=0, rooms=None):
 def call(case, operation, args, expected, words=()):
     """A call on the pack of the last case."""
     assert case == cases[-1].name and all(0 <= a < 2 ** 32 for a in args)
-    if operation in RUN:
-        calls.append(Call(case, operation, args, expected, words))
-        lines.append(calls[-1])
+    calls.append(Call(case, operation, args, expected, words))
+    lines.append(calls[-1])
 
 
 def rooms_about(k):
@@ -320,9 +326,8 @@ def ask(name, p, known=None, pairs=None, edges=False):
     """Calls of every operation on the good pack of the last case, for the names and the pairs of names given; at the edges of rooms and names too."""
     model = Chains(p)
     n = model.n
-    met = sorted(model.declared.keys() | {r.derived.source for r in model.relations if r.derived} - {NONE})
-    known = (range(n) if edges else met) if known is None else known
-    pairs = [(a, b) for a in met[:3] for b in met[:3]] if pairs is None else pairs
+    known = (range(n) if edges else model.met) if known is None else known
+    pairs = model.pairs() if pairs is None else pairs
     if edges:
         known = [*known, n, 2 ** 32 - 1]
         pairs = [*pairs, (0, n), (n, 0), (n, 2 ** 32 - 1), (2 ** 32 - 1, n)]
@@ -911,9 +916,11 @@ def by_chance():
 # ---- sections of the list for the chain operations
 
 def chained_pack(name, n, relations, known=None, pairs=None, deals=None, edges=False, **rest):
-    """A case with calls of every operation, and copies with the relations dealt out again: reversed, unless it is said how."""
+    """A case with calls of every operation, and copies with the relations dealt out again, reversed unless it is said how, with fewer calls."""
     p = pack(n=n, relations=relations, **rest)
     ok(name, p, [len(p)])
+    model = Chains(p)
+    pairs = model.pairs() if pairs is None else pairs
     ask(name, p, known, pairs, edges)
     if deals is None:
         deals = [relations[::-1]] if len(relations) > 1 else []
@@ -921,8 +928,8 @@ def chained_pack(name, n, relations, known=None, pairs=None, deals=None, edges=F
         assert sorted(r.name for r in dealt) == sorted(r.name for r in relations)
         q = pack(n=n, relations=dealt, **rest)
         ok(f'{name}-dealt-{i}', q, [len(q)])
-        ask(f'{name}-dealt-{i}', q, known, None if pairs is None else pairs[:4])
-    return Chains(p)
+        ask(f'{name}-dealt-{i}', q, (model.met if known is None else known)[::2], pairs[::3])
+    return model
 
 
 def follows(name, source, **rest):
@@ -950,30 +957,21 @@ def worked():
     by_hand('K5-declared', [relation(5, kinds=[1, 2]), follows(6, 5, path=[])], [[1, 2], None], 2, [7, 0])
     by_hand('K6', [relation(5, kinds=[1, 2], derived=derivation(kinds=[2, 1]))], [[2, 1]], 1, [17])
 
-    def table(m, name, words):
-        assert m.answer(name, (m.n,)) == (f'given {m.n} 0', words), (name, m.answer(name, (m.n,)))
-
-    x = NONE
-    m = chained_pack('I1', 7, [entity_of(0, 3, [4]), entity_of(1, 4, [3]), entity_of(2, 5, [3])], edges=True)
-    table(m, 'direct', [x, x, x, 4, 3, 3, x])
-    table(m, 'innermost', [x] * 7)
-    table(m, 'alias', [0, 0, 0, 1, 1, 1, 0])
-    table(m, 'unresolved', [0] * 7)
-    m = chained_pack('A4', 6, [relation(5, kinds=[1, 2]), entity_of(4, 3, [2, 0])])
-    table(m, 'direct', [x, x, x, 2, x, x])
-    table(m, 'innermost', [x, x, x, 2, x, x])
+    chained_pack('I1', 7, [entity_of(0, 3, [4]), entity_of(1, 4, [3]), entity_of(2, 5, [3])], edges=True)
+    chained_pack('A4', 6, [relation(5, kinds=[1, 2]), entity_of(4, 3, [2, 0])])
     # 3 on to 4, 4 on to 5, 5 to itself; 6 takes 0 and 1; 0 is named and takes nothing
-    m = chained_pack('innermost-itself', 8, [entity_of(1, 3, [4]), entity_of(2, 4, [5]), entity_of(3, 5, [5]),
-                                              entity_of(4, 6, [0]), entity_of(5, 6, [1]), entity_of(6, 0, [])])
-    table(m, 'direct', [x, x, x, 4, 5, 5, x, x])
-    table(m, 'innermost', [x, x, x, 5, 5, 5, x, x])
-    table(m, 'alias', [0, 0, 0, 1, 1, 0, 1, 0])
-    table(m, 'unresolved', [1, 0, 0, 0, 0, 0, 0, 0])
+    chained_pack('innermost-itself', 8, [entity_of(1, 3, [4]), entity_of(2, 4, [5]), entity_of(3, 5, [5]),
+                                         entity_of(4, 6, [0]), entity_of(5, 6, [1]), entity_of(6, 0, [])])
     # field 12 leads on whatever else the declaration says
     every = [(a, b) for a in range(8) for b in range(8)]
     m = chained_pack('leaning', 8, [follows(1, 2), follows(2, 3, kinds=[1]), follows(3, 4, path=[(7, 0, 1)]), relation(
         4, kinds=[5], derived=derivation(source=5)), follows(6, 6), relation(7, kinds=[1])], pairs=every)
     leans = [(1, 2), (1, 3), (1, 4), (1, 5), (2, 3), (2, 4), (2, 5), (3, 4), (3, 5), (4, 5), (6, 6)]
+    assert [pair for pair in every if m.lean(*pair)] == leans
+    # a ring of 0 and 1, which 3 leads to through 2; 4 to itself; 5 is not declared
+    every = [(a, b) for a in range(6) for b in range(6)]
+    m = chained_pack('leaning-in-rings', 6, [follows(0, 1), follows(1, 0), follows(2, 0), follows(3, 2), follows(4, 4)], pairs=every)
+    leans = [(0, 0), (0, 1), (1, 0), (1, 1), (2, 0), (2, 1), (3, 0), (3, 1), (3, 2), (4, 4)]
     assert [pair for pair in every if m.lean(*pair)] == leans
 
 
@@ -1036,7 +1034,7 @@ def lists():
 def large_chains():
     section('chains: 512 relations')
     n, some = 700, (0, 1, 255, 510, 511, 512, 699)
-    pairs = [(0, 1), (0, 511), (511, 0), (0, 0), (511, 512), (512, 0), (255, 254), (600, 0)]
+    pairs = [(0, 511), (0, 1), (0, 512), (511, 0), (0, 0), (511, 512), (512, 0), (255, 254), (600, 0)]
 
     def large(name, relations, deal=True):
         orders = [relations[::2] + relations[1::2], relations[200:] + relations[:200]] if deal else []
@@ -1087,8 +1085,8 @@ def entities():
             relation(2, kinds=range(1, 1 + k)), relation(1, derived=derivation(source=2, entity=9, slots=(slot, 0)))])
     chained_pack('entity-none', 6, [relation(1, derived=derivation(kinds=[4])), entity_of(2, 5, [4])])
     chained_pack('entity-no-kinds', 6, [follows(1, 1, entity=5), follows(2, 3, entity=4), entity_of(3, 2, [1]), follows(4, 3, path=[], entity=0)])
-    for name, kinds in (('one', [4]), ('equal', [4, 4, 4]), ('unlike', [4, 3]), ('unlike-last', [4, 4, 3]), ('itself', [5]), ('itself-twice', [5, 5]),
-                        ('itself-and-another', [5, 1]), ('zero', [0])):
+    for name, kinds in (('one', [4]), ('equal', [4, 4, 4]), ('unlike', [4, 3]), ('unlike-last', [4, 4, 3]), ('unlike-between', [4, 3, 4]),
+                        ('itself', [5]), ('itself-twice', [5, 5]), ('itself-and-another', [5, 1]), ('zero', [0])):
         chained_pack(f'entity-{name}', 6, [entity_of(i, 5, [k]) for i, k in enumerate(kinds)])
         out_of_range = [entity_of(4, 5, [1, 2], 2), follows(5, 5, entity=5)]
         chained_pack(f'entity-{name}-and-nothing', 6, [entity_of(i, 5, [k]) for i, k in enumerate(kinds)] + out_of_range)
@@ -1101,9 +1099,68 @@ def entities():
         chained_pack(f'direct-chain-{k}-to-itself', 8, steps + [entity_of(k, k, [k])])
         chained_pack(f'direct-chain-{k}-to-unlike', 8, steps + [entity_of(k, k, [0]), entity_of(k + 1, k, [7])])
         chained_pack(f'direct-ring-{k}', 8, [entity_of(i, i, [(i + 1) % k]) for i in range(k)])
+        chained_pack(f'direct-chain-{k}-of-all-names', k + 1, steps)
         chained_pack(f'direct-ring-{k}-fed', 8, [entity_of(i, i, [(i + 1) % k]) for i in range(k)] + [entity_of(6, 7, [6]), entity_of(7, 6, [k - 1])])
+    chained_pack('direct-names-4096', 4096, [entity_of(0, 4095, [4094]), entity_of(1, 4094, [0]), entity_of(2, 0, [4093])])
     chained_pack('direct-chain-512', 700, [entity_of(i, i, [i + 1]) for i in range(512)], [0, 511], [], [])
     chained_pack('direct-ring-512', 700, [entity_of(i, i, [(i + 1) % 512]) for i in range(512)], [0, 511], [], [])
+    chained_pack('direct-ring-512-of-all-names', 512, [entity_of(i, i, [(i + 1) % 512]) for i in range(512)], [0, 511], [], [])
+
+
+def tables_by_hand():
+    """Tables worked out by hand from 01's text: direct and innermost of the names that have them, and the names where alias
+    and unresolved are 1. They hold in the dealt copies too."""
+    one, ring = ({5: 4}, {5: 4}, {5}, set()), {0: 1, 1: 2, 2: 0}
+    known = {
+        # 01's ring and what leads there; 01's direct(3) = 2
+        'I1': ({3: 4, 4: 3, 5: 3}, {}, {3, 4, 5}, set()),
+        'A4': ({3: 2}, {3: 2}, {3}, set()),
+        'innermost-itself': ({3: 4, 4: 5, 5: 5}, {3: 5, 4: 5, 5: 5}, {3, 4, 6}, {0}),
+        # entity 9, a slot of the list 1, 2, ..: in range, and just past it
+        'slot-0-of-1': ({9: 1}, {9: 1}, {9}, set()),
+        'slot-1-of-1': ({}, {}, set(), {9}),
+        'slot-7-of-8': ({9: 8}, {9: 8}, {9}, set()),
+        'slot-8-of-8': ({}, {}, set(), {9}),
+        'slot-1-of-2-inherited': ({9: 2}, {9: 2}, {9}, set()),
+        'slot-2-of-2-inherited': ({}, {}, set(), {9}),
+        # a derivation of no entity; kinds that a ring and a path of count 0 withhold from 5 and 0
+        'entity-none': one,
+        'entity-no-kinds': ({2: 1, 4: 1}, {2: 1, 4: 1}, {2, 4}, {0, 5}),
+        # the kinds that 5 takes
+        'entity-one': one,
+        'entity-one-and-nothing': one,
+        'entity-equal': one,
+        'entity-unlike': ({}, {}, {5}, set()),
+        'entity-unlike-last': ({}, {}, {5}, set()),
+        'entity-unlike-between': ({}, {}, {5}, set()),
+        'entity-itself': ({5: 5}, {5: 5}, set(), set()),
+        'entity-itself-twice': ({5: 5}, {5: 5}, set(), set()),
+        'entity-itself-and-another': ({}, {}, {5}, set()),
+        'entity-zero': ({5: 0}, {5: 0}, {5}, set()),
+        'entity-list-9': ({5: 3}, {5: 3}, {5}, set()),
+        'entity-both-lists': one,
+        # 0 on to 1 and so on: to a name without direct, to one mapped to itself, to one that takes two kinds, and in rings
+        'direct-chain-3': ({0: 1, 1: 2, 2: 3}, {0: 3, 1: 3, 2: 3}, {0, 1, 2}, set()),
+        'direct-chain-3-to-itself': ({0: 1, 1: 2, 2: 3, 3: 3}, {0: 3, 1: 3, 2: 3, 3: 3}, {0, 1, 2}, set()),
+        'direct-chain-2-to-unlike': ({0: 1, 1: 2}, {0: 2, 1: 2}, {0, 1, 2}, set()),
+        'direct-chain-3-of-all-names': ({0: 1, 1: 2, 2: 3}, {0: 3, 1: 3, 2: 3}, {0, 1, 2}, set()),
+        'direct-ring-1': ({0: 0}, {0: 0}, set(), set()),
+        'direct-ring-3': (ring, {}, {0, 1, 2}, set()),
+        'direct-ring-1-fed': ({0: 0, 6: 0, 7: 6}, {0: 0, 6: 0, 7: 0}, {6, 7}, set()),
+        'direct-ring-3-fed': ({**ring, 6: 2, 7: 6}, {}, {0, 1, 2, 6, 7}, set()),
+        'direct-names-4096': ({4095: 4094, 4094: 0, 0: 4093}, {4095: 4093, 4094: 4093, 0: 4093}, {0, 4094, 4095}, set()),
+        # a list that stands in another record, and list 21 of the same record, among words of every kind
+        'every-kind': ({9: 2}, {9: 2}, {9}, {2}),
+        'medium': ({1: 2}, {1: 2}, {1}, set()),
+        'no-relations': ({}, {}, set(), set())}
+    for name, (direct, innermost, alias, unresolved) in known.items():
+        said = {'direct': lambda e: direct.get(e, NONE), 'innermost': lambda e: innermost.get(e, NONE),
+                'alias': lambda e: int(e in alias), 'unresolved': lambda e: int(e in unresolved)}
+        found = [c for c in calls if c.case.split('-dealt-')[0] == name and c.operation in TABLES and c.expected.startswith('given')]
+        assert {c.operation for c in found} == set(TABLES), name
+        for c in found:
+            n = next(case for case in cases if case.name == c.case).words[1] - 0x02000000
+            assert c.expected == f'given {n} 0' and c.words == [said[c.operation](e) for e in range(n)], (name, c)
 
 
 def damaged_chains():
@@ -1155,6 +1212,7 @@ def main():
     for part in (lengths, limits, names, values, counts, any_values, depth, order, rising, used, places, heads, by_chance,
                  worked, graphs, lists, large_chains, sizes, entities, damaged_chains, chains_by_chance):
         part()
+    tables_by_hand()
     folder = os.path.join(os.path.dirname(os.path.abspath(__file__)), '..', 'crates', 'cases')
     words = [w for c in cases for w in c.words]
     texts = [t if isinstance(t, str) else text_of(t) for t in lines]

@@ -4,7 +4,8 @@
 //! byte first; [`bytes_of`] makes them from words. Any bytes and any lengths may be handed over. A refusal changes no
 //! byte of an output buffer.
 //!
-//! The operations so far: [`check`], [`rewrite`], [`all_kinds`] and [`kinds_of`].
+//! The operations so far: [`check`], [`rewrite`], [`all_kinds`], [`kinds_of`], [`lean`], and the filtered tables
+//! [`direct`], [`innermost`], [`alias`] and [`unresolved`].
 //!
 //! ```
 //! // The smallest pack: its length, one name, and no defaulted names, relations, rules and blocks.
@@ -23,6 +24,10 @@
 //! A relation's kinds are the names of one list in the pack, its own or that of the relation that it inherits from. They
 //! are answered as the place of the list's count word, which is of kind 9 or 21; the names are the values of as many
 //! words behind it.
+//!
+//! The filtered tables say something of each name as an entity, by the kinds that it takes: those at the current slot of
+//! each derivation with that entity, where the relation has kinds and the slot is in range. A table has N words, one for
+//! each name from 0 on.
 
 use std::error::Error;
 use std::fmt;
@@ -32,7 +37,15 @@ unsafe extern "C" {
     fn cogunwa_rewrite(pack: *const u8, pack_len: usize, out: *mut u8, out_len: usize) -> u64;
     fn cogunwa_all_kinds(pack: *const u8, pack_len: usize, out: *mut u8, out_len: usize) -> u64;
     fn cogunwa_kinds_of(pack: *const u8, pack_len: usize, name: u32) -> u64;
+    fn cogunwa_lean(pack: *const u8, pack_len: usize, a: u32, b: u32) -> u64;
+    fn cogunwa_direct(pack: *const u8, pack_len: usize, out: *mut u8, out_len: usize) -> u64;
+    fn cogunwa_innermost(pack: *const u8, pack_len: usize, out: *mut u8, out_len: usize) -> u64;
+    fn cogunwa_alias(pack: *const u8, pack_len: usize, out: *mut u8, out_len: usize) -> u64;
+    fn cogunwa_unresolved(pack: *const u8, pack_len: usize, out: *mut u8, out_len: usize) -> u64;
 }
+
+/// What [`direct`] and [`innermost`] write for a name that has none.
+pub const NONE: u32 = 16_777_215;
 
 /// Why an operation refused. Fields that the number does not fill are 0.
 #[derive(Clone, Copy, Debug, PartialEq, Eq)]
@@ -121,6 +134,49 @@ pub fn kinds_of(pack: &[u8], name: u32) -> Result<Option<usize>, Refusal> {
     // SAFETY: as in `check`.
     let answer = unsafe { cogunwa_kinds_of(pack.as_ptr(), pack.len(), name) };
     take_apart(answer).map(|given| Some(given.value as usize).filter(|&place| place != 0))
+}
+
+/// Whether the name `a` leans on the name `b`: whether one or more source fields lead from `a` to `b`, whatever lists and
+/// paths stand beside them. A name in a ring of sources leans on itself; one that no relation has leans on nothing. A name
+/// that is not below the pack's N is refused, `a` before `b`.
+pub fn lean(pack: &[u8], a: u32, b: u32) -> Result<bool, Refusal> {
+    // SAFETY: as in `check`.
+    let answer = unsafe { cogunwa_lean(pack.as_ptr(), pack.len(), a, b) };
+    take_apart(answer).map(|given| given.value == 1)
+}
+
+/// Writes to `out`, one word for each name, the one kind that it takes as an entity, however often; [`NONE`] where it
+/// takes none, or several. Answers the number of words written, which is the pack's N. Bytes past those words stay as
+/// they are, and a refusal leaves all of `out` as it is. Of `out` only whole words count.
+pub fn direct(pack: &[u8], out: &mut [u8]) -> Result<usize, Refusal> {
+    // SAFETY: as in `rewrite`.
+    let answer = unsafe { cogunwa_direct(pack.as_ptr(), pack.len(), out.as_mut_ptr(), out.len()) };
+    take_apart(answer).map(|given| given.value as usize)
+}
+
+/// Writes to `out`, one word for each name, where its direct kind leads: on from kind to kind, as [`direct`] says, until a
+/// name that has none or is its own. [`NONE`] for a name without a direct kind, and for one that leads into a longer ring.
+/// Answer, bytes past the words and refusals are as in [`direct`].
+pub fn innermost(pack: &[u8], out: &mut [u8]) -> Result<usize, Refusal> {
+    // SAFETY: as in `rewrite`.
+    let answer = unsafe { cogunwa_innermost(pack.as_ptr(), pack.len(), out.as_mut_ptr(), out.len()) };
+    take_apart(answer).map(|given| given.value as usize)
+}
+
+/// Writes to `out`, one word for each name, 1 if it takes a kind other than itself, otherwise 0. Answer, bytes past the
+/// words and refusals are as in [`direct`].
+pub fn alias(pack: &[u8], out: &mut [u8]) -> Result<usize, Refusal> {
+    // SAFETY: as in `rewrite`.
+    let answer = unsafe { cogunwa_alias(pack.as_ptr(), pack.len(), out.as_mut_ptr(), out.len()) };
+    take_apart(answer).map(|given| given.value as usize)
+}
+
+/// Writes to `out`, one word for each name, 1 if it is the entity of some derivation and takes no kind, otherwise 0.
+/// Answer, bytes past the words and refusals are as in [`direct`].
+pub fn unresolved(pack: &[u8], out: &mut [u8]) -> Result<usize, Refusal> {
+    // SAFETY: as in `rewrite`.
+    let answer = unsafe { cogunwa_unresolved(pack.as_ptr(), pack.len(), out.as_mut_ptr(), out.len()) };
+    take_apart(answer).map(|given| given.value as usize)
 }
 
 /// A word of this kind and value.

@@ -2,7 +2,7 @@
 mod packs;
 mod plain;
 
-use cogunwa::{all_kinds, bytes_of, check, kinds_of, rewrite, words_of};
+use cogunwa::{all_kinds, bytes_of, check, innermost, kinds_of, lean, rewrite, words_of};
 use packs::Chance;
 
 #[test]
@@ -14,14 +14,18 @@ fn several_threads_at_once() {
         all.push(bytes_of(&words));
         all.push(bytes_of(&packs::damaged(&words, &mut chance)));
         all.push(bytes_of(&packs::tangled(&mut chance)));
+        all.push(bytes_of(&packs::entities(&mut chance)));
     }
     let expected: Vec<_> = all.iter().map(|pack| plain::check_bytes(pack)).collect();
     let read = |pack: &Vec<u8>| plain::read_bytes(pack);
     let settled: Vec<_> = all.iter().map(|pack| read(pack)?.all_kinds(8192)).collect();
     let first: Vec<_> = all.iter().map(|pack| read(pack)?.kinds_of(0)).collect();
+    let leans: Vec<_> = all.iter().map(|pack| read(pack)?.lean(0, 1)).collect();
+    let inner: Vec<_> = all.iter().map(|pack| read(pack)?.innermost(8192)).collect();
     std::thread::scope(|scope| {
         for thread in 0..8 {
             let (all, expected, settled, first) = (&all, &expected, &settled, &first);
+            let (leans, inner) = (&leans, &inner);
             scope.spawn(move || {
                 let mut out = vec![0; 32_768];
                 for turn in 0..50 * all.len() {
@@ -36,6 +40,9 @@ fn several_threads_at_once() {
                     let answer = all_kinds(&all[i], &mut out).map(|w| (words_of(&out[..4 * w.words]), w.steps));
                     assert_eq!(answer, settled[i]);
                     assert_eq!(kinds_of(&all[i], 0), first[i]);
+                    assert_eq!(lean(&all[i], 0, 1), leans[i]);
+                    let answer = innermost(&all[i], &mut out).map(|words| words_of(&out[..4 * words]));
+                    assert_eq!(answer, inner[i]);
                 }
             });
         }

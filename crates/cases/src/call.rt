@@ -1,4 +1,4 @@
-// Calls of the operations on chains, on the pack of the last case.
+// Calls of the operations on chains, on the pack of the last case: All kinds, Kinds of one name, Lean and the filtered tables.
 use crate::compare::fill;
 use crate::compare::same;
 use crate::compare::unlike;
@@ -9,7 +9,10 @@ use crate::text::least;
 use crate::text::stands;
 use crate::words::read_words;
 use chains::all_kinds::all_kinds;
+use chains::filtered::Filter;
+use chains::filtered::filtered;
 use chains::kinds_of::kinds_of;
+use chains::lean::lean;
 use pack::answer::Answer;
 use pack::check::refuse;
 
@@ -21,6 +24,21 @@ fn answer_of(line: &[u8], c: Call, pack: &[u32], out: &mut [u32]) -> Answer {
     }
     if stands(line, at, b"kinds_of ") {
         return kinds_of(pack, c.first);
+    }
+    if stands(line, at, b"lean ") {
+        return lean(pack, c.first, c.second);
+    }
+    if stands(line, at, b"direct ") {
+        return filtered(pack, Filter::Direct, out);
+    }
+    if stands(line, at, b"innermost ") {
+        return filtered(pack, Filter::Innermost, out);
+    }
+    if stands(line, at, b"alias ") {
+        return filtered(pack, Filter::Alias, out);
+    }
+    if stands(line, at, b"unresolved ") {
+        return filtered(pack, Filter::Unresolved, out);
     }
     refuse(0, 0)
 }

@@ -19,15 +19,18 @@ use Rattle.pack.proofs.Refusals.{read-numbers}
 use Rattle.chains.specs.Chain.{Step, end, next, mapped, same, withNext, outside}
 use Rattle.chains.specs.Kinds as kinds
 use Rattle.chains.specs.Kinds.{kindStep, declared, ownAnswer, allKinds}
-use Rattle.chains.specs.Operations.{placeOf, writeAnswer, allKindsWords, allKindsAnswer, unknown, kindsOfAnswer}
+use Rattle.chains.specs.Operations.{placeOf, writeAnswer, allKindsWords, allKindsAnswer, unknown, kindsOfAnswer, yesNo, leanAnswer, filterWords, filterAnswer}
 use Rattle.chains.specs.Settle.{stepAt}
-use Rattle.chains.specs.Index.{scanFrom}
+use Rattle.chains.specs.Index.{entryAfter}
+use Rattle.chains.specs.Scan.{scanTable}
+use Rattle.chains.specs.Reach.{leans}
+use Rattle.chains.specs.declared.filtered.Filter.{Filter}
 use Rattle.chains.proofs.KindLaws.{kinds-steps, distinct-names}
 use Rattle.chains.proofs.PackIndex.{zeros, parts}
 use Rattle.chains.proofs.PlaceBounds.{indexes}
 use Rattle.chains.proofs.ListAt.{own-holds}
 use Rattle.host.specs.Bytes.{encode, areWords, notWords, overBytes, wordsOf}
-use Rattle.host.proofs.Writes.{few-words, few-places}
+use Rattle.host.proofs.Writes.{few-words, few-places, few-names}
 use Rattle.host.proofs.Faithful.{parts-again}
 
 abbrev pub FitsBits : Answer → Type 0
@@ -122,7 +125,7 @@ coded-small x place e = go (ltb x 65536) refl e
 
 step-places : (p : Pack) → WellFormed p → (n : ℕ) (a : kinds.Answer) → kindStep (p .relations) n ≡ end a → placeOf p a < 65536
 unfolding stepAt
-step-places p w n a e = coded-small (getD (scanFrom 0 0 zeros (words p)) n 0) (placeOf p a) (ap (mapped (placeOf p)) (sym e) ∙ indexes p w .says n)
+step-places p w n a e = coded-small (getD (scanTable entryAfter zeros (words p)) n 0) (placeOf p a) (ap (mapped (placeOf p)) (sym e) ∙ indexes p w .says n)
 
 no-place : (p : Pack) → placeOf p none < 65536
 unfolding placeOf
@@ -132,13 +135,33 @@ place-small : (p : Pack) → WellFormed p → (n : ℕ) → placeOf p (ownAnswer
 place-small p w n =
     own-holds (λ a. placeOf p a < 65536) none (no-place p) same (λ a h. h) (kindStep (p .relations)) (step-places p w) (declared (p .relations)) n
 
+unknown-fits : (name : ℕ) → name < 2 ^ 32 → FitsBits (unknown name)
+unknown-fits name h = (omega arith, omega arith, omega arith, h, omega arith)
+
 pub kinds-of-fits : (ws : List ℕ) (name : ℕ) → name < 2 ^ 32 → FitsBits (kindsOfAnswer ws name)
 unfolding kindsOfAnswer
 kinds-of-fits ws name h = reads ws _ (λ p e. go p (words-read ws p e .fine) (ltb name (p .names)))
   where
     go : (p : Pack) → WellFormed p → (b : Bool) → FitsBits (pick b (Given (placeOf p (ownAnswer (p .relations) name)) 0) (unknown name))
     go p w true = (omega (arith, place-small p w name), omega arith)
-    go p w false = (omega arith, omega arith, omega arith, h, omega arith)
+    go p w false = unknown-fits name h
+
+yes-no-fits : (b : Bool) → FitsBits (Given (yesNo b) 0)
+yes-no-fits true = (omega arith, omega arith)
+yes-no-fits false = (omega arith, omega arith)
+
+pub lean-fits : (ws : List ℕ) (a b : ℕ) → a < 2 ^ 32 → b < 2 ^ 32 → FitsBits (leanAnswer ws a b)
+unfolding leanAnswer
+lean-fits ws a b h k = reads ws _ (λ p e. go p (ltb a (p .names)) (ltb b (p .names)))
+  where
+    go : (p : Pack) (s t : Bool) → FitsBits (pick s (pick t (Given (yesNo (leans (p .relations) a b)) 0) (unknown b)) (unknown a))
+    go p true true = yes-no-fits (leans (p .relations) a b)
+    go p true false = unknown-fits b k
+    go p false t = unknown-fits a h
+
+pub filtered-fits : (f : Filter) (ws : List ℕ) (room : ℕ) → FitsBits (filterAnswer f ws room)
+unfolding filterAnswer
+filtered-fits f ws room = reads ws _ (λ p e. writes (filterWords f p) 0 room (omega (arith, few-names f ws p e)) (omega arith))
 
 -- and so from bytes
 pub over-bytes-fits : (answer : List ℕ → Answer) → ((ws : List ℕ) → FitsBits (answer ws)) → (bytes : List ℕ) → FitsBits (overBytes answer bytes)

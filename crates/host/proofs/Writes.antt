@@ -15,12 +15,14 @@ use Rattle.pack.specs.Pack.{Pack, Reading, yes, refuse, read, words}
 use Rattle.pack.specs.Operations.{answer, buffer, noRoom, checkAnswer, rewriteAnswer, rewriteBuffer}
 use Rattle.pack.proofs.PackLaws.{words-length, words-read}
 use Rattle.chains.specs.Kinds.{allKinds}
-use Rattle.chains.specs.Operations.{writeAnswer, writeBuffer, allKindsWords, allKindsAnswer, allKindsBuffer, kindsOfAnswer}
+use Rattle.chains.specs.Operations.{writeAnswer, writeBuffer, allKindsWords, allKindsAnswer, allKindsBuffer, kindsOfAnswer, leanAnswer, says, filterWords, filterAnswer, filterBuffer}
+use Rattle.chains.specs.declared.filtered.Filter.{Filter}
 use Rattle.chains.proofs.PackIndex.{parts}
+use Rattle.chains.proofs.FillLaws.{table-length}
 use Rattle.host.specs.declared.operations.Question.{Question}
-use Rattle.host.specs.declared.operations.Question.the-variants.{Check, KindsOf}
+use Rattle.host.specs.declared.operations.Question.the-variants.{Check, KindsOf, Lean}
 use Rattle.host.specs.declared.operations.Writing.{Writing}
-use Rattle.host.specs.declared.operations.Writing.the-variants.{Rewrite, AllKinds}
+use Rattle.host.specs.declared.operations.Writing.the-variants.{Rewrite, AllKinds, Filtered}
 use Rattle.host.specs.Bytes.{notWords, outAfter}
 use Rattle.host.specs.Operations.{answerTo, answerOf, bufferOf, mostOf}
 
@@ -35,9 +37,10 @@ unfolding read
 none-refused f = refl
 
 pub asks-none : (q : Question) → answerTo q [] ≡ notWords
-unfolding checkAnswer kindsOfAnswer
+unfolding checkAnswer kindsOfAnswer leanAnswer
 asks-none Check = none-refused _
 asks-none (KindsOf name) = none-refused _
+asks-none (Lean a b) = none-refused _
 
 -- an operation that writes no more words than so many, however much room there is
 pub record Writes (answer : List ℕ → ℕ → Answer) (buffer : List ℕ → List ℕ → List ℕ) (most : ℕ) : Type 0 where
@@ -106,6 +109,9 @@ pub few-places : (ws : List ℕ) (p : Pack) → read ws ≡ yes p → length (al
 unfolding allKindsWords
 few-places ws p e = simp length-map (parts p (words-read ws p e .fine) .few-relations)
 
+pub few-names : (f : Filter) (ws : List ℕ) (p : Pack) → read ws ≡ yes p → length (filterWords f p) ≤ 4096
+few-names f ws p e = omega (arith, table-length (says f p) 0 (p .names), parts p (words-read ws p e .fine) .most)
+
 rewrite-writes : Writes rewriteAnswer rewriteBuffer 8192
 unfolding rewriteAnswer rewriteBuffer
 rewrite-writes = writes-made words (λ p. 0) 8192 few-words
@@ -114,6 +120,11 @@ all-kinds-writes : Writes allKindsAnswer allKindsBuffer 512
 unfolding allKindsAnswer allKindsBuffer
 all-kinds-writes = writes-made allKindsWords (λ p. allKinds (p .relations) .steps) 512 few-places
 
+filtered-writes : (f : Filter) → Writes (filterAnswer f) (filterBuffer f) 4096
+unfolding filterAnswer filterBuffer
+filtered-writes f = writes-made (filterWords f) (λ p. 0) 4096 (few-names f)
+
 pub writes : (w : Writing) → Writes (answerOf w) (bufferOf w) (mostOf w)
 writes Rewrite = rewrite-writes
 writes AllKinds = all-kinds-writes
+writes (Filtered f) = filtered-writes f

@@ -5,29 +5,33 @@ use mathlib.Core.List.{List}
 use lib.ListN.{length}
 use Rattle.pack.specs.declared.answer.Answer.{Answer}
 use Rattle.pack.specs.Operations.{checkAnswer, rewriteAnswer, rewriteBuffer}
-use Rattle.chains.specs.Operations.{allKindsAnswer, allKindsBuffer, kindsOfAnswer}
+use Rattle.chains.specs.Operations.{allKindsAnswer, allKindsBuffer, kindsOfAnswer, leanAnswer, filterAnswer, filterBuffer}
 use Rattle.host.specs.declared.operations.Question.{Question}
-use Rattle.host.specs.declared.operations.Question.the-variants.{Check, KindsOf}
+use Rattle.host.specs.declared.operations.Question.the-variants.{Check, KindsOf, Lean}
 use Rattle.host.specs.declared.operations.Writing.{Writing}
-use Rattle.host.specs.declared.operations.Writing.the-variants.{Rewrite, AllKinds}
+use Rattle.host.specs.declared.operations.Writing.the-variants.{Rewrite, AllKinds, Filtered}
 
 -- those that only answer
 abbrev pub answerTo : Question → List ℕ → Answer
 answerTo Check ws = checkAnswer ws
 answerTo (KindsOf name) ws = kindsOfAnswer ws name
+answerTo (Lean a b) ws = leanAnswer ws a b
 
 -- those that write: the answer, the slice afterwards, and the most words that are ever written
 abbrev pub answerOf : Writing → List ℕ → ℕ → Answer
 answerOf Rewrite ws room = rewriteAnswer ws room
 answerOf AllKinds ws room = allKindsAnswer ws room
+answerOf (Filtered f) ws room = filterAnswer f ws room
 
 abbrev pub bufferOf : Writing → List ℕ → List ℕ → List ℕ
 bufferOf Rewrite ws lent = rewriteBuffer ws lent
 bufferOf AllKinds ws lent = allKindsBuffer ws lent
+bufferOf (Filtered f) ws lent = filterBuffer f ws lent
 
 abbrev pub mostOf : Writing → ℕ
 mostOf Rewrite = 8192
 mostOf AllKinds = 512
+mostOf (Filtered f) = 4096
 
 pub record Ran (w : Writing) (ws lent : List ℕ) (a : Answer) (left : List ℕ) : Type 0 where
   pub answers : a ≡ answerOf w ws (length lent)

@@ -6,11 +6,14 @@ mod operations;
 use crate::operations::Question;
 use crate::operations::Writing;
 use crate::operations::ask;
+use crate::operations::table;
 use crate::operations::write;
+use chains::filtered::Filter;
 use pack::kinds::Pack;
 ghost use mathlib.Core.Path.{_≡_};
 ghost use Rattle.pack.specs.Operations.{checkAnswer, rewriteAnswer, rewriteBuffer};
-ghost use Rattle.chains.specs.Operations.{allKindsAnswer, allKindsBuffer, kindsOfAnswer};
+ghost use Rattle.chains.specs.Operations.{allKindsAnswer, allKindsBuffer, kindsOfAnswer, leanAnswer, filterAnswer, filterBuffer};
+ghost use Rattle.chains.specs.declared.filtered.Filter.the-variants.{Direct, Innermost, Alias, Unresolved};
 ghost use Rattle.host.specs.Bytes.{encode, overBytes, Gives};
 
 // Check.
@@ -45,4 +48,44 @@ pub extern "C" fn cogunwa_kinds_of(pack: &[u8], name: u32) -> u64
     ensures { λ r. ⌜ r ≡ encode (overBytes (λ ws. kindsOfAnswer ws name) (now (pack .entry))) ⌝ }
 {
     ask(Question::KindsOf(name), pack)
+}
+
+// Lean.
+#[no_mangle]
+pub extern "C" fn cogunwa_lean(pack: &[u8], a: u32, b: u32) -> u64
+    ensures { λ r. ⌜ r ≡ encode (overBytes (λ ws. leanAnswer ws a b) (now (pack .entry))) ⌝ }
+{
+    ask(Question::Lean(a, b), pack)
+}
+
+// Of the filtered tables, direct.
+#[no_mangle]
+pub extern "C" fn cogunwa_direct(pack: &[u8], out: &mut [u8]) -> u64
+    ensures { λ r. ⌜ Gives (filterAnswer Direct) (filterBuffer Direct) (now (pack .entry)) (now (out .entry)) r (now (out .exit)) ⌝ }
+{
+    table(Filter::Direct, pack, out)
+}
+
+// Innermost.
+#[no_mangle]
+pub extern "C" fn cogunwa_innermost(pack: &[u8], out: &mut [u8]) -> u64
+    ensures { λ r. ⌜ Gives (filterAnswer Innermost) (filterBuffer Innermost) (now (pack .entry)) (now (out .entry)) r (now (out .exit)) ⌝ }
+{
+    table(Filter::Innermost, pack, out)
+}
+
+// Alias.
+#[no_mangle]
+pub extern "C" fn cogunwa_alias(pack: &[u8], out: &mut [u8]) -> u64
+    ensures { λ r. ⌜ Gives (filterAnswer Alias) (filterBuffer Alias) (now (pack .entry)) (now (out .entry)) r (now (out .exit)) ⌝ }
+{
+    table(Filter::Alias, pack, out)
+}
+
+// Unresolved.
+#[no_mangle]
+pub extern "C" fn cogunwa_unresolved(pack: &[u8], out: &mut [u8]) -> u64
+    ensures { λ r. ⌜ Gives (filterAnswer Unresolved) (filterBuffer Unresolved) (now (pack .entry)) (now (out .entry)) r (now (out .exit)) ⌝ }
+{
+    table(Filter::Unresolved, pack, out)
 }

@@ -4,13 +4,17 @@ use crate::answer::give;
 use crate::bytes::load;
 use crate::bytes::room;
 use chains::all_kinds::all_kinds;
+use chains::filtered::Filter;
+use chains::filtered::filtered;
 use chains::kinds_of::kinds_of;
+use chains::lean::lean;
 use pack::answer::Answer;
 use pack::check::check;
 use pack::kinds::Pack;
 use pack::rewrite::rewrite;
 ghost use mathlib.Core.Path.{_≡_};
 ghost use lib.ListN.{length};
+ghost use Rattle.chains.specs.Operations.{filterAnswer, filterBuffer};
 ghost use Rattle.host.specs.Bytes.{encode, overBytes, Gives};
 ghost use Rattle.host.specs.Operations.{answerTo, answerOf, bufferOf, mostOf, Ran};
 
@@ -18,12 +22,14 @@ ghost use Rattle.host.specs.Operations.{answerTo, answerOf, bufferOf, mo
 pub enum Question {
     Check,
     KindsOf(u32),
+    Lean(u32, u32),
 }
 
 // The operations that write words.
 pub enum Writing {
     Rewrite,
     AllKinds,
+    Filtered(Filter),
 }
 
 fn answer_to(q: Question, words: &[u32]) -> Answer
@@ -32,6 +38,7 @@ fn answer_to(q: Question, words: &[u32]) -> Answer
     match q {
         Question::Check => check(words),
         Question::KindsOf(name) => kinds_of(words, name),
+        Question::Lean(a, b) => lean(words, a, b),
     }
 }
 
@@ -49,6 +56,7 @@ fn run(w: Writing, words: &[u32], out: &mut [u32]) -> Answer
     match w {
         Writing::Rewrite => rewrite(words, out),
         Writing::AllKinds => all_kinds(words, out),
+        Writing::Filtered(filter) => filtered(words, filter, out),
     }
 }
 
@@ -62,4 +70,12 @@ pub fn write(w: Writing, pack: &[u8], written: &mut [u32], out: &mut [u8]) -> u6
     let m = room(out.len(), written.len());
     let a = run(w, &words[..n], &mut written[..m]);
     give(a, written, out)
+}
+
+// A filtered table, with one word for each name.
+pub fn table(filter: Filter, pack: &[u8], out: &mut [u8]) -> u64
+    ensures { λ r. ⌜ Gives (filterAnswer filter) (filterBuffer filter) (now (pack .entry)) (now (out .entry)) r (now (out .exit)) ⌝ }
+{
+    let mut written = [0u32; Pack::MOST_NAMES as usize];
+    write(Writing::Filtered(filter), pack, &mut written, out)
 }

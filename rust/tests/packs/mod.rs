@@ -456,6 +456,43 @@ pub fn tangled(c: &mut Chance) -> Vec<u32> {
     graph(names, &relations)
 }
 
+/// A graph of derivations for the filtered tables: entities that take no kind, one, one more than once and several;
+/// direct kinds that lead on, stay and go round; slots in and out of range; derivations without an entity.
+pub fn entities(c: &mut Chance) -> Vec<u32> {
+    let names = if c.often(90) { 1 + c.below(30) } else { 4096 };
+    // The names in use are the last ones.
+    let used = names.min(2 + c.below(250));
+    let any = |c: &mut Chance| names - used + c.below(used);
+    let [declared, astray] = [50 + c.below(51), c.below(60)];
+    let mut relations: Vec<Relation> = vec![];
+    for name in names - used..names {
+        if !c.often(declared) {
+            continue;
+        }
+        let entity = if c.often(astray) { any(c) } else { name };
+        // Kinds near by make long ways, any others rings and shared tails.
+        let kind = match c.below(20) {
+            0 => entity,
+            1..=2 => any(c),
+            _ if entity + 1 < names => entity + 1,
+            _ => any(c),
+        };
+        let count = 1 + c.below(8);
+        let slot = c.below(count);
+        let kinds: Vec<u32> = (0..count).map(|i| if i == slot { kind } else { any(c) }).collect();
+        let relation = relation_named(name).current(if c.often(astray / 4) { c.any() } else { slot });
+        let relation = match relations.last() {
+            Some(before) if c.often(astray / 2) => relation.source(before.name),
+            _ if c.often(astray / 6) => relation.source(any(c)),
+            _ if c.often(50) => relation.kinds(&kinds),
+            _ => relation.entities(&kinds).source(any(c)),
+        };
+        relations.push(if c.often(95) { relation.entity(entity) } else { relation });
+    }
+    mix(&mut relations, c);
+    graph(names, &relations)
+}
+
 /// Another order, by chance.
 pub fn mix<T>(items: &mut [T], c: &mut Chance) {
     for i in (1..items.len()).rev() {

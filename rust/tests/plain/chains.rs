@@ -53,6 +53,18 @@ fn says(relation: &Relation) -> Says<'_> {
     if relation.kinds.names.is_empty() { Says::NoKinds } else { Says::Kinds(&relation.kinds) }
 }
 
+/// Where direct kinds lead. A way that is longer than there are names goes round.
+fn innermost_of(direct: &[Option<u32>], entity: u32) -> Option<u32> {
+    let mut name = direct[entity as usize]?;
+    for _ in 0..=direct.len() {
+        match direct[name as usize] {
+            Some(next) if next != name => name = next,
+            _ => return Some(name),
+        }
+    }
+    None
+}
+
 impl Pack {
     fn find(&self, name: u32) -> Option<&Relation> {
         self.relations.iter().find(|r| r.name == name)
@@ -152,15 +164,8 @@ impl Pack {
         if kinds.len() == 1 { kinds.into_iter().next() } else { None }
     }
 
-    fn innermost_of(&self, entity: u32) -> Option<u32> {
-        let mut name = self.direct_of(entity)?;
-        for _ in 0..=self.names {
-            match self.direct_of(name) {
-                Some(next) if next != name => name = next,
-                _ => return Some(name),
-            }
-        }
-        None
+    fn direct_kinds(&self) -> Vec<Option<u32>> {
+        (0..self.names).map(|e| self.direct_of(e)).collect()
     }
 
     fn table(&self, room: usize, says: impl Fn(u32) -> u32) -> Outcome<Vec<u32>> {
@@ -172,7 +177,8 @@ impl Pack {
     }
 
     pub fn innermost(&self, room: usize) -> Outcome<Vec<u32>> {
-        self.table(room, |e| self.innermost_of(e).unwrap_or(super::NONE))
+        let direct = self.direct_kinds();
+        self.table(room, |e| innermost_of(&direct, e).unwrap_or(super::NONE))
     }
 
     pub fn alias(&self, room: usize) -> Outcome<Vec<u32>> {

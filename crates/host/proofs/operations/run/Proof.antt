@@ -15,6 +15,12 @@ enum-told-2 c = search needs
 all-kinds-requires : tie.Need-all-kinds-requires
 all-kinds-requires c κs = search needs
 
+enum-known-w : tie.Need-enum-known-w
+enum-known-w c = search needs
+
+filtered-requires : tie.Need-filtered-requires
+filtered-requires c κs = search needs
+
 same-length : tie.Need-same-length
 same-length c = search needs
 
@@ -31,6 +37,14 @@ returns-2 c =
     let called = c .before .before in
     rw (called .before .before .enum-told2 .given .1) (record { answers = called .all-kinds .ensures .answers; leaves = called .all-kinds .ensures .leaves })
 
+same-length-3 : tie.Need-same-length-3
+same-length-3 c = search needs
+
+returns-3 : tie.Need-returns-3
+returns-3 c =
+    let called = c .before .before in
+    rw (called .before .before .before .w .given .1) (record { answers = called .filtered .ensures .answers; leaves = called .filtered .ensures .leaves })
+
 pub run-spec : {M : Type 1} → statement M
 run-spec =
     tie.close
@@ -39,7 +53,11 @@ run-spec =
     rewrite-requires
     enum-told-2
     all-kinds-requires
+    enum-known-w
+    filtered-requires
     same-length
     returns
     same-length-2
-    returns-2)
+    returns-2
+    same-length-3
+    returns-3)

@@ -1,0 +1,158 @@
+//! Lean over the static library.
+mod packs;
+mod plain;
+
+use cogunwa::{Refusal, bytes_of, lean};
+use packs::{Chance, Relation, graph, relation_named as named};
+
+fn unknown(name: u32) -> Result<bool, Refusal> {
+    Err(Refusal { number: 17, place: 0, name, other: 0 })
+}
+
+fn expected(pack: &[u8], a: u32, b: u32) -> Result<bool, Refusal> {
+    plain::read_bytes(pack)?.lean(a, b)
+}
+
+/// Which names of a small pack lean on which, as pairs.
+fn leaning(names: u32, relations: &[Relation]) -> Vec<(u32, u32)> {
+    let pack = bytes_of(&graph(names, relations));
+    let pairs = (0..names).flat_map(|a| (0..names).map(move |b| (a, b)));
+    pairs.filter(|&(a, b)| lean(&pack, a, b).unwrap()).collect()
+}
+
+#[test]
+fn worked_cases() {
+    assert_eq!(leaning(9, &[named(5).kinds(&[1, 2]), named(6).source(5)]), [(6, 5)]);
+    assert_eq!(leaning(9, &[named(1).source(2), named(2).source(3), named(3)]), [(1, 2), (1, 3), (2, 3)]);
+    // An undeclared name is leant on and leans on nothing.
+    assert_eq!(leaning(9, &[named(5).source(8)]), [(5, 8)]);
+    assert_eq!(leaning(9, &[named(5), named(6).derived(), named(7).path(2)]), []);
+    // Rings, also of one, and what leads into them.
+    assert_eq!(leaning(9, &[named(5).source(5)]), [(5, 5)]);
+    assert_eq!(leaning(9, &[named(5).source(6), named(6).source(5)]), [(5, 5), (5, 6), (6, 5), (6, 6)]);
+    let feeder = [named(0).source(1), named(1).source(2), named(2).source(1)];
+    assert_eq!(leaning(4, &feeder), [(0, 1), (0, 2), (1, 1), (1, 2), (2, 1), (2, 2)]);
+}
+
+#[test]
+fn lists_and_paths_do_not_matter() {
+    let plain = [named(1).source(2), named(2).source(3), named(3).source(1)];
+    let all = leaning(5, &plain);
+    assert_eq!(all.len(), 9);
+    for (i, relation) in plain.iter().enumerate() {
+        let changes = [
+            relation.clone().kinds(&[1, 2]),
+            relation.clone().entities(&[2]),
+            relation.clone().path(0),
+            relation.clone().path(8),
+            relation.clone().entity(4).current(7),
+        ];
+        for changed in changes {
+            let mut relations = plain.clone();
+            relations[i] = changed;
+            assert_eq!(leaning(5, &relations), all);
+        }
+    }
+}
+
+#[test]
+fn names_around_n() {
+    for names in [2, 300, 4095, 4096] {
+        let last = names - 1;
+        let pack = bytes_of(&graph(names, &[named(last).source(0)]));
+        assert_eq!(lean(&pack, last, 0), Ok(true));
+        assert_eq!(lean(&pack, 0, last), Ok(false));
+        for name in [names, names + 1, 4096, 65_536 + last, 0xFF_FFFF, (1 << 24) + last, u32::MAX - 1, u32::MAX] {
+            assert_eq!(lean(&pack, name, 0), unknown(name), "{name} of {names}");
+            assert_eq!(lean(&pack, last, name), unknown(name), "{name} of {names}");
+            // The first name comes first.
+            assert_eq!(lean(&pack, name, name.wrapping_sub(1).max(names)), unknown(name));
+            assert_eq!(lean(&pack, name.wrapping_sub(1).max(names), name), unknown((name - 1).max(names)));
+        }
+    }
+    let smallest = bytes_of(&packs::smallest());
+    assert_eq!(lean(&smallest, 0, 0), Ok(false));
+    assert_eq!(lean(&smallest, 1, 2), unknown(1));
+    assert_eq!(lean(&smallest, 0, 2), unknown(2));
+}
+
+#[test]
+fn long_chains_and_rings() {
+    for length in [1, 2, 3, 512] {
+        let last = length - 1;
+        let mut relations: Vec<Relation> = (0..last).map(|name| named(name).source(name + 1)).collect();
+        relations.push(named(last).kinds(&[1]));
+        let chain = bytes_of(&graph(600, &relations));
+        *relations.last_mut().unwrap() = named(last).source(0);
+        let ring = bytes_of(&graph(600, &relations));
+        for name in 0..length {
+            assert_eq!(lean(&chain, 0, name), Ok(name > 0));
+            assert_eq!(lean(&chain, name, last), Ok(name < last));
+            assert_eq!(lean(&chain, name, name), Ok(false));
+            for other in [0, last / 2, last, name] {
+                assert_eq!(lean(&ring, name, other), Ok(true));
+            }
+            assert_eq!(lean(&ring, name, 599), Ok(false));
+            assert_eq!(lean(&ring, 599, name), Ok(false));
+        }
+        // The last step leads to an undeclared name.
+        *relations.last_mut().unwrap() = named(last).source(599);
+        assert_eq!(lean(&bytes_of(&graph(600, &relations)), 0, 599), Ok(true));
+    }
+}
+
+#[test]
+fn bytes_that_are_no_pack() {
+    let household = bytes_of(&packs::household());
+    for length in 0..household.len() {
+        for (a, b) in [(0, 1), (1, u32::MAX), (u32::MAX, 0)] {
+            let answer = lean(&household[..length], a, b);
+            assert_eq!(answer, expected(&household[..length], a, b), "{length} bytes");
+            assert_eq!(answer.unwrap_err().number, if length < 24 || length % 4 != 0 { 1 } else { 4 });
+        }
+    }
+    let longer = bytes_of(&packs::of_length(8193));
+    for length in 32_765..=32_772 {
+        let number = if length == 32_768 { 4 } else { 1 };
+        assert_eq!(lean(&longer[..length], 0, 0).unwrap_err().number, number, "{length} bytes");
+    }
+    // Check's refusals come before 17.
+    let mut damaged = household.clone();
+    damaged[4] = 0;
+    assert_eq!(lean(&damaged, u32::MAX, u32::MAX), Err(Refusal { number: 4, place: 1, name: 0, other: 0 }));
+}
+
+#[test]
+fn packs_made_by_chance() {
+    let mut chance = Chance(14_142);
+    let mut counts = [0; 2];
+    for turn in 0..1500 {
+        let words = if turn % 3 == 0 { packs::mixed(&mut chance) } else { packs::tangled(&mut chance) };
+        let pack = bytes_of(&words);
+        let plain = plain::read(&words).unwrap();
+        let relations = plain.relations.len() as u32;
+        for _ in 0..60 {
+            // Mostly names of relations, now and then any.
+            let name = |chance: &mut Chance| {
+                let known = relations > 0 && chance.often(85);
+                if known {
+                    plain.relations[chance.below(relations) as usize].name
+                } else {
+                    chance.below(plain.names + 2)
+                }
+            };
+            let (a, b) = (name(&mut chance), name(&mut chance));
+            let answer = lean(&pack, a, b);
+            assert_eq!(answer, plain.lean(a, b), "{a} on {b} in {words:08X?}");
+            if let Ok(leans) = answer {
+                counts[usize::from(leans)] += 1;
+            }
+        }
+        for _ in 0..10 {
+            let damaged = bytes_of(&packs::damaged(&words, &mut chance));
+            let (a, b) = (chance.below(plain.names), chance.below(plain.names));
+            assert_eq!(lean(&damaged, a, b), expected(&damaged, a, b));
+        }
+    }
+    assert!(counts[0] > 5_000 && counts[1] > 5_000, "{counts:?}");
+}
