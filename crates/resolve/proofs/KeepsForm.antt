@@ -32,6 +32,10 @@ pub then-good : {A B : Type 0} (P : A → Type 0) (Q : B → Type 0) (o : Outcom
 then-good P Q (done a) f h k = k a h
 then-good P Q (refused r) f h k = tt
 
+pub good-imp : {A : Type 0} (P Q : A → Type 0) (o : Outcome A) → Good P o → ((a : A) → P a → Q a) → Good Q o
+good-imp P Q (done a) h k = k a h
+good-imp P Q (refused r) h k = tt
+
 -- ---- directions
 
 abbrev Slot : ℕ → Type 0

@@ -6,3 +6,4 @@ pub mod InputLaws
 pub mod DealtResolving
 pub mod KeepsForm
 pub mod ResolvedFine
+pub mod ResolvedPack
