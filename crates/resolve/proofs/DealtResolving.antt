@@ -2,7 +2,7 @@
 use Prim.Native.Nat.{ℕ}
 use native.Mathlib.Omega.{arith}
 use mathlib.Core.Path.{_≡_, refl, ap, sym, _∙_, subst, fun-ext}
-use mathlib.Core.List.{List, [], _∷_, map}
+use mathlib.Core.List.{List, map}
 use mathlib.Core.Bool.{Bool, _||_, _&&_}
 use mathlib.Core.Option.{Option, none, some, Option·map}
 use Rattle.pack.specs.declared.answer.Refusal.{Refusal}
@@ -18,10 +18,11 @@ use Rattle.chains.proofs.KindLaws.{kinds-dealt, distinct-names}
 use Rattle.chains.proofs.FilteredLaws.{filtered-dealt}
 use Rattle.resolve.specs.Tables.{derivedAt, typedAt, Tables, tables}
 use Rattle.resolve.specs.Turning.{Outcome, done, refused, andThen, mapDone, Citing}
-use Rattle.resolve.specs.Resolving.{cites, defaultedEqual, equalRefusal, ruleBy, resolveRule, resolveRules, predicateBy, resolvePredicate, withPredicate, resolveDerivation, resolveRelation, resolveRelations, holds, roleJudgment, atomOf, inDerivation, inRule, atomNames, empty, stampBy, stampDerived, stamp, firstRule, resolveRecords, resolved}
-use Rattle.resolve.proofs.OutcomeLaws.{result, result-map, allDone, Alike, all-dealt}
+use Rattle.resolve.specs.Resolving.{cites, defaultedEqual, equalRefusal, ruleBy, resolveRule, resolveRules, predicateBy, withPredicate, resolveDerivation, resolveRelation, resolveRelations, holds, roleJudgment, atomOf, inDerivation, inRule, atomNames, empty, stampBy, stampDerived, stamp, firstRule, resolveRecords, resolved}
+use Rattle.resolve.specs.Demand3.{InRange, result}
+use Rattle.resolve.proofs.OutcomeLaws.{result-map, allDone, Alike, all-dealt}
 use Rattle.resolve.proofs.PlaceFree.{rules-each, relations-each}
-use Rattle.resolve.proofs.Numbers.{InRange, Numbered, rules-numbered, relations-numbered}
+use Rattle.resolve.proofs.Numbers.{Numbered, rules-numbered, relations-numbered}
 use Rattle.resolve.proofs.InputLaws.{input-dealt}
 
 tables-dealt : {rs rs′ : List Relation} → InAnyOrder rs rs′ → Distinct (declared rs) → tables rs ≡ tables rs′
@@ -46,10 +47,10 @@ module _ (p q : Pack) (w : WellFormed p) (d : Dealt p q) where
   same-cites : (n o : ℕ) → cites p n o ≡ cites q n o
   same-cites n o = let inputs : cites p n o .input ≡ cites q n o .input = fun-ext (λ owner. fun-ext (λ v. input-dealt (d .blocks) o owner v)) in λ i. record { tables = same-tables i; name = n; input = inputs i }
 
-  same-kinds : (n : ℕ) → kindsOf (p .relations) n ≡ kindsOf (q .relations) n
+  pub same-kinds : (n : ℕ) → kindsOf (p .relations) n ≡ kindsOf (q .relations) n
   same-kinds = kinds-dealt (d .relations) distinct .kinds
 
-  rule-alike : (r : Rule) → result (resolveRule p 0 r) ≡ result (resolveRule q 0 r)
+  pub rule-alike : (r : Rule) → result (resolveRule p 0 r) ≡ result (resolveRule q 0 r)
   rule-alike r = ap (λ (C : Citing). result (ruleBy C 0 r)) (same-cites (r .citing) (r .origin))
 
   derivation-alike : (r : Relation) (o : Option Derivation) → result (resolveDerivation p 0 r o) ≡ result (resolveDerivation q 0 r o)
@@ -58,7 +59,7 @@ module _ (p q : Pack) (w : WellFormed p) (d : Dealt p q) where
       ap (λ (C : Citing). result (mapDone (λ t. some (withPredicate e t)) (predicateBy C (kindsOf (p .relations) (r .name)) 0 r e))) (same-cites (r .name) (r .origin))
       ∙ ap (λ (ks : Option (List ℕ)). result (mapDone (λ t. some (withPredicate e t)) (predicateBy (cites q (r .name) (r .origin)) ks 0 r e))) (same-kinds (r .name))
 
-  relation-alike : (r : Relation) → result (resolveRelation p 0 r) ≡ result (resolveRelation q 0 r)
+  pub relation-alike : (r : Relation) → result (resolveRelation p 0 r) ≡ result (resolveRelation q 0 r)
   unfolding resolveRelation
   relation-alike r =
       result-map _ (resolveDerivation p 0 r (r .derivation)) ∙ ap (Option·map _) (derivation-alike r (r .derivation)) ∙ sym (result-map _ (resolveDerivation q 0 r (r .derivation)))
@@ -92,7 +93,7 @@ module _ (p q : Pack) (w : WellFormed p) (d : Dealt p q) where
       ap (λ (b : Bool). pick ((empty (r .slotKinds) && empty (e .slotEntities)) && (b || holds roleJudgment (e .predicate))) r (stampBy (kindsOf (p .relations) (r .name)) r e)) (atoms-alike (r .name))
       ∙ ap (λ (ks : Option (List ℕ)). pick ((empty (r .slotKinds) && empty (e .slotEntities)) && (atomNames q (r .name) || holds roleJudgment (e .predicate))) r (stampBy ks r e)) (same-kinds (r .name))
 
-  stamp-alike : (r : Relation) → stamp p r ≡ stamp q r
+  pub stamp-alike : (r : Relation) → stamp p r ≡ stamp q r
   unfolding stamp
   stamp-alike r = stamp-derived r (r .derivation)
 

@@ -1,7 +1,7 @@
 -- What is resolved keeps to its form: trees, rules and relations.
-use Prim.Native.Nat.{ℕ, zero, suc, _+_, _-_, _<_, _≤_}
+use Prim.Native.Nat.{ℕ, zero, suc, _+_, _<_, _≤_}
 use native.Mathlib.Omega.{arith}
-use mathlib.Core.Path.{_≡_, refl, ap, sym, _∙_, subst}
+use mathlib.Core.Path.{_≡_, refl, ap, sym, subst}
 use mathlib.Core.List.{List, [], _∷_}
 use mathlib.Core.Bool.{Bool, true, false, _||_}
 use mathlib.Core.Option.{Option, none, some}
@@ -11,7 +11,7 @@ use borrow.Author.Tests.{eqb-true}
 use Rattle.pack.specs.declared.table.Follows.{Follows}
 use Rattle.pack.specs.declared.table.Follows.the-variants.{Nothing, Counted, OneScalar, TwoScalars, Scalars, Patterns, Periods, OneJudgment, Judgments, Choice, Aggregate, OnlyRelated, Slots, Atom, Exists}
 use Rattle.pack.specs.Table.{pick, table, entryOf, fieldsOf, childrenOf}
-use Rattle.pack.specs.Form.{only, allowedHere, FineEach, Form, word, Fits, Fine}
+use Rattle.pack.specs.Form.{only, allowedHere, FineEach, word, Fine}
 use Rattle.pack.specs.Tree.{Tree, Forest, node, more, ofForest, heads, lastField, fields, follow, tree}
 use Rattle.pack.specs.Tree as trees
 use Rattle.resolve.specs.Tables.{Derived, Tables}

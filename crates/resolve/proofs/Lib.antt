@@ -7,3 +7,4 @@ pub mod DealtResolving
 pub mod KeepsForm
 pub mod ResolvedFine
 pub mod ResolvedPack
+pub mod Demand3Laws

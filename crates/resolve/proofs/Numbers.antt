@@ -1,7 +1,6 @@
 -- Refusals of trees, rules and predicates bear 10 to 15.
-use Prim.Native.Nat.{ℕ, _+_, _≤_}
+use Prim.Native.Nat.{ℕ, _+_}
 use native.Mathlib.Omega.{arith}
-use mathlib.Core.Path.{_≡_, refl}
 use mathlib.Core.List.{List, [], _∷_}
 use mathlib.Core.Bool.{Bool, true, false, _||_, not}
 use mathlib.Core.Option.{Option, none, some}
@@ -19,10 +18,8 @@ use Rattle.resolve.specs.Direction.{Direction, turned, openFor, Membersh
 use Rattle.resolve.specs.Direction as direction
 use Rattle.resolve.specs.Inputs.{ofOrigin, noSequence, declarations, owned, input}
 use Rattle.resolve.specs.Turning.{Outcome, done, refused, andThen, mapDone, Citing, Fields, currentOf, relatedOf, withSlots, valueOfNode, Step, goes, stops, aggregate, allowedInput, onlyRelated, membershipTest, stepBy, size, atNode, resolveTree, resolveForest}
+use Rattle.resolve.specs.Demand3.{InRange}
 use Rattle.resolve.specs.Resolving.{cites, predicatePlace, withPredicate, resolveBody, resolveBodies, bodySize, ruleBy, resolveRule, ruleWords, resolveRules, predicateBy, resolvePredicate, resolveDerivation, resolveRelation, resolveRelations}
-
-abbrev pub InRange : ℕ → Type 0
-InRange n = (10 ≤ n) × (n ≤ 15)
 
 abbrev pub Numbered : {A : Type 0} → Outcome A → Type 0
 Numbered (done a) = Unit {0}

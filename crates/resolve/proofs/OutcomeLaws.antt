@@ -1,14 +1,11 @@
 -- What resolving comes to, whatever a refusal reports: a result or none. For lists, and for lists in any order.
-use mathlib.Core.Path.{_≡_, refl, ap, sym, _∙_, subst}
+use mathlib.Core.Path.{_≡_, refl, subst}
 use mathlib.Core.List.{List, [], _∷_}
 use mathlib.Core.Option.{Option, none, some, Option·map}
-use Rattle.pack.specs.Dealt.{Shuffled, nil, cons, swap, trans, InAnyOrder}
+use Rattle.pack.specs.Dealt.{nil, cons, swap, trans, InAnyOrder}
 use Rattle.chains.proofs.Names.{shuffled-same}
+use Rattle.resolve.specs.Demand3.{result}
 use Rattle.resolve.specs.Turning.{Outcome, done, refused, andThen, mapDone}
-
-abbrev pub result : {A : Type 0} → Outcome A → Option A
-result (done a) = some a
-result (refused r) = none
 
 abbrev pub bound : {A B : Type 0} → Option A → (A → Option B) → Option B
 bound none f = none

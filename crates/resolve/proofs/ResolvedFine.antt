@@ -5,19 +5,19 @@ use mathlib.Core.Path.{_≡_, refl, ap, sym, _∙_, subst}
 use mathlib.Core.List.{List, [], _∷_, map}
 use mathlib.Core.Bool.{Bool, true, false, _&&_}
 use mathlib.Core.Option.{Option, none, some}
-use lib.ListN.{length, length-map}
+use lib.ListN.{length}
 use Rattle.pack.specs.Table.{pick, judgment, table, entryOf}
 use Rattle.pack.specs.Form.{among, allowedHere, FineAll, says, count, items, Fine}
-use Rattle.pack.specs.Tree.{Tree, root, tree}
-use Rattle.pack.specs.Pack.{Derivation, Relation, Body, Rule, Pack, WellFormed, nameList, chain, member, derivation, optionalDerivation, relationTail, newName, relation, nextUsed, body, bodies, rule, defaulted, relations, rules, blocks, records, inner}
-use Rattle.chains.specs.Kinds.{find, kindsOf, ownAnswer, namesOf, listIn, listOf, Which, list9, list21}
+use Rattle.pack.specs.Tree.{root, tree}
+use Rattle.pack.specs.Pack.{Derivation, Relation, Body, Rule, Pack, WellFormed, nameList, chain, member, derivation, optionalDerivation, relationTail, newName, relation, body, bodies, rule, relations}
+use Rattle.chains.specs.Kinds.{find, kindsOf, ownAnswer, namesOf, listIn, Which, list9, list21}
 use Rattle.chains.specs.Kinds as kinds
 use Rattle.chains.specs.Filtered.{kindAt}
 use Rattle.chains.specs.Operations.{relationWords}
 use Rattle.chains.proofs.RelationScan.{RelationsFine}
 use Rattle.chains.proofs.PackIndex.{parts, find-kept}
-use Rattle.resolve.specs.Tables.{Derived, derivedBy, derivedAt, pair, typedBy, typedAt, Tables, tables}
-use Rattle.resolve.specs.Turning.{Outcome, done, refused, Citing, resolveTree}
+use Rattle.resolve.specs.Tables.{Derived, derivedBy, derivedAt, pair, typedBy, typedAt, tables}
+use Rattle.resolve.specs.Turning.{Citing, resolveTree}
 use Rattle.resolve.specs.Resolving.{cites, resolveBody, resolveBodies, bodySize, ruleBy, resolveRule, ruleWords, resolveRules, predicatePlace, withPredicate, predicateBy, resolvePredicate, resolveDerivation, resolveRelation, resolveRelations, empty, passedOver, unlike, orKinds, withEntities, stampedWith, stampBy, stampDerived, stamp}
 use Rattle.resolve.proofs.KeepsForm.{Good, good-imp, map-good, then-good, TablesFit, tree-good}
 
@@ -222,6 +222,6 @@ module _ (p : Pack) (w : WellFormed p) where
       (λ r′ q. map-good (λ m. RelationsFine n (r .name ∷ used) (map (stamp p) m) × (length m ≡ length l)) _ (λ m. r′ ∷ m) (resolveRelations p (at + length (relationWords n r)) l)
       (relations-good (at + length (relationWords n r)) l (r .name ∷ used) (h .1))
       (λ m g.
-          (let s = stamp-fine r′ (q .1) in
-          let e : stamp p r′ .name ≡ r .name = s .0 ∙ q .0 in
-          ((with-tail (λ v. among v used) r (stamp p r′) (h .0) (e, s .1), subst (λ (v : ℕ). RelationsFine n (v ∷ used) (map (stamp p) m)) (sym e) (g .0)), ap suc (g .1)))))
+      (let s = stamp-fine r′ (q .1) in
+      let e : stamp p r′ .name ≡ r .name = s .0 ∙ q .0 in
+      ((with-tail (λ v. among v used) r (stamp p r′) (h .0) (e, s .1), subst (λ (v : ℕ). RelationsFine n (v ∷ used) (map (stamp p) m)) (sym e) (g .0)), ap suc (g .1)))))

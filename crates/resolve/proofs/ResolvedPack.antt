@@ -1,8 +1,8 @@
 -- A resolved pack of no more than 8,192 words keeps to the description and reads back.
-use Prim.Native.Nat.{ℕ, suc, _+_, _≤_}
+use Prim.Native.Nat.{ℕ, _≤_}
 use native.Mathlib.Omega.{arith}
-use mathlib.Core.Path.{_≡_, refl, ap, sym, _∙_, subst}
-use mathlib.Core.List.{List, [], _∷_, _++_, map}
+use mathlib.Core.Path.{_≡_, refl, _∙_, subst}
+use mathlib.Core.List.{List, [], map}
 use mathlib.Core.Option.{Option, none, some}
 use lib.ListN.{length, length-append, length-map}
 use Rattle.pack.specs.Form.{count, items, says, wordsBy, Fine}
@@ -11,7 +11,7 @@ use Rattle.pack.proofs.PackLaws.{read-words}
 use Rattle.chains.specs.Operations.{firstRelation}
 use Rattle.chains.proofs.RelationScan.{RelationsFine}
 use Rattle.resolve.specs.Tables.{tables}
-use Rattle.resolve.specs.Turning.{Outcome, done, refused}
+use Rattle.resolve.specs.Turning.{done, refused}
 use Rattle.resolve.specs.Resolving.{defaultedEqual, resolveRules, resolveRelations, equalRefusal, stamp, firstRule, resolveRecords, resolved}
 use Rattle.resolve.proofs.KeepsForm.{Good, map-good, then-good}
 use Rattle.resolve.proofs.ResolvedFine.{RulesFine, rules-good, relations-good}

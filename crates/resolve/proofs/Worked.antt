@@ -2,12 +2,12 @@
 use Prim.Native.Nat.{ℕ}
 use mathlib.Core.Path.{_≡_, refl}
 use mathlib.Core.List.{List, [], _∷_, map}
-use mathlib.Core.Option.{Option, none, some}
+use mathlib.Core.Option.{none, some}
 use Rattle.pack.specs.Table.{entryOf, table}
 use Rattle.pack.specs.Form.{wordsBy, count, items}
 use Rattle.pack.specs.Tree.{Tree, node, tree, root, follow, fields}
 use Rattle.pack.specs.Tree as trees
-use Rattle.pack.specs.Pack.{Derivation, Relation, Rule, Pack, undated, relation, newName, relationTail, nameList, optionalDerivation, derivation, chain, path, hop, member}
+use Rattle.pack.specs.Pack.{Relation, Rule, Pack, undated, relation, newName, relationTail, nameList, optionalDerivation, derivation, chain, path, hop, member}
 use Rattle.chains.specs.Chain.{walk, own}
 use Rattle.chains.specs.Kinds.{find, kindStep, kindsOf}
 use Rattle.chains.specs.Filtered.{taken, direct}

@@ -1,7 +1,7 @@
 -- Which slot an aggregate runs from. 01, "Resolving": aggregates and RelationMember.
 use Prim.Native.Nat.{ℕ, suc, _-_}
 use mathlib.Core.List.{List, [], _∷_}
-use mathlib.Core.Bool.{Bool, true, false, _&&_}
+use mathlib.Core.Bool.{Bool, true, _&&_}
 use mathlib.Core.Option.{Option, none, some}
 use lib.Dec.{eqb}
 use Rattle.pack.specs.Table.{pick}

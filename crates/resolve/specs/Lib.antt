@@ -4,3 +4,4 @@ pub mod Inputs
 pub mod Turning
 pub mod Resolving
 pub mod Operations
+pub mod Demand3

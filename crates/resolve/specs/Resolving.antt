@@ -11,7 +11,7 @@ use Rattle.pack.specs.Form.{wordsBy}
 use Rattle.pack.specs.Tree.{Tree, Forest, node, more}
 use Rattle.pack.specs.Tree as trees
 use Rattle.pack.specs.Pack.{Derivation, Relation, Body, Rule, Pack, rule}
-use Rattle.chains.specs.Kinds.{find, kindsOf}
+use Rattle.chains.specs.Kinds.{kindsOf}
 use Rattle.chains.specs.Filtered.{kindAt}
 use Rattle.chains.specs.Reach.{any}
 use Rattle.chains.specs.Operations.{relationWords, startOf, firstRelation, hops}
