@@ -53,9 +53,10 @@ module _ (after : ℕ → ℕ → ℕ → ℕ) where
         let far : ℕ = at + 3 * hops (d .path) in
         next-word (far + 6) 21 (length (d .slotEntities)) (λ e. omega arith) (g .entities)
         (next-word (far + 4) 19 (d .entity) (λ e. omega arith) (g .entity)
+        (next-word (far + 3) 18 (d .related) (λ e. omega arith) (g .related)
         (next-word (far + 2) 17 (d .current) (λ e. omega arith) (g .current)
         (next-word (at + 1) 13 (count listOrNone (d .path)) (λ e. omega arith) (g .path)
-        (next-word at 12 (d .source) (λ e. omega arith) (g .source) h))))
+        (next-word at 12 (d .source) (λ e. omega arith) (g .source) h)))))
 
   -- a relation changes the number of its own name alone
   after-relation : (n : ℕ) (used : ℕ → Bool) (r : Relation) (at : ℕ) (s : ByName) → n ≤ 4096 → length (s .table) ≡ 4096 → Kept n used r

@@ -60,6 +60,7 @@ pub record Fitting (d : Derivation) : Type 0 where
   pub path : count listOrNone (d .path) < 16777216
   pub steps : (l : List Hop) → d .path ≡ some l → length l < 16777215
   pub current : d .current < 16777216
+  pub related : d .related < 16777216
   pub entity : d .entity < 16777216
   pub entities : length (d .slotEntities) < 16777216
 
@@ -136,6 +137,6 @@ module _ (start : ℕ) (r : Relation) (short : start + 3 < 65536) where
           let far : ℕ = at + 3 * hops (d .path) in
           after-21 _ (far + 6) (length (d .slotEntities)) (g .entities)
           ∙ ap (λ (x : ℕ). pick (eqb (length (d .slotEntities)) 0) x (far + 6))
-          (after-other _ (far + 4) (d .entity) (g .entity) 19 refl refl refl refl ∙ after-other _ (far + 2) (d .current) (g .current) 17 refl refl refl refl
+          (after-other _ (far + 4) (d .entity) (g .entity) 19 refl refl refl refl ∙ after-other _ (far + 3) (d .related) (g .related) 18 refl refl refl refl ∙ after-other _ (far + 2) (d .current) (g .current) 17 refl refl refl refl
           ∙ after-13 _ (at + 1) (count listOrNone (d .path)) (g .path) ∙ ap (λ (x : ℕ). at13 x (count listOrNone (d .path))) (after-12 x9 at (d .source) (g .source)))
           ∙ by-lists d (r .slotKinds) (d .slotEntities) x9 (far + 6) g nine (place d e)

@@ -57,6 +57,7 @@ fitting n d f =
       path = path-counts n (d .path) (f .0 .1 .0);
       steps = short-path n (d .path) (f .0 .1 .0);
       current = f .0 .1 .1 .0 .0;
+      related = f .0 .1 .1 .1 .0;
       entity = f .1 .0 .0;
       entities = f .1 .1 .1 .0 .0 .0;
     }

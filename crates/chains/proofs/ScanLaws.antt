@@ -70,7 +70,10 @@ module _ {S : Type 0} (step : S → ℕ → ℕ → S) where
   afterDerivation d at s =
       let far : ℕ = at + 3 * hops (d .path) in
       step
-      (step (step (step (step s at (wordOf 12 (d .source))) (at + 1) (wordOf 13 (count listOrNone (d .path)))) (far + 2) (wordOf 17 (d .current))) (far + 4) (wordOf 19 (d .entity)))
+      (step
+      (step (step (step (step s at (wordOf 12 (d .source))) (at + 1) (wordOf 13 (count listOrNone (d .path)))) (far + 2) (wordOf 17 (d .current))) (far + 3) (wordOf 18 (d .related)))
+      (far + 4)
+      (wordOf 19 (d .entity)))
       (far + 6)
       (wordOf 21 (length (d .slotEntities)))
 
@@ -145,15 +148,19 @@ module _ (n : ℕ) where
 
     scans-chain : (d : Derivation) (at : ℕ) (s : S) → Fine (chain n) (d .source, (d .path, (d .current, d .related)))
         → Scans step (chain n) (d .source, (d .path, (d .current, d .related))) at s
+        (step
         (step (step (step s at (wordOf 12 (d .source))) (at + 1) (wordOf 13 (count listOrNone (d .path)))) (at + 3 * hops (d .path) + 2) (wordOf 17 (d .current)))
+        (at + 3 * hops (d .path) + 3)
+        (wordOf 18 (d .related)))
     unfolding chain Fine
     scans-chain d at s f =
         let a : at + 1 ≡ at + length (wordsBy (field n 12) (d .source)) = omega (arith, field-length 12 (d .source)) in
         let b : at + 3 * hops (d .path) + 2 ≡ at + 1 + length (wordsBy (path n) (d .path)) = omega (arith, path-length (d .path)) in
+        let c : at + 3 * hops (d .path) + 3 ≡ at + 3 * hops (d .path) + 2 + length (wordsBy (field n 17) (d .current)) = omega (arith, field-length 17 (d .current)) in
         scans-then step _ _ _ _ at _ _ _ a (scans-field step n 12 (d .source) at s (λ e. omega arith) (f .0))
         (scans-then step _ _ _ _ (at + 1) _ _ _ b (scans-path (d .path) (at + 1) _ (f .1 .0))
-        (scans-then step _ _ _ _ (at + 3 * hops (d .path) + 2) _ _ _ refl (scans-field step n 17 (d .current) _ _ (λ e. omega arith) (f .1 .1 .0))
-        (scans-quiet-field 18 (d .related) _ _ refl (f .1 .1 .1))))
+        (scans-then step _ _ _ _ (at + 3 * hops (d .path) + 2) _ _ _ c (scans-field step n 17 (d .current) _ _ (λ e. omega arith) (f .1 .1 .0))
+        (scans-field step n 18 (d .related) (at + 3 * hops (d .path) + 3) _ (λ e. omega arith) (f .1 .1 .1))))
 
     scans-member : (d : Derivation) (at : ℕ) (s : S) → Fine (member n) (d .entity, (d .member, (d .slotEntities, d .predicate)))
         → Scans step (member n) (d .entity, (d .member, (d .slotEntities, d .predicate))) at s (step (step s at (wordOf 19 (d .entity))) (at + 2) (wordOf 21 (length (d .slotEntities))))

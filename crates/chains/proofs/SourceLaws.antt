@@ -75,6 +75,7 @@ relation-source r start m l f = go (r .derivation) f
         let g = f d refl in
         at-other _ (length (d .slotEntities)) (g .entities) 21 refl
         ∙ at-other _ (d .entity) (g .entity) 19 refl
+        ∙ at-other _ (d .related) (g .related) 18 refl
         ∙ at-other _ (d .current) (g .current) 17 refl
         ∙ at-other _ _ (g .path) 13 refl
         ∙ at-12 x9 (d .source) (g .source)

@@ -127,13 +127,15 @@ module _ (kind : ℕ → ℕ → Option ℕ) where
           let done : Taking = record { name = r .name; slot = d .current; table = takeAt (s .table) (d .entity) (kind (r .name) (d .current)) } in
           let last : Taking → List ℕ = λ u. step u (far + 6) (wordOf 21 (length (d .slotEntities))) .table in
           let from19 : Taking → List ℕ = λ u. last (step u (far + 4) (wordOf 19 (d .entity))) in
-          let from17 : Taking → List ℕ = λ u. from19 (step u (far + 2) (wordOf 17 (d .current))) in
+          let from18 : Taking → List ℕ = λ u. from19 (step u (far + 3) (wordOf 18 (d .related))) in
+          let from17 : Taking → List ℕ = λ u. from18 (step u (far + 2) (wordOf 17 (d .current))) in
           let from13 : Taking → List ℕ = λ u. from17 (step u (b + 1) (wordOf 13 (count listOrNone (d .path)))) in
           let from12 : Taking → List ℕ = λ u. from13 (step u b (wordOf 12 (d .source))) in
           ap from12 nine
           ∙ ap from13 (at-other here b (d .source) (g .source) 12 refl refl refl)
           ∙ ap from17 (at-other here (b + 1) (count listOrNone (d .path)) (g .path) 13 refl refl refl)
-          ∙ ap from19 (at-17 here (far + 2) (d .current) (g .current))
+          ∙ ap from18 (at-17 here (far + 2) (d .current) (g .current))
+          ∙ ap from19 (at-other slotted (far + 3) (d .related) (g .related) 18 refl refl refl)
           ∙ ap last (at-19 slotted (far + 4) (d .entity) (g .entity))
           ∙ ap (λ (u : Taking). u .table) (at-other done (far + 6) (length (d .slotEntities)) (g .entities) 21 refl refl refl)
 
