@@ -31,7 +31,7 @@ impl Taken {
 }
 
 // The kind at a slot of the list whose count word stands at a place; at place 0 there is none.
-fn kind_at(pack: &[u32], place: u32, slot: u32) -> Kind
+pub fn kind_at(pack: &[u32], place: u32, slot: u32) -> Kind
     ensures { λ r. ⌜ KindFound (now (pack .entry)) place slot r ⌝ }
 {
     if place == 0 {
@@ -52,7 +52,7 @@ fn kind_at(pack: &[u32], place: u32, slot: u32) -> Kind
 }
 
 // The place of the list that settles a name, 0 for none.
-fn place_of(marks: &[u32; 4096], name: usize) -> u32
+pub fn place_of(marks: &[u32; 4096], name: usize) -> u32
     requires { ⌜ name < 4096 ⌝ }
     ensures { λ r. ⌜ r ≡ getD (now (marks .entry)) name 0 - 2 ⌝ }
 {

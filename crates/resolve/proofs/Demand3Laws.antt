@@ -73,7 +73,7 @@ each-map f g (cons e h) = cons (ap (Option·map g) e) (each-map f g h)
 
 comes-out : (p r : Pack) → resolved p ≡ done r → ComesOut p r
 unfolding resolved
-comes-out p r e = go (defaultedEqual (tables (p .relations)) (p .defaulted)) e
+comes-out p r e = go (defaultedEqual (tables (p .names) (p .relations)) (p .defaulted)) e
   where
     whole : List Rule → List Relation → Pack
     whole rl rs = record { edition = p .edition; names = p .names; defaulted = p .defaulted; relations = map (stamp p) rs; rules = rl; blocks = p .blocks }

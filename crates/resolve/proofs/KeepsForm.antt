@@ -14,8 +14,10 @@ use Rattle.pack.specs.Table.{pick, table, entryOf, fieldsOf, childrenOf}
 use Rattle.pack.specs.Form.{only, allowedHere, FineEach, word, Fine}
 use Rattle.pack.specs.Tree.{Tree, Forest, node, more, ofForest, heads, lastField, fields, follow, tree}
 use Rattle.pack.specs.Tree as trees
+use Rattle.resolve.specs.declared.direction.Direction.{Direction}
+use Rattle.resolve.specs.declared.direction.Direction.the-variants.{Turned, Open}
 use Rattle.resolve.specs.Tables.{Derived, Tables}
-use Rattle.resolve.specs.Direction.{bearing, orElse, kindOrZero, Direction, turned, openFor, matched, towards, turn, Membership, all, eachOnce, between, tested}
+use Rattle.resolve.specs.Direction.{bearing, orElse, kindOrZero, matched, towards, turn, Membership, all, eachOnce, between, tested}
 use Rattle.resolve.specs.Direction as direction
 use Rattle.resolve.specs.Turning.{Outcome, done, refused, andThen, mapDone, Citing, Fields, currentOf, relatedOf, withSlots, valueOfNode, Step, goes, stops, aggregate, allowedInput, onlyRelated, membershipTest, stepBy, size, atNode, resolveTree, resolveForest}
 
@@ -42,8 +44,8 @@ abbrev Slot : ℕ → Type 0
 Slot s = s < 16777216
 
 abbrev DirectionFits : Direction → Type 0
-DirectionFits (turned c r k) = Slot c × Slot r
-DirectionFits (openFor e) = Unit {0}
+DirectionFits (Turned c r k) = Slot c × Slot r
+DirectionFits (Open e) = Unit {0}
 
 -- tables whose slots are values
 pub record TablesFit (T : Tables) : Type 0 where
@@ -85,14 +87,14 @@ module _ (T : Tables) (fit : TablesFit T) where
   turn-fits n e c r hc hr = go (T .derived n) refl
     where
       go : (o : Option Derived) → T .derived n ≡ o
-          → DirectionFits (elim o [ some d ↦ turned (d .current) (d .related) (kindOrZero (d .kinds) (d .related)) | none ↦ towards T (T .typed n) e c r ])
+          → DirectionFits (elim o [ some d ↦ Turned (d .current) (d .related) (kindOrZero (d .kinds) (d .related)) | none ↦ towards T (T .typed n) e c r ])
       go (some d) q = fit .slots n d q
       go none q = towards-fits n (T .typed n) refl e c r hc hr
 
   between-fits : (ks : List ℕ) → length ks ≤ 8 → (m : ℕ × ℕ) (c r : ℕ) → Slot c → Slot r → DirectionFits (between ks m c r)
   between-fits ks h m c r hc hr = go (eqb (m .0) (m .1)) (all (m .0) ks)
     where
-      go : (a b : Bool) → DirectionFits (pick a (pick b (openFor (m .0)) (turned c r 0)) (eachOnce c r (bearing (m .0) 0 ks) (bearing (m .1) 0 ks)))
+      go : (a b : Bool) → DirectionFits (pick a (pick b (Open (m .0)) (Turned c r 0)) (eachOnce c r (bearing (m .0) 0 ks) (bearing (m .1) 0 ks)))
       go true true = tt
       go true false = (hc, hr)
       go false b = once-fits c r (bearing (m .0) 0 ks) (bearing (m .1) 0 ks) hc hr (bearing-below (m .0) 0 ks 8 (omega arith)) (bearing-below (m .1) 0 ks 8 (omega arith))
@@ -106,7 +108,7 @@ module _ (T : Tables) (fit : TablesFit T) where
   unfolding direction.member
   member-fits n m c r hc hr = go (T .derived n) refl
     where
-      go : (o : Option Derived) → T .derived n ≡ o → DirectionFits (elim o [ some d ↦ turned (d .current) (d .related) 0 | none ↦ tested (T .typed n) m c r ])
+      go : (o : Option Derived) → T .derived n ≡ o → DirectionFits (elim o [ some d ↦ Turned (d .current) (d .related) 0 | none ↦ tested (T .typed n) m c r ])
       go (some d) q = fit .slots n d q
       go none q = tested-fits n (T .typed n) refl m c r hc hr
 
@@ -165,13 +167,13 @@ StepFine n w v fs (stops number other) = Unit {0}
 
 aggregate-fine : (n v : ℕ) (fs : Fields) (d : Direction) → FieldsFine n (fieldsOf Aggregate) fs → DirectionFits d → StepFine n Aggregate v fs (aggregate fs d)
 unfolding fieldsOf
-aggregate-fine n v fs (turned c r k) h q = (slots-fine n _ fs c r h (q .0) (q .1), ap (childrenOf Aggregate v) (last-kept n _ _ fs c r h))
-aggregate-fine n v fs (openFor e) h q = tt
+aggregate-fine n v fs (Turned c r k) h q = (slots-fine n _ fs c r h (q .0) (q .1), ap (childrenOf Aggregate v) (last-kept n _ _ fs c r h))
+aggregate-fine n v fs (Open e) h q = tt
 
 only-fine : (n v : ℕ) (inp : ℕ → ℕ → Option ℕ) (fs : Fields) (d : Direction) → FieldsFine n (fieldsOf OnlyRelated) fs → DirectionFits d → StepFine n OnlyRelated v fs (onlyRelated inp fs d)
 unfolding fieldsOf
-only-fine n v inp fs (openFor e) h q = tt
-only-fine n v inp fs (turned c r owner) h q = go (eqb (valueOfNode fs .0) 84) (inp owner (valueOfNode fs .1))
+only-fine n v inp fs (Open e) h q = tt
+only-fine n v inp fs (Turned c r owner) h q = go (eqb (valueOfNode fs .0) 84) (inp owner (valueOfNode fs .1))
   where
     go : (b : Bool) (o : Option ℕ) → StepFine n OnlyRelated v fs (pick b (stops 11 (valueOfNode fs .1)) (allowedInput (withSlots c r fs) (valueOfNode fs .1) o))
     go true o = tt
@@ -180,8 +182,8 @@ only-fine n v inp fs (turned c r owner) h q = go (eqb (valueOfNode fs .0) 84) (i
 
 test-fine : (n v : ℕ) (fs : Fields) (entity : ℕ) (m : Membership) (d : Direction) → FieldsFine n (fieldsOf Slots) fs → DirectionFits d → StepFine n Slots v fs (membershipTest fs entity m d)
 unfolding fieldsOf childrenOf
-test-fine n v fs entity m (turned c r k) h q = (slots-fine n _ fs c r h (q .0) (q .1), refl)
-test-fine n v fs entity m (openFor k) h q = tt
+test-fine n v fs entity m (Turned c r k) h q = (slots-fine n _ fs c r h (q .0) (q .1), refl)
+test-fine n v fs entity m (Open k) h q = tt
 
 module _ (C : Citing) (fit : TablesFit (C .tables)) (n : ℕ) where
   step-fine : (entity : ℕ) (m : Membership) (w : Follows) (v : ℕ) (fs : Fields) → FieldsFine n (fieldsOf w) fs → StepFine n w v fs (stepBy C entity m w v fs)

@@ -8,3 +8,4 @@ pub mod KeepsForm
 pub mod ResolvedFine
 pub mod ResolvedPack
 pub mod Demand3Laws
+pub mod WordLaws

@@ -20,10 +20,12 @@ use Rattle.pack.proofs.Refusals.{Within, read-numbers}
 use Rattle.chains.specs.Kinds.{allKinds}
 use Rattle.chains.specs.Reach.{any}
 use Rattle.chains.specs.Operations.{relationWords, firstRelation}
-use Rattle.resolve.specs.Direction.{Direction, turned, openFor, Membership, turn}
+use Rattle.resolve.specs.Direction.{Membership, turn}
 use Rattle.resolve.specs.Direction as direction
 use Rattle.resolve.specs.Inputs.{ofOrigin, noSequence, declarations, owned, input}
 use Rattle.resolve.specs.Turning.{Outcome, done, refused, andThen, mapDone, Citing, Fields, currentOf, relatedOf, withSlots, valueOfNode, Step, goes, stops, aggregate, allowedInput, onlyRelated, membershipTest, stepBy, size, atNode, resolveTree, resolveForest}
+use Rattle.resolve.specs.declared.direction.Direction.{Direction}
+use Rattle.resolve.specs.declared.direction.Direction.the-variants.{Turned, Open}
 use Rattle.resolve.specs.Tables.{tables}
 use Rattle.resolve.specs.Operations.{givenOut, resolveAnswer}
 use Rattle.resolve.specs.Demand3.{InRange}
@@ -52,24 +54,24 @@ StepNumbered (goes fs entity first rest) = Unit {0}
 StepNumbered (stops number other) = InRange number
 
 aggregate-numbered : (fs : Fields) (d : Direction) → StepNumbered (aggregate fs d)
-aggregate-numbered fs (turned c r k) = tt
-aggregate-numbered fs (openFor e) = (omega arith, omega arith)
+aggregate-numbered fs (Turned c r k) = tt
+aggregate-numbered fs (Open e) = (omega arith, omega arith)
 
 allowed-numbered : (fs : Fields) (n : ℕ) (o : Option ℕ) → OfInput o → StepNumbered (allowedInput fs n o)
 allowed-numbered fs n none h = tt
 allowed-numbered fs n (some number) h = h
 
 only-numbered : (inp : ℕ → ℕ → Option ℕ) → ((owner n : ℕ) → OfInput (inp owner n)) → (fs : Fields) (d : Direction) → StepNumbered (onlyRelated inp fs d)
-only-numbered inp h fs (openFor e) = (omega arith, omega arith)
-only-numbered inp h fs (turned c r owner) = go (eqb (valueOfNode fs .0) 84)
+only-numbered inp h fs (Open e) = (omega arith, omega arith)
+only-numbered inp h fs (Turned c r owner) = go (eqb (valueOfNode fs .0) 84)
   where
     go : (b : Bool) → StepNumbered (pick b (stops 11 (valueOfNode fs .1)) (allowedInput (withSlots c r fs) (valueOfNode fs .1) (inp owner (valueOfNode fs .1))))
     go true = (omega arith, omega arith)
     go false = allowed-numbered (withSlots c r fs) (valueOfNode fs .1) (inp owner (valueOfNode fs .1)) (h owner (valueOfNode fs .1))
 
 test-numbered : (fs : Fields) (entity : ℕ) (m : Membership) (d : Direction) → StepNumbered (membershipTest fs entity m d)
-test-numbered fs entity m (turned c r k) = tt
-test-numbered fs entity m (openFor k) = (omega arith, omega arith)
+test-numbered fs entity m (Turned c r k) = tt
+test-numbered fs entity m (Open k) = (omega arith, omega arith)
 
 module _ (C : Citing) (h : (owner n : ℕ) → OfInput (C .input owner n)) where
   step-numbered : (entity : ℕ) (m : Membership) (w : Follows) (v : ℕ) (fs : Fields) → StepNumbered (stepBy C entity m w v fs)
@@ -205,5 +207,5 @@ resolve-numbers ws room r e = go (read ws) refl e
         (rules-numbered p (firstRule p) (p .rules)) (relations-numbered p (firstRelation p) (p .relations)) q
 
     go : (m : Reading) → read ws ≡ m → answer m (λ p. givenOut (allKinds (p .relations) .steps) room (resolved p)) ≡ Refused r → ResolveRefuses r
-    go (yes p) h q = defaults p (defaultedEqual (tables (p .relations)) (p .defaulted)) q
+    go (yes p) h q = defaults p (defaultedEqual (tables (p .names) (p .relations)) (p .defaulted)) q
     go (refuse s) h q = let u : s ≡ r = cc in checks (read-numbers ws r (h ∙ ap refuse u))

@@ -5,3 +5,4 @@ pub mod Turning
 pub mod Resolving
 pub mod Operations
 pub mod Demand3
+pub mod Words

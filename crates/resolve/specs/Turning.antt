@@ -10,8 +10,10 @@ use Rattle.pack.specs.declared.table.Follows.the-variants.{Nothing, Counted, On
 use Rattle.pack.specs.Table.{pick, entryOf}
 use Rattle.pack.specs.Tree.{Tree, Forest, node, more}
 use Rattle.pack.specs.Tree as trees
+use Rattle.resolve.specs.declared.direction.Direction.{Direction}
+use Rattle.resolve.specs.declared.direction.Direction.the-variants.{Turned, Open}
 use Rattle.resolve.specs.Tables.{Tables}
-use Rattle.resolve.specs.Direction.{Direction, turned, openFor, turn, Membership, member}
+use Rattle.resolve.specs.Direction.{turn, Membership, member}
 
 -- what resolving something comes to
 pub data Outcome (A : Type 0) : Type 0 where
@@ -64,8 +66,8 @@ pub data Step : Type 0 where
 
 -- "A where tree is handed on .., with the resulting kind as entity"; "Membership is lost in where trees"
 abbrev pub aggregate : Fields → Direction → Step
-aggregate fs (turned c r kind) = goes (withSlots c r fs) kind none none
-aggregate fs (openFor entity) = stops 10 entity
+aggregate fs (Turned c r kind) = goes (withSlots c r fs) kind none none
+aggregate fs (Open entity) = stops 10 entity
 
 -- "OnlyRelated after its aggregate step: 11, 12, 13, 14, 15 in this order"
 abbrev pub allowedInput : Fields → ℕ → Option ℕ → Step
@@ -73,13 +75,13 @@ allowedInput fs n none = goes fs 0 none none
 allowedInput fs n (some number) = stops number n
 
 abbrev pub onlyRelated : (ℕ → ℕ → Option ℕ) → Fields → Direction → Step
-onlyRelated input fs (openFor entity) = stops 10 entity
-onlyRelated input fs (turned c r owner) =
+onlyRelated input fs (Open entity) = stops 10 entity
+onlyRelated input fs (Turned c r owner) =
     pick (eqb (valueOfNode fs .0) 84) (stops 11 (valueOfNode fs .1)) (allowedInput (withSlots c r fs) (valueOfNode fs .1) (input owner (valueOfNode fs .1)))
 
 abbrev pub membershipTest : Fields → ℕ → Membership → Direction → Step
-membershipTest fs entity m (turned c r kind) = goes (withSlots c r fs) entity m m
-membershipTest fs entity m (openFor kind) = stops 10 kind
+membershipTest fs entity m (Turned c r kind) = goes (withSlots c r fs) entity m m
+membershipTest fs entity m (Open kind) = stops 10 kind
 
 -- "Membership is lost in where trees, NoMatch patterns and both parts of OverPeriods."
 unfoldable pub stepBy : Citing → ℕ → Membership → Follows → ℕ → Fields → Step

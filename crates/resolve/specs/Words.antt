@@ -1,0 +1,47 @@
+-- What the code reads of a relation from the words of a pack.
+use Prim.Native.Nat.{ℕ, _+_, _-_, _*_}
+use mathlib.Core.List.{List, [], _∷_}
+use mathlib.Core.Option.{Option, none, some}
+use lib.ListN.{getD}
+use lib.Dec.{eqb}
+use Rattle.pack.specs.Table.{pick, kindOf, valueOf}
+use Rattle.pack.specs.Form.{repeats}
+use Rattle.chains.specs.Operations.{namesAt}
+use Rattle.chains.specs.Said.{directIn}
+use Rattle.resolve.specs.Tables.{Derived, Tables}
+
+-- the place of a relation's record, by name
+unfoldable pub recordAfter : ℕ → ℕ → ℕ → ℕ
+recordAfter x place w = pick (eqb (kindOf w) 6) place x
+
+unfoldable pub valueAt : List ℕ → ℕ → ℕ
+valueAt ws at = valueOf (getD ws at 0)
+
+-- of the relation whose record starts at a place: the number of its slot kinds (9), its flag (11), and the place of its current slot (17)
+unfoldable pub kindCount : List ℕ → ℕ → ℕ
+kindCount ws start = valueAt ws (start + 3)
+
+unfoldable pub flagAt : List ℕ → ℕ → ℕ
+flagAt ws start = valueAt ws (start + 4 + kindCount ws start)
+
+unfoldable pub slotsPlace : List ℕ → ℕ → ℕ
+slotsPlace ws start = start + 4 + kindCount ws start + 3 + 3 * repeats (valueAt ws (start + 4 + kindCount ws start + 2))
+
+-- it as a typed relation, and as a derived one whose kinds stand at a place
+unfoldable pub typedIn : List ℕ → ℕ → Option (List ℕ)
+typedIn ws start = pick (eqb (flagAt ws start) 1) none (pick (eqb (kindCount ws start) 2) (some (valueAt ws (start + 4) ∷ valueAt ws (start + 5) ∷ [])) none)
+
+unfoldable pub derivedIn : List ℕ → ℕ → ℕ → Option Derived
+derivedIn ws place start =
+    pick (eqb (flagAt ws start) 1)
+    (some (record { current = valueAt ws (slotsPlace ws start); related = valueAt ws (slotsPlace ws start + 1); kinds = namesAt ws place }))
+    none
+
+-- the tables, from the words, the places of records, the marks of relations and what is known of entities
+unfoldable pub tablesIn : List ℕ → List ℕ → List ℕ → List ℕ → Tables
+tablesIn ws records marks taken =
+    record {
+      typed = λ n. pick (eqb (getD records n 0) 0) none (typedIn ws (getD records n 0));
+      derived = λ n. pick (eqb (getD records n 0) 0) none (derivedIn ws (getD marks n 0 - 2) (getD records n 0));
+      direct = directIn taken;
+    }
