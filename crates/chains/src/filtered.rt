@@ -24,7 +24,7 @@ pub enum Filter {
 }
 
 // The one kind that an entity takes, or none.
-fn direct_of(x: u32) -> u32
+pub fn direct_of(x: u32) -> u32
     ensures { λ r. ⌜ r ≡ directOf x ⌝ }
 {
     if x < Taken::ONE {

@@ -77,7 +77,7 @@ once-fits c r (x ∷ z ∷ cs) rs hc hr h k = (hc, hr)
 once-fits c r [] rs hc hr h k = (hc, hr)
 
 module _ (T : Tables) (fit : TablesFit T) where
-  towards-fits : (n : ℕ) (o : Option (List ℕ)) → T .typed n ≡ o → (e c r : ℕ) → Slot c → Slot r → DirectionFits (towards T o e c r)
+  towards-fits : (n : ℕ) (o : Option (List ℕ)) → T .typed n ≡ o → (e c r : ℕ) → Slot c → Slot r → DirectionFits (towards (T .direct) o e c r)
   towards-fits n none q e c r hc hr = (hc, hr)
   towards-fits n (some ks) q e c r hc hr =
       matched-fits ks e c r (bearing (orElse (T .direct e) e) 0 ks) hc hr (bearing-below (orElse (T .direct e) e) 0 ks 8 (omega (arith, fit .few n ks q)))
@@ -87,7 +87,7 @@ module _ (T : Tables) (fit : TablesFit T) where
   turn-fits n e c r hc hr = go (T .derived n) refl
     where
       go : (o : Option Derived) → T .derived n ≡ o
-          → DirectionFits (elim o [ some d ↦ Turned (d .current) (d .related) (kindOrZero (d .kinds) (d .related)) | none ↦ towards T (T .typed n) e c r ])
+          → DirectionFits (elim o [ some d ↦ Turned (d .current) (d .related) (kindOrZero (d .kinds) (d .related)) | none ↦ towards (T .direct) (T .typed n) e c r ])
       go (some d) q = fit .slots n d q
       go none q = towards-fits n (T .typed n) refl e c r hc hr
 

@@ -1,5 +1,5 @@
 -- What the code reads of a relation by place, in each way out.
-use Prim.Native.Nat.{ℕ, zero, suc, _+_, _*_, _<_, _≤_}
+use Prim.Native.Nat.{ℕ, zero, suc, _+_, _-_, _*_, _<_, _≤_}
 use native.Mathlib.Omega.{arith}
 use mathlib.Core.Path.{_≡_, refl, ap, sym, _∙_}
 use mathlib.Core.List.{List, [], _∷_}
@@ -16,10 +16,12 @@ use Rattle.chains.specs.Operations.{namesAt}
 use Rattle.chains.specs.Scan.{nameAfter, tableAfter}
 use Rattle.chains.specs.Index.{Indexed}
 use Rattle.chains.specs.Taking.{kindIn, KindFound}
+use Rattle.chains.specs.Said.{directOf, directIn}
 use Rattle.resolve.specs.declared.direction.Direction.{Direction}
 use Rattle.resolve.specs.declared.direction.Direction.the-variants.{Turned, Open}
-use Rattle.resolve.specs.Direction.{bearing, orElse, kindOrZero, matched}
-use Rattle.resolve.specs.Words.{recordAfter, valueAt, kindCount, flagAt, slotsPlace}
+use Rattle.resolve.specs.Direction.{bearing, orElse, kindOrZero, matched, towards, turn}
+use Rattle.resolve.specs.Tables.{Derived, Tables}
+use Rattle.resolve.specs.Words.{recordAfter, valueAt, kindCount, flagAt, slotsPlace, typedIn, derivedIn, tablesIn, Recorded}
 
 beyond : (ws : List ℕ) (at : ℕ) → length ws ≤ at → getD ws at 0 ≡ 0
 beyond [] at h = refl
@@ -105,3 +107,65 @@ module _ (ws : List ℕ) (start : ℕ) where
   pub the-count : {count : ℕ} → count ≡ valueAt ws (start + 3) → count ≡ kindCount ws start
   unfolding kindCount
   the-count e = e
+
+-- ---- an aggregate
+
+module _ (taken : List ℕ) (e : ℕ) {d : ℕ} (k : d ≡ directOf (getD taken e 0)) where
+  pub matches-itself : d ≡ 16777215 → e ≡ orElse (directIn taken e) e
+  unfolding directIn
+  matches-itself z = sym (rw (← k, eq-eqb d 16777215 z) refl)
+
+  pub matches-kind : (d ≡ 16777215 → ⊥) → d ≡ orElse (directIn taken e) e
+  unfolding directIn
+  matches-kind z = sym (rw (← k, ne-eqb d 16777215 z) refl)
+
+module _ (ws taken : List ℕ) (start e c r : ℕ) (flag : flagAt ws start ≡ 1 → ⊥) {count : ℕ} (k : count ≡ kindCount ws start) where
+  pub untyped : (count ≡ 2 → ⊥) → Turned c r 0 ≡ towards (directIn taken) (typedIn ws start) e c r
+  unfolding typedIn
+  untyped z = sym (rw (ne-eqb (flagAt ws start) 1 flag, ← k, ne-eqb count 2 z) refl)
+
+  pub typed : count ≡ 2 → {a b m : ℕ} {d : Direction} → a ≡ valueAt ws (start + 4) → b ≡ valueAt ws (start + 5) → m ≡ orElse (directIn taken e) e
+      → d ≡ matched (a ∷ b ∷ []) e c r (bearing m 0 (a ∷ b ∷ [])) → d ≡ towards (directIn taken) (typedIn ws start) e c r
+  unfolding typedIn
+  typed z {a} {b} {m} x y n q = q ∙ sym (rw (ne-eqb (flagAt ws start) 1 flag, ← k, eq-eqb count 2 z, ← x, ← y, ← n) refl)
+
+turn-plain : (T : Tables) (n e c r : ℕ) → T .derived n ≡ none → turn T n e c r ≡ towards (T .direct) (T .typed n) e c r
+unfolding turn
+turn-plain T n e c r h = rw (h, turn) refl
+
+turn-derived : (T : Tables) (n e c r : ℕ) (d : Derived) → T .derived n ≡ some d → turn T n e c r ≡ Turned (d .current) (d .related) (kindOrZero (d .kinds) (d .related))
+unfolding turn
+turn-derived T n e c r d h = rw (h, turn) refl
+
+module _ (ws records marks taken : List ℕ) (relation e c r : ℕ) where
+  abbrev T : Tables
+  T = tablesIn ws records marks taken
+
+  pub undeclared : getD records relation 0 ≡ 0 → Turned c r 0 ≡ turn T relation e c r
+  unfolding tablesIn
+  undeclared z =
+      let d : T .derived relation ≡ none = rw (eq-eqb (getD records relation 0) 0 z) refl in
+      let t : T .typed relation ≡ none = rw (eq-eqb (getD records relation 0) 0 z) refl in
+      sym (turn-plain T relation e c r d ∙ ap (λ o. towards (directIn taken) o e c r) t)
+
+  module _ (h : getD records relation 0 ≡ 0 → ⊥) where
+    abbrev start : ℕ
+    start = getD records relation 0
+
+    pub not-derived : {flag : ℕ} {x : Direction} → flag ≡ flagAt ws start → (flag ≡ 1 → ⊥) → x ≡ towards (directIn taken) (typedIn ws start) e c r → x ≡ turn T relation e c r
+    unfolding tablesIn derivedIn
+    not-derived {flag} f z q =
+        let d : T .derived relation ≡ none = rw (ne-eqb start 0 h, ← f, ne-eqb flag 1 z) refl in
+        let t : T .typed relation ≡ typedIn ws start = rw (ne-eqb start 0 h) refl in
+        q ∙ sym (turn-plain T relation e c r d ∙ ap (λ o. towards (directIn taken) o e c r) t)
+
+    pub is-derived : {flag at x y place k : ℕ} → flag ≡ flagAt ws start → flag ≡ 1 → at ≡ slotsPlace ws start → x ≡ valueAt ws at → y ≡ valueAt ws (at + 1) → place ≡ getD marks relation 0 - 2
+        → k ≡ kindOrZero (namesAt ws place) y → Turned x y k ≡ turn T relation e c r
+    unfolding tablesIn derivedIn
+    is-derived {flag} {at} {x} {y} {place} {k} f z s u v p q =
+        let d : T .derived relation ≡ some (record { current = x; related = y; kinds = namesAt ws place }) = rw (ne-eqb start 0 h, ← f, eq-eqb flag 1 z, ← s, ← u, ← v, ← p) refl in
+        rw q (sym (turn-derived T relation e c r (record { current = x; related = y; kinds = namesAt ws place }) d))
+
+pub recorded : (records : List ℕ) (n : ℕ) → Recorded records → getD records n 0 ≤ 65536
+unfolding Recorded
+recorded records n h = h n

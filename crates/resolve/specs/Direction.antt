@@ -30,16 +30,16 @@ matched ks entity current related (slot ∷ []) = Turned slot (1 - slot) (kindOr
 matched ks entity current related (slot ∷ more ∷ slots) = Open entity
 
 -- "A typed one is matched against direct(entity), or the entity itself"; "Any other keeps the slots, with 0."
-abbrev pub towards : Tables → Option (List ℕ) → ℕ → ℕ → ℕ → Direction
-towards T none entity current related = Turned current related 0
-towards T (some ks) entity current related = matched ks entity current related (bearing (orElse (T .direct entity) entity) 0 ks)
+abbrev pub towards : (ℕ → Option ℕ) → Option (List ℕ) → ℕ → ℕ → ℕ → Direction
+towards direct none entity current related = Turned current related 0
+towards direct (some ks) entity current related = matched ks entity current related (bearing (orElse (direct entity) entity) 0 ks)
 
 -- "Aggregates 74 to 78: a derived relation supplies both slots, and its related kind or 0."
 unfoldable pub turn : Tables → ℕ → ℕ → ℕ → ℕ → Direction
 turn T relation entity current related =
     elim (T .derived relation) [
       | some d ↦ Turned (d .current) (d .related) (kindOrZero (d .kinds) (d .related))
-      | none ↦ towards T (T .typed relation) entity current related
+      | none ↦ towards (T .direct) (T .typed relation) entity current related
     ]
 
 -- the current and the related kind of a membership, where both are known

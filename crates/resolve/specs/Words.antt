@@ -1,5 +1,5 @@
 -- What the code reads of a relation from the words of a pack.
-use Prim.Native.Nat.{ℕ, _+_, _-_, _*_}
+use Prim.Native.Nat.{ℕ, _+_, _-_, _*_, _≤_}
 use mathlib.Core.List.{List, [], _∷_}
 use mathlib.Core.Option.{Option, none, some}
 use lib.ListN.{getD}
@@ -45,3 +45,7 @@ tablesIn ws records marks taken =
       derived = λ n. pick (eqb (getD records n 0) 0) none (derivedIn ws (getD marks n 0 - 2) (getD records n 0));
       direct = directIn taken;
     }
+
+-- every record starts within the words
+unfoldable pub Recorded : List ℕ → Type 0
+Recorded records = (n : ℕ) → getD records n 0 ≤ 65536

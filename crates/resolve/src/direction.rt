@@ -1,5 +1,6 @@
 // The direction of one node, from what the pack says of its relation.
 use crate::words::value_at;
+use chains::filtered::direct_of;
 use chains::taking::Kind;
 use chains::taking::kind_at;
 use chains::taking::place_of;
@@ -10,8 +11,9 @@ ghost use mathlib.Core.Option.{some};
 ghost use Prim.Native.Nat.{_<_, _≤_};
 ghost use lib.ListN.{length};
 ghost use Rattle.chains.specs.Operations.{namesAt};
-ghost use Rattle.resolve.specs.Direction.{bearing, kindOrZero, matched};
-ghost use Rattle.resolve.specs.Words.{kindCount, flagAt, slotsPlace};
+ghost use Rattle.chains.specs.Said.{directIn};
+ghost use Rattle.resolve.specs.Direction.{bearing, orElse, kindOrZero, matched, towards, turn};
+ghost use Rattle.resolve.specs.Words.{kindCount, flagAt, slotsPlace, typedIn, tablesIn, Recorded};
 
 // How a node comes out: its slots and the kind that results; or its direction is open, between slots of this kind or entity.
 pub enum Direction {
@@ -70,7 +72,7 @@ fn flag_at(pack: &[u32], start: usize) -> u32
 // The place of its current slot, after which the related one stands.
 fn slots_place(pack: &[u32], start: usize) -> usize
     requires { ⌜ start ≤ 65536 ⌝ }
-    ensures { λ r. ⌜ r ≡ slotsPlace (now (pack .entry)) start ⌝ }
+    ensures { λ r. ⌜ (r ≡ slotsPlace (now (pack .entry)) start) × (r < 134217728) ⌝ }
 {
     let at = start + 4 + kind_count(pack, start);
     let steps = value_at(pack, at + 2);
@@ -78,4 +80,63 @@ fn slots_place(pack: &[u32], start: usize) -> usize
         return at + 3;
     }
     at + 3 + 3 * steps as usize
+}
+
+// The kind by which an entity is matched: the one that it takes, or itself.
+fn matching_kind(taken: &[u32; 4096], entity: u32) -> u32
+    requires { ⌜ entity < 4096 ⌝ }
+    ensures { λ r. ⌜ r ≡ orElse (directIn (now (taken .entry)) entity) entity ⌝ }
+{
+    let d = direct_of(taken[entity as usize]);
+    if d == Pack::NONE {
+        return entity;
+    }
+    d
+}
+
+// An aggregate over a relation without derivation, whose record starts at a place.
+fn towards(
+    pack: &[u32],
+    taken: &[u32; 4096],
+    start: usize,
+    entity: u32,
+    current: u32,
+    related: u32,
+) -> Direction
+    requires { ⌜ (start ≤ 65536) × (entity < 4096) × (flagAt (now pack) start ≡ 1 → ⊥) ⌝ }
+    ensures { λ r. ⌜ r ≡ towards (directIn (now (taken .entry))) (typedIn (now (pack .entry)) start) entity current related ⌝ }
+{
+    if kind_count(pack, start) != 2 {
+        return Direction::Turned(current, related, 0);
+    }
+    let a = value_at(pack, start + 4);
+    let b = value_at(pack, start + 5);
+    matched(a, b, matching_kind(taken, entity), entity, current, related)
+}
+
+// An aggregate over a relation.
+pub fn turn(
+    pack: &[u32],
+    records: &[u32; 4096],
+    marks: &[u32; 4096],
+    taken: &[u32; 4096],
+    relation: usize,
+    entity: u32,
+    current: u32,
+    related: u32,
+) -> Direction
+    requires { ⌜ Recorded (now records) × (relation < 4096) × (entity < 4096) ⌝ }
+    ensures { λ r. ⌜ r ≡ turn (tablesIn (now (pack .entry)) (now (records .entry)) (now (marks .entry)) (now (taken .entry))) relation entity current related ⌝ }
+{
+    let start = records[relation] as usize;
+    if start == 0 {
+        return Direction::Turned(current, related, 0);
+    }
+    if flag_at(pack, start) != 1 {
+        return towards(pack, taken, start, entity, current, related);
+    }
+    let at = slots_place(pack, start);
+    let c = value_at(pack, at);
+    let r = value_at(pack, at + 1);
+    Direction::Turned(c, r, kind_or_zero(pack, place_of(marks, relation), r))
 }

@@ -24,7 +24,7 @@ add-result : tie.Need-add-result
 add-result c = search needs
 
 returns : tie.Need-returns
-returns c = no-steps _ _ ((c .before .before .kind-count) .ensures .0) ((c .before .value-at) .ensures .0) ((c .if1) .taken)
+returns c = (no-steps _ _ ((c .before .before .kind-count) .ensures .0) ((c .before .value-at) .ensures .0) ((c .if1) .taken), omega (arith, (c .before .before .kind-count .ensures) .1))
 
 add-result-2 : tie.Need-add-result-2
 add-result-2 c = search needs
@@ -39,7 +39,7 @@ add-result-3 : tie.Need-add-result-3
 add-result-3 c = search needs
 
 returns-2 : tie.Need-returns-2
-returns-2 c = some-steps _ _ ((c .before .before .kind-count) .ensures .0) ((c .before .value-at) .ensures .0) ((c .if1) .left)
+returns-2 c = (some-steps _ _ ((c .before .before .kind-count) .ensures .0) ((c .before .value-at) .ensures .0) ((c .if1) .left), omega (arith, (c .before .value-at .ensures) .1, (c .before .before .kind-count .ensures) .1))
 
 pub slots-place-spec : {M : Type 1} → statement M
 slots-place-spec =
