@@ -3,14 +3,16 @@ use Prim.Native.Nat.{ℕ, zero, suc, _+_, _-_, _*_, _<_, _≤_}
 use native.Mathlib.Omega.{arith}
 use mathlib.Core.Path.{_≡_, refl, ap, sym, _∙_}
 use mathlib.Core.List.{List, [], _∷_}
-use mathlib.Core.Option.{none, some}
+use mathlib.Core.Bool.{Bool, true, false}
+use mathlib.Core.Option.{Option, none, some}
 use lib.ListN.{length, getD, set}
 use lib.Seq.{set-getD}
-use borrow.Author.Tests.{eq-eqb, ne-eqb, le-ltb}
+use lib.Dec.{eqb}
+use borrow.Author.Tests.{eq-eqb, ne-eqb, eqb-true, eqb-false, le-ltb}
 use Rattle.pack.specs.Table.{pick, kindOf, valueOf}
 use Rattle.pack.specs.Form.{repeats}
 use Rattle.chains.specs.declared.taking.Kind.{Kind}
-use Rattle.chains.specs.declared.taking.Kind.the-variants.{Is, Unknown}
+use Rattle.chains.specs.declared.taking.Kind.the-variants as kind
 use Rattle.chains.specs.Filtered.{kindAt}
 use Rattle.chains.specs.Operations.{namesAt}
 use Rattle.chains.specs.Scan.{nameAfter, tableAfter}
@@ -19,9 +21,11 @@ use Rattle.chains.specs.Taking.{kindIn, KindFound}
 use Rattle.chains.specs.Said.{directOf, directIn}
 use Rattle.resolve.specs.declared.direction.Direction.{Direction}
 use Rattle.resolve.specs.declared.direction.Direction.the-variants.{Turned, Open}
-use Rattle.resolve.specs.Direction.{bearing, orElse, kindOrZero, matched, towards, turn}
+use Rattle.resolve.specs.declared.direction.Membership as direction
+use Rattle.resolve.specs.declared.direction.Membership.the-variants.{Kinds, Unknown}
+use Rattle.resolve.specs.Direction.{bearing, orElse, kindOrZero, matched, towards, turn, Membership, eachOnce, between, tested, member}
 use Rattle.resolve.specs.Tables.{Derived, Tables}
-use Rattle.resolve.specs.Words.{recordAfter, valueAt, kindCount, flagAt, slotsPlace, typedIn, derivedIn, tablesIn, Recorded}
+use Rattle.resolve.specs.Words.{recordAfter, valueAt, kindCount, flagAt, slotsPlace, typedIn, derivedIn, tablesIn, Recorded, membershipOf, MemberTurned}
 
 beyond : (ws : List ℕ) (at : ℕ) → length ws ≤ at → getD ws at 0 ≡ 0
 beyond [] at h = refl
@@ -49,10 +53,10 @@ module _ (t : List ℕ) (name place w : ℕ) {here : ℕ} (n : here ≡ nameAfte
 
 -- ---- a kind or 0
 
-pub kind-known : (ws : List ℕ) (place slot : ℕ) {kind : Kind} {k : ℕ} → KindFound ws place slot kind → kind ≡ Is k → k ≡ kindOrZero (namesAt ws place) slot
+pub kind-known : (ws : List ℕ) (place slot : ℕ) {found : Kind} {k : ℕ} → KindFound ws place slot found → found ≡ kind.Is k → k ≡ kindOrZero (namesAt ws place) slot
 kind-known ws place slot f e = let q : some _ ≡ kindAt (namesAt ws place) slot = ap kindIn (sym e) ∙ f .is in ap (λ o. orElse o 0) q
 
-pub kind-unknown : (ws : List ℕ) (place slot : ℕ) {kind : Kind} → KindFound ws place slot kind → kind ≡ Unknown → 0 ≡ kindOrZero (namesAt ws place) slot
+pub kind-unknown : (ws : List ℕ) (place slot : ℕ) {found : Kind} → KindFound ws place slot found → found ≡ kind.Unknown → 0 ≡ kindOrZero (namesAt ws place) slot
 kind-unknown ws place slot f e = let q : none ≡ kindAt (namesAt ws place) slot = ap kindIn (sym e) ∙ f .is in ap (λ o. orElse o 0) q
 
 -- ---- two kinds
@@ -169,3 +173,115 @@ module _ (ws records marks taken : List ℕ) (relation e c r : ℕ) where
 pub recorded : (records : List ℕ) (n : ℕ) → Recorded records → getD records n 0 ≤ 65536
 unfolding Recorded
 recorded records n h = h n
+
+-- ---- a test of membership
+
+module _ (a b c r x y : ℕ) where
+  abbrev goal-between : Direction
+  goal-between = between (a ∷ b ∷ []) (c, r) x y
+
+  module _ (same : c ≡ r) where
+    pub first-unlike : (a ≡ c → ⊥) → Turned x y 0 ≡ goal-between
+    first-unlike p = sym (rw (eq-eqb c r same, ne-eqb a c p) refl)
+
+    pub second-unlike : a ≡ c → (b ≡ c → ⊥) → Turned x y 0 ≡ goal-between
+    second-unlike p q = sym (rw (eq-eqb c r same, eq-eqb a c p, ne-eqb b c q) refl)
+
+    pub both-like : a ≡ c → b ≡ c → Open c ≡ goal-between
+    both-like p q = sym (rw (eq-eqb c r same, eq-eqb a c p, eq-eqb b c q) refl)
+
+  module _ (unlike : c ≡ r → ⊥) where
+    pub in-order : a ≡ c → b ≡ r → Turned 0 1 0 ≡ goal-between
+    in-order p q =
+        let u : eqb b c ≡ false = ne-eqb b c (λ z. unlike (sym z ∙ q)) in
+        let v : eqb a r ≡ false = ne-eqb a r (λ z. unlike (sym p ∙ z)) in
+        sym (rw (ne-eqb c r unlike, eq-eqb a c p, u, v, eq-eqb b r q) refl)
+
+    pub second-missing : a ≡ c → (b ≡ r → ⊥) → Turned x y 0 ≡ goal-between
+    second-missing p q =
+        let v : eqb a r ≡ false = ne-eqb a r (λ z. unlike (sym p ∙ z)) in
+        sym (rw (ne-eqb c r unlike, eq-eqb a c p, v, ne-eqb b r q) (go (eqb b c)))
+      where
+        go : (t : Bool) → eachOnce x y (0 ∷ pick t (1 ∷ []) []) [] ≡ Turned x y 0
+        go true = refl
+        go false = refl
+
+    pub turned-round : (a ≡ c → ⊥) → a ≡ r → b ≡ c → Turned 1 0 0 ≡ goal-between
+    turned-round p q s =
+        let u : eqb b r ≡ false = ne-eqb b r (λ z. unlike (sym s ∙ z)) in
+        sym (rw (ne-eqb c r unlike, ne-eqb a c p, eq-eqb a r q, eq-eqb b c s, u) refl)
+
+    pub current-missing : (a ≡ c → ⊥) → (b ≡ c → ⊥) → Turned x y 0 ≡ goal-between
+    current-missing p q = sym (rw (ne-eqb c r unlike, ne-eqb a c p, ne-eqb b c q) refl)
+
+    pub related-missing : (a ≡ c → ⊥) → (a ≡ r → ⊥) → Turned x y 0 ≡ goal-between
+    related-missing p q = go (eqb b c) refl
+      where
+        go : (t : Bool) → eqb b c ≡ t → Turned x y 0 ≡ goal-between
+        go false e = current-missing p (eqb-false b c e)
+        go true e =
+            let s : b ≡ c = eqb-true b c e in
+            let u : eqb b r ≡ false = ne-eqb b r (λ z. unlike (sym s ∙ z)) in
+            sym (rw (ne-eqb c r unlike, ne-eqb a c p, ne-eqb a r q, e, u) refl)
+
+module _ (ws : List ℕ) (start x y : ℕ) (flag : flagAt ws start ≡ 1 → ⊥) where
+  pub no-membership : {m : direction.Membership} → m ≡ Unknown → Turned x y 0 ≡ tested (typedIn ws start) (membershipOf m) x y
+  no-membership e = rw e (go (typedIn ws start))
+    where
+      go : (o : Option (List ℕ)) → Turned x y 0 ≡ tested o none x y
+      go none = refl
+      go (some ks) = refl
+
+  module _ {count : ℕ} (k : count ≡ kindCount ws start) where
+    pub untested : (m : Membership) → (count ≡ 2 → ⊥) → Turned x y 0 ≡ tested (typedIn ws start) m x y
+    unfolding typedIn
+    untested m z = sym (rw (ne-eqb (flagAt ws start) 1 flag, ← k, ne-eqb count 2 z) refl)
+
+    pub is-tested : count ≡ 2 → {m : direction.Membership} {a b c r : ℕ} {d : Direction} → m ≡ Kinds c r → a ≡ valueAt ws (start + 4) → b ≡ valueAt ws (start + 5) → d ≡ between (a ∷ b ∷ []) (c, r) x y
+        → d ≡ tested (typedIn ws start) (membershipOf m) x y
+    unfolding typedIn
+    is-tested z e u v q = q ∙ sym (rw (e, ne-eqb (flagAt ws start) 1 flag, ← k, eq-eqb count 2 z, ← u, ← v) refl)
+
+member-plain : (T : Tables) (n : ℕ) (m : Membership) (x y : ℕ) → T .derived n ≡ none → member T n m x y ≡ tested (T .typed n) m x y
+unfolding member
+member-plain T n m x y h = rw (h, member) refl
+
+member-derived : (T : Tables) (n : ℕ) (m : Membership) (x y : ℕ) (d : Derived) → T .derived n ≡ some d → member T n m x y ≡ Turned (d .current) (d .related) 0
+unfolding member
+member-derived T n m x y d h = rw (h, member) refl
+
+module _ (ws records : List ℕ) (relation : ℕ) (m : Membership) (x y : ℕ) where
+  pub member-undeclared : getD records relation 0 ≡ 0 → MemberTurned ws records relation m x y (Turned x y 0)
+  unfolding tablesIn
+  member-undeclared z =
+      record {
+        each = λ marks taken.
+            (let T : Tables = tablesIn ws records marks taken in
+            let d : T .derived relation ≡ none = rw (eq-eqb (getD records relation 0) 0 z) refl in
+            let t : T .typed relation ≡ none = rw (eq-eqb (getD records relation 0) 0 z) refl in
+            sym (member-plain T relation m x y d ∙ ap (λ o. tested o m x y) t));
+      }
+
+  module _ (h : getD records relation 0 ≡ 0 → ⊥) where
+    pub member-typed : {flag : ℕ} {q : Direction} → flag ≡ flagAt ws (getD records relation 0) → (flag ≡ 1 → ⊥) → q ≡ tested (typedIn ws (getD records relation 0)) m x y → MemberTurned ws records relation m x y q
+    unfolding tablesIn derivedIn
+    member-typed {flag} f z q =
+        record {
+          each = λ marks taken.
+              (let T : Tables = tablesIn ws records marks taken in
+              let d : T .derived relation ≡ none = rw (ne-eqb (getD records relation 0) 0 h, ← f, ne-eqb flag 1 z) refl in
+              let t : T .typed relation ≡ typedIn ws (getD records relation 0) = rw (ne-eqb (getD records relation 0) 0 h) refl in
+              q ∙ sym (member-plain T relation m x y d ∙ ap (λ o. tested o m x y) t));
+        }
+
+    pub member-slots : {flag at u v : ℕ} → flag ≡ flagAt ws (getD records relation 0) → flag ≡ 1 → at ≡ slotsPlace ws (getD records relation 0) → u ≡ valueAt ws at → v ≡ valueAt ws (at + 1)
+        → MemberTurned ws records relation m x y (Turned u v 0)
+    unfolding tablesIn derivedIn
+    member-slots {flag} {at} {u} {v} f z s p q =
+        record {
+          each = λ marks taken.
+              (let T : Tables = tablesIn ws records marks taken in
+              let e : Derived = record { current = u; related = v; kinds = namesAt ws (getD marks relation 0 - 2) } in
+              let d : T .derived relation ≡ some e = rw (ne-eqb (getD records relation 0) 0 h, ← f, eq-eqb flag 1 z, ← s, ← p, ← q) refl in
+              sym (member-derived T relation m x y e d));
+        }

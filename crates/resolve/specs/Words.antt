@@ -1,5 +1,6 @@
 -- What the code reads of a relation from the words of a pack.
 use Prim.Native.Nat.{ℕ, _+_, _-_, _*_, _≤_}
+use mathlib.Core.Path.{_≡_}
 use mathlib.Core.List.{List, [], _∷_}
 use mathlib.Core.Option.{Option, none, some}
 use lib.ListN.{getD}
@@ -8,7 +9,11 @@ use Rattle.pack.specs.Table.{pick, kindOf, valueOf}
 use Rattle.pack.specs.Form.{repeats}
 use Rattle.chains.specs.Operations.{namesAt}
 use Rattle.chains.specs.Said.{directIn}
+use Rattle.resolve.specs.declared.direction.Direction.{Direction}
+use Rattle.resolve.specs.declared.direction.Membership as direction
+use Rattle.resolve.specs.declared.direction.Membership.the-variants.{Kinds, Unknown}
 use Rattle.resolve.specs.Tables.{Derived, Tables}
+use Rattle.resolve.specs.Direction.{Membership, member}
 
 -- the place of a relation's record, by name
 unfoldable pub recordAfter : ℕ → ℕ → ℕ → ℕ
@@ -49,3 +54,12 @@ tablesIn ws records marks taken =
 -- every record starts within the words
 unfoldable pub Recorded : List ℕ → Type 0
 Recorded records = (n : ℕ) → getD records n 0 ≤ 65536
+
+-- the code's membership
+abbrev pub membershipOf : direction.Membership → Membership
+membershipOf (Kinds c r) = some (c, r)
+membershipOf Unknown = none
+
+-- a test of membership comes out as the tables say, whatever they say of marks and entities
+pub record MemberTurned (ws records : List ℕ) (relation : ℕ) (m : Membership) (current related : ℕ) (d : Direction) : Type 0 where
+  pub each : (marks taken : List ℕ) → d ≡ member (tablesIn ws records marks taken) relation m current related

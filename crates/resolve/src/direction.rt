@@ -12,13 +12,19 @@ ghost use Prim.Native.Nat.{_<_, _≤_};
 ghost use lib.ListN.{length};
 ghost use Rattle.chains.specs.Operations.{namesAt};
 ghost use Rattle.chains.specs.Said.{directIn};
-ghost use Rattle.resolve.specs.Direction.{bearing, orElse, kindOrZero, matched, towards, turn};
-ghost use Rattle.resolve.specs.Words.{kindCount, flagAt, slotsPlace, typedIn, tablesIn, Recorded};
+ghost use Rattle.resolve.specs.Direction.{bearing, orElse, kindOrZero, matched, towards, turn, between, tested};
+ghost use Rattle.resolve.specs.Words.{kindCount, flagAt, slotsPlace, typedIn, tablesIn, Recorded, membershipOf, MemberTurned};
 
 // How a node comes out: its slots and the kind that results; or its direction is open, between slots of this kind or entity.
 pub enum Direction {
     Turned(u32, u32, u32),
     Open(u32),
+}
+
+// The current and the related kind of a membership, where both are known.
+pub enum Membership {
+    Kinds(u32, u32),
+    Unknown,
 }
 
 // The kind at a slot of the list whose count word stands at a place, or 0.
@@ -49,6 +55,34 @@ fn matched(a: u32, b: u32, kind: u32, entity: u32, current: u32, related: u32) -
     }
     if related == 1 {
         return Direction::Turned(current, related, b);
+    }
+    Direction::Turned(current, related, 0)
+}
+
+// A test of membership between two kinds, over a typed relation of two kinds.
+fn between(a: u32, b: u32, c: u32, r: u32, current: u32, related: u32) -> Direction
+    ensures { λ d. ⌜ d ≡ between (a ∷ b ∷ []) (c, r) current related ⌝ }
+{
+    if c == r {
+        if a != c {
+            return Direction::Turned(current, related, 0);
+        }
+        if b != c {
+            return Direction::Turned(current, related, 0);
+        }
+        return Direction::Open(c);
+    }
+    if a == c {
+        if b == r {
+            return Direction::Turned(0, 1, 0);
+        }
+        return Direction::Turned(current, related, 0);
+    }
+    if a == r {
+        if b == c {
+            return Direction::Turned(1, 0, 0);
+        }
+        return Direction::Turned(current, related, 0);
     }
     Direction::Turned(current, related, 0)
 }
@@ -139,4 +173,45 @@ pub fn turn(
     let c = value_at(pack, at);
     let r = value_at(pack, at + 1);
     Direction::Turned(c, r, kind_or_zero(pack, place_of(marks, relation), r))
+}
+
+// A test of membership over a relation without derivation, whose record starts at a place.
+fn tested(pack: &[u32], start: usize, m: Membership, current: u32, related: u32) -> Direction
+    requires { ⌜ (start ≤ 65536) × (flagAt (now pack) start ≡ 1 → ⊥) ⌝ }
+    ensures { λ r. ⌜ r ≡ tested (typedIn (now (pack .entry)) start) (membershipOf m) current related ⌝ }
+{
+    let Membership::Kinds(c, r) = m else {
+        return Direction::Turned(current, related, 0);
+    };
+    if kind_count(pack, start) != 2 {
+        return Direction::Turned(current, related, 0);
+    }
+    let a = value_at(pack, start + 4);
+    let b = value_at(pack, start + 5);
+    between(a, b, c, r, current, related)
+}
+
+// A test of membership in a relation.
+pub fn member(
+    pack: &[u32],
+    records: &[u32; 4096],
+    relation: usize,
+    m: Membership,
+    current: u32,
+    related: u32,
+) -> Direction
+    requires { ⌜ Recorded (now records) × (relation < 4096) ⌝ }
+    ensures { λ r. ⌜ MemberTurned (now (pack .entry)) (now (records .entry)) relation (membershipOf m) current related r ⌝ }
+{
+    let start = records[relation] as usize;
+    if start == 0 {
+        return Direction::Turned(current, related, 0);
+    }
+    if flag_at(pack, start) != 1 {
+        return tested(pack, start, m, current, related);
+    }
+    let at = slots_place(pack, start);
+    let c = value_at(pack, at);
+    let r = value_at(pack, at + 1);
+    Direction::Turned(c, r, 0)
 }
