@@ -52,7 +52,7 @@ unfolding optionalDerivation Fine items
 option-below n none f = tt
 option-below n (some d) f = entities-below n d (f .2 .0)
 
-tail-below : (n : ℕ) (r : Relation) → Fine (relationTail n) (r .origin, (r .arity, (r .slotKinds, r .derivation))) → (w : Which) → Below n (listOf w r)
+pub tail-below : (n : ℕ) (r : Relation) → Fine (relationTail n) (r .origin, (r .arity, (r .slotKinds, r .derivation))) → (w : Which) → Below n (listOf w r)
 unfolding relationTail Fine
 tail-below n r f list9 = names-below n 9 (r .slotKinds) (f .1 .1 .0)
 tail-below n r f list21 = option-below n (r .derivation) (f .1 .1 .1)

@@ -45,7 +45,7 @@ module _ {R : Type 0} (P : R → Type 0) (stuck : R) (p-stuck : P stuck) (along 
 -- ---- a list of names among other words
 
 -- the words of a list of names
-abbrev nameWords : List ℕ → List ℕ
+abbrev pub nameWords : List ℕ → List ℕ
 nameWords ks = map (wordOf 10) ks
 
 abbrev Short : List ℕ → Type 0
@@ -81,7 +81,7 @@ listed-at pre kind ks more h l s =
 
 -- ---- the words of a relation, before and after each of its lists
 
-list-words : (n : ℕ) (ks : List ℕ) → wordsAll {S = Unit {0}} (λ s a. s) (λ s a. wordOf 10 a ∷ []) tt ks ≡ nameWords ks
+pub list-words : (n : ℕ) (ks : List ℕ) → wordsAll {S = Unit {0}} (λ s a. s) (λ s a. wordOf 10 a ∷ []) tt ks ≡ nameWords ks
 list-words n [] = refl
 list-words n (k ∷ ks) = ap (λ (l : List ℕ). wordOf 10 k ∷ l) (list-words n ks)
 
@@ -117,7 +117,7 @@ nine-in n used r f =
       short = short-names n (r .slotKinds) (f .1 .1 .1 .0 .2);
     }
 
-path-words : (n : ℕ) (p : Option (List Hop)) → length (wordsBy (path n) p) ≡ 1 + 3 * hops p
+pub path-words : (n : ℕ) (p : Option (List Hop)) → length (wordsBy (path n) p) ≡ 1 + 3 * hops p
 unfolding path wordsBy count items
 path-words n none = refl
 path-words n (some l) = let e = hop-words n l in omega arith
@@ -128,10 +128,10 @@ glue (x ∷ A) E T a b c d w = ap (λ (l : List ℕ). x ∷ l) (glue A E T a b c
 
 -- the words of a derivation, taken apart at list 21
 module _ (n : ℕ) (d : Derivation) where
-  abbrev early : List ℕ
+  abbrev pub early : List ℕ
   early = wordOf 12 (d .source) ∷ (wordsBy (path n) (d .path) ++ (wordOf 17 (d .current) ∷ wordOf 18 (d .related) ∷ wordOf 19 (d .entity) ∷ wordOf 20 (d .member) ∷ []))
 
-  abbrev late : List ℕ
+  abbrev pub late : List ℕ
   late = wordsBy (root n judgment) (d .predicate) ++ []
 
   derivation-words : wordsBy (derivation n) d ++ [] ≡ early ++ (wordOf 21 (length (d .slotEntities)) ∷ (nameWords (d .slotEntities) ++ late))
@@ -147,12 +147,12 @@ module _ (n : ℕ) (d : Derivation) where
       let m = path-words n (d .path) in
       omega arith
 
-derived-fine : (n : ℕ) (o : Option Derivation) (d : Derivation) → o ≡ some d → Fine (optionalDerivation n) o → Fine (derivation n) d
+pub derived-fine : (n : ℕ) (o : Option Derivation) (d : Derivation) → o ≡ some d → Fine (optionalDerivation n) o → Fine (derivation n) d
 unfolding optionalDerivation Fine items
 derived-fine n none d e f = let z : _≡_ {A = ℕ} 0 1 = cc in absurd (omega arith)
 derived-fine n (some b) d e f = let s : b ≡ d = cc in rw (← s) (f .2 .0)
 
-option-words : (n : ℕ) (o : Option Derivation) (d : Derivation) → o ≡ some d
+pub option-words : (n : ℕ) (o : Option Derivation) (d : Derivation) → o ≡ some d
     → wordsBy (optionalDerivation n) o ≡ wordOf 11 1 ∷ (early n d ++ (wordOf 21 (length (d .slotEntities)) ∷ (nameWords (d .slotEntities) ++ late n d)))
 unfolding optionalDerivation wordsBy count items
 option-words n none d e = let z : _≡_ {A = ℕ} 0 1 = cc in absurd (omega arith)
@@ -184,13 +184,13 @@ twenty-one-in n used r d e f =
 
 -- ---- a relation in the words of a pack
 
-record InWords (ws : List ℕ) (start n : ℕ) (r : Relation) : Type 0 where
-  before : List ℕ
-  after : List ℕ
-  long : length before ≡ start
-  same-words : ws ≡ before ++ (relationWords n r ++ after)
-  used : ℕ → Bool
-  fine : Fine (relation n used) r
+pub record InWords (ws : List ℕ) (start n : ℕ) (r : Relation) : Type 0 where
+  pub before : List ℕ
+  pub after : List ℕ
+  pub long : length before ≡ start
+  pub same-words : ws ≡ before ++ (relationWords n r ++ after)
+  pub used : ℕ → Bool
+  pub fine : Fine (relation n used) r
 
 in-words : (n name : ℕ) (pre rest used : List ℕ) (rs : List Relation) (r : Relation) → RelationsFine n used rs → find name rs ≡ some r
     → InWords (pre ++ (relationsWords n used rs ++ rest)) (startOf n name (length pre) rs) n r
@@ -246,7 +246,7 @@ module _ (p : Pack) (w : WellFormed p) where
   unfolding placeOf namesAt
   none-holds = refl
 
-  in-pack : (r : Relation) → find (r .name) rs ≡ some r → InWords (words p) (startOf (p .names) (r .name) (firstRelation p) rs) (p .names) r
+  pub in-pack : (r : Relation) → find (r .name) rs ≡ some r → InWords (words p) (startOf (p .names) (r .name) (firstRelation p) rs) (p .names) r
   in-pack r e =
       let five : ℕ = wordOf 5 (length rs) in
       let rest : List ℕ = wordOf 22 (length (p .rules)) ∷ split p .more in

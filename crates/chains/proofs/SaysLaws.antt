@@ -132,7 +132,7 @@ module _ {ws t : List ℕ} (p : Pack) (h : read ws ≡ yes p) (k : Known ws t) w
         go none q = absurd (z (directly ∙ ap orNone q))
         go (some j) q = let d : directOf (getD t e 0) ≡ j = directly ∙ ap orNone q in omega (arith, direct-below p fine e j q, most)
 
-    direct-in : directIn t e ≡ direct rs e
+    pub direct-in : directIn t e ≡ direct rs e
     unfolding directIn
     direct-in = go (direct rs e) refl
       where

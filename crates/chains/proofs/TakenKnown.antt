@@ -226,7 +226,7 @@ marked-fits ws marks n slot = go (eqb (getD marks n 0 - 2) 0)
     go true = tt
     go false = at (ltb slot (length (map valueOf l)))
 
-kind-of : {ws names marks : List ℕ} {steps : ℕ} → KindsMarked ws steps names marks → (p : Pack) → read ws ≡ yes p → words p ≡ ws → WellFormed p
+pub kind-of : {ws names marks : List ℕ} {steps : ℕ} → KindsMarked ws steps names marks → (p : Pack) → read ws ≡ yes p → words p ≡ ws → WellFormed p
     → (n : ℕ) → among n (declared (p .relations)) ≡ true → (slot : ℕ) → kindMarked ws marks n slot ≡ kindAt (kindsOf (p .relations) n) slot
 unfolding kindMarked
 kind-of {ws} {marks = marks} m p h same fine n i slot =

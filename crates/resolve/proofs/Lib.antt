@@ -9,3 +9,4 @@ pub mod ResolvedFine
 pub mod ResolvedPack
 pub mod Demand3Laws
 pub mod WordLaws
+pub mod TablesLaws
