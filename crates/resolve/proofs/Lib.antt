@@ -10,3 +10,4 @@ pub mod ResolvedPack
 pub mod Demand3Laws
 pub mod WordLaws
 pub mod TablesLaws
+pub mod CheckedTables

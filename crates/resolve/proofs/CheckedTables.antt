@@ -1,0 +1,224 @@
+-- Of a checked pack, the tables that the code reads are those that resolving uses.
+use Prim.Native.Nat.{ℕ, zero, suc, _+_, _-_, _<_, _≤_}
+use native.Mathlib.Omega.{arith}
+use mathlib.Core.Path.{_≡_, refl, ap, sym, _∙_, subst, fun-ext}
+use mathlib.Core.List.{List, [], _∷_, _++_}
+use mathlib.Core.Bool.{Bool, true, false, _||_}
+use mathlib.Core.Option.{Option, none, some}
+use lib.ListN.{length, getD}
+use lib.Dec.{eqb, ltb}
+use borrow.Author.Tests.{eq-eqb, ne-eqb, eqb-true, ltb-true, ltb-false}
+use Rattle.pack.specs.Table.{pick, wordOf, table, entryOf}
+use Rattle.pack.specs.Table as table
+use Rattle.pack.specs.Form.{among, allowedHere, items, Fine}
+use Rattle.pack.specs.Pack.{Derivation, Relation, Pack, WellFormed, yes, read, words, derivation, member, optionalDerivation, relationTail}
+use Rattle.pack.proofs.PackLaws.{words-read}
+use Rattle.chains.specs.Kinds.{find, declared, kindsOf}
+use Rattle.chains.specs.Filtered.{takenFrom, taken, single, direct}
+use Rattle.chains.specs.Filtered as filtered
+use Rattle.chains.specs.Operations.{relationWords, startOf, firstRelation, placeOf, namesAt}
+use Rattle.chains.specs.Kinds.{ownAnswer}
+use Rattle.chains.specs.Scan.{scanTable}
+use Rattle.chains.specs.AllKinds.{KindsMarked}
+use Rattle.chains.specs.Taking.{Known}
+use Rattle.chains.specs.Said.{directOf, directIn}
+use Rattle.chains.proofs.Names.{or-left, or-right}
+use Rattle.chains.proofs.Quiet.{Passing}
+use Rattle.chains.proofs.ScanLaws.{afterOption, afterRelation}
+use Rattle.chains.proofs.DeclarationLaws.{Fitting}
+use Rattle.chains.proofs.Hushed.{kind-word}
+use Rattle.chains.proofs.RelationScan.{RelationsFine, kept}
+use Rattle.chains.proofs.ByNameLaws.{left}
+use Rattle.chains.proofs.PackIndex.{zeros, parts, scan-table, find-kept, find-name, start-within, relations-room}
+use Rattle.chains.proofs.ListAt.{InWords, in-pack, place-holds}
+use Rattle.chains.proofs.SaysLaws.{direct-in}
+use Rattle.resolve.specs.Tables.{derivedAt, typedAt, Tables, tables}
+use Rattle.resolve.specs.Words.{recordAfter, typedIn, derivedIn, tablesIn, Recorded}
+use Rattle.resolve.proofs.TablesLaws.{typed-read, derived-read}
+
+-- ---- the places of records
+
+record-passes : Passing recordAfter
+unfolding recordAfter
+record-passes = record { passes = λ x place w k. simp (k .not-6) }
+
+module _ (x place v : ℕ) (fits : v < 16777216) where
+  at-6 : recordAfter x place (wordOf 6 v) ≡ place
+  unfolding recordAfter
+  at-6 = simp (kind-word 6 v fits)
+
+  at-other : (k : ℕ) → eqb k 6 ≡ false → recordAfter x place (wordOf k v) ≡ x
+  unfolding recordAfter
+  at-other k e = simp (kind-word k v fits, e)
+
+relation-starts : (r : Relation) (start : ℕ) → r .name < 16777216 → length (r .slotKinds) < 16777216 → ((d : Derivation) → r .derivation ≡ some d → Fitting d) → afterRelation recordAfter r start 0 ≡ start
+relation-starts r start m l f = go (r .derivation) f
+  where
+    x9 : ℕ
+    x9 = recordAfter (recordAfter 0 start (wordOf 6 (r .name))) (start + 1 + 2) (wordOf 9 (length (r .slotKinds)))
+
+    nine : x9 ≡ start
+    nine = at-other _ (start + 1 + 2) (length (r .slotKinds)) l 9 refl ∙ at-6 0 start (r .name) m
+
+    go : (o : Option Derivation) → ((d : Derivation) → o ≡ some d → Fitting d) → afterOption recordAfter o (start + 1 + 4 + length (r .slotKinds)) x9 ≡ start
+    go none f = nine
+    go (some d) f =
+        let g = f d refl in
+        at-other _ _ (length (d .slotEntities)) (g .entities) 21 refl
+        ∙ at-other _ _ (d .entity) (g .entity) 19 refl
+        ∙ at-other _ _ (d .related) (g .related) 18 refl
+        ∙ at-other _ _ (d .current) (g .current) 17 refl
+        ∙ at-other _ _ _ (g .path) 13 refl
+        ∙ at-other _ _ (d .source) (g .source) 12 refl
+        ∙ nine
+
+start-least : (n name at : ℕ) (rs : List Relation) → at ≤ startOf n name at rs
+unfolding startOf
+start-least n name at [] = omega arith
+start-least n name at (r ∷ rs) = go (eqb name (r .name)) (start-least n name (at + length (relationWords n r)) rs)
+  where
+    go : (b : Bool) → at + length (relationWords n r) ≤ startOf n name (at + length (relationWords n r)) rs → at ≤ pick b at (startOf n name (at + length (relationWords n r)) rs)
+    go true h = omega arith
+    go false h = omega arith
+
+found-among : (m : ℕ) (rs : List Relation) (r : Relation) → find m rs ≡ some r → among m (declared rs) ≡ true
+unfolding find
+found-among m [] r e = let z : _≡_ {A = ℕ} 0 1 = cc in absurd (omega arith)
+found-among m (s ∷ rs) r e = go (eqb m (s .name)) e (found-among m rs r)
+  where
+    go : (b : Bool) → pick b (some s) (find m rs) ≡ some r → (find m rs ≡ some r → among m (declared rs) ≡ true) → (b || among m (declared rs)) ≡ true
+    go true e ih = refl
+    go false e ih = ih e
+
+-- ---- entities are names of the pack
+
+entity-allowed : (n v e : ℕ) → allowedHere n 19 v ≡ true → n ≤ e → e < 4096 → eqb v e ≡ false
+unfolding allowedHere entryOf table
+entity-allowed n v e a l u = go (ltb v n) refl a
+  where
+    go : (b : Bool) → ltb v n ≡ b → (b || eqb v table.none) ≡ true → eqb v e ≡ false
+    go true h a = ne-eqb v e (λ q. (let z = ltb-true v n h in omega arith))
+    go false h a = ne-eqb v e (λ q. (let z = eqb-true v table.none a in omega arith))
+
+option-entity : (n : ℕ) (o : Option Derivation) → Fine (optionalDerivation n) o → (d : Derivation) → o ≡ some d → allowedHere n 19 (d .entity) ≡ true
+unfolding optionalDerivation derivation member Fine items
+option-entity n none f d e = let z : _≡_ {A = ℕ} 0 1 = cc in absurd (omega arith)
+option-entity n (some b) f d e = let s : b ≡ d = cc in rw (← s) (f .2 .0 .1 .0 .1)
+
+tail-entity : (n : ℕ) (r : Relation) → Fine (relationTail n) (r .origin, (r .arity, (r .slotKinds, r .derivation))) → (d : Derivation) → r .derivation ≡ some d → allowedHere n 19 (d .entity) ≡ true
+unfolding relationTail Fine
+tail-entity n r f = option-entity n (r .derivation) (f .1 .1 .1)
+
+none-taken : (n : ℕ) (all : List Relation) (e : ℕ) → n ≤ e → e < 4096 → (used : List ℕ) (l : List Relation) → RelationsFine n used l → takenFrom all e l ≡ []
+none-taken n all e h u used [] f = refl
+none-taken n all e h u used (r ∷ l) f = rw (go (r .derivation) (tail-entity n r (kept n (λ v. among v used) r (f .0) .tail)), none-taken n all e h u (r .name ∷ used) l (f .1)) refl
+  where
+    go : (o : Option Derivation) → ((d : Derivation) → o ≡ some d → allowedHere n 19 (d .entity) ≡ true) → filtered.takes all e (r .name) o ≡ []
+    go none q = refl
+    go (some d) q = rw (entity-allowed n (d .entity) e (q d refl) h u) refl
+
+-- ---- the tables
+
+module _ (ws records marks taken₀ names : List ℕ) (steps : ℕ) (p : Pack) (h : read ws ≡ yes p) (scanned : records ≡ scanTable recordAfter zeros ws) (marked : KindsMarked ws steps names marks)
+    (knows : Known ws taken₀) (long : length taken₀ ≡ 4096) where
+  abbrev rs : List Relation
+  rs = p .relations
+
+  abbrev n : ℕ
+  n = p .names
+
+  w : WellFormed p
+  w = words-read ws p h .fine
+
+  same : words p ≡ ws
+  same = words-read ws p h .same
+
+  record-at : (m : ℕ) → getD records m 0 ≡ left recordAfter 0 (startOf n m (firstRelation p) rs) (find m rs)
+  record-at m = ap (λ (t : List ℕ). getD t m 0) (scanned ∙ ap (scanTable recordAfter zeros) (sym same)) ∙ scan-table recordAfter record-passes p w m
+
+  undeclared-at : (m : ℕ) → find m rs ≡ none → getD records m 0 ≡ 0
+  undeclared-at m e = record-at m ∙ ap (left recordAfter 0 (startOf n m (firstRelation p) rs)) e
+
+  declared-at : (m : ℕ) (r : Relation) → find m rs ≡ some r → getD records m 0 ≡ startOf n m (firstRelation p) rs
+  declared-at m r e =
+      let f = parts p w in
+      let k = find-kept n m [] rs r (f .relations-fine) e .1 in
+      record-at m ∙ ap (left recordAfter 0 (startOf n m (firstRelation p) rs)) e ∙ relation-starts r (startOf n m (firstRelation p) rs) (omega (arith, k .below, f .most)) (k .kinds) (k .derived)
+
+  record-some : (m : ℕ) (r : Relation) → find m rs ≡ some r → getD records m 0 ≡ 0 → ⊥
+  record-some m r e z = let q = declared-at m r e in let l = start-least n m (firstRelation p) rs in omega arith
+
+  pub its-records : Recorded records
+  unfolding Recorded
+  its-records m = go (find m rs) refl
+    where
+      go : (o : Option Relation) → find m rs ≡ o → getD records m 0 ≤ 65536
+      go none e = omega (arith, undeclared-at m e)
+      go (some r) e = omega (arith, declared-at m r e, start-within n m (firstRelation p) [] rs, relations-room p w)
+
+  -- the relation of a name stands where its record starts
+  abbrev T : Tables
+  T = tablesIn ws records marks taken₀
+
+  abbrev U : Tables
+  U = tables n rs
+
+  typed-alike : (m : ℕ) → T .typed m ≡ U .typed m
+  unfolding tablesIn tables
+  typed-alike m = go (find m rs) refl
+    where
+      go : (o : Option Relation) → find m rs ≡ o → pick (eqb (getD records m 0) 0) none (typedIn ws (getD records m 0)) ≡ typedAt o
+      go none e = rw (undeclared-at m e) refl
+      go (some r) e =
+          let q : m ≡ r .name = find-name rs m r e in
+          let f : find (r .name) rs ≡ some r = ap (λ (v : ℕ). find v rs) (sym q) ∙ e in
+          let i = subst (λ (v : List ℕ). InWords v (startOf n (r .name) (firstRelation p) rs) n r) same (in-pack p w r f) in
+          let s : getD records m 0 ≡ startOf n (r .name) (firstRelation p) rs = declared-at m r e ∙ ap (λ (v : ℕ). startOf n v (firstRelation p) rs) q in
+          rw (ne-eqb (getD records m 0) 0 (record-some m r e)) (ap (typedIn ws) s ∙ typed-read ws (startOf n (r .name) (firstRelation p) rs) n r i (parts p w .most))
+
+  derived-alike : (m : ℕ) → T .derived m ≡ U .derived m
+  unfolding tablesIn tables
+  derived-alike m = go (find m rs) refl
+    where
+      go : (o : Option Relation) → find m rs ≡ o → pick (eqb (getD records m 0) 0) none (derivedIn ws (getD marks m 0 - 2) (getD records m 0)) ≡ derivedAt (kindsOf rs m) o
+      go none e = rw (undeclared-at m e) refl
+      go (some r) e =
+          let q : m ≡ r .name = find-name rs m r e in
+          let f : find (r .name) rs ≡ some r = ap (λ (v : ℕ). find v rs) (sym q) ∙ e in
+          let i = subst (λ (v : List ℕ). InWords v (startOf n (r .name) (firstRelation p) rs) n r) same (in-pack p w r f) in
+          let s : getD records m 0 ≡ startOf n (r .name) (firstRelation p) rs = declared-at m r e ∙ ap (λ (v : ℕ). startOf n v (firstRelation p) rs) q in
+          let place : ℕ = getD marks m 0 - 2 in
+          let at : place ≡ placeOf p (ownAnswer rs m) = (let k = marked .marked p h m (found-among m rs r e) in omega arith) in
+          let kinds : namesAt ws place ≡ kindsOf rs m = ap (namesAt ws) at ∙ ap (λ (v : List ℕ). namesAt v (placeOf p (ownAnswer rs m))) (sym same) ∙ place-holds p w m in
+          rw (ne-eqb (getD records m 0) 0 (record-some m r e))
+          (ap (derivedIn ws place) s ∙ derived-read ws (startOf n (r .name) (firstRelation p) rs) n r i (parts p w .most) place ∙ ap (λ k. derivedAt k (some r)) kinds)
+
+  beyond : (l : List ℕ) (e : ℕ) → length l ≤ e → getD l e 0 ≡ 0
+  beyond [] e k = refl
+  beyond (x ∷ l) zero k = absurd (omega arith)
+  beyond (x ∷ l) (suc e) k = beyond l e (omega arith)
+
+  past-names : (e : ℕ) → n ≤ e → e < 4096 → direct rs e ≡ none
+  unfolding direct taken
+  past-names e a b = ap single (none-taken n rs e a b [] rs (parts p w .relations-fine))
+
+  no-entity : (e : ℕ) → 4096 ≤ e → directIn taken₀ e ≡ none
+  unfolding directIn directOf
+  no-entity e a = rw (beyond taken₀ e (omega (arith, long))) refl
+
+  direct-alike : (e : ℕ) → directIn taken₀ e ≡ pick (ltb e n) (direct rs e) none
+  direct-alike e = go (ltb e n) refl (ltb e 4096) refl
+    where
+      go : (a : Bool) → ltb e n ≡ a → (b : Bool) → ltb e 4096 ≡ b → directIn taken₀ e ≡ pick a (direct rs e) none
+      go true x true y = direct-in p h knows e (ltb-true e 4096 y)
+      go true x false y = let u = ltb-true e n x in let v = ltb-false e 4096 y in let t = parts p w .most in absurd (omega arith)
+      go false x true y = direct-in p h knows e (ltb-true e 4096 y) ∙ past-names e (ltb-false e n x) (ltb-true e 4096 y)
+      go false x false y = no-entity e (ltb-false e 4096 y)
+
+  pub tables-are : tablesIn ws records marks taken₀ ≡ tables n rs
+  unfolding tablesIn tables
+  tables-are =
+      let typed : T .typed ≡ U .typed = fun-ext typed-alike in
+      let derived : T .derived ≡ U .derived = fun-ext derived-alike in
+      let directs : T .direct ≡ U .direct = fun-ext direct-alike in
+      λ i. record { typed = typed i; derived = derived i; direct = directs i }
