@@ -1,13 +1,13 @@
 -- Of a checked pack, the tables that the code reads are those that resolving uses.
-use Prim.Native.Nat.{ℕ, zero, suc, _+_, _-_, _<_, _≤_}
+use Prim.Native.Nat.{ℕ, _+_, _-_, _<_, _≤_}
 use native.Mathlib.Omega.{arith}
 use mathlib.Core.Path.{_≡_, refl, ap, sym, _∙_, subst, fun-ext}
-use mathlib.Core.List.{List, [], _∷_, _++_}
+use mathlib.Core.List.{List, [], _∷_}
 use mathlib.Core.Bool.{Bool, true, false, _||_}
 use mathlib.Core.Option.{Option, none, some}
 use lib.ListN.{length, getD}
 use lib.Dec.{eqb, ltb}
-use borrow.Author.Tests.{eq-eqb, ne-eqb, eqb-true, ltb-true, ltb-false}
+use borrow.Author.Tests.{ne-eqb, eqb-true, ltb-true, ltb-false}
 use Rattle.pack.specs.Table.{pick, wordOf, table, entryOf}
 use Rattle.pack.specs.Table as table
 use Rattle.pack.specs.Form.{among, allowedHere, items, Fine}
@@ -22,7 +22,6 @@ use Rattle.chains.specs.Scan.{scanTable}
 use Rattle.chains.specs.AllKinds.{KindsMarked}
 use Rattle.chains.specs.Taking.{Known}
 use Rattle.chains.specs.Said.{directOf, directIn}
-use Rattle.chains.proofs.Names.{or-left, or-right}
 use Rattle.chains.proofs.Quiet.{Passing}
 use Rattle.chains.proofs.ScanLaws.{afterOption, afterRelation}
 use Rattle.chains.proofs.DeclarationLaws.{Fitting}
@@ -34,6 +33,7 @@ use Rattle.chains.proofs.ListAt.{InWords, in-pack, place-holds}
 use Rattle.chains.proofs.SaysLaws.{direct-in}
 use Rattle.resolve.specs.Tables.{derivedAt, typedAt, Tables, tables}
 use Rattle.resolve.specs.Words.{recordAfter, typedIn, derivedIn, tablesIn, Recorded}
+use Rattle.resolve.proofs.WordLaws.{beyond}
 use Rattle.resolve.proofs.TablesLaws.{typed-read, derived-read}
 
 -- ---- the places of records
@@ -192,11 +192,6 @@ module _ (ws records marks taken₀ names : List ℕ) (steps : ℕ) (p : Pack) (
           let kinds : namesAt ws place ≡ kindsOf rs m = ap (namesAt ws) at ∙ ap (λ (v : List ℕ). namesAt v (placeOf p (ownAnswer rs m))) (sym same) ∙ place-holds p w m in
           rw (ne-eqb (getD records m 0) 0 (record-some m r e))
           (ap (derivedIn ws place) s ∙ derived-read ws (startOf n (r .name) (firstRelation p) rs) n r i (parts p w .most) place ∙ ap (λ k. derivedAt k (some r)) kinds)
-
-  beyond : (l : List ℕ) (e : ℕ) → length l ≤ e → getD l e 0 ≡ 0
-  beyond [] e k = refl
-  beyond (x ∷ l) zero k = absurd (omega arith)
-  beyond (x ∷ l) (suc e) k = beyond l e (omega arith)
 
   past-names : (e : ℕ) → n ≤ e → e < 4096 → direct rs e ≡ none
   unfolding direct taken

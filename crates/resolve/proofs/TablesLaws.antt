@@ -1,24 +1,23 @@
 -- What the code reads of a checked pack's relations are the tables that resolving uses.
-use Prim.Native.Nat.{ℕ, zero, suc, _+_, _-_, _*_, _<_, _≤_}
+use Prim.Native.Nat.{ℕ, _+_, _*_, _<_, _≤_}
 use native.Mathlib.Omega.{arith}
-use mathlib.Core.Path.{_≡_, refl, ap, sym, _∙_, subst, fun-ext}
-use mathlib.Core.List.{List, [], _∷_, _++_, map, append-assoc}
-use mathlib.Core.Bool.{Bool, true, false}
+use mathlib.Core.Path.{_≡_, refl, ap, sym, _∙_, subst}
+use mathlib.Core.List.{List, [], _∷_, _++_, append-assoc}
 use mathlib.Core.Option.{Option, none, some}
 use lib.ListN.{length, getD, length-append, length-map}
 use lib.Seq.{getD-at}
-use lib.Dec.{eqb, ltb}
-use borrow.Author.Tests.{eq-eqb, ne-eqb}
+use lib.Dec.{eqb}
+use borrow.Author.Tests.{ne-eqb}
 use Rattle.pack.specs.Table.{pick, wordOf, valueOf}
-use Rattle.pack.specs.Form.{listOrNone, count, items, repeats, wordsBy, Fine}
-use Rattle.pack.specs.Pack.{Hop, Derivation, Relation, Pack, WellFormed, relation, newName, relationTail, nameList, optionalDerivation, path, words}
-use Rattle.chains.specs.Operations.{namesAt, relationWords, startOf, firstRelation, hops}
-use Rattle.chains.specs.Kinds.{list9, find}
+use Rattle.pack.specs.Form.{listOrNone, count, items, repeats, wordsBy}
+use Rattle.pack.specs.Pack.{Hop, Derivation, Relation, relation, newName, relationTail, nameList, optionalDerivation, path}
+use Rattle.chains.specs.Operations.{namesAt, hops}
+use Rattle.chains.specs.Kinds.{list9}
 use Rattle.chains.proofs.KindBounds.{Below, tail-below}
 use Rattle.chains.proofs.DeclarationLaws.{Fitting}
 use Rattle.chains.proofs.RelationScan.{Kept, kept}
 use Rattle.chains.proofs.ListAt.{nameWords, list-words, path-words, early, late, option-words, InWords}
-use Rattle.resolve.specs.Tables.{Derived, derivedBy, pair, typedBy}
+use Rattle.resolve.specs.Tables.{derivedBy, pair, typedBy}
 use Rattle.resolve.specs.Words.{valueAt, kindCount, flagAt, slotsPlace, typedIn, derivedIn}
 
 -- the value of a word that stands at a place
@@ -158,11 +157,10 @@ module _ (ws : List ℕ) (start n : ℕ) (r : Relation) (i : InWords ws start n 
   two-kinds a b e =
       let w : ws ≡ after-nine ++ (nameWords (a ∷ b ∷ []) ++ (optionWords ++ i .after)) = nine-words ∙ ap (λ (l : List ℕ). after-nine ++ (nameWords l ++ (optionWords ++ i .after))) e in
       let f : Below n (a ∷ b ∷ []) = subst (Below n) e kinds-below in
-      let one : List ℕ = wordOf 10 a ∷ [] in
-      (
+      let one : List ℕ = wordOf 10 a ∷ [] in (
         value-there ws after-nine (wordOf 10 b ∷ (optionWords ++ i .after)) 10 a (start + 4) w nine-length (omega (arith, f .0)),
         value-there ws (after-nine ++ one) (optionWords ++ i .after) 10 b (start + 5) (w ∙ sym (append-assoc after-nine one (wordOf 10 b ∷ (optionWords ++ i .after)))) (length-append after-nine one ∙ omega (arith, nine-length))
-        (omega (arith, f .1 .0)),
+            (omega (arith, f .1 .0)),
       )
 
   read-pair : (l : List ℕ) → ks ≡ l → pick (eqb (kindCount ws start) 2) (some (valueAt ws (start + 4) ∷ valueAt ws (start + 5) ∷ [])) none ≡ pair l

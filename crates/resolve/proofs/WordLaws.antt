@@ -10,7 +10,6 @@ use lib.Seq.{set-getD}
 use lib.Dec.{eqb}
 use borrow.Author.Tests.{eq-eqb, ne-eqb, eqb-true, eqb-false, le-ltb}
 use Rattle.pack.specs.Table.{pick, kindOf, valueOf}
-use Rattle.pack.specs.Form.{repeats}
 use Rattle.chains.specs.declared.taking.Kind.{Kind}
 use Rattle.chains.specs.declared.taking.Kind.the-variants as kind
 use Rattle.chains.specs.Filtered.{kindAt}
@@ -27,7 +26,7 @@ use Rattle.resolve.specs.Direction.{bearing, orElse, kindOrZero, matched
 use Rattle.resolve.specs.Tables.{Derived, Tables}
 use Rattle.resolve.specs.Words.{recordAfter, valueAt, kindCount, flagAt, slotsPlace, typedIn, derivedIn, tablesIn, Recorded, membershipOf, MemberTurned}
 
-beyond : (ws : List ℕ) (at : ℕ) → length ws ≤ at → getD ws at 0 ≡ 0
+pub beyond : (ws : List ℕ) (at : ℕ) → length ws ≤ at → getD ws at 0 ≡ 0
 beyond [] at h = refl
 beyond (w ∷ ws) zero h = absurd (omega arith)
 beyond (w ∷ ws) (suc at) h = beyond ws at (omega arith)

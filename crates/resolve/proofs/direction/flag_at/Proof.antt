@@ -1,5 +1,4 @@
 -- `resolve::direction::flag_at` meets its contract.
-use native.Mathlib.Omega.{arith}
 use Rattle.resolve.proofs.WordLaws.{the-flag}
 use borrow.Author.Needs.{needs}
 use Rattle.resolve.proofs.direction.flag_at.Statement.{statement}

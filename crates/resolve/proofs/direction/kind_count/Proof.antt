@@ -1,5 +1,4 @@
 -- `resolve::direction::kind_count` meets its contract.
-use native.Mathlib.Omega.{arith}
 use Rattle.resolve.proofs.WordLaws.{the-count}
 use borrow.Author.Needs.{needs}
 use Rattle.resolve.proofs.direction.kind_count.Statement.{statement}

@@ -1,6 +1,6 @@
 -- `resolve::direction::turn` meets its contract.
 use native.Mathlib.Omega.{arith}
-use mathlib.Core.Path.{sym, _∙_}
+use mathlib.Core.Path.{_∙_}
 use Rattle.resolve.proofs.WordLaws.{undeclared, not-derived, is-derived, recorded}
 use borrow.Author.Needs.{needs}
 use Rattle.resolve.proofs.direction.turn.Statement.{statement}
