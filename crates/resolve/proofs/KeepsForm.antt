@@ -126,10 +126,10 @@ any-slot : (n v : ℕ) → (allowedHere n 80 v ≡ true) × (allowedHere n 81 v 
 unfolding allowedHere entryOf table
 any-slot n v = (refl, refl)
 
-abbrev FieldFine : ℕ → List ℕ → ℕ × ℕ → Type 0
+abbrev pub FieldFine : ℕ → List ℕ → ℕ × ℕ → Type 0
 FieldFine n kinds f = Fine (word (only kinds) n) f
 
-abbrev FieldsFine : ℕ → List (List ℕ) → Fields → Type 0
+abbrev pub FieldsFine : ℕ → List (List ℕ) → Fields → Type 0
 FieldsFine n kss fs = FineEach (FieldFine n) kss fs
 
 slot-fine : (n kind : ℕ) (f : ℕ × ℕ) (c : ℕ) → FieldFine n (kind ∷ []) f → Slot c → allowedHere n kind c ≡ true → FieldFine n (kind ∷ []) (f .0, c)
@@ -185,6 +185,28 @@ unfolding fieldsOf childrenOf
 test-fine n v fs entity m (Turned c r k) h q = (slots-fine n _ fs c r h (q .0) (q .1), refl)
 test-fine n v fs entity m (Open k) h q = tt
 
+module _ (n : ℕ) where
+  -- a tree as its head, fields and children
+  abbrev pub NodeFine : ℕ → ℕ → ℕ → ℕ → Fields → Forest → Type 0
+  NodeFine d sort k v fs f =
+      Fine (word (heads sort (suc d)) n) (k, v) × (FieldsFine n (fieldsOf (entryOf k .follows)) fs × FineEach (λ s t. Fine (tree n d s) t) (childrenOf (entryOf k .follows) v (lastField fs)) (ofForest f))
+
+  pub open-node : (d sort k v : ℕ) (fs : Fields) (f : Forest) → Fine (tree n (suc d) sort) (node k v fs f) → NodeFine d sort k v fs f
+  unfolding tree follow fields Fine
+  open-node d sort k v fs f h = h
+
+  close-node : (d sort k v : ℕ) (fs : Fields) (f : Forest) → NodeFine d sort k v fs f → Fine (tree n (suc d) sort) (node k v fs f)
+  unfolding tree follow fields Fine
+  close-node d sort k v fs f h = h
+
+  pub no-level : (sort k v : ℕ) (fs : Fields) (f : Forest) → Fine (tree n zero sort) (node k v fs f) → ⊥
+  unfolding tree Fine heads
+  no-level sort k v fs f h = go (eqb (entryOf k .sort) sort) (h .0 .0)
+    where
+      go : (b : Bool) → _≡_ {A = ℕ} (pick b 5 2) 0 → ⊥
+      go true e = omega arith
+      go false e = omega arith
+
 module _ (C : Citing) (fit : TablesFit (C .tables)) (n : ℕ) where
   step-fine : (entity : ℕ) (m : Membership) (w : Follows) (v : ℕ) (fs : Fields) → FieldsFine n (fieldsOf w) fs → StepFine n w v fs (stepBy C entity m w v fs)
   unfolding stepBy fieldsOf
@@ -210,42 +232,21 @@ module _ (C : Citing) (fit : TablesFit (C .tables)) (n : ℕ) where
   step-fine entity m Atom v fs h = (h, refl)
   step-fine entity m Exists v fs h = (h, refl)
 
-  -- a tree as its head, fields and children
-  abbrev NodeFine : ℕ → ℕ → ℕ → ℕ → Fields → Forest → Type 0
-  NodeFine d sort k v fs f =
-      Fine (word (heads sort (suc d)) n) (k, v) × (FieldsFine n (fieldsOf (entryOf k .follows)) fs × FineEach (λ s t. Fine (tree n d s) t) (childrenOf (entryOf k .follows) v (lastField fs)) (ofForest f))
-
-  open-node : (d sort k v : ℕ) (fs : Fields) (f : Forest) → Fine (tree n (suc d) sort) (node k v fs f) → NodeFine d sort k v fs f
-  unfolding tree follow fields Fine
-  open-node d sort k v fs f h = h
-
-  close-node : (d sort k v : ℕ) (fs : Fields) (f : Forest) → NodeFine d sort k v fs f → Fine (tree n (suc d) sort) (node k v fs f)
-  unfolding tree follow fields Fine
-  close-node d sort k v fs f h = h
-
-  no-level : (sort k v : ℕ) (fs : Fields) (f : Forest) → Fine (tree n zero sort) (node k v fs f) → ⊥
-  unfolding tree Fine heads
-  no-level sort k v fs f h = go (eqb (entryOf k .sort) sort) (h .0 .0)
-    where
-      go : (b : Bool) → _≡_ {A = ℕ} (pick b 5 2) 0 → ⊥
-      go true e = omega arith
-      go false e = omega arith
-
   node-good : (d sort at k v : ℕ) (fs : Fields) (f : Forest) (b : ℕ) (s : Step) → Fine (word (heads sort (suc d)) n) (k, v) → StepFine n (entryOf k .follows) v fs s
       → ((entity : ℕ) (first rest : Membership) → Good (λ f′. FineEach (λ s t. Fine (tree n d s) t) (childrenOf (entryOf k .follows) v (lastField fs)) (ofForest f′)) (resolveForest C entity first rest b f))
       → Good (Fine (tree n (suc d) sort)) (atNode C at s (λ fs′ entity first rest. mapDone (node k v fs′) (resolveForest C entity first rest b f)))
   node-good d sort at k v fs f b (stops number other) h q g = tt
   node-good d sort at k v fs f b (goes fs′ entity first rest) h q g =
       map-good _ _ (node k v fs′) (resolveForest C entity first rest b f) (g entity first rest)
-      (λ f′ e. close-node d sort k v fs′ f′ (h, (q .0, subst (λ ss. FineEach (λ s t. Fine (tree n d s) t) ss (ofForest f′)) (sym (q .1)) e)))
+      (λ f′ e. close-node n d sort k v fs′ f′ (h, (q .0, subst (λ ss. FineEach (λ s t. Fine (tree n d s) t) ss (ofForest f′)) (sym (q .1)) e)))
 
   mutual
     unfolding resolveTree
 
     pub tree-good : (t : Tree) (d sort entity : ℕ) (m : Membership) (at : ℕ) → Fine (tree n d sort) t → Good (Fine (tree n d sort)) (resolveTree C entity m at t)
-    tree-good (node k v fs f) zero sort entity m at h = absurd (no-level sort k v fs f h)
+    tree-good (node k v fs f) zero sort entity m at h = absurd (no-level n sort k v fs f h)
     tree-good (node k v fs f) (suc d) sort entity m at h =
-        let o = open-node d sort k v fs f h in
+        let o = open-node n d sort k v fs f h in
         node-good d sort at k v fs f (at + 1 + length fs) (stepBy C entity m (entryOf k .follows) v fs) (o .0) (step-fine entity m (entryOf k .follows) v fs (o .1 .0))
         (λ e first rest. forest-good f d (childrenOf (entryOf k .follows) v (lastField fs)) e first rest (at + 1 + length fs) (o .1 .1))
 

@@ -11,3 +11,4 @@ pub mod Demand3Laws
 pub mod WordLaws
 pub mod TablesLaws
 pub mod CheckedTables
+pub mod TreeWords

@@ -1,13 +1,13 @@
 -- Resolving a tree: its slots are set from the kinds of relations, or it is refused at a node. 01, "Resolving".
 use Prim.Native.Nat.{ℕ, _+_}
-use mathlib.Core.List.{List, [], _∷_}
+use mathlib.Core.List.{List, [], _∷_, _++_}
 use mathlib.Core.Option.{Option, none, some}
 use lib.ListN.{length}
 use lib.Dec.{eqb}
 use Rattle.pack.specs.declared.answer.Refusal.{Refusal}
 use Rattle.pack.specs.declared.table.Follows.{Follows}
 use Rattle.pack.specs.declared.table.Follows.the-variants.{Nothing, Counted, OneScalar, TwoScalars, Scalars, Patterns, Periods, OneJudgment, Judgments, Choice, Aggregate, OnlyRelated, Slots, Atom, Exists}
-use Rattle.pack.specs.Table.{pick, entryOf}
+use Rattle.pack.specs.Table.{pick, wordOf, entryOf}
 use Rattle.pack.specs.Tree.{Tree, Forest, node, more}
 use Rattle.pack.specs.Tree as trees
 use Rattle.resolve.specs.declared.direction.Direction.{Direction}
@@ -101,7 +101,20 @@ stepBy C entity m Slots v fs = membershipTest fs entity m (member (C .tables) v 
 stepBy C entity m Atom v fs = goes fs entity m m
 stepBy C entity m Exists v fs = goes fs entity m m
 
--- how many words a tree has
+-- the words of a tree: its head, its fields, its children
+abbrev pub fieldWords : Fields → List ℕ
+fieldWords [] = []
+fieldWords (f ∷ fs) = wordOf (f .0) (f .1) ∷ fieldWords fs
+
+unfoldable mutual
+  pub treeWords : Tree → List ℕ
+  treeWords (node k v fs f) = wordOf k v ∷ (fieldWords fs ++ forestWords f)
+
+  pub forestWords : Forest → List ℕ
+  forestWords trees.none = []
+  forestWords (more t f) = treeWords t ++ forestWords f
+
+-- how many they are
 unfoldable mutual
   pub size : Tree → ℕ
   size (node k v fs f) = 1 + length fs + sizes f
