@@ -12,3 +12,4 @@ pub mod WordLaws
 pub mod TablesLaws
 pub mod CheckedTables
 pub mod TreeWords
+pub mod InputWords

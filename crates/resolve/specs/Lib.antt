@@ -6,3 +6,4 @@ pub mod Resolving
 pub mod Operations
 pub mod Demand3
 pub mod Words
+pub mod Blocks
