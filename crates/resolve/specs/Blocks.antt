@@ -52,3 +52,20 @@ pub record Near (at count seen : ℕ) : Type 0 where
 pub record SeenItems (ws : List ℕ) (name at count before seen : ℕ) : Type 0 where
   pub is : seen ≡ seenItems ws name at count before
   pub near : seen ≤ far
+
+-- the same of a block, of the place after it, and of so many blocks
+pub record NearBlock (at seen : ℕ) : Type 0 where
+  pub place : at ≤ 4294967296
+  pub before : seen ≤ far
+
+pub record SeenBlock (ws : List ℕ) (origin name at before seen : ℕ) : Type 0 where
+  pub is : seen ≡ seenBlock ws origin name at before
+  pub near : seen ≤ far
+
+pub record AfterBlock (ws : List ℕ) (at next : ℕ) : Type 0 where
+  pub is : next ≡ at + 2 + 3 * repeats (valueAt ws (at + 1))
+  pub near : next ≤ at + 50331650
+
+pub record SeenBlocks (ws : List ℕ) (origin name at count seen : ℕ) : Type 0 where
+  pub is : seen ≡ seenBlocks ws origin name at count 0
+  pub near : seen ≤ far
