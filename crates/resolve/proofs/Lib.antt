@@ -13,3 +13,4 @@ pub mod TablesLaws
 pub mod CheckedTables
 pub mod TreeWords
 pub mod InputWords
+pub mod InputRead

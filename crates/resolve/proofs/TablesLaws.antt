@@ -21,7 +21,7 @@ use Rattle.resolve.specs.Tables.{derivedBy, pair, typedBy}
 use Rattle.resolve.specs.Words.{valueAt, kindCount, flagAt, slotsPlace, typedIn, derivedIn}
 
 -- the value of a word that stands at a place
-value-there : (ws pre rest : List ℕ) (k v at : ℕ) → ws ≡ pre ++ (wordOf k v ∷ rest) → length pre ≡ at → v < 16777216 → valueAt ws at ≡ v
+pub value-there : (ws pre rest : List ℕ) (k v at : ℕ) → ws ≡ pre ++ (wordOf k v ∷ rest) → length pre ≡ at → v < 16777216 → valueAt ws at ≡ v
 unfolding valueAt
 value-there ws pre rest k v at e l f =
     ap (λ (u : List ℕ). valueOf (getD u at 0)) e ∙ ap valueOf (getD-at pre (wordOf k v) rest 0 at l) ∙ omega arith
