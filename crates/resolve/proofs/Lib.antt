@@ -14,3 +14,4 @@ pub mod CheckedTables
 pub mod TreeWords
 pub mod InputWords
 pub mod InputRead
+pub mod BlocksStand
