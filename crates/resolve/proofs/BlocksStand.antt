@@ -1,21 +1,24 @@
 -- Where the blocks of a checked pack stand: after its only word of kind 28.
 use Prim.Native.Nat.{ℕ, suc, _+_, _<_, _≤_}
 use native.Mathlib.Omega.{arith}
-use mathlib.Core.Path.{_≡_, refl, ap, sym, _∙_, subst}
+use mathlib.Core.Path.{_≡_, refl, ap, sym, _∙_}
 use mathlib.Core.List.{List, [], _∷_, _++_, append-assoc, append-nil}
 use mathlib.Core.Bool.{Bool, true, false}
 use mathlib.Core.Option.{Option, none, some}
-use lib.ListN.{length}
+use lib.ListN.{length, length-append}
 use lib.Dec.{eqb}
 use borrow.Author.Tests.{ne-eqb, leb-true, eqb-true, eqb-false}
-use Rattle.pack.specs.Table.{pick, kindOf, wordOf, scalar, judgment, table, entryOf}
+use Rattle.pack.specs.Table.{pick, wordOf, judgment, table, entryOf}
 use Rattle.pack.specs.Form.{among, allowedHere, wordsAll, FineAll, says, count, items, listOrNone, Form, field, _▹_, wordsBy, Fine}
 use Rattle.pack.specs.Tree.{root, tree}
-use Rattle.pack.specs.Pack.{Relation, Rule, Body, Item, Block, Pack, WellFormed, newName, nameList, hop, path, chain, member, derivation, optionalDerivation, relationTail, relation, body, bodies, rule, item, blockItems, block, blocks, nextUsed, above, defaultedName, defaulted, relations, rules, records, inner, layout, total, words, firstKind, Edition, undated}
+use Rattle.pack.specs.Pack.{Item, Block, Pack, WellFormed, yes, read, newName, nameList, hop, path, chain, member, derivation, optionalDerivation, relationTail, relation, body, bodies, rule, item, blockItems, block, blocks, defaultedName, defaulted, relations, rules, records, inner, layout, total, words, firstKind, Edition, undated}
+use Rattle.pack.proofs.PackLaws.{words-read}
 use Rattle.chains.proofs.Hushed.{Quiet, quiet-append, quiet-word, kind-word, Hushed, field-hushed, then-hushed, via-hushed, all-hushed, counted-hushed, tree-hushed}
-use Rattle.chains.proofs.RelationScan.{RelationsFine}
-use Rattle.resolve.specs.Inputs.{sequence}
-use Rattle.resolve.proofs.InputRead.{itemsWords, blockWords, blocksWords, ItemsFit, BlockFits, BlocksFit}
+use Rattle.resolve.specs.Inputs.{sequence, input}
+use Rattle.resolve.specs.Words.{valueAt}
+use Rattle.resolve.specs.Blocks.{inputIn, placeOfKind}
+use Rattle.resolve.proofs.TablesLaws.{value-there}
+use Rattle.resolve.proofs.InputRead.{numberOf, input-read, itemsWords, blockWords, blocksWords, ItemsFit, BlockFits, BlocksFit}
 
 abbrev loud : ℕ → Bool
 loud k = eqb k 28
@@ -62,20 +65,19 @@ module _ (n : ℕ) where
 
   rule-hushed : Hushed loud (rule n)
   unfolding rule bodies Fine wordsBy
-  rule-hushed r f =
+  rule-hushed r f = (
+    quiet-word loud 23 (r .citing) (f .0 .0) refl .0,
+    (
+      quiet-word loud 24 (r .origin) (f .1 .0 .0) refl .0,
       (
-        quiet-word loud 23 (r .citing) (f .0 .0) refl .0,
+        quiet-word loud 25 (r .entity) (f .1 .1 .0 .0) refl .0,
         (
-          quiet-word loud 24 (r .origin) (f .1 .0 .0) refl .0,
-          (
-            quiet-word loud 25 (r .entity) (f .1 .1 .0 .0) refl .0,
-            (
-              quiet-word loud 26 (suc (length (r .versions))) (f .1 .1 .1 .0 .0) refl .0,
-              quiet-append loud (wordsBy (body n) (r .semantics)) _ (body-hushed (r .semantics) (f .1 .1 .1 .1)) (all-hushed loud (λ u b. u) (λ u. body n) (λ u. body-hushed) tt (r .versions) (f .1 .1 .1 .2)),
-            ),
-          ),
+          quiet-word loud 26 (suc (length (r .versions))) (f .1 .1 .1 .0 .0) refl .0,
+          quiet-append loud (wordsBy (body n) (r .semantics)) _ (body-hushed (r .semantics) (f .1 .1 .1 .1)) (all-hushed loud (λ u b. u) (λ u. body n) (λ u. body-hushed) tt (r .versions) (f .1 .1 .1 .2)),
         ),
-      )
+      ),
+    ),
+  )
 
   name-hushed : (low : ℕ) → Hushed loud (defaultedName n low)
   unfolding defaultedName Fine wordsBy
@@ -148,6 +150,11 @@ module _ (n : ℕ) where
 
 -- ---- a pack
 
+-- the defaulted names begin with their count
+first-word : (n : ℕ) (ds : List ℕ) → 1 ≤ length (wordsBy (defaulted n) ds)
+unfolding defaulted wordsBy
+first-word n ds = omega arith
+
 first-kind : (e : Edition) → firstKind e ≡ 1
 first-kind undated = refl
 
@@ -158,6 +165,7 @@ pub record Stands (p : Pack) : Type 0 where
   pub quiet : Quiet loud before
   pub fits : BlocksFit (p .blocks)
   pub few : length (p .blocks) ≤ 64
+  pub three : 3 ≤ length before
 
 few-blocks : (n v : ℕ) → allowedHere n 28 v ≡ true → v ≤ 64
 unfolding allowedHere entryOf table
@@ -178,14 +186,48 @@ blocks-stand p w =
           rw (first-kind (p .edition))
           (ap (λ (l : List ℕ). wordOf 1 (total p) ∷ wordOf 2 n ∷ l)
           (ap (λ (l : List ℕ). a ++ l) (sym (append-assoc b c d)) ∙ sym (append-assoc a (b ++ c) d) ∙ ap (λ (l : List ℕ). (a ++ (b ++ c)) ++ l) (blocks-words n (p .blocks))));
-      quiet =
-          (
-            quiet-word loud 1 (total p) (omega (arith, w .most)) refl .0,
-            (
-              quiet-word loud 2 n (f .0 .0) refl .0,
-              quiet-append loud a (b ++ c) (defaulted-hushed n (p .defaulted) (f .1 .0)) (quiet-append loud b c (relations-hushed n (p .relations) (f .1 .1 .0)) (rules-hushed n (p .rules) (f .1 .1 .1 .0))),
-            ),
-          );
+      quiet = (
+        quiet-word loud 1 (total p) (omega (arith, w .most)) refl .0,
+        (
+          quiet-word loud 2 n (f .0 .0) refl .0,
+          quiet-append loud a (b ++ c) (defaulted-hushed n (p .defaulted) (f .1 .0)) (quiet-append loud b c (relations-hushed n (p .relations) (f .1 .1 .0)) (rules-hushed n (p .rules) (f .1 .1 .1 .0))),
+        ),
+      );
       fits = blocks-fit n (p .blocks) (f .1 .1 .1 .1 .2);
       few = few-blocks n (length (p .blocks)) (f .1 .1 .1 .1 .0 .1);
+      three = (let x = length-append a (b ++ c) in let y = first-word n (p .defaulted) in omega arith);
+    }
+
+-- ---- their place
+
+place-quiet : (us vs : List ℕ) (v at : ℕ) → v < 16777216 → Quiet loud us → placeOfKind 28 at (us ++ (wordOf 28 v ∷ vs)) ≡ at + length us
+unfolding placeOfKind
+place-quiet [] vs v at h q = rw (kind-word 28 v h) (omega arith)
+place-quiet (u ∷ us) vs v at h q = rw (q .0) (place-quiet us vs v (suc at) h (q .1) ∙ omega arith)
+
+-- of the words of a pack: the place of its count of blocks, and what an input is there
+pub record ReadsInputs (ws : List ℕ) (p : Pack) (at : ℕ) : Type 0 where
+  pub counts : valueAt ws at ≡ length (p .blocks)
+  pub few : length (p .blocks) ≤ 64
+  pub near : at < length ws
+  pub inputs : (origin owner name : ℕ) → inputIn ws (at + 1) (valueAt ws at) origin owner name ≡ numberOf (input (p .blocks) origin owner name)
+
+pub reads-inputs : (ws : List ℕ) (p : Pack) → read ws ≡ yes p → {at : ℕ} → at ≡ placeOfKind 28 0 ws → ReadsInputs ws p at
+reads-inputs ws p h {at} e =
+    let r = words-read ws p h in
+    let s = blocks-stand p (r .fine) in
+    let bs : List Block = p .blocks in
+    let same : ws ≡ s .before ++ (wordOf 28 (length bs) ∷ blocksWords bs) = sym (r .same) ∙ s .same in
+    let v : length bs < 16777216 = omega (arith, s .few) in
+    let l : at ≡ length (s .before) = e ∙ ap (placeOfKind 28 0) same ∙ place-quiet (s .before) (blocksWords bs) (length bs) 0 v (s .quiet) ∙ omega arith in
+    let c : valueAt ws at ≡ length bs = value-there ws (s .before) (blocksWords bs) 28 (length bs) at same (sym l) v in
+    let one : List ℕ = wordOf 28 (length bs) ∷ [] in
+    let opened : ws ≡ (s .before ++ one) ++ (blocksWords bs ++ []) = same ∙ sym (append-assoc (s .before) one (blocksWords bs)) ∙ ap (λ (x : List ℕ). (s .before ++ one) ++ x) (sym (append-nil (blocksWords bs))) in
+    let long : length ws ≡ length (s .before) + suc (length (blocksWords bs)) = ap length same ∙ length-append (s .before) (wordOf 28 (length bs) ∷ blocksWords bs) in
+    let least : 3 ≤ length (s .before) = s .three in
+    record {
+      counts = c;
+      few = s .few;
+      near = omega arith;
+      inputs = λ origin owner name. ap (λ (k : ℕ). inputIn ws (at + 1) k origin owner name) c ∙ input-read ws (s .before ++ one) [] bs (at + 1) origin owner name opened (length-append (s .before) one ∙ omega arith) (omega arith) (s .fits);
     }

@@ -1,7 +1,7 @@
 -- The words of a tree that keeps to its form, without the form; resolving keeps how many they are.
 use Prim.Native.Nat.{ℕ, zero, suc, _+_}
 use native.Mathlib.Omega.{arith}
-use mathlib.Core.Path.{_≡_, refl, ap, sym, _∙_}
+use mathlib.Core.Path.{_≡_, refl, ap, _∙_}
 use mathlib.Core.List.{List, [], _∷_, _++_}
 use mathlib.Core.Bool.{Bool, true, false}
 use mathlib.Core.Option.{Option, none, some}
@@ -11,7 +11,7 @@ use Rattle.pack.specs.declared.table.Follows.{Follows}
 use Rattle.pack.specs.declared.table.Follows.the-variants.{Nothing, Counted, OneScalar, TwoScalars, Scalars, Patterns, Periods, OneJudgment, Judgments, Choice, Aggregate, OnlyRelated, Slots, Atom, Exists}
 use Rattle.pack.specs.Table.{pick, wordOf, entryOf, fieldsOf, childrenOf}
 use Rattle.pack.specs.Form.{only, wordsEach, FineEach, word, wordsBy, Fine}
-use Rattle.pack.specs.Tree.{Tree, Forest, node, more, ofForest, heads, lastField, fields, follow, tree}
+use Rattle.pack.specs.Tree.{Tree, Forest, node, more, ofForest, lastField, fields, follow, tree}
 use Rattle.pack.specs.Tree as trees
 use Rattle.resolve.specs.declared.direction.Direction.{Direction}
 use Rattle.resolve.specs.declared.direction.Direction.the-variants.{Turned, Open}

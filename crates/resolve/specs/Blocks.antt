@@ -1,10 +1,10 @@
 -- What the code reads of blocks from the words of a pack.
 use Prim.Native.Nat.{ℕ, zero, suc, _+_, _*_, _^_, _≤_}
 use mathlib.Core.Path.{_≡_}
-use mathlib.Core.List.{List}
+use mathlib.Core.List.{List, [], _∷_}
 use mathlib.Core.Bool.{Bool, _||_, not}
 use lib.Dec.{eqb}
-use Rattle.pack.specs.Table.{pick}
+use Rattle.pack.specs.Table.{pick, kindOf}
 use Rattle.pack.specs.Table as table
 use Rattle.pack.specs.Form.{repeats}
 use Rattle.resolve.specs.Words.{valueAt}
@@ -69,3 +69,8 @@ pub record AfterBlock (ws : List ℕ) (at next : ℕ) : Type 0 where
 pub record SeenBlocks (ws : List ℕ) (origin name at count seen : ℕ) : Type 0 where
   pub is : seen ≡ seenBlocks ws origin name at count 0
   pub near : seen ≤ far
+
+-- the place of the first word of a kind, from a place on
+unfoldable pub placeOfKind : ℕ → ℕ → List ℕ → ℕ
+placeOfKind kind at [] = at
+placeOfKind kind at (w ∷ ws) = pick (eqb (kindOf w) kind) at (placeOfKind kind (suc at) ws)

@@ -1,5 +1,4 @@
 -- `resolve::inputs::after_block` meets its contract.
-use native.Mathlib.Omega.{arith}
 use Rattle.resolve.proofs.InputWords.{after-none, after-some}
 use borrow.Author.Needs.{needs}
 use Rattle.resolve.proofs.inputs.after_block.Statement.{statement}

@@ -1,5 +1,4 @@
 -- `resolve::inputs::seen_block` meets its contract.
-use native.Mathlib.Omega.{arith}
 use Rattle.resolve.proofs.InputWords.{other-origin, no-sequence, a-sequence}
 use borrow.Author.Needs.{needs}
 use Rattle.resolve.proofs.inputs.seen_block.Statement.{statement}
