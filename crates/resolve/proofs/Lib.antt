@@ -15,3 +15,4 @@ pub mod TreeWords
 pub mod InputWords
 pub mod InputRead
 pub mod BlocksStand
+pub mod SlotLaws

@@ -7,3 +7,4 @@ pub mod Operations
 pub mod Demand3
 pub mod Words
 pub mod Blocks
+pub mod Walk

@@ -4,4 +4,5 @@
 mod direction;
 mod inputs;
 mod records;
+mod slots;
 mod words;
