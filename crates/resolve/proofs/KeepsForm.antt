@@ -43,7 +43,7 @@ good-imp P Q (refused r) h k = tt
 abbrev Slot : ℕ → Type 0
 Slot s = s < 16777216
 
-abbrev DirectionFits : Direction → Type 0
+abbrev pub DirectionFits : Direction → Type 0
 DirectionFits (Turned c r k) = Slot c × Slot r
 DirectionFits (Open e) = Unit {0}
 
@@ -82,7 +82,7 @@ module _ (T : Tables) (fit : TablesFit T) where
   towards-fits n (some ks) q e c r hc hr =
       matched-fits ks e c r (bearing (orElse (T .direct e) e) 0 ks) hc hr (bearing-below (orElse (T .direct e) e) 0 ks 8 (omega (arith, fit .few n ks q)))
 
-  turn-fits : (n e c r : ℕ) → Slot c → Slot r → DirectionFits (turn T n e c r)
+  pub turn-fits : (n e c r : ℕ) → Slot c → Slot r → DirectionFits (turn T n e c r)
   unfolding turn
   turn-fits n e c r hc hr = go (T .derived n) refl
     where

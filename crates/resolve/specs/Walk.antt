@@ -5,6 +5,9 @@ use mathlib.Core.List.{List, [], _∷_}
 use Rattle.pack.specs.Table.{kindOf, valueOf, wordOf}
 use Rattle.resolve.specs.declared.direction.Direction.{Direction}
 use Rattle.resolve.specs.declared.direction.Direction.the-variants.{Turned, Open}
+use Rattle.resolve.specs.Tables.{Tables}
+use Rattle.resolve.specs.Direction.{turn}
+use Rattle.resolve.specs.Words.{Recorded}
 
 -- a refusal in one number, which no number of words is: its number, its place and its other
 abbrev pub refusalCode : ℕ → ℕ → ℕ → ℕ
@@ -38,3 +41,14 @@ SlotsFit (Open other) = Unit {0}
 
 pub record SlotsSet (work : List ℕ) (d : Direction) (left : List ℕ) : Type 0 where
   pub set : (head current related : ℕ) (more : List ℕ) → work ≡ head ∷ wordOf 80 current ∷ wordOf 81 related ∷ more → left ≡ slotsSet head more d work
+
+-- what setting the slots of an aggregate asks for, and what it leaves
+pub record TurnAsked (records work : List ℕ) (place entity : ℕ) : Type 0 where
+  pub recorded : Recorded records
+  pub node : TwoSlots work
+  pub near : place < 16384
+  pub name : entity < 4096
+
+pub record NodeTurned (T : Tables) (work : List ℕ) (place entity code : ℕ) (left : List ℕ) : Type 0 where
+  pub says : (t : TwoSlots work) → code ≡ kindCode place (turn T (valueOf (t .head)) entity (t .current) (t .related))
+  pub sets : (t : TwoSlots work) → left ≡ slotsSet (t .head) (t .more) (turn T (valueOf (t .head)) entity (t .current) (t .related)) work
