@@ -16,3 +16,4 @@ pub mod InputWords
 pub mod InputRead
 pub mod BlocksStand
 pub mod SlotLaws
+pub mod StepWords

@@ -45,7 +45,7 @@ then-numbered (refused r) f h k = h
 
 -- ---- a node
 
-abbrev OfInput : Option ℕ → Type 0
+abbrev pub OfInput : Option ℕ → Type 0
 OfInput none = Unit {0}
 OfInput (some n) = InRange n
 
@@ -132,7 +132,7 @@ owned-numbered owner (i ∷ []) = go (eqb (i .boolean) 1) (eqb owner 0 || not (e
     go true false = tt
     go false c = (omega arith, omega arith)
 
-input-numbered : (blocks : List Block) (origin owner n : ℕ) → OfInput (input blocks origin owner n)
+pub input-numbered : (blocks : List Block) (origin owner n : ℕ) → OfInput (input blocks origin owner n)
 unfolding input
 input-numbered blocks origin owner n = go (any (λ (b : Block). noSequence (b .items)) (ofOrigin origin blocks))
   where

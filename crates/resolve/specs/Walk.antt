@@ -1,13 +1,16 @@
 -- What the walkers of trees promise each other: trees stand at the front of a slice, and their slots are set there.
-use Prim.Native.Nat.{ℕ, _+_, _*_, _<_}
+use Prim.Native.Nat.{ℕ, zero, suc, _+_, _*_, _<_}
 use mathlib.Core.Path.{_≡_}
-use mathlib.Core.List.{List, [], _∷_}
+use mathlib.Core.List.{List, [], _∷_, _++_}
+use mathlib.Core.Option.{Option, none, some}
 use Rattle.pack.specs.Table.{kindOf, valueOf, wordOf}
 use Rattle.resolve.specs.declared.direction.Direction.{Direction}
 use Rattle.resolve.specs.declared.direction.Direction.the-variants.{Turned, Open}
 use Rattle.resolve.specs.Tables.{Tables}
 use Rattle.resolve.specs.Direction.{turn}
-use Rattle.resolve.specs.Words.{Recorded}
+use Rattle.resolve.specs.Turning.{Citing, Fields, Step, goes, stops, fieldWords}
+use Rattle.resolve.specs.Words.{tablesIn, Recorded}
+use Rattle.resolve.specs.Blocks.{inputIn}
 
 -- a refusal in one number, which no number of words is: its number, its place and its other
 abbrev pub refusalCode : ℕ → ℕ → ℕ → ℕ
@@ -52,3 +55,43 @@ pub record TurnAsked (records work : List ℕ) (place entity : ℕ) : Type 0 whe
 pub record NodeTurned (T : Tables) (work : List ℕ) (place entity code : ℕ) (left : List ℕ) : Type 0 where
   pub says : (t : TwoSlots work) → code ≡ kindCode place (turn T (valueOf (t .head)) entity (t .current) (t .related))
   pub sets : (t : TwoSlots work) → left ≡ slotsSet (t .head) (t .more) (turn T (valueOf (t .head)) entity (t .current) (t .related)) work
+
+-- ---- a node's step
+
+-- the citing rule or relation, as the code has it: its name, its origin, and the place and number of the blocks
+abbrev pub orNot : ℕ → Option ℕ
+orNot zero = none
+orNot (suc n) = some (suc n)
+
+unfoldable pub citingIn : List ℕ → List ℕ → List ℕ → List ℕ → ℕ → ℕ → ℕ → ℕ → Citing
+citingIn ws records marks taken at count name origin =
+    record { tables = tablesIn ws records marks taken; name = name; input = λ owner n. orNot (inputIn ws at count origin owner n) }
+
+-- a step in one number: the entity of its children, or the refusal
+abbrev pub stepCode : ℕ → Step → ℕ
+stepCode place (goes fs entity first rest) = entity
+stepCode place (stops number other) = refusalCode number place other
+
+abbrev pub fieldsAfter : Fields → Step → Fields
+fieldsAfter fs (goes fs′ entity first rest) = fs′
+fieldsAfter fs (stops number other) = fs
+
+-- a node with slots at the front of a slice
+pub record SlotNode (work : List ℕ) : Type 0 where
+  pub kind : ℕ
+  pub value : ℕ
+  pub current : ℕ
+  pub related : ℕ
+  pub fields : Fields
+  pub more : List ℕ
+  pub stands : work ≡ wordOf kind value ∷ (fieldWords ((80, current) ∷ (81, related) ∷ fields) ++ more)
+  pub relation : value < 4096
+  pub current-fits : current < 16777216
+  pub related-fits : related < 16777216
+
+-- what holds after a node's step: its code, and the slice with the fields that it goes on with
+pub record Stepped (step : ℕ → Fields → Step) (work : List ℕ) (place code : ℕ) (left : List ℕ) : Type 0 where
+  pub says : (t : SlotNode work) → code ≡ stepCode place (step (t .value) ((80, t .current) ∷ (81, t .related) ∷ t .fields))
+  pub sets : (t : SlotNode work)
+      → left
+      ≡ wordOf (t .kind) (t .value) ∷ (fieldWords (fieldsAfter ((80, t .current) ∷ (81, t .related) ∷ t .fields) (step (t .value) ((80, t .current) ∷ (81, t .related) ∷ t .fields))) ++ t .more)

@@ -1,0 +1,89 @@
+-- A node's step on the words is its step on the tree.
+use Prim.Native.Nat.{ℕ, zero, suc, _+_, _<_, _≤_}
+use native.Mathlib.Omega.{arith}
+use mathlib.Core.Path.{_≡_, refl, ap, sym, _∙_, subst, fun-ext}
+use mathlib.Core.List.{List, [], _∷_, _++_}
+use mathlib.Core.Option.{Option, none, some}
+use Rattle.pack.specs.declared.table.Follows.the-variants.{Aggregate}
+use Rattle.pack.specs.Table.{valueOf, wordOf}
+use Rattle.pack.specs.Pack.{Pack, Block, yes, read}
+use Rattle.chains.specs.Scan.{scanTable}
+use Rattle.chains.specs.AllKinds.{KindsMarked}
+use Rattle.chains.specs.Taking.{Known}
+use Rattle.chains.proofs.PackIndex.{zeros}
+use lib.ListN.{length}
+use Rattle.resolve.specs.declared.direction.Direction.{Direction}
+use Rattle.resolve.specs.declared.direction.Direction.the-variants.{Turned, Open}
+use Rattle.resolve.specs.Tables.{Tables, tables}
+use Rattle.resolve.specs.Direction.{Membership, turn}
+use Rattle.resolve.specs.Inputs.{input}
+use Rattle.resolve.specs.Turning.{Citing, Fields, Step, goes, stops, aggregate, stepBy, fieldWords, withSlots}
+use Rattle.resolve.specs.Resolving.{cites}
+use Rattle.resolve.specs.Words.{recordAfter, tablesIn, valueAt}
+use Rattle.resolve.specs.Blocks.{inputIn, placeOfKind}
+use Rattle.resolve.specs.Walk.{TwoSlots, slotsSet, kindCode, NodeTurned, orNot, citingIn, stepCode, fieldsAfter, SlotNode, Stepped}
+use Rattle.resolve.proofs.Numbers.{OfInput, input-numbered}
+use Rattle.resolve.proofs.InputRead.{numberOf}
+use Rattle.resolve.proofs.CheckedTables.{tables-are}
+use Rattle.resolve.proofs.BlocksStand.{ReadsInputs, reads-inputs}
+
+abbrev pub two-slots : {work : List ℕ} → SlotNode work → TwoSlots work
+two-slots t =
+    record {
+      head = wordOf (t .kind) (t .value);
+      current = t .current;
+      related = t .related;
+      more = fieldWords (t .fields) ++ t .more;
+      stands = t .stands;
+      current-fits = t .current-fits;
+      related-fits = t .related-fits;
+      relation = let h = t .relation in let e : valueOf (wordOf (t .kind) (t .value)) ≡ t .value = omega arith in rw e h;
+    }
+
+-- an aggregate
+pub aggregate-stepped : (C : Citing) (work : List ℕ) (place entity : ℕ) (m : Membership) {code : ℕ} {left : List ℕ} → NodeTurned (C .tables) work place entity code left
+    → Stepped (λ v fs. stepBy C entity m Aggregate v fs) work place code left
+unfolding stepBy
+aggregate-stepped C work place entity m n = record { says = λ t. n .says (two-slots t) ∙ said t; sets = λ t. n .sets (two-slots t) ∙ set t }
+  where
+    value : (t : SlotNode work) → valueOf (wordOf (t .kind) (t .value)) ≡ t .value
+    value t = let h = t .relation in omega arith
+
+    fs : SlotNode work → Fields
+    fs t = (80, t .current) ∷ (81, t .related) ∷ t .fields
+
+    coded : (t : SlotNode work) (d : Direction) → kindCode place d ≡ stepCode place (aggregate (fs t) d)
+    coded t (Turned c r k) = refl
+    coded t (Open o) = refl
+
+    said : (t : SlotNode work) → kindCode place (turn (C .tables) (valueOf (wordOf (t .kind) (t .value))) entity (t .current) (t .related)) ≡ stepCode place (aggregate (fs t) (turn (C .tables) (t .value) entity (t .current) (t .related)))
+    said t = ap (λ (v : ℕ). kindCode place (turn (C .tables) v entity (t .current) (t .related))) (value t) ∙ coded t (turn (C .tables) (t .value) entity (t .current) (t .related))
+
+    slots : (t : SlotNode work) (d : Direction)
+        → slotsSet (wordOf (t .kind) (t .value)) (fieldWords (t .fields) ++ t .more) d work ≡ wordOf (t .kind) (t .value) ∷ (fieldWords (fieldsAfter (fs t) (aggregate (fs t) d)) ++ t .more)
+    slots t (Turned c r k) = refl
+    slots t (Open o) = t .stands
+
+    set : (t : SlotNode work)
+        → slotsSet (wordOf (t .kind) (t .value)) (fieldWords (t .fields) ++ t .more) (turn (C .tables) (valueOf (wordOf (t .kind) (t .value))) entity (t .current) (t .related)) work
+        ≡ wordOf (t .kind) (t .value) ∷ (fieldWords (fieldsAfter (fs t) (aggregate (fs t) (turn (C .tables) (t .value) entity (t .current) (t .related)))) ++ t .more)
+    set t =
+        ap (λ (v : ℕ). slotsSet (wordOf (t .kind) (t .value)) (fieldWords (t .fields) ++ t .more) (turn (C .tables) v entity (t .current) (t .related)) work) (value t)
+        ∙ slots t (turn (C .tables) (t .value) entity (t .current) (t .related))
+
+-- ---- the citing rule or relation of a checked pack
+
+number-again : (o : Option ℕ) → OfInput o → orNot (numberOf o) ≡ o
+number-again none h = refl
+number-again (some zero) h = absurd (omega (arith, h .0))
+number-again (some (suc n)) h = refl
+
+pub citing-is : (ws records marks taken names : List ℕ) (steps : ℕ) (p : Pack) → read ws ≡ yes p → records ≡ scanTable recordAfter zeros ws → KindsMarked ws steps names marks → Known ws taken → length taken ≡ 4096
+    → {at : ℕ} → at ≡ placeOfKind 28 0 ws → (name origin : ℕ) → citingIn ws records marks taken (at + 1) (valueAt ws at) name origin ≡ cites p name origin
+unfolding citingIn
+citing-is ws records marks taken names steps p h scanned marked knows long {at} e name origin =
+    let t = tables-are ws records marks taken names steps p h scanned marked knows long in
+    let r = reads-inputs ws p h e in
+    let inputs : citingIn ws records marks taken (at + 1) (valueAt ws at) name origin .input ≡ cites p name origin .input =
+    fun-ext (λ owner. fun-ext (λ n. ap orNot (r .inputs origin owner n) ∙ number-again (input (p .blocks) origin owner n) (input-numbered (p .blocks) origin owner n))) in
+    λ i. record { tables = t i; name = name; input = inputs i }
