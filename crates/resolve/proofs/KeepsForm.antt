@@ -104,7 +104,7 @@ module _ (T : Tables) (fit : TablesFit T) where
   tested-fits n (some ks) q none c r hc hr = (hc, hr)
   tested-fits n (some ks) q (some m) c r hc hr = between-fits ks (fit .few n ks q) m c r hc hr
 
-  member-fits : (n : ℕ) (m : Membership) (c r : ℕ) → Slot c → Slot r → DirectionFits (direction.member T n m c r)
+  pub member-fits : (n : ℕ) (m : Membership) (c r : ℕ) → Slot c → Slot r → DirectionFits (direction.member T n m c r)
   unfolding direction.member
   member-fits n m c r hc hr = go (T .derived n) refl
     where

@@ -32,16 +32,16 @@ slots-set work {d} {c} {r} e = record { set = λ head current related more s. ap
 -- ---- an aggregate
 
 module _ {work : List ℕ} (t : TwoSlots work) where
-  head-is : getD work 0 0 ≡ t .head
+  pub head-is : getD work 0 0 ≡ t .head
   head-is = ap (λ (l : List ℕ). getD l 0 0) (t .stands)
 
   pub relation-below : valueOf (getD work 0 0) < 4096
   relation-below = rw head-is (t .relation)
 
-  current-is : valueOf (getD work 1 0) ≡ t .current
+  pub current-is : valueOf (getD work 1 0) ≡ t .current
   current-is = ap (λ (l : List ℕ). valueOf (getD l 1 0)) (t .stands) ∙ omega (arith, t .current-fits)
 
-  related-is : valueOf (getD work 2 0) ≡ t .related
+  pub related-is : valueOf (getD work 2 0) ≡ t .related
   related-is = ap (λ (l : List ℕ). valueOf (getD l 2 0)) (t .stands) ∙ omega (arith, t .related-fits)
 
 value-small : (ws : List ℕ) (at : ℕ) → valueAt ws at < 16777216
@@ -49,7 +49,7 @@ unfolding valueAt
 value-small ws at = omega arith
 
 -- the tables that the code reads have slots that fit
-tables-fit-in : (ws records marks taken : List ℕ) → TablesFit (tablesIn ws records marks taken)
+pub tables-fit-in : (ws records marks taken : List ℕ) → TablesFit (tablesIn ws records marks taken)
 unfolding tablesIn derivedIn typedIn
 tables-fit-in ws records marks taken =
     record {
@@ -74,7 +74,7 @@ tables-fit-in ws records marks taken =
     typed-few n ks false false true e = let q : valueAt ws (getD records n 0 + 4) ∷ valueAt ws (getD records n 0 + 5) ∷ [] ≡ ks = cc in rw (← q) (omega arith)
 
 -- the direction that a node gets fits its slots
-slots-fit-in : (d : Direction) → DirectionFits d → SlotsFit d
+pub slots-fit-in : (d : Direction) → DirectionFits d → SlotsFit d
 slots-fit-in (Turned c r k) h = h
 slots-fit-in (Open e) h = tt
 

@@ -11,17 +11,20 @@ use Rattle.chains.specs.Scan.{scanTable}
 use Rattle.chains.specs.AllKinds.{KindsMarked}
 use Rattle.chains.specs.Taking.{Known}
 use Rattle.chains.proofs.PackIndex.{zeros}
-use lib.ListN.{length}
+use lib.ListN.{length, getD}
 use Rattle.resolve.specs.declared.direction.Direction.{Direction}
 use Rattle.resolve.specs.declared.direction.Direction.the-variants.{Turned, Open}
 use Rattle.resolve.specs.Tables.{Tables, tables}
 use Rattle.resolve.specs.Direction.{Membership, turn}
+use Rattle.resolve.specs.Direction as direction
 use Rattle.resolve.specs.Inputs.{input}
-use Rattle.resolve.specs.Turning.{Citing, Fields, Step, goes, stops, aggregate, stepBy, fieldWords, withSlots}
+use Rattle.resolve.specs.Turning.{Citing, Fields, Step, goes, stops, aggregate, membershipTest, stepBy, fieldWords, withSlots}
 use Rattle.resolve.specs.Resolving.{cites}
-use Rattle.resolve.specs.Words.{recordAfter, tablesIn, valueAt}
+use Rattle.resolve.specs.Words.{recordAfter, tablesIn, valueAt, MemberTurned}
 use Rattle.resolve.specs.Blocks.{inputIn, placeOfKind}
-use Rattle.resolve.specs.Walk.{TwoSlots, slotsSet, kindCode, NodeTurned, orNot, citingIn, stepCode, fieldsAfter, SlotNode, Stepped}
+use Rattle.resolve.specs.Walk.{TwoSlots, SlotsFit, SlotsSet, slotsSet, kindCode, testCode, NodeTurned, MemberStepped, orNot, citingIn, stepCode, fieldsAfter, SlotNode, Stepped}
+use Rattle.resolve.proofs.KeepsForm.{member-fits}
+use Rattle.resolve.proofs.SlotLaws.{head-is, current-is, related-is, slots-fit-in, tables-fit-in}
 use Rattle.resolve.proofs.Numbers.{OfInput, input-numbered}
 use Rattle.resolve.proofs.InputRead.{numberOf}
 use Rattle.resolve.proofs.CheckedTables.{tables-are}
@@ -70,6 +73,49 @@ aggregate-stepped C work place entity m n = record { says = λ t. n .says (two-s
     set t =
         ap (λ (v : ℕ). slotsSet (wordOf (t .kind) (t .value)) (fieldWords (t .fields) ++ t .more) (turn (C .tables) v entity (t .current) (t .related)) work) (value t)
         ∙ slots t (turn (C .tables) (t .value) entity (t .current) (t .related))
+
+-- a test of membership
+member-fits-in : (ws records marks taken : List ℕ) (n : ℕ) (m : Membership) (c r : ℕ) → c < 16777216 → r < 16777216 → SlotsFit (direction.member (tablesIn ws records marks taken) n m c r)
+member-fits-in ws records marks taken n m c r hc hr =
+    slots-fit-in (direction.member (tablesIn ws records marks taken) n m c r) (member-fits (tablesIn ws records marks taken) (tables-fit-in ws records marks taken) n m c r hc hr)
+
+pub member-fits-code : (ws records : List ℕ) (n : ℕ) (m : Membership) (c r : ℕ) → c < 16777216 → r < 16777216 → {d : Direction} → MemberTurned ws records n m c r d → SlotsFit d
+member-fits-code ws records n m c r hc hr t = rw (t .each [] []) (member-fits-in ws records [] [] n m c r hc hr)
+
+pub member-stepped : (ws records work : List ℕ) (place entity : ℕ) (m : Membership) {d : Direction} {left : List ℕ} {code : ℕ}
+    → MemberTurned ws records (valueOf (getD work 0 0)) m (valueOf (getD work 1 0)) (valueOf (getD work 2 0)) d → SlotsSet work d left → code ≡ testCode place entity d
+    → MemberStepped ws records work place entity m code left
+unfolding stepBy
+member-stepped ws records work place entity m {d} {left} {code} e s q =
+    record {
+      each = λ C marks taken same.
+          let it : (t : SlotNode work) → d ≡ direction.member (C .tables) (t .value) m (t .current) (t .related) =
+          λ t. e .each marks taken
+          ∙ ap (λ (v : ℕ). direction.member (tablesIn ws records marks taken) v m (valueOf (getD work 1 0)) (valueOf (getD work 2 0))) (ap valueOf (head-is (two-slots t)) ∙ value t)
+          ∙ ap (λ (c : ℕ). direction.member (tablesIn ws records marks taken) (t .value) m c (valueOf (getD work 2 0))) (current-is (two-slots t))
+          ∙ ap (λ (r : ℕ). direction.member (tablesIn ws records marks taken) (t .value) m (t .current) r) (related-is (two-slots t))
+          ∙ ap (λ (T : Tables). direction.member T (t .value) m (t .current) (t .related)) (sym same) in
+          record {
+            says = λ t. q ∙ coded t d ∙ ap (λ (x : Direction). stepCode place (membershipTest (fs t) entity m x)) (it t);
+            sets = λ t. s .set (wordOf (t .kind) (t .value)) (t .current) (t .related) (fieldWords (t .fields) ++ t .more) (t .stands) ∙ slots t d
+                ∙ ap (λ (x : Direction). wordOf (t .kind) (t .value) ∷ (fieldWords (fieldsAfter (fs t) (membershipTest (fs t) entity m x)) ++ t .more)) (it t);
+          };
+    }
+  where
+    value : (t : SlotNode work) → valueOf (wordOf (t .kind) (t .value)) ≡ t .value
+    value t = let h = t .relation in omega arith
+
+    fs : SlotNode work → Fields
+    fs t = (80, t .current) ∷ (81, t .related) ∷ t .fields
+
+    coded : (t : SlotNode work) (x : Direction) → testCode place entity x ≡ stepCode place (membershipTest (fs t) entity m x)
+    coded t (Turned c r k) = refl
+    coded t (Open o) = refl
+
+    slots : (t : SlotNode work) (x : Direction)
+        → slotsSet (wordOf (t .kind) (t .value)) (fieldWords (t .fields) ++ t .more) x work ≡ wordOf (t .kind) (t .value) ∷ (fieldWords (fieldsAfter (fs t) (membershipTest (fs t) entity m x)) ++ t .more)
+    slots t (Turned c r k) = refl
+    slots t (Open o) = t .stands
 
 -- ---- the citing rule or relation of a checked pack
 

@@ -3,12 +3,13 @@ use Prim.Native.Nat.{ℕ, zero, suc, _+_, _*_, _<_}
 use mathlib.Core.Path.{_≡_}
 use mathlib.Core.List.{List, [], _∷_, _++_}
 use mathlib.Core.Option.{Option, none, some}
-use Rattle.pack.specs.Table.{kindOf, valueOf, wordOf}
+use Rattle.pack.specs.declared.table.Follows.the-variants.{Slots}
+use Rattle.pack.specs.Table.{valueOf, wordOf}
 use Rattle.resolve.specs.declared.direction.Direction.{Direction}
 use Rattle.resolve.specs.declared.direction.Direction.the-variants.{Turned, Open}
 use Rattle.resolve.specs.Tables.{Tables}
-use Rattle.resolve.specs.Direction.{turn}
-use Rattle.resolve.specs.Turning.{Citing, Fields, Step, goes, stops, fieldWords}
+use Rattle.resolve.specs.Direction.{turn, Membership}
+use Rattle.resolve.specs.Turning.{Citing, Fields, Step, goes, stops, stepBy, fieldWords}
 use Rattle.resolve.specs.Words.{tablesIn, Recorded}
 use Rattle.resolve.specs.Blocks.{inputIn}
 
@@ -95,3 +96,12 @@ pub record Stepped (step : ℕ → Fields → Step) (work : List ℕ) (place cod
   pub sets : (t : SlotNode work)
       → left
       ≡ wordOf (t .kind) (t .value) ∷ (fieldWords (fieldsAfter ((80, t .current) ∷ (81, t .related) ∷ t .fields) (step (t .value) ((80, t .current) ∷ (81, t .related) ∷ t .fields))) ++ t .more)
+
+-- the entity of a test's children, or 10
+abbrev pub testCode : ℕ → ℕ → Direction → ℕ
+testCode place entity (Turned c r kind) = entity
+testCode place entity (Open other) = refusalCode 10 place other
+
+-- a test of membership, whatever the tables say of marks and entities
+pub record MemberStepped (ws records work : List ℕ) (place entity : ℕ) (m : Membership) (code : ℕ) (left : List ℕ) : Type 0 where
+  pub each : (C : Citing) (marks taken : List ℕ) → C .tables ≡ tablesIn ws records marks taken → Stepped (λ v fs. stepBy C entity m Slots v fs) work place code left

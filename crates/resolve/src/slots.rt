@@ -1,11 +1,13 @@
 // The slots of a node that stands at the front of a slice.
 use crate::direction::Direction;
+use crate::direction::Membership;
+use crate::direction::member;
 use crate::direction::turn;
 use pack::kinds::Pack;
 ghost use mathlib.Core.Path.{_≡_};
 ghost use Prim.Native.Nat.{_<_};
-ghost use Rattle.resolve.specs.Words.{tablesIn};
-ghost use Rattle.resolve.specs.Walk.{TwoSlots, SlotsFit, SlotsSet, kindCode, TurnAsked, NodeTurned};
+ghost use Rattle.resolve.specs.Words.{tablesIn, membershipOf};
+ghost use Rattle.resolve.specs.Walk.{TwoSlots, SlotsFit, SlotsSet, refusalCode, kindCode, testCode, TurnAsked, NodeTurned, MemberStepped};
 
 // Sets them as a direction says.
 pub fn set_slots(work: &mut [u32], d: Direction)
@@ -19,6 +21,14 @@ pub fn set_slots(work: &mut [u32], d: Direction)
     work[2] = Pack::RELATED * Pack::VALUES + r;
 }
 
+// A refusal in one number.
+fn refusal_code(number: u32, place: u32, other: u32) -> u64
+    requires { ⌜ (number < 16) × (place < 16384) ⌝ }
+    ensures { λ r. ⌜ r ≡ refusalCode number place other ⌝ }
+{
+    65536 + (number as u64 + 16 * (place as u64 + 16384 * other as u64))
+}
+
 // The kind that results, or the refusal of an open direction, in one number.
 fn kind_code(place: u32, d: Direction) -> u64
     requires { ⌜ place < 16384 ⌝ }
@@ -26,7 +36,7 @@ fn kind_code(place: u32, d: Direction) -> u64
 {
     match d {
         Direction::Turned(_, _, k) => k as u64,
-        Direction::Open(o) => 65536 + (10 + 16 * (place as u64 + 16384 * o as u64)),
+        Direction::Open(o) => refusal_code(10, place, o),
     }
 }
 
@@ -58,4 +68,35 @@ pub fn turn_node(
     );
     set_slots(work, d);
     kind_code(place, d)
+}
+
+// The entity of a test's children, or the refusal of an open direction.
+fn test_code(place: u32, entity: u32, d: Direction) -> u64
+    requires { ⌜ place < 16384 ⌝ }
+    ensures { λ r. ⌜ r ≡ testCode place entity d ⌝ }
+{
+    match d {
+        Direction::Turned(_, _, _) => entity as u64,
+        Direction::Open(o) => refusal_code(10, place, o),
+    }
+}
+
+// A test of membership at the front of a slice: its slots are set.
+pub fn member_node(
+    pack: &[u32],
+    records: &[u32; 4096],
+    work: &mut [u32],
+    place: u32,
+    entity: u32,
+    m: Membership,
+) -> u64
+    requires { ⌜ TurnAsked (now records) (now work) place 0 ⌝ }
+    ensures { λ r. ⌜ MemberStepped (now (pack .entry)) (now (records .entry)) (now (work .entry)) place entity (membershipOf m) r (now (work .exit)) ⌝ }
+{
+    let relation = (work[0] % Pack::VALUES) as usize;
+    let current = work[1] % Pack::VALUES;
+    let related = work[2] % Pack::VALUES;
+    let d = member(pack, records, relation, m, current, related);
+    set_slots(work, d);
+    test_code(place, entity, d)
 }
