@@ -16,4 +16,5 @@ pub mod InputWords
 pub mod InputRead
 pub mod BlocksStand
 pub mod SlotLaws
+pub mod OnlyWords
 pub mod StepWords

@@ -1,12 +1,12 @@
 -- A node's step on the words is its step on the tree.
-use Prim.Native.Nat.{ℕ, zero, suc, _+_, _<_, _≤_}
+use Prim.Native.Nat.{ℕ, zero, suc, _+_, _<_}
 use native.Mathlib.Omega.{arith}
-use mathlib.Core.Path.{_≡_, refl, ap, sym, _∙_, subst, fun-ext}
+use mathlib.Core.Path.{_≡_, refl, ap, sym, _∙_, fun-ext}
 use mathlib.Core.List.{List, [], _∷_, _++_}
 use mathlib.Core.Option.{Option, none, some}
 use Rattle.pack.specs.declared.table.Follows.the-variants.{Aggregate}
 use Rattle.pack.specs.Table.{valueOf, wordOf}
-use Rattle.pack.specs.Pack.{Pack, Block, yes, read}
+use Rattle.pack.specs.Pack.{Pack, yes, read}
 use Rattle.chains.specs.Scan.{scanTable}
 use Rattle.chains.specs.AllKinds.{KindsMarked}
 use Rattle.chains.specs.Taking.{Known}
@@ -18,17 +18,17 @@ use Rattle.resolve.specs.Tables.{Tables, tables}
 use Rattle.resolve.specs.Direction.{Membership, turn}
 use Rattle.resolve.specs.Direction as direction
 use Rattle.resolve.specs.Inputs.{input}
-use Rattle.resolve.specs.Turning.{Citing, Fields, Step, goes, stops, aggregate, membershipTest, stepBy, fieldWords, withSlots}
+use Rattle.resolve.specs.Turning.{Citing, Fields, aggregate, membershipTest, stepBy, fieldWords}
 use Rattle.resolve.specs.Resolving.{cites}
 use Rattle.resolve.specs.Words.{recordAfter, tablesIn, valueAt, MemberTurned}
-use Rattle.resolve.specs.Blocks.{inputIn, placeOfKind}
-use Rattle.resolve.specs.Walk.{TwoSlots, SlotsFit, SlotsSet, slotsSet, kindCode, testCode, NodeTurned, MemberStepped, orNot, citingIn, stepCode, fieldsAfter, SlotNode, Stepped}
+use Rattle.resolve.specs.Blocks.{placeOfKind}
+use Rattle.resolve.specs.Walk.{TwoSlots, SlotsFit, SlotsSet, slotsSet, kindCode, testCode, NodeTurned, MemberStepped, orNot, citingIn, stepCode, fieldsAfter, SlotNode, AnyFields, Stepped}
 use Rattle.resolve.proofs.KeepsForm.{member-fits}
 use Rattle.resolve.proofs.SlotLaws.{head-is, current-is, related-is, slots-fit-in, tables-fit-in}
 use Rattle.resolve.proofs.Numbers.{OfInput, input-numbered}
 use Rattle.resolve.proofs.InputRead.{numberOf}
 use Rattle.resolve.proofs.CheckedTables.{tables-are}
-use Rattle.resolve.proofs.BlocksStand.{ReadsInputs, reads-inputs}
+use Rattle.resolve.proofs.BlocksStand.{reads-inputs}
 
 abbrev pub two-slots : {work : List ℕ} → SlotNode work → TwoSlots work
 two-slots t =
@@ -45,9 +45,9 @@ two-slots t =
 
 -- an aggregate
 pub aggregate-stepped : (C : Citing) (work : List ℕ) (place entity : ℕ) (m : Membership) {code : ℕ} {left : List ℕ} → NodeTurned (C .tables) work place entity code left
-    → Stepped (λ v fs. stepBy C entity m Aggregate v fs) work place code left
+    → Stepped AnyFields (λ v fs. stepBy C entity m Aggregate v fs) work place code left
 unfolding stepBy
-aggregate-stepped C work place entity m n = record { says = λ t. n .says (two-slots t) ∙ said t; sets = λ t. n .sets (two-slots t) ∙ set t }
+aggregate-stepped C work place entity m n = record { says = λ t u. n .says (two-slots t) ∙ said t; sets = λ t u. n .sets (two-slots t) ∙ set t }
   where
     value : (t : SlotNode work) → valueOf (wordOf (t .kind) (t .value)) ≡ t .value
     value t = let h = t .relation in omega arith
@@ -96,8 +96,8 @@ member-stepped ws records work place entity m {d} {left} {code} e s q =
           ∙ ap (λ (r : ℕ). direction.member (tablesIn ws records marks taken) (t .value) m (t .current) r) (related-is (two-slots t))
           ∙ ap (λ (T : Tables). direction.member T (t .value) m (t .current) (t .related)) (sym same) in
           record {
-            says = λ t. q ∙ coded t d ∙ ap (λ (x : Direction). stepCode place (membershipTest (fs t) entity m x)) (it t);
-            sets = λ t. s .set (wordOf (t .kind) (t .value)) (t .current) (t .related) (fieldWords (t .fields) ++ t .more) (t .stands) ∙ slots t d
+            says = λ t u. q ∙ coded t d ∙ ap (λ (x : Direction). stepCode place (membershipTest (fs t) entity m x)) (it t);
+            sets = λ t u. s .set (wordOf (t .kind) (t .value)) (t .current) (t .related) (fieldWords (t .fields) ++ t .more) (t .stands) ∙ slots t d
                 ∙ ap (λ (x : Direction). wordOf (t .kind) (t .value) ∷ (fieldWords (fieldsAfter (fs t) (membershipTest (fs t) entity m x)) ++ t .more)) (it t);
           };
     }

@@ -1,10 +1,12 @@
 -- What the walkers of trees promise each other: trees stand at the front of a slice, and their slots are set there.
-use Prim.Native.Nat.{ℕ, zero, suc, _+_, _*_, _<_}
+use Prim.Native.Nat.{ℕ, zero, suc, _+_, _*_, _<_, _≤_}
 use mathlib.Core.Path.{_≡_}
 use mathlib.Core.List.{List, [], _∷_, _++_}
 use mathlib.Core.Option.{Option, none, some}
-use Rattle.pack.specs.declared.table.Follows.the-variants.{Slots}
-use Rattle.pack.specs.Table.{valueOf, wordOf}
+use lib.ListN.{length, getD}
+use lib.Dec.{eqb}
+use Rattle.pack.specs.declared.table.Follows.the-variants.{OnlyRelated, Slots}
+use Rattle.pack.specs.Table.{pick, kindOf, valueOf, wordOf}
 use Rattle.resolve.specs.declared.direction.Direction.{Direction}
 use Rattle.resolve.specs.declared.direction.Direction.the-variants.{Turned, Open}
 use Rattle.resolve.specs.Tables.{Tables}
@@ -90,10 +92,18 @@ pub record SlotNode (work : List ℕ) : Type 0 where
   pub current-fits : current < 16777216
   pub related-fits : related < 16777216
 
--- what holds after a node's step: its code, and the slice with the fields that it goes on with
-pub record Stepped (step : ℕ → Fields → Step) (work : List ℕ) (place code : ℕ) (left : List ℕ) : Type 0 where
-  pub says : (t : SlotNode work) → code ≡ stepCode place (step (t .value) ((80, t .current) ∷ (81, t .related) ∷ t .fields))
-  pub sets : (t : SlotNode work)
+-- the fields after the slots: any, or a value first
+abbrev pub AnyFields : Fields → Type 0
+AnyFields fs = Unit {0}
+
+abbrev pub ValueFirst : Fields → Type 0
+ValueFirst [] = ⊥
+ValueFirst (f ∷ fs) = f .1 < 16777216
+
+-- what holds after a node's step, if its fields are as said: its code, and the slice with the fields that it goes on with
+pub record Stepped (Has : Fields → Type 0) (step : ℕ → Fields → Step) (work : List ℕ) (place code : ℕ) (left : List ℕ) : Type 0 where
+  pub says : (t : SlotNode work) → Has (t .fields) → code ≡ stepCode place (step (t .value) ((80, t .current) ∷ (81, t .related) ∷ t .fields))
+  pub sets : (t : SlotNode work) → Has (t .fields)
       → left
       ≡ wordOf (t .kind) (t .value) ∷ (fieldWords (fieldsAfter ((80, t .current) ∷ (81, t .related) ∷ t .fields) (step (t .value) ((80, t .current) ∷ (81, t .related) ∷ t .fields))) ++ t .more)
 
@@ -104,4 +114,35 @@ testCode place entity (Open other) = refusalCode 10 place other
 
 -- a test of membership, whatever the tables say of marks and entities
 pub record MemberStepped (ws records work : List ℕ) (place entity : ℕ) (m : Membership) (code : ℕ) (left : List ℕ) : Type 0 where
-  pub each : (C : Citing) (marks taken : List ℕ) → C .tables ≡ tablesIn ws records marks taken → Stepped (λ v fs. stepBy C entity m Slots v fs) work place code left
+  pub each : (C : Citing) (marks taken : List ℕ) → C .tables ≡ tablesIn ws records marks taken → Stepped AnyFields (λ v fs. stepBy C entity m Slots v fs) work place code left
+
+-- an OnlyRelated node with its value's word, by the number of an input: its code, and its slots set or not
+abbrev pub inputCode : ℕ → ℕ → ℕ → ℕ
+inputCode place name zero = 0
+inputCode place name (suc n) = refusalCode (suc n) place name
+
+abbrev pub onlyCode : ℕ → (ℕ → ℕ → ℕ) → ℕ → Direction → ℕ
+onlyCode place number word (Open other) = refusalCode 10 place other
+onlyCode place number word (Turned c r owner) = pick (eqb (kindOf word) 84) (refusalCode 11 place (valueOf word)) (inputCode place (valueOf word) (number owner (valueOf word)))
+
+abbrev pub setIfNone : ℕ → List ℕ → List ℕ → List ℕ
+setIfNone zero set work = set
+setIfNone (suc n) set work = work
+
+abbrev pub onlySet : (ℕ → ℕ → ℕ) → ℕ → ℕ → List ℕ → Direction → List ℕ → List ℕ
+onlySet number word head more (Open other) work = work
+onlySet number word head more (Turned c r owner) work = pick (eqb (kindOf word) 84) work (setIfNone (number owner (valueOf word)) (head ∷ wordOf 80 c ∷ wordOf 81 r ∷ more) work)
+
+pub record OnlyOut (number : ℕ → ℕ → ℕ) (work : List ℕ) (place : ℕ) (d : Direction) (code : ℕ) (left : List ℕ) : Type 0 where
+  pub says : code ≡ onlyCode place number (getD work 3 0) d
+  pub sets : (head current related : ℕ) (more : List ℕ) → work ≡ head ∷ wordOf 80 current ∷ wordOf 81 related ∷ more → left ≡ onlySet number (getD work 3 0) head more d work
+
+-- what an OnlyRelated node asks for: also a value and the blocks
+pub record OnlyAsked (records work : List ℕ) (place entity blocks count : ℕ) : Type 0 where
+  pub turns : TurnAsked records work place entity
+  pub four : 3 < length work
+  pub low : blocks ≤ 65536
+  pub few : count ≤ 64
+
+pub record OnlyStepped (ws records marks taken : List ℕ) (blocks count origin : ℕ) (work : List ℕ) (place entity code : ℕ) (left : List ℕ) : Type 0 where
+  pub each : (name : ℕ) (m : Membership) → Stepped ValueFirst (λ v fs. stepBy (citingIn ws records marks taken blocks count name origin) entity m OnlyRelated v fs) work place code left

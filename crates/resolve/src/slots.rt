@@ -3,11 +3,12 @@ use crate::direction::Direction;
 use crate::direction::Membership;
 use crate::direction::member;
 use crate::direction::turn;
+use crate::inputs::input;
 use pack::kinds::Pack;
 ghost use mathlib.Core.Path.{_≡_};
 ghost use Prim.Native.Nat.{_<_};
 ghost use Rattle.resolve.specs.Words.{tablesIn, membershipOf};
-ghost use Rattle.resolve.specs.Walk.{TwoSlots, SlotsFit, SlotsSet, refusalCode, kindCode, testCode, TurnAsked, NodeTurned, MemberStepped};
+ghost use Rattle.resolve.specs.Walk.{TwoSlots, SlotsFit, SlotsSet, refusalCode, kindCode, testCode, TurnAsked, NodeTurned, MemberStepped, OnlyAsked, OnlyStepped};
 
 // Sets them as a direction says.
 pub fn set_slots(work: &mut [u32], d: Direction)
@@ -99,4 +100,41 @@ pub fn member_node(
     let d = member(pack, records, relation, m, current, related);
     set_slots(work, d);
     test_code(place, entity, d)
+}
+
+// An OnlyRelated node at the front of a slice: its slots are set if its input is declared for the kind that results.
+pub fn only_node(
+    pack: &[u32],
+    records: &[u32; 4096],
+    marks: &[u32; 4096],
+    taken: &[u32; 4096],
+    blocks: usize,
+    count: usize,
+    origin: u32,
+    work: &mut [u32],
+    place: u32,
+    entity: u32,
+) -> u64
+    requires { ⌜ OnlyAsked (now records) (now work) place entity blocks count ⌝ }
+    ensures { λ r. ⌜ OnlyStepped (now (pack .entry)) (now (records .entry)) (now (marks .entry)) (now (taken .entry)) blocks count origin (now (work .entry)) place entity r (now (work .exit)) ⌝ }
+{
+    let relation = (work[0] % Pack::VALUES) as usize;
+    let current = work[1] % Pack::VALUES;
+    let related = work[2] % Pack::VALUES;
+    let d = turn(
+        pack, records, marks, taken, relation, entity, current, related,
+    );
+    let Direction::Turned(_, _, owner) = d else {
+        return kind_code(place, d);
+    };
+    let name = work[3] % Pack::VALUES;
+    if work[3] / Pack::VALUES == Pack::DERIVED {
+        return refusal_code(11, place, name);
+    }
+    let number = input(pack, blocks, count, origin, owner, name);
+    if number != 0 {
+        return refusal_code(number, place, name);
+    }
+    set_slots(work, d);
+    0
 }
