@@ -122,7 +122,14 @@ pub fn only_node(
     let current = work[1] % Pack::VALUES;
     let related = work[2] % Pack::VALUES;
     let d = turn(
-        pack, records, marks, taken, relation, entity, current, related,
+        pack,
+        records,
+        marks,
+        taken,
+        relation,
+        entity,
+        current,
+        related,
     );
     let Direction::Turned(_, _, owner) = d else {
         return kind_code(place, d);
