@@ -16,5 +16,6 @@ pub mod InputWords
 pub mod InputRead
 pub mod BlocksStand
 pub mod SlotLaws
+pub mod EqualLaws
 pub mod OnlyWords
 pub mod StepWords

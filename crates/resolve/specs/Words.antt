@@ -3,17 +3,20 @@ use Prim.Native.Nat.{ℕ, _+_, _-_, _*_, _≤_}
 use mathlib.Core.Path.{_≡_}
 use mathlib.Core.List.{List, [], _∷_}
 use mathlib.Core.Option.{Option, none, some}
+use mathlib.Core.Bool.{Bool}
 use lib.ListN.{getD}
 use lib.Dec.{eqb}
 use Rattle.pack.specs.Table.{pick, kindOf, valueOf}
 use Rattle.pack.specs.Form.{repeats}
 use Rattle.chains.specs.Operations.{namesAt}
+use Rattle.chains.specs.Filtered.{kindAt}
 use Rattle.chains.specs.Said.{directIn}
 use Rattle.resolve.specs.declared.direction.Direction.{Direction}
 use Rattle.resolve.specs.declared.direction.Membership as direction
 use Rattle.resolve.specs.declared.direction.Membership.the-variants.{Kinds, Unknown}
 use Rattle.resolve.specs.Tables.{Derived, Tables}
-use Rattle.resolve.specs.Direction.{Membership, member}
+use Rattle.resolve.specs.Direction.{Membership, membership, member}
+use Rattle.resolve.specs.Resolving.{equalKinds}
 
 -- the place of a relation's record, by name
 unfoldable pub recordAfter : ℕ → ℕ → ℕ → ℕ
@@ -42,12 +45,15 @@ derivedIn ws place start =
     (some (record { current = valueAt ws (slotsPlace ws start); related = valueAt ws (slotsPlace ws start + 1); kinds = namesAt ws place }))
     none
 
+abbrev pub derivedBy : List ℕ → List ℕ → List ℕ → ℕ → Option Derived
+derivedBy ws records marks n = pick (eqb (getD records n 0) 0) none (derivedIn ws (getD marks n 0 - 2) (getD records n 0))
+
 -- the tables, from the words, the places of records, the marks of relations and what is known of entities
 unfoldable pub tablesIn : List ℕ → List ℕ → List ℕ → List ℕ → Tables
 tablesIn ws records marks taken =
     record {
       typed = λ n. pick (eqb (getD records n 0) 0) none (typedIn ws (getD records n 0));
-      derived = λ n. pick (eqb (getD records n 0) 0) none (derivedIn ws (getD marks n 0 - 2) (getD records n 0));
+      derived = derivedBy ws records marks;
       direct = directIn taken;
     }
 
@@ -63,3 +69,11 @@ membershipOf Unknown = none
 -- a test of membership comes out as the tables say, whatever they say of marks and entities
 pub record MemberTurned (ws records : List ℕ) (relation : ℕ) (m : Membership) (current related : ℕ) (d : Direction) : Type 0 where
   pub each : (marks taken : List ℕ) → d ≡ member (tablesIn ws records marks taken) relation m current related
+
+-- the kinds in the slots of a derived relation, by the place of its list and of its record
+abbrev pub slotKindsIn : List ℕ → ℕ → ℕ → Membership
+slotKindsIn ws place start = membership (kindAt (namesAt ws place) (valueAt ws (slotsPlace ws start))) (kindAt (namesAt ws place) (valueAt ws (slotsPlace ws start + 1)))
+
+-- whether a name is that of a derived relation with equal kinds there
+unfoldable pub equalIn : List ℕ → List ℕ → List ℕ → ℕ → Bool
+equalIn ws records marks n = equalKinds (derivedBy ws records marks n)

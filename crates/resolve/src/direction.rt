@@ -96,7 +96,7 @@ fn kind_count(pack: &[u32], start: usize) -> usize
 }
 
 // Whether it has a derivation.
-fn flag_at(pack: &[u32], start: usize) -> u32
+pub fn flag_at(pack: &[u32], start: usize) -> u32
     requires { ⌜ start ≤ 65536 ⌝ }
     ensures { λ r. ⌜ r ≡ flagAt (now (pack .entry)) start ⌝ }
 {
@@ -104,7 +104,7 @@ fn flag_at(pack: &[u32], start: usize) -> u32
 }
 
 // The place of its current slot, after which the related one stands.
-fn slots_place(pack: &[u32], start: usize) -> usize
+pub fn slots_place(pack: &[u32], start: usize) -> usize
     requires { ⌜ start ≤ 65536 ⌝ }
     ensures { λ r. ⌜ (r ≡ slotsPlace (now (pack .entry)) start) × (r < 134217728) ⌝ }
 {

@@ -1,0 +1,44 @@
+// Derived relations with equal kinds in both slots.
+use crate::direction::Membership;
+use crate::direction::flag_at;
+use crate::direction::slots_place;
+use crate::words::value_at;
+use chains::taking::Kind;
+use chains::taking::kind_at;
+use chains::taking::place_of;
+ghost use mathlib.Core.Path.{_≡_};
+ghost use Prim.Native.Nat.{_<_, _≤_};
+ghost use Rattle.resolve.specs.Words.{Recorded, membershipOf, slotKindsIn, equalIn};
+
+// The kinds in the slots of a derived relation whose record starts at a place, from the list that settles it.
+pub fn slot_kinds(pack: &[u32], list: u32, start: usize) -> Membership
+    requires { ⌜ start ≤ 65536 ⌝ }
+    ensures { λ r. ⌜ membershipOf r ≡ slotKindsIn (now (pack .entry)) list start ⌝ }
+{
+    let at = slots_place(pack, start);
+    let Kind::Is(c) = kind_at(pack, list, value_at(pack, at)) else {
+        return Membership::Unknown;
+    };
+    let Kind::Is(r) = kind_at(pack, list, value_at(pack, at + 1)) else {
+        return Membership::Unknown;
+    };
+    Membership::Kinds(c, r)
+}
+
+// Whether a name is that of a derived relation with equal kinds there.
+pub fn equal_kinds(pack: &[u32], records: &[u32; 4096], marks: &[u32; 4096], name: usize) -> bool
+    requires { ⌜ Recorded (now records) × (name < 4096) ⌝ }
+    ensures { λ r. ⌜ r ≡ equalIn (now (pack .entry)) (now (records .entry)) (now (marks .entry)) name ⌝ }
+{
+    let start = records[name] as usize;
+    if start == 0 {
+        return false;
+    }
+    if flag_at(pack, start) != 1 {
+        return false;
+    }
+    let Membership::Kinds(c, r) = slot_kinds(pack, place_of(marks, name), start) else {
+        return false;
+    };
+    c == r
+}
