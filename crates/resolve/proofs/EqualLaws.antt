@@ -1,8 +1,9 @@
 -- Laws of equal kinds in both slots.
-use Prim.Native.Nat.{ℕ, _+_, _-_}
+use Prim.Native.Nat.{ℕ, suc, _+_, _-_, _<_, _≤_}
+use native.Mathlib.Omega.{arith}
 use mathlib.Core.Path.{_≡_, refl, ap, sym, _∙_}
 use mathlib.Core.List.{List}
-use mathlib.Core.Bool.{Bool, false}
+use mathlib.Core.Bool.{Bool, true, false}
 use mathlib.Core.Option.{Option, none, some}
 use lib.ListN.{getD}
 use lib.Dec.{eqb}
@@ -16,7 +17,9 @@ use Rattle.resolve.specs.declared.direction.Membership as direction
 use Rattle.resolve.specs.declared.direction.Membership.the-variants.{Kinds, Unknown}
 use Rattle.resolve.specs.Direction.{Membership, membership}
 use Rattle.resolve.specs.Resolving.{sameKind}
-use Rattle.resolve.specs.Words.{valueAt, flagAt, slotsPlace, derivedIn, equalIn, slotKindsIn, membershipOf}
+use Rattle.pack.specs.Table.{pick}
+use Rattle.pack.specs.Table as table
+use Rattle.resolve.specs.Words.{valueAt, firstEqual, DefaultedFit, flagAt, slotsPlace, derivedIn, equalIn, slotKindsIn, membershipOf}
 
 -- ---- the kinds in the slots
 
@@ -80,3 +83,50 @@ module _ (ws records marks : List ℕ) (name : ℕ) where
       pub known-kinds : (m : direction.Membership) → membershipOf m ≡ slotKindsIn ws place start → {c r : ℕ} → m ≡ Kinds c r → eqb c r ≡ equalIn ws records marks name
       unfolding alike
       known-kinds m q e = ap (λ (x : direction.Membership). alike (membershipOf x)) (sym e) ∙ derived q
+
+-- ---- the defaulted names
+
+-- what is left to look at is what there was
+pub record Looking (ws records marks : List ℕ) (count i : ℕ) : Type 0 where
+  pub within : i ≤ count
+  pub left : firstEqual ws records marks (3 + i) (count - i) ≡ firstEqual ws records marks 3 count
+
+module _ (ws records marks : List ℕ) where
+  pub look : (count : ℕ) → Looking ws records marks count 0
+  look count = let z : count - 0 ≡ count = omega arith in record { within = omega arith; left = ap (firstEqual ws records marks 3) z }
+
+  at-name : (at k : ℕ) {name : ℕ} {equal : Bool} → name ≡ valueAt ws at → equal ≡ equalIn ws records marks name
+      → firstEqual ws records marks at (suc k) ≡ pick equal name (firstEqual ws records marks (at + 1) k)
+  unfolding firstEqual
+  at-name at k e q = rw (q, e) refl
+
+  module _ {count i : ℕ} (l : Looking ws records marks count i) (more : i < count) {name : ℕ} {equal : Bool} (e : name ≡ valueAt ws (3 + i)) (q : equal ≡ equalIn ws records marks name) where
+    step : pick equal name (firstEqual ws records marks (3 + i + 1) (count - i - 1)) ≡ firstEqual ws records marks 3 count
+    step =
+        let s : count - i ≡ suc (count - i - 1) = omega arith in
+        sym (at-name (3 + i) (count - i - 1) e q) ∙ ap (firstEqual ws records marks (3 + i)) (sym s) ∙ l .left
+
+    pub found : equal ≡ true → name ≡ firstEqual ws records marks 3 count
+    found t = ap (λ (b : Bool). pick b name (firstEqual ws records marks (3 + i + 1) (count - i - 1))) (sym t) ∙ step
+
+    pub look-on : equal ≡ false → Looking ws records marks count (i + 1)
+    look-on f =
+        record {
+          within = omega arith;
+          left =
+              let a : 3 + (i + 1) ≡ 3 + i + 1 = omega arith in
+              let b : count - (i + 1) ≡ count - i - 1 = omega arith in
+              ap (λ (x : ℕ). firstEqual ws records marks x (count - (i + 1))) a ∙ ap (firstEqual ws records marks (3 + i + 1)) b
+              ∙ ap (λ (b : Bool). pick b name (firstEqual ws records marks (3 + i + 1) (count - i - 1))) (sym f) ∙ step;
+        }
+
+  pub looked : {count i : ℕ} → Looking ws records marks count i → count ≤ i → table.none ≡ firstEqual ws records marks 3 count
+  unfolding firstEqual
+  looked {count} {i} l h = let z : count - i ≡ 0 = omega arith in sym (ap (firstEqual ws records marks (3 + i)) z) ∙ l .left
+
+-- a defaulted name is a name, and their count is what is read
+pub named : (ws : List ℕ) (i : ℕ) → DefaultedFit ws → {count name : ℕ} → count ≡ valueAt ws 2 → i < count → name ≡ valueAt ws (3 + i) → name < 4096
+named ws i d c h e = rw e (d .each i (rw c at h))
+
+pub counted : (ws records marks : List ℕ) {count name : ℕ} → count ≡ valueAt ws 2 → name ≡ firstEqual ws records marks 3 count → name ≡ firstEqual ws records marks 3 (valueAt ws 2)
+counted ws records marks c e = e ∙ ap (firstEqual ws records marks 3) c

@@ -1,5 +1,5 @@
 -- What the code reads of a relation from the words of a pack.
-use Prim.Native.Nat.{ℕ, _+_, _-_, _*_, _≤_}
+use Prim.Native.Nat.{ℕ, zero, suc, _+_, _-_, _*_, _<_, _≤_}
 use mathlib.Core.Path.{_≡_}
 use mathlib.Core.List.{List, [], _∷_}
 use mathlib.Core.Option.{Option, none, some}
@@ -7,6 +7,7 @@ use mathlib.Core.Bool.{Bool}
 use lib.ListN.{getD}
 use lib.Dec.{eqb}
 use Rattle.pack.specs.Table.{pick, kindOf, valueOf}
+use Rattle.pack.specs.Table as table
 use Rattle.pack.specs.Form.{repeats}
 use Rattle.chains.specs.Operations.{namesAt}
 use Rattle.chains.specs.Filtered.{kindAt}
@@ -77,3 +78,12 @@ slotKindsIn ws place start = membership (kindAt (namesAt ws place) (valueAt ws (
 -- whether a name is that of a derived relation with equal kinds there
 unfoldable pub equalIn : List ℕ → List ℕ → List ℕ → ℕ → Bool
 equalIn ws records marks n = equalKinds (derivedBy ws records marks n)
+
+-- the first of so many names from a place on with equal kinds, or none
+unfoldable pub firstEqual : List ℕ → List ℕ → List ℕ → ℕ → ℕ → ℕ
+firstEqual ws records marks at zero = table.none
+firstEqual ws records marks at (suc k) = pick (equalIn ws records marks (valueAt ws at)) (valueAt ws at) (firstEqual ws records marks (at + 1) k)
+
+-- the defaulted names of a pack are names: their count is the third word
+pub record DefaultedFit (ws : List ℕ) : Type 0 where
+  pub each : (i : ℕ) → i < valueAt ws 2 → valueAt ws (3 + i) < 4096

@@ -6,9 +6,10 @@ use crate::words::value_at;
 use chains::taking::Kind;
 use chains::taking::kind_at;
 use chains::taking::place_of;
+use pack::kinds::Pack;
 ghost use mathlib.Core.Path.{_≡_};
 ghost use Prim.Native.Nat.{_<_, _≤_};
-ghost use Rattle.resolve.specs.Words.{Recorded, membershipOf, slotKindsIn, equalIn};
+ghost use Rattle.resolve.specs.Words.{Recorded, membershipOf, slotKindsIn, equalIn, valueAt, firstEqual, DefaultedFit};
 
 // The kinds in the slots of a derived relation whose record starts at a place, from the list that settles it.
 pub fn slot_kinds(pack: &[u32], list: u32, start: usize) -> Membership
@@ -41,4 +42,21 @@ pub fn equal_kinds(pack: &[u32], records: &[u32; 4096], marks: &[u32; 4096], nam
         return false;
     };
     c == r
+}
+
+// The first defaulted name of a checked pack with equal kinds, or NONE.
+pub fn first_equal(pack: &[u32], records: &[u32; 4096], marks: &[u32; 4096]) -> u32
+    requires { ⌜ Recorded (now records) × DefaultedFit (now pack) ⌝ }
+    ensures { λ r. ⌜ r ≡ firstEqual (now (pack .entry)) (now (records .entry)) (now (marks .entry)) 3 (valueAt (now (pack .entry)) 2) ⌝ }
+{
+    let count = value_at(pack, 2) as usize;
+    let mut i: usize = 0;
+    while i < count {
+        let name = value_at(pack, 3 + i);
+        if equal_kinds(pack, records, marks, name as usize) {
+            return name;
+        }
+        i += 1;
+    }
+    Pack::NONE
 }
