@@ -17,5 +17,6 @@ pub mod InputRead
 pub mod BlocksStand
 pub mod SlotLaws
 pub mod EqualLaws
+pub mod DefaultedLaws
 pub mod OnlyWords
 pub mod StepWords
