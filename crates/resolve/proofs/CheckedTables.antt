@@ -21,7 +21,7 @@ use Rattle.chains.specs.Kinds.{ownAnswer}
 use Rattle.chains.specs.Scan.{scanTable}
 use Rattle.chains.specs.AllKinds.{KindsMarked}
 use Rattle.chains.specs.Taking.{Known}
-use Rattle.chains.specs.Said.{directOf, directIn}
+use Rattle.chains.specs.Said.{directIn}
 use Rattle.chains.proofs.Quiet.{Passing}
 use Rattle.chains.proofs.ScanLaws.{afterOption, afterRelation}
 use Rattle.chains.proofs.DeclarationLaws.{Fitting}
@@ -32,8 +32,7 @@ use Rattle.chains.proofs.PackIndex.{zeros, parts, scan-table, find-kept, find-n
 use Rattle.chains.proofs.ListAt.{InWords, in-pack, place-holds}
 use Rattle.chains.proofs.SaysLaws.{direct-in}
 use Rattle.resolve.specs.Tables.{derivedAt, typedAt, Tables, tables}
-use Rattle.resolve.specs.Words.{recordAfter, typedIn, derivedIn, tablesIn, Recorded}
-use Rattle.resolve.proofs.WordLaws.{beyond}
+use Rattle.resolve.specs.Words.{directBy, recordAfter, typedIn, derivedIn, tablesIn, Recorded}
 use Rattle.resolve.proofs.TablesLaws.{typed-read, derived-read}
 
 -- ---- the places of records
@@ -120,7 +119,7 @@ none-taken n all e h u used (r ∷ l) f = rw (go (r .derivation) (tail-entity n 
 -- ---- the tables
 
 module _ (ws records marks taken₀ names : List ℕ) (steps : ℕ) (p : Pack) (h : read ws ≡ yes p) (scanned : records ≡ scanTable recordAfter zeros ws) (marked : KindsMarked ws steps names marks)
-    (knows : Known ws taken₀) (long : length taken₀ ≡ 4096) where
+    (knows : Known ws taken₀) where
   abbrev rs : List Relation
   rs = p .relations
 
@@ -197,18 +196,14 @@ module _ (ws records marks taken₀ names : List ℕ) (steps : ℕ) (p : Pack) (
   unfolding direct taken
   past-names e a b = ap single (none-taken n rs e a b [] rs (parts p w .relations-fine))
 
-  no-entity : (e : ℕ) → 4096 ≤ e → directIn taken₀ e ≡ none
-  unfolding directIn directOf
-  no-entity e a = rw (beyond taken₀ e (omega (arith, long))) refl
-
-  direct-alike : (e : ℕ) → directIn taken₀ e ≡ pick (ltb e n) (direct rs e) none
+  direct-alike : (e : ℕ) → directBy taken₀ e ≡ pick (ltb e n) (direct rs e) none
   direct-alike e = go (ltb e n) refl (ltb e 4096) refl
     where
-      go : (a : Bool) → ltb e n ≡ a → (b : Bool) → ltb e 4096 ≡ b → directIn taken₀ e ≡ pick a (direct rs e) none
+      go : (a : Bool) → ltb e n ≡ a → (b : Bool) → ltb e 4096 ≡ b → pick b (directIn taken₀ e) none ≡ pick a (direct rs e) none
       go true x true y = direct-in p h knows e (ltb-true e 4096 y)
       go true x false y = let u = ltb-true e n x in let v = ltb-false e 4096 y in let t = parts p w .most in absurd (omega arith)
       go false x true y = direct-in p h knows e (ltb-true e 4096 y) ∙ past-names e (ltb-false e n x) (ltb-true e 4096 y)
-      go false x false y = no-entity e (ltb-false e 4096 y)
+      go false x false y = refl
 
   pub tables-are : tablesIn ws records marks taken₀ ≡ tables n rs
   unfolding tablesIn tables

@@ -11,7 +11,7 @@ use Rattle.chains.specs.Scan.{scanTable}
 use Rattle.chains.specs.AllKinds.{KindsMarked}
 use Rattle.chains.specs.Taking.{Known}
 use Rattle.chains.proofs.PackIndex.{zeros}
-use lib.ListN.{length, getD}
+use lib.ListN.{getD}
 use Rattle.resolve.specs.declared.direction.Direction.{Direction}
 use Rattle.resolve.specs.declared.direction.Direction.the-variants.{Turned, Open}
 use Rattle.resolve.specs.Tables.{Tables, tables}
@@ -124,11 +124,11 @@ number-again none h = refl
 number-again (some zero) h = absurd (omega (arith, h .0))
 number-again (some (suc n)) h = refl
 
-pub citing-is : (ws records marks taken names : List ℕ) (steps : ℕ) (p : Pack) → read ws ≡ yes p → records ≡ scanTable recordAfter zeros ws → KindsMarked ws steps names marks → Known ws taken → length taken ≡ 4096
+pub citing-is : (ws records marks taken names : List ℕ) (steps : ℕ) (p : Pack) → read ws ≡ yes p → records ≡ scanTable recordAfter zeros ws → KindsMarked ws steps names marks → Known ws taken
     → {at : ℕ} → at ≡ placeOfKind 28 0 ws → (name origin : ℕ) → citingIn ws records marks taken (at + 1) (valueAt ws at) name origin ≡ cites p name origin
 unfolding citingIn
-citing-is ws records marks taken names steps p h scanned marked knows long {at} e name origin =
-    let t = tables-are ws records marks taken names steps p h scanned marked knows long in
+citing-is ws records marks taken names steps p h scanned marked knows {at} e name origin =
+    let t = tables-are ws records marks taken names steps p h scanned marked knows in
     let r = reads-inputs ws p h e in
     let inputs : citingIn ws records marks taken (at + 1) (valueAt ws at) name origin .input ≡ cites p name origin .input =
     fun-ext (λ owner. fun-ext (λ n. ap orNot (r .inputs origin owner n) ∙ number-again (input (p .blocks) origin owner n) (input-numbered (p .blocks) origin owner n))) in

@@ -8,7 +8,7 @@ use mathlib.Core.Option.{Option, none, some}
 use lib.ListN.{length, getD, set}
 use lib.Seq.{set-getD}
 use lib.Dec.{eqb}
-use borrow.Author.Tests.{eq-eqb, ne-eqb, eqb-true, eqb-false, le-ltb}
+use borrow.Author.Tests.{eq-eqb, ne-eqb, eqb-true, eqb-false, lt-ltb, le-ltb}
 use Rattle.pack.specs.Table.{pick, kindOf, valueOf}
 use Rattle.chains.specs.declared.taking.Kind.{Kind}
 use Rattle.chains.specs.declared.taking.Kind.the-variants as kind
@@ -24,7 +24,7 @@ use Rattle.resolve.specs.declared.direction.Membership as direction
 use Rattle.resolve.specs.declared.direction.Membership.the-variants.{Kinds, Unknown}
 use Rattle.resolve.specs.Direction.{bearing, orElse, kindOrZero, matched, towards, turn, Membership, eachOnce, between, tested, member}
 use Rattle.resolve.specs.Tables.{Derived, Tables}
-use Rattle.resolve.specs.Words.{recordAfter, valueAt, kindCount, flagAt, slotsPlace, typedIn, derivedIn, tablesIn, Recorded, membershipOf, MemberTurned}
+use Rattle.resolve.specs.Words.{directBy, recordAfter, valueAt, kindCount, flagAt, slotsPlace, typedIn, derivedIn, tablesIn, Recorded, membershipOf, MemberTurned}
 
 pub beyond : (ws : List ℕ) (at : ℕ) → length ws ≤ at → getD ws at 0 ≡ 0
 beyond [] at h = refl
@@ -113,22 +113,26 @@ module _ (ws : List ℕ) (start : ℕ) where
 
 -- ---- an aggregate
 
-module _ (taken : List ℕ) (e : ℕ) {d : ℕ} (k : d ≡ directOf (getD taken e 0)) where
-  pub matches-itself : d ≡ 16777215 → e ≡ orElse (directIn taken e) e
-  unfolding directIn
-  matches-itself z = sym (rw (← k, eq-eqb d 16777215 z) refl)
+module _ (taken : List ℕ) (e : ℕ) where
+  pub matches-beyond : 4096 ≤ e → e ≡ orElse (directBy taken e) e
+  matches-beyond h = sym (rw (le-ltb e 4096 h) refl)
 
-  pub matches-kind : (d ≡ 16777215 → ⊥) → d ≡ orElse (directIn taken e) e
-  unfolding directIn
-  matches-kind z = sym (rw (← k, ne-eqb d 16777215 z) refl)
+  module _ (h : e < 4096) {d : ℕ} (k : d ≡ directOf (getD taken e 0)) where
+    pub matches-itself : d ≡ 16777215 → e ≡ orElse (directBy taken e) e
+    unfolding directIn
+    matches-itself z = sym (rw (lt-ltb e 4096 h, ← k, eq-eqb d 16777215 z) refl)
+
+    pub matches-kind : (d ≡ 16777215 → ⊥) → d ≡ orElse (directBy taken e) e
+    unfolding directIn
+    matches-kind z = sym (rw (lt-ltb e 4096 h, ← k, ne-eqb d 16777215 z) refl)
 
 module _ (ws taken : List ℕ) (start e c r : ℕ) (flag : flagAt ws start ≡ 1 → ⊥) {count : ℕ} (k : count ≡ kindCount ws start) where
-  pub untyped : (count ≡ 2 → ⊥) → Turned c r 0 ≡ towards (directIn taken) (typedIn ws start) e c r
+  pub untyped : (count ≡ 2 → ⊥) → Turned c r 0 ≡ towards (directBy taken) (typedIn ws start) e c r
   unfolding typedIn
   untyped z = sym (rw (ne-eqb (flagAt ws start) 1 flag, ← k, ne-eqb count 2 z) refl)
 
-  pub typed : count ≡ 2 → {a b m : ℕ} {d : Direction} → a ≡ valueAt ws (start + 4) → b ≡ valueAt ws (start + 5) → m ≡ orElse (directIn taken e) e
-      → d ≡ matched (a ∷ b ∷ []) e c r (bearing m 0 (a ∷ b ∷ [])) → d ≡ towards (directIn taken) (typedIn ws start) e c r
+  pub typed : count ≡ 2 → {a b m : ℕ} {d : Direction} → a ≡ valueAt ws (start + 4) → b ≡ valueAt ws (start + 5) → m ≡ orElse (directBy taken e) e
+      → d ≡ matched (a ∷ b ∷ []) e c r (bearing m 0 (a ∷ b ∷ [])) → d ≡ towards (directBy taken) (typedIn ws start) e c r
   unfolding typedIn
   typed z {a} {b} {m} x y n q = q ∙ sym (rw (ne-eqb (flagAt ws start) 1 flag, ← k, eq-eqb count 2 z, ← x, ← y, ← n) refl)
 
@@ -149,18 +153,18 @@ module _ (ws records marks taken : List ℕ) (relation e c r : ℕ) where
   undeclared z =
       let d : T .derived relation ≡ none = rw (eq-eqb (getD records relation 0) 0 z) refl in
       let t : T .typed relation ≡ none = rw (eq-eqb (getD records relation 0) 0 z) refl in
-      sym (turn-plain T relation e c r d ∙ ap (λ o. towards (directIn taken) o e c r) t)
+      sym (turn-plain T relation e c r d ∙ ap (λ o. towards (directBy taken) o e c r) t)
 
   module _ (h : getD records relation 0 ≡ 0 → ⊥) where
     abbrev start : ℕ
     start = getD records relation 0
 
-    pub not-derived : {flag : ℕ} {x : Direction} → flag ≡ flagAt ws start → (flag ≡ 1 → ⊥) → x ≡ towards (directIn taken) (typedIn ws start) e c r → x ≡ turn T relation e c r
+    pub not-derived : {flag : ℕ} {x : Direction} → flag ≡ flagAt ws start → (flag ≡ 1 → ⊥) → x ≡ towards (directBy taken) (typedIn ws start) e c r → x ≡ turn T relation e c r
     unfolding tablesIn derivedIn
     not-derived {flag} f z q =
         let d : T .derived relation ≡ none = rw (ne-eqb start 0 h, ← f, ne-eqb flag 1 z) refl in
         let t : T .typed relation ≡ typedIn ws start = rw (ne-eqb start 0 h) refl in
-        q ∙ sym (turn-plain T relation e c r d ∙ ap (λ o. towards (directIn taken) o e c r) t)
+        q ∙ sym (turn-plain T relation e c r d ∙ ap (λ o. towards (directBy taken) o e c r) t)
 
     pub is-derived : {flag at x y place k : ℕ} → flag ≡ flagAt ws start → flag ≡ 1 → at ≡ slotsPlace ws start → x ≡ valueAt ws at → y ≡ valueAt ws (at + 1) → place ≡ getD marks relation 0 - 2
         → k ≡ kindOrZero (namesAt ws place) y → Turned x y k ≡ turn T relation e c r

@@ -53,7 +53,6 @@ pub record TurnAsked (records work : List ℕ) (place entity : ℕ) : Type 0 whe
   pub recorded : Recorded records
   pub node : TwoSlots work
   pub near : place < 16384
-  pub name : entity < 4096
 
 pub record NodeTurned (T : Tables) (work : List ℕ) (place entity code : ℕ) (left : List ℕ) : Type 0 where
   pub says : (t : TwoSlots work) → code ≡ kindCode place (turn T (valueOf (t .head)) entity (t .current) (t .related))

@@ -5,7 +5,7 @@ use mathlib.Core.List.{List, [], _∷_}
 use mathlib.Core.Option.{Option, none, some}
 use mathlib.Core.Bool.{Bool}
 use lib.ListN.{getD}
-use lib.Dec.{eqb}
+use lib.Dec.{eqb, ltb}
 use Rattle.pack.specs.Table.{pick, kindOf, valueOf}
 use Rattle.pack.specs.Table as table
 use Rattle.pack.specs.Form.{repeats}
@@ -49,13 +49,17 @@ derivedIn ws place start =
 abbrev pub derivedBy : List ℕ → List ℕ → List ℕ → ℕ → Option Derived
 derivedBy ws records marks n = pick (eqb (getD records n 0) 0) none (derivedIn ws (getD marks n 0 - 2) (getD records n 0))
 
+-- the kind that an entity takes; beyond the names there is none
+abbrev pub directBy : List ℕ → ℕ → Option ℕ
+directBy taken e = pick (ltb e 4096) (directIn taken e) none
+
 -- the tables, from the words, the places of records, the marks of relations and what is known of entities
 unfoldable pub tablesIn : List ℕ → List ℕ → List ℕ → List ℕ → Tables
 tablesIn ws records marks taken =
     record {
       typed = λ n. pick (eqb (getD records n 0) 0) none (typedIn ws (getD records n 0));
       derived = derivedBy ws records marks;
-      direct = directIn taken;
+      direct = directBy taken;
     }
 
 -- every record starts within the words

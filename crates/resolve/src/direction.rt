@@ -11,9 +11,8 @@ ghost use mathlib.Core.Option.{some};
 ghost use Prim.Native.Nat.{_<_, _≤_};
 ghost use lib.ListN.{length};
 ghost use Rattle.chains.specs.Operations.{namesAt};
-ghost use Rattle.chains.specs.Said.{directIn};
 ghost use Rattle.resolve.specs.Direction.{bearing, orElse, kindOrZero, matched, towards, turn, between, tested};
-ghost use Rattle.resolve.specs.Words.{kindCount, flagAt, slotsPlace, typedIn, tablesIn, Recorded, membershipOf, MemberTurned};
+ghost use Rattle.resolve.specs.Words.{kindCount, flagAt, slotsPlace, typedIn, directBy, tablesIn, Recorded, membershipOf, MemberTurned};
 
 // How a node comes out: its slots and the kind that results; or its direction is open, between slots of this kind or entity.
 pub enum Direction {
@@ -118,9 +117,11 @@ pub fn slots_place(pack: &[u32], start: usize) -> usize
 
 // The kind by which an entity is matched: the one that it takes, or itself.
 fn matching_kind(taken: &[u32; 4096], entity: u32) -> u32
-    requires { ⌜ entity < 4096 ⌝ }
-    ensures { λ r. ⌜ r ≡ orElse (directIn (now (taken .entry)) entity) entity ⌝ }
+    ensures { λ r. ⌜ r ≡ orElse (directBy (now (taken .entry)) entity) entity ⌝ }
 {
+    if Pack::MOST_NAMES <= entity {
+        return entity;
+    }
     let d = direct_of(taken[entity as usize]);
     if d == Pack::NONE {
         return entity;
@@ -137,8 +138,8 @@ fn towards(
     current: u32,
     related: u32,
 ) -> Direction
-    requires { ⌜ (start ≤ 65536) × (entity < 4096) × (flagAt (now pack) start ≡ 1 → ⊥) ⌝ }
-    ensures { λ r. ⌜ r ≡ towards (directIn (now (taken .entry))) (typedIn (now (pack .entry)) start) entity current related ⌝ }
+    requires { ⌜ (start ≤ 65536) × (flagAt (now pack) start ≡ 1 → ⊥) ⌝ }
+    ensures { λ r. ⌜ r ≡ towards (directBy (now (taken .entry))) (typedIn (now (pack .entry)) start) entity current related ⌝ }
 {
     if kind_count(pack, start) != 2 {
         return Direction::Turned(current, related, 0);
@@ -159,7 +160,7 @@ pub fn turn(
     current: u32,
     related: u32,
 ) -> Direction
-    requires { ⌜ Recorded (now records) × (relation < 4096) × (entity < 4096) ⌝ }
+    requires { ⌜ Recorded (now records) × (relation < 4096) ⌝ }
     ensures { λ r. ⌜ r ≡ turn (tablesIn (now (pack .entry)) (now (records .entry)) (now (marks .entry)) (now (taken .entry))) relation entity current related ⌝ }
 {
     let start = records[relation] as usize;

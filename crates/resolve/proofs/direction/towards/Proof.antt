@@ -8,7 +8,7 @@ kind-count-requires : tie.Need-kind-count-requires
 kind-count-requires c κs = search needs
 
 returns : tie.Need-returns
-returns c = untyped _ _ _ _ _ _ ((c .before .before .before .pre) .2) ((c .before .kind-count) .ensures .0) ((c .if1) .taken)
+returns c = untyped _ _ _ _ _ _ ((c .before .before .before .pre) .1) ((c .before .kind-count) .ensures .0) ((c .if1) .taken)
 
 add-value-at : tie.Need-add-value-at
 add-value-at c = search needs
@@ -29,7 +29,7 @@ matched-requires : tie.Need-matched-requires
 matched-requires c κs = search needs
 
 returns-2 : tie.Need-returns-2
-returns-2 c = typed _ _ _ _ _ _ ((c .before .before .before .before .before .before .before .pre) .2) ((c .before .before .before .before .before .kind-count) .ensures .0) ((c .before .before .before .before .if1) .left) ((c .before .before .before .value-at) .ensures .0) ((c .before .before .value-at2) .ensures .0) ((c .before .matching-kind) .ensures) ((c .matched) .ensures)
+returns-2 c = typed _ _ _ _ _ _ ((c .before .before .before .before .before .before .before .pre) .1) ((c .before .before .before .before .before .kind-count) .ensures .0) ((c .before .before .before .before .if1) .left) ((c .before .before .before .value-at) .ensures .0) ((c .before .before .value-at2) .ensures .0) ((c .before .matching-kind) .ensures) ((c .matched) .ensures)
 
 pub towards-spec : {M : Type 1} → statement M
 towards-spec =

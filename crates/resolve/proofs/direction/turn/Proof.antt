@@ -22,7 +22,7 @@ flag-at-requires : tie.Need-flag-at-requires
 flag-at-requires c κs = recorded _ _ ((c .before .before .before .pre) .0)
 
 towards-requires : tie.Need-towards-requires
-towards-requires c κs = (recorded _ _ ((c .before .before .before .before .before .pre) .0), (c .before .before .before .before .before .pre) .2, λ e. ((c .if2) .taken) ((c .before .flag-at) .ensures ∙ e))
+towards-requires c κs = (recorded _ _ ((c .before .before .before .before .before .pre) .0), λ e. ((c .if2) .taken) ((c .before .flag-at) .ensures ∙ e))
 
 returns-2 : tie.Need-returns-2
 returns-2 c = not-derived _ _ _ _ _ _ _ _ ((c .before .before .before .if1) .left) ((c .before .before .flag-at) .ensures) ((c .before .if2) .taken) ((c .towards) .ensures)

@@ -20,7 +20,7 @@ slice-read-related : tie.Need-slice-read-related
 slice-read-related c = omega (arith, three-words ((c .before .before .before .before .before .pre) .turns .node))
 
 turn-requires : tie.Need-turn-requires
-turn-requires c κs = ((c .before .before .before .before .before .pre) .turns .recorded, relation-below ((c .before .before .before .before .before .pre) .turns .node), (c .before .before .before .before .before .pre) .turns .name)
+turn-requires c κs = ((c .before .before .before .before .before .pre) .turns .recorded, relation-below ((c .before .before .before .before .before .pre) .turns .node))
 
 enum-known-d : tie.Need-enum-known-d
 enum-known-d c = search needs
