@@ -19,4 +19,5 @@ pub mod SlotLaws
 pub mod EqualLaws
 pub mod DefaultedLaws
 pub mod OnlyWords
+pub mod WalkLaws
 pub mod StepWords

@@ -7,11 +7,13 @@ use lib.ListN.{length, getD}
 use lib.Dec.{eqb}
 use Rattle.pack.specs.declared.table.Follows.the-variants.{OnlyRelated, Slots}
 use Rattle.pack.specs.Table.{pick, kindOf, valueOf, wordOf}
+use Rattle.pack.specs.Form.{FineEach, Fine}
+use Rattle.pack.specs.Tree.{Tree, Forest, ofForest, tree}
 use Rattle.resolve.specs.declared.direction.Direction.{Direction}
 use Rattle.resolve.specs.declared.direction.Direction.the-variants.{Turned, Open}
 use Rattle.resolve.specs.Tables.{Tables}
 use Rattle.resolve.specs.Direction.{turn, Membership}
-use Rattle.resolve.specs.Turning.{Citing, Fields, Step, goes, stops, stepBy, fieldWords}
+use Rattle.resolve.specs.Turning.{Outcome, done, refused, Citing, Fields, Step, goes, stops, stepBy, fieldWords, treeWords, forestWords, size, sizes, resolveTree, resolveForest}
 use Rattle.resolve.specs.Words.{tablesIn, Recorded}
 use Rattle.resolve.specs.Blocks.{inputIn}
 
@@ -145,3 +147,26 @@ pub record OnlyAsked (records work : List ℕ) (place entity blocks count : ℕ)
 
 pub record OnlyStepped (ws records marks taken : List ℕ) (blocks count origin : ℕ) (work : List ℕ) (place entity code : ℕ) (left : List ℕ) : Type 0 where
   pub each : (name : ℕ) (m : Membership) → Stepped ValueFirst (λ v fs. stepBy (citingIn ws records marks taken blocks count name origin) entity m OnlyRelated v fs) work place code left
+
+-- ---- trees
+
+-- what comes of a tree at the front of a slice: how many words it has and the slice after it, or a refusal
+abbrev pub Came : List ℕ → ℕ → Outcome Tree → ℕ → List ℕ → Type 0
+Came after words (done t) code left = (code ≡ words) × (left ≡ treeWords t ++ after)
+Came after words (refused r) code left = code ≡ refusalCode (r .number) (r .place) (r .other)
+
+pub record Walked (C : Citing) (n levels sort entity : ℕ) (m : Membership) (place : ℕ) (work : List ℕ) (code : ℕ) (left : List ℕ) : Type 0 where
+  pub each : (t : Tree) (after : List ℕ) → Fine (tree n levels sort) t → work ≡ treeWords t ++ after → Came after (size t) (resolveTree C entity m place t) code left
+
+-- and of the children of a node, after the words in front of them
+abbrev pub CameRow : List ℕ → List ℕ → ℕ → Outcome Forest → ℕ → List ℕ → Type 0
+CameRow front after words (done f) code left = (code ≡ words) × (left ≡ front ++ (forestWords f ++ after))
+CameRow front after words (refused r) code left = code ≡ refusalCode (r .number) (r .place) (r .other)
+
+-- children that keep to their sorts
+abbrev pub RowFine : ℕ → ℕ → List ℕ → Forest → Type 0
+RowFine n levels sorts f = FineEach (λ sort t. Fine (tree n levels sort) t) sorts (ofForest f)
+
+pub record RowWalked (C : Citing) (n levels : ℕ) (sorts : List ℕ) (entity : ℕ) (first rest : Membership) (place from : ℕ) (work : List ℕ) (code : ℕ) (left : List ℕ) : Type 0 where
+  pub each : (f : Forest) (front after : List ℕ) → length front ≡ from → RowFine n levels sorts f → work ≡ front ++ (forestWords f ++ after)
+      → CameRow front after (from + sizes f) (resolveForest C entity first rest (place + from) f) code left
