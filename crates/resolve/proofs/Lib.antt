@@ -20,4 +20,5 @@ pub mod EqualLaws
 pub mod DefaultedLaws
 pub mod OnlyWords
 pub mod WalkLaws
+pub mod RowLaws
 pub mod StepWords

@@ -8,3 +8,4 @@ pub mod Demand3
 pub mod Words
 pub mod Blocks
 pub mod Walk
+pub mod Rows
