@@ -59,7 +59,7 @@ tail-below n r f list21 = option-below n (r .derivation) (f .1 .1 .1)
 
 -- ---- the kinds of a name
 
-abbrev BelowAll : ℕ → Option (List ℕ) → Type 0
+abbrev pub BelowAll : ℕ → Option (List ℕ) → Type 0
 BelowAll n none = Unit {0}
 BelowAll n (some ks) = Below n ks
 
@@ -72,7 +72,7 @@ module _ (p : Pack) (w : WellFormed p) where
   answer-below none = tt
   answer-below (some s) = list-below (s .owner) (s .which) (find (s .owner) (p .relations)) refl
 
-  kinds-below : (n : ℕ) → BelowAll (p .names) (kindsOf (p .relations) n)
+  pub kinds-below : (n : ℕ) → BelowAll (p .names) (kindsOf (p .relations) n)
   unfolding kindsOf
   kinds-below n = answer-below (ownAnswer (p .relations) n)
 

@@ -131,7 +131,7 @@ fn take_word(
 }
 
 // What every derivation's entity takes, from the words of a checked pack and the marks of its relations.
-fn take_all(pack: &[u32], marks: &[u32; 4096], table: &mut [u32; 4096])
+pub fn take_all(pack: &[u32], marks: &[u32; 4096], table: &mut [u32; 4096])
     ensures { λ r. ⌜ now (table .exit) ≡ takenIn (now (pack .entry)) (now (marks .entry)) (now (table .entry)) ⌝ }
 {
     let mut name: usize = 0;

@@ -7,96 +7,22 @@ use mathlib.Core.Bool.{Bool, true, false}
 use mathlib.Core.Option.{Option, none, some}
 use lib.ListN.{length, length-append}
 use lib.Dec.{eqb}
-use borrow.Author.Tests.{ne-eqb, leb-true, eqb-true, eqb-false}
-use Rattle.pack.specs.Table.{pick, wordOf, judgment, table, entryOf}
-use Rattle.pack.specs.Form.{among, allowedHere, wordsAll, FineAll, says, count, items, listOrNone, Form, field, _▹_, wordsBy, Fine}
-use Rattle.pack.specs.Tree.{root, tree}
-use Rattle.pack.specs.Pack.{Item, Block, Pack, WellFormed, yes, read, newName, nameList, hop, path, chain, member, derivation, optionalDerivation, relationTail, relation, body, bodies, rule, item, blockItems, block, blocks, defaultedName, defaulted, relations, rules, records, inner, layout, total, words, firstKind, Edition, undated}
+use borrow.Author.Tests.{leb-true, eqb-true, eqb-false}
+use Rattle.pack.specs.Table.{pick, wordOf, table, entryOf}
+use Rattle.pack.specs.Form.{allowedHere, wordsAll, FineAll, says, count, items, listOrNone, wordsBy, Fine}
+use Rattle.pack.specs.Pack.{Item, Block, Pack, WellFormed, yes, read, item, blockItems, block, blocks, defaulted, relations, rules, records, inner, layout, total, words, firstKind, Edition, undated}
 use Rattle.pack.proofs.PackLaws.{words-read}
-use Rattle.chains.proofs.Hushed.{Quiet, quiet-append, quiet-word, kind-word, Hushed, field-hushed, then-hushed, via-hushed, all-hushed, counted-hushed, tree-hushed}
+use Rattle.chains.proofs.Hushed.{Quiet, quiet-append, quiet-word}
 use Rattle.resolve.specs.Inputs.{sequence, input}
 use Rattle.resolve.specs.Words.{valueAt}
 use Rattle.resolve.specs.Blocks.{inputIn, placeOfKind}
 use Rattle.resolve.proofs.TablesLaws.{value-there}
+use Rattle.resolve.proofs.WordsBefore.{loud, defaulted-hushed, relations-hushed, rules-hushed, place-quiet}
 use Rattle.resolve.proofs.InputRead.{numberOf, input-read, itemsWords, blockWords, blocksWords, ItemsFit, BlockFits, BlocksFit}
 
-abbrev loud : ℕ → Bool
-loud k = eqb k 28
-
-high : (k : ℕ) → 64 ≤ k → loud k ≡ false
-high k h = ne-eqb k 28 (λ e. omega arith)
-
--- ---- the words before them
+-- ---- the blocks themselves
 
 module _ (n : ℕ) where
-  fields-hushed : {B : Type 0} (kind : ℕ) (G : Form B) → loud kind ≡ false → Hushed loud G → Hushed loud (field n kind ▹ λ _. G)
-  fields-hushed kind G q h = then-hushed loud _ _ (field-hushed loud n kind q) (λ _. h)
-
-  names-hushed : (kind : ℕ) → loud kind ≡ false → Hushed loud (nameList n kind)
-  unfolding nameList
-  names-hushed kind q = counted-hushed loud _ n kind _ _ _ _ q (λ u. field-hushed loud n 10 refl)
-
-  derivation-hushed : Hushed loud (derivation n)
-  unfolding derivation chain path hop member root
-  derivation-hushed =
-      via-hushed loud _ _ _ _ _
-      (then-hushed loud _ _
-      (fields-hushed 12 _ refl
-      (then-hushed loud _ _ (counted-hushed loud _ n 13 _ _ _ _ refl (λ u. via-hushed loud _ _ _ _ _ (fields-hushed 14 _ refl (fields-hushed 15 _ refl (field-hushed loud n 16 refl)))))
-      (λ _. fields-hushed 17 _ refl (field-hushed loud n 18 refl))))
-      (λ _. fields-hushed 19 _ refl (fields-hushed 20 _ refl (then-hushed loud _ _ (names-hushed 21 refl) (λ _. tree-hushed loud high n 32 judgment (omega arith))))))
-
-  tail-hushed : Hushed loud (relationTail n)
-  unfolding relationTail optionalDerivation
-  tail-hushed =
-      fields-hushed 7 _ refl (fields-hushed 8 _ refl (then-hushed loud _ _ (names-hushed 9 refl) (λ _. counted-hushed loud _ n 11 _ _ _ _ refl (λ u. derivation-hushed))))
-
-  relation-hushed : (used : ℕ → Bool) → Hushed loud (relation n used)
-  unfolding relation newName Fine wordsBy
-  relation-hushed used r f = (quiet-word loud 6 (r .name) (f .0 .0 .0) refl .0, tail-hushed _ (f .1))
-
-  sort-small : (v : ℕ) → allowedHere n 27 v ≡ true → v ≤ 1
-  unfolding allowedHere entryOf table
-  sort-small v e = leb-true v 1 e
-
-  body-hushed : Hushed loud (body n)
-  unfolding body root Fine wordsBy
-  body-hushed b f = (quiet-word loud 27 (b .sort) (f .0 .0) refl .0, tree-hushed loud high n 32 (b .sort) (sort-small (b .sort) (f .0 .1)) (b .tree) (f .1))
-
-  rule-hushed : Hushed loud (rule n)
-  unfolding rule bodies Fine wordsBy
-  rule-hushed r f = (
-    quiet-word loud 23 (r .citing) (f .0 .0) refl .0,
-    (
-      quiet-word loud 24 (r .origin) (f .1 .0 .0) refl .0,
-      (
-        quiet-word loud 25 (r .entity) (f .1 .1 .0 .0) refl .0,
-        (
-          quiet-word loud 26 (suc (length (r .versions))) (f .1 .1 .1 .0 .0) refl .0,
-          quiet-append loud (wordsBy (body n) (r .semantics)) _ (body-hushed (r .semantics) (f .1 .1 .1 .1)) (all-hushed loud (λ u b. u) (λ u. body n) (λ u. body-hushed) tt (r .versions) (f .1 .1 .1 .2)),
-        ),
-      ),
-    ),
-  )
-
-  name-hushed : (low : ℕ) → Hushed loud (defaultedName n low)
-  unfolding defaultedName Fine wordsBy
-  name-hushed low v f = quiet-word loud 4 v (f .0 .0) refl
-
-  defaulted-hushed : Hushed loud (defaulted n)
-  unfolding defaulted
-  defaulted-hushed = counted-hushed loud _ n 3 _ _ _ _ refl name-hushed
-
-  relations-hushed : Hushed loud (relations n)
-  unfolding relations
-  relations-hushed = counted-hushed loud _ n 5 _ _ _ _ refl (λ used. relation-hushed (λ v. among v used))
-
-  rules-hushed : Hushed loud (rules n)
-  unfolding rules
-  rules-hushed = counted-hushed loud _ n 22 _ _ _ _ refl (λ u. rule-hushed)
-
-  -- ---- the blocks themselves
-
   items-words : (l : List Item) → wordsAll {S = Unit {0}} (λ u a. u) (λ u a. wordsBy (item n) a) tt l ≡ itemsWords l
   unfolding item wordsBy
   items-words [] = refl
@@ -155,14 +81,14 @@ first-word : (n : ℕ) (ds : List ℕ) → 1 ≤ length (wordsBy (defaulted n) d
 unfolding defaulted wordsBy
 first-word n ds = omega arith
 
-first-kind : (e : Edition) → firstKind e ≡ 1
+pub first-kind : (e : Edition) → firstKind e ≡ 1
 first-kind undated = refl
 
 -- the words before the blocks, and that they are all other words
 pub record Stands (p : Pack) : Type 0 where
   pub before : List ℕ
   pub same : words p ≡ before ++ (wordOf 28 (length (p .blocks)) ∷ blocksWords (p .blocks))
-  pub quiet : Quiet loud before
+  pub quiet : Quiet (loud 28) before
   pub fits : BlocksFit (p .blocks)
   pub few : length (p .blocks) ≤ 64
   pub three : 3 ≤ length before
@@ -187,10 +113,10 @@ blocks-stand p w =
           (ap (λ (l : List ℕ). wordOf 1 (total p) ∷ wordOf 2 n ∷ l)
           (ap (λ (l : List ℕ). a ++ l) (sym (append-assoc b c d)) ∙ sym (append-assoc a (b ++ c) d) ∙ ap (λ (l : List ℕ). (a ++ (b ++ c)) ++ l) (blocks-words n (p .blocks))));
       quiet = (
-        quiet-word loud 1 (total p) (omega (arith, w .most)) refl .0,
+        quiet-word (loud 28) 1 (total p) (omega (arith, w .most)) refl .0,
         (
-          quiet-word loud 2 n (f .0 .0) refl .0,
-          quiet-append loud a (b ++ c) (defaulted-hushed n (p .defaulted) (f .1 .0)) (quiet-append loud b c (relations-hushed n (p .relations) (f .1 .1 .0)) (rules-hushed n (p .rules) (f .1 .1 .1 .0))),
+          quiet-word (loud 28) 2 n (f .0 .0) refl .0,
+          quiet-append (loud 28) a (b ++ c) (defaulted-hushed 28 (omega arith) (omega arith) n (p .defaulted) (f .1 .0)) (quiet-append (loud 28) b c (relations-hushed 28 (omega arith) (omega arith) n (p .relations) (f .1 .1 .0)) (rules-hushed 28 (omega arith) (omega arith) n (omega arith) (p .rules) (f .1 .1 .1 .0))),
         ),
       );
       fits = blocks-fit n (p .blocks) (f .1 .1 .1 .1 .2);
@@ -199,11 +125,6 @@ blocks-stand p w =
     }
 
 -- ---- their place
-
-place-quiet : (us vs : List ℕ) (v at : ℕ) → v < 16777216 → Quiet loud us → placeOfKind 28 at (us ++ (wordOf 28 v ∷ vs)) ≡ at + length us
-unfolding placeOfKind
-place-quiet [] vs v at h q = rw (kind-word 28 v h) (omega arith)
-place-quiet (u ∷ us) vs v at h q = rw (q .0) (place-quiet us vs v (suc at) h (q .1) ∙ omega arith)
 
 -- of the words of a pack: the place of its count of blocks, and what an input is there
 pub record ReadsInputs (ws : List ℕ) (p : Pack) (at : ℕ) : Type 0 where
@@ -219,7 +140,7 @@ reads-inputs ws p h {at} e =
     let bs : List Block = p .blocks in
     let same : ws ≡ s .before ++ (wordOf 28 (length bs) ∷ blocksWords bs) = sym (r .same) ∙ s .same in
     let v : length bs < 16777216 = omega (arith, s .few) in
-    let l : at ≡ length (s .before) = e ∙ ap (placeOfKind 28 0) same ∙ place-quiet (s .before) (blocksWords bs) (length bs) 0 v (s .quiet) ∙ omega arith in
+    let l : at ≡ length (s .before) = e ∙ ap (placeOfKind 28 0) same ∙ place-quiet 28 (s .before) (blocksWords bs) (length bs) 0 v (s .quiet) ∙ omega arith in
     let c : valueAt ws at ≡ length bs = value-there ws (s .before) (blocksWords bs) 28 (length bs) at same (sym l) v in
     let one : List ℕ = wordOf 28 (length bs) ∷ [] in
     let opened : ws ≡ (s .before ++ one) ++ (blocksWords bs ++ []) = same ∙ sym (append-assoc (s .before) one (blocksWords bs)) ∙ ap (λ (x : List ℕ). (s .before ++ one) ++ x) (sym (append-nil (blocksWords bs))) in

@@ -138,7 +138,7 @@ module _ (ws records marks taken₀ names : List ℕ) (steps : ℕ) (p : Pack) (
   undeclared-at : (m : ℕ) → find m rs ≡ none → getD records m 0 ≡ 0
   undeclared-at m e = record-at m ∙ ap (left recordAfter 0 (startOf n m (firstRelation p) rs)) e
 
-  declared-at : (m : ℕ) (r : Relation) → find m rs ≡ some r → getD records m 0 ≡ startOf n m (firstRelation p) rs
+  pub declared-at : (m : ℕ) (r : Relation) → find m rs ≡ some r → getD records m 0 ≡ startOf n m (firstRelation p) rs
   declared-at m r e =
       let f = parts p w in
       let k = find-kept n m [] rs r (f .relations-fine) e .1 in
@@ -175,7 +175,7 @@ module _ (ws records marks taken₀ names : List ℕ) (steps : ℕ) (p : Pack) (
           let s : getD records m 0 ≡ startOf n (r .name) (firstRelation p) rs = declared-at m r e ∙ ap (λ (v : ℕ). startOf n v (firstRelation p) rs) q in
           rw (ne-eqb (getD records m 0) 0 (record-some m r e)) (ap (typedIn ws) s ∙ typed-read ws (startOf n (r .name) (firstRelation p) rs) n r i (parts p w .most))
 
-  derived-alike : (m : ℕ) → T .derived m ≡ U .derived m
+  pub derived-alike : (m : ℕ) → T .derived m ≡ U .derived m
   unfolding tablesIn tables
   derived-alike m = go (find m rs) refl
     where

@@ -23,21 +23,21 @@ use Rattle.resolve.specs.Words.{valueAt, firstEqual, DefaultedFit, flagA
 
 -- ---- the kinds in the slots
 
-is-known : (ws : List ℕ) (list slot : ℕ) {found : Kind} {k : ℕ} → KindFound ws list slot found → found ≡ kind.Is k → kindAt (namesAt ws list) slot ≡ some k
+pub is-known : (ws : List ℕ) (list slot : ℕ) {found : Kind} {k : ℕ} → KindFound ws list slot found → found ≡ kind.Is k → kindAt (namesAt ws list) slot ≡ some k
 is-known ws list slot f e = sym (f .is) ∙ ap kindIn e
 
-is-unknown : (ws : List ℕ) (list slot : ℕ) {found : Kind} → KindFound ws list slot found → found ≡ kind.Unknown → kindAt (namesAt ws list) slot ≡ none
+pub is-unknown : (ws : List ℕ) (list slot : ℕ) {found : Kind} → KindFound ws list slot found → found ≡ kind.Unknown → kindAt (namesAt ws list) slot ≡ none
 is-unknown ws list slot f e = sym (f .is) ∙ ap kindIn e
 
-module _ (ws : List ℕ) (list start : ℕ) {at x : ℕ} (s : at ≡ slotsPlace ws start) (u : x ≡ valueAt ws at) where
-  pub first-unknown : {f : Kind} → KindFound ws list x f → f ≡ kind.Unknown → none ≡ slotKindsIn ws list start
+module _ (ws work : List ℕ) (list start : ℕ) {at x : ℕ} (s : at ≡ slotsPlace work start) (u : x ≡ valueAt work at) where
+  pub first-unknown : {f : Kind} → KindFound ws list x f → f ≡ kind.Unknown → none ≡ slotKindsIn ws work list start
   first-unknown f e = rw (← s, ← u, is-unknown ws list x f e) refl
 
-  module _ {f : Kind} {c y : ℕ} (found : KindFound ws list x f) (e : f ≡ kind.Is c) (v : y ≡ valueAt ws (at + 1)) where
-    pub second-unknown : {g : Kind} → KindFound ws list y g → g ≡ kind.Unknown → none ≡ slotKindsIn ws list start
+  module _ {f : Kind} {c y : ℕ} (found : KindFound ws list x f) (e : f ≡ kind.Is c) (v : y ≡ valueAt work (at + 1)) where
+    pub second-unknown : {g : Kind} → KindFound ws list y g → g ≡ kind.Unknown → none ≡ slotKindsIn ws work list start
     second-unknown g h = rw (← s, ← u, ← v, is-known ws list x found e, is-unknown ws list y g h) refl
 
-    pub both-known : {g : Kind} {r : ℕ} → KindFound ws list y g → g ≡ kind.Is r → some (c, r) ≡ slotKindsIn ws list start
+    pub both-known : {g : Kind} {r : ℕ} → KindFound ws list y g → g ≡ kind.Is r → some (c, r) ≡ slotKindsIn ws work list start
     both-known g h = rw (← s, ← u, ← v, is-known ws list x found e, is-known ws list y g h) refl
 
 -- ---- equal kinds
@@ -72,15 +72,15 @@ module _ (ws records marks : List ℕ) (name : ℕ) where
       abbrev related : Option ℕ
       related = kindAt (namesAt ws place) (valueAt ws (slotsPlace ws start + 1))
 
-      derived : {o : Option (ℕ × ℕ)} → o ≡ slotKindsIn ws place start → alike o ≡ equalIn ws records marks name
+      derived : {o : Option (ℕ × ℕ)} → o ≡ slotKindsIn ws ws place start → alike o ≡ equalIn ws records marks name
       unfolding equalIn derivedIn
       derived q = ap alike q ∙ sym (same-kind current related) ∙ rw (ne-eqb start 0 h, ← f, eq-eqb flag 1 z, ← p) refl
 
-      pub unknown-kinds : (m : direction.Membership) → membershipOf m ≡ slotKindsIn ws place start → m ≡ Unknown → false ≡ equalIn ws records marks name
+      pub unknown-kinds : (m : direction.Membership) → membershipOf m ≡ slotKindsIn ws ws place start → m ≡ Unknown → false ≡ equalIn ws records marks name
       unfolding alike
       unknown-kinds m q e = ap (λ (x : direction.Membership). alike (membershipOf x)) (sym e) ∙ derived q
 
-      pub known-kinds : (m : direction.Membership) → membershipOf m ≡ slotKindsIn ws place start → {c r : ℕ} → m ≡ Kinds c r → eqb c r ≡ equalIn ws records marks name
+      pub known-kinds : (m : direction.Membership) → membershipOf m ≡ slotKindsIn ws ws place start → {c r : ℕ} → m ≡ Kinds c r → eqb c r ≡ equalIn ws records marks name
       unfolding alike
       known-kinds m q e = ap (λ (x : direction.Membership). alike (membershipOf x)) (sym e) ∙ derived q
 

@@ -114,7 +114,7 @@ module _ (T : Tables) (fit : TablesFit T) where
 
 -- ---- fields
 
-only-one : (k kind : ℕ) → only (kind ∷ []) k ≡ 0 → k ≡ kind
+pub only-one : (k kind : ℕ) → only (kind ∷ []) k ≡ 0 → k ≡ kind
 only-one k kind e = go (eqb k kind) refl e
   where
     go : (b : Bool) → eqb k kind ≡ b → _≡_ {A = ℕ} (pick (b || false) 0 2) 0 → k ≡ kind
@@ -136,7 +136,7 @@ slot-fine : (n kind : ℕ) (f : ℕ × ℕ) (c : ℕ) → FieldFine n (kind ∷ 
 unfolding Fine
 slot-fine n kind f c h s a = (h .0, (s, subst (λ (k : ℕ). allowedHere n k c ≡ true) (sym (only-one (f .0) kind (h .0))) a))
 
-abbrev slotted : List (List ℕ) → List (List ℕ)
+abbrev pub slotted : List (List ℕ) → List (List ℕ)
 slotted rest = (80 ∷ []) ∷ (81 ∷ []) ∷ rest
 
 slots-fine : (n : ℕ) (rest : List (List ℕ)) (fs : Fields) (c r : ℕ) → FieldsFine n (slotted rest) fs → Slot c → Slot r → FieldsFine n (slotted rest) (withSlots c r fs)

@@ -1,5 +1,5 @@
 -- Refusals of trees, rules and predicates bear 10 to 15, and those of Resolve 01's numbers for it alone.
-use Prim.Native.Nat.{ℕ, _+_}
+use Prim.Native.Nat.{ℕ, _+_, _≤_}
 use native.Mathlib.Omega.{arith}
 use mathlib.Core.Path.{_≡_, refl, ap, sym, _∙_}
 use mathlib.Core.List.{List, [], _∷_}
@@ -176,6 +176,25 @@ module _ (p : Pack) where
   relations-numbered at (r ∷ rs) =
       then-numbered (resolveRelation p at r) _ (relation-numbered at r)
       (λ r′. map-numbered (λ l. r′ ∷ l) (resolveRelations p (at + length (relationWords (p .names) r)) rs) (relations-numbered (at + length (relationWords (p .names) r)) rs))
+
+-- ---- a pack
+
+pub refused-number : (p : Pack) (r : Refusal) → resolved p ≡ refused r → (9 ≤ r .number) × (r .number ≤ 15)
+unfolding resolved
+refused-number p r e = go (defaultedEqual (tables (p .names) (p .relations)) (p .defaulted)) e
+  where
+    records : Numbered (resolveRecords p)
+    records =
+        then-numbered (resolveRules p (firstRule p) (p .rules)) _ (rules-numbered p (firstRule p) (p .rules))
+        (λ rules. map-numbered _ (resolveRelations p (firstRelation p) (p .relations)) (relations-numbered p (firstRelation p) (p .relations)))
+
+    of-records : (o : Outcome Pack) → Numbered o → o ≡ refused r → (9 ≤ r .number) × (r .number ≤ 15)
+    of-records (done q) h e = let z : _≡_ {A = ℕ} 0 1 = cc in absurd (omega arith)
+    of-records (refused s) h e = let u : s ≡ r = cc in rw (← u) (omega (arith, h .0), h .1)
+
+    go : (o : Option ℕ) → _≡_ {A = Outcome Pack} (elim o [ some n ↦ refused (equalRefusal p n) | none ↦ resolveRecords p ]) (refused r) → (9 ≤ r .number) × (r .number ≤ 15)
+    go (some n) e = let u : equalRefusal p n ≡ r = cc in rw (← u) (omega arith, omega arith)
+    go none e = of-records (resolveRecords p) records e
 
 -- ---- the operation
 

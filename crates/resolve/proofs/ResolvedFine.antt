@@ -32,7 +32,7 @@ unfolding optionalDerivation Fine items
 option-slots n none f d e = let z : _≡_ {A = ℕ} 0 1 = cc in absurd (omega arith)
 option-slots n (some b) f d e = let s : b ≡ d = cc in rw (← s) (derivation-slots n b (f .2 .0))
 
-tail-derivation : (n : ℕ) (r : Relation) → Fine (relationTail n) (r .origin, (r .arity, (r .slotKinds, r .derivation))) → Fine (optionalDerivation n) (r .derivation)
+pub tail-derivation : (n : ℕ) (r : Relation) → Fine (relationTail n) (r .origin, (r .arity, (r .slotKinds, r .derivation))) → Fine (optionalDerivation n) (r .derivation)
 unfolding relationTail Fine
 tail-derivation n r f = f .1 .1 .1
 
@@ -70,7 +70,7 @@ module _ (p : Pack) (w : WellFormed p) where
       go none e = pair-short (r .slotKinds) ks e
       go (some d) e = let z : _≡_ {A = ℕ} 0 1 = cc in absurd (omega arith)
 
-  tables-fit : TablesFit (tables n rs)
+  pub tables-fit : TablesFit (tables n rs)
   unfolding tables
   tables-fit = record { slots = λ m d e. derived-fit m (find m rs) refl (kindsOf rs m) d e; few = λ m ks e. typed-fit (find m rs) ks e }
 
@@ -92,7 +92,7 @@ module _ (p : Pack) (w : WellFormed p) where
       (λ b′ q. map-good (λ l. BodiesFine l × (length l ≡ length bs)) _ (λ l. b′ ∷ l) (resolveBodies C entity (at + bodySize b) bs) (bodies-good C fit entity (at + bodySize b) bs (h .1))
       (λ l g. ((q, g .0), ap suc (g .1))))
 
-  rule-good : (at : ℕ) (r : Rule) → Fine (rule n) r → Good (Fine (rule n)) (resolveRule p at r)
+  pub rule-good : (at : ℕ) (r : Rule) → Fine (rule n) r → Good (Fine (rule n)) (resolveRule p at r)
   unfolding rule bodies ruleBy Fine
   rule-good at r h =
       let C : Citing = cites p (r .citing) (r .origin) in
@@ -114,7 +114,7 @@ module _ (p : Pack) (w : WellFormed p) where
 
   -- ---- relations
 
-  abbrev TailFine : Relation → Type 0
+  abbrev pub TailFine : Relation → Type 0
   TailFine r = Fine (relationTail n) (r .origin, (r .arity, (r .slotKinds, r .derivation)))
 
   predicate-good : (at : ℕ) (r : Relation) (d : Derivation) → Fine (derivation n) d → Good (λ t. Fine (derivation n) (withPredicate d t)) (resolvePredicate p at r d)
@@ -129,10 +129,10 @@ module _ (p : Pack) (w : WellFormed p) where
   derivation-good at r (some d) h = map-good (λ t. Fine (derivation n) (withPredicate d t)) _ _ (resolvePredicate p at r d) (predicate-good at r d (h .2 .0)) (λ t q. (h .0, h .1, (q, tt)))
 
   -- a relation of the same name whose tail keeps to its form
-  abbrev Same : Relation → Relation → Type 0
+  abbrev pub Same : Relation → Relation → Type 0
   Same r s = (s .name ≡ r .name) × TailFine s
 
-  relation-good : (at : ℕ) (r : Relation) → TailFine r → Good (Same r) (resolveRelation p at r)
+  pub relation-good : (at : ℕ) (r : Relation) → TailFine r → Good (Same r) (resolveRelation p at r)
   unfolding resolveRelation relationTail Fine
   relation-good at r h = map-good (Fine (optionalDerivation n)) _ _ (resolveDerivation p at r (r .derivation)) (derivation-good at r (r .derivation) (h .1 .1 .1)) (λ o q. (refl, (h .0, (h .1 .0, (h .1 .1 .0, q)))))
 
@@ -206,11 +206,11 @@ module _ (p : Pack) (w : WellFormed p) where
 
   -- ---- all relations
 
-  tail-of : (used : ℕ → Bool) (r : Relation) → Fine (relation n used) r → TailFine r
+  pub tail-of : (used : ℕ → Bool) (r : Relation) → Fine (relation n used) r → TailFine r
   unfolding relation Fine
   tail-of used r h = h .1
 
-  with-tail : (used : ℕ → Bool) (r s : Relation) → Fine (relation n used) r → Same r s → Fine (relation n used) s
+  pub with-tail : (used : ℕ → Bool) (r s : Relation) → Fine (relation n used) r → Same r s → Fine (relation n used) s
   unfolding relation Fine
   with-tail used r s h q = (subst (λ (v : ℕ). Fine (newName n used) v) (sym (q .0)) (h .0), q .1)
 

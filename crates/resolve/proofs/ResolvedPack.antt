@@ -17,7 +17,7 @@ use Rattle.resolve.proofs.KeepsForm.{Good, map-good, then-good}
 use Rattle.resolve.proofs.ResolvedFine.{RulesFine, rules-good, relations-good}
 
 -- every pack has the five words of its own and a total
-least-words : (p : Pack) → 6 ≤ total p
+pub least-words : (p : Pack) → 6 ≤ total p
 unfolding total inner records defaulted relations rules blocks wordsBy
 least-words p = simp length-append (omega arith)
 
@@ -26,7 +26,7 @@ module _ (p : Pack) (w : WellFormed p) where
   whole rl rs = record { edition = p .edition; names = p .names; defaulted = p .defaulted; relations = map (stamp p) rs; rules = rl; blocks = p .blocks }
 
   -- the parts of the pack, and those of what comes out
-  rules-fine : RulesFine p w (p .rules)
+  pub rules-fine : RulesFine p w (p .rules)
   unfolding inner records rules Fine items
   rules-fine = w .parts .1 .1 .1 .0 .2
 

@@ -1,15 +1,16 @@
 -- Laws of the children of a node without slots.
 use Prim.Native.Nat.{ℕ, zero, suc, _+_, _%_, _≤_, _<_}
 use native.Mathlib.Omega.{arith}
-use mathlib.Core.Path.{_≡_, refl}
+use mathlib.Core.Path.{_≡_, refl, ap, sym}
 use mathlib.Core.Logic.{_⊎_, inl, inr}
 use mathlib.Core.Bool.{Bool, true, false}
+use mathlib.Core.Option.{none}
 use lib.ListN.{length, replicate}
 use lib.Dec.{ltb}
-use borrow.Author.Tests.{ltb-true, ltb-false}
+use borrow.Author.Tests.{ltb-true, ltb-false, lt-ltb, le-ltb}
 use Rattle.pack.specs.declared.table.Follows.{Follows}
 use Rattle.pack.specs.declared.table.Follows.the-variants.{Nothing, Counted, OneScalar, TwoScalars, Scalars, Patterns, Periods, OneJudgment, Judgments, Choice, Aggregate, OnlyRelated, Slots, Atom, Exists}
-use Rattle.pack.specs.Table.{scalar, judgment, entryOf, table, fieldsOf, childrenOf}
+use Rattle.pack.specs.Table.{pick, scalar, judgment, entryOf, table, fieldsOf, childrenOf}
 use Rattle.pack.proofs.Listed.{agree}
 use Rattle.resolve.specs.declared.rows.Row.{Row}
 use Rattle.resolve.specs.Direction.{Membership}
@@ -145,3 +146,32 @@ row-step OnlyRelated p C entity m v fs = absurd p
 row-step Slots p C entity m v fs = absurd p
 row-step Atom p C entity m v fs = refl
 row-step Exists p C entity m v fs = refl
+
+-- the sorts of a row are scalar or judgment
+pub row-small : (w : Follows) (v : ℕ) → (rowBy w v .first ≤ 1) × (rowBy w v .other ≤ 1)
+unfolding rowBy
+row-small Nothing v = (omega arith, omega arith)
+row-small Counted v = (omega arith, omega arith)
+row-small OneScalar v = (omega arith, omega arith)
+row-small TwoScalars v = (omega arith, omega arith)
+row-small Scalars v = (omega arith, omega arith)
+row-small Patterns v = (omega arith, omega arith)
+row-small Periods v = (omega arith, omega arith)
+row-small OneJudgment v = (omega arith, omega arith)
+row-small Judgments v = (omega arith, omega arith)
+row-small Choice v = (omega arith, omega arith)
+row-small Aggregate v = (omega arith, omega arith)
+row-small OnlyRelated v = (omega arith, omega arith)
+row-small Slots v = (omega arith, omega arith)
+row-small Atom v = (omega arith, omega arith)
+row-small Exists v = (omega arith, omega arith)
+
+pub small-row : {row : Row} (w : Follows) (v : ℕ) → row ≡ rowBy w v → (row .first ≤ 1) × (row .other ≤ 1)
+small-row w v e = (omega (arith, ap (λ (r : Row). r .first) e, row-small w v .0), omega (arith, ap (λ (r : Row). r .other) e, row-small w v .1))
+
+-- a child keeps the membership, or loses it
+pub kept-yes : (keep i : ℕ) (m : Membership) → i < keep → m ≡ kept keep i m
+kept-yes keep i m h = ap (λ (b : Bool). pick b m none) (sym (lt-ltb i keep h))
+
+pub kept-no : (keep i : ℕ) (m : Membership) → keep ≤ i → none ≡ kept keep i m
+kept-no keep i m h = ap (λ (b : Bool). pick b m none) (sym (le-ltb i keep h))

@@ -44,7 +44,7 @@ module _ {work : List ℕ} (t : TwoSlots work) where
   pub related-is : valueOf (getD work 2 0) ≡ t .related
   related-is = ap (λ (l : List ℕ). valueOf (getD l 2 0)) (t .stands) ∙ omega (arith, t .related-fits)
 
-value-small : (ws : List ℕ) (at : ℕ) → valueAt ws at < 16777216
+pub value-small : (ws : List ℕ) (at : ℕ) → valueAt ws at < 16777216
 unfolding valueAt
 value-small ws at = omega arith
 

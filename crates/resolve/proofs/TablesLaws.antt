@@ -55,7 +55,7 @@ module _ (ws : List ℕ) (start n : ℕ) (r : Relation) (i : InWords ws start n 
       i .same-words
       ∙ rw (list-words n ks, append-assoc (nameWords ks) optionWords (i .after)) (sym (append-assoc (i .before) three (wordOf 9 (length ks) ∷ (nameWords ks ++ (optionWords ++ i .after)))))
 
-  counted : kindCount ws start ≡ length ks
+  pub counted : kindCount ws start ≡ length ks
   unfolding kindCount
   counted = value-there ws (i .before ++ three) _ 9 (length ks) (start + 3) its-words (length-append (i .before) three ∙ omega (arith, i .long)) (k .kinds)
 
@@ -74,7 +74,7 @@ module _ (ws : List ℕ) (start n : ℕ) (r : Relation) (i : InWords ws start n 
   flag-place : length front ≡ start + 4 + kindCount ws start
   flag-place = front-length ∙ ap (λ (c : ℕ). start + 4 + c) (sym counted)
 
-  no-flag : r .derivation ≡ none → flagAt ws start ≡ 0
+  pub no-flag : r .derivation ≡ none → flagAt ws start ≡ 0
   unfolding flagAt optionalDerivation wordsBy count items
   no-flag e = value-there ws front (i .after) 11 0 (start + 4 + kindCount ws start) (front-words ∙ rw e refl) flag-place (omega arith)
 
@@ -88,7 +88,7 @@ module _ (ws : List ℕ) (start n : ℕ) (r : Relation) (i : InWords ws start n 
     derived-words : ws ≡ front ++ (wordOf 11 1 ∷ ((early n d ++ tail) ++ i .after))
     derived-words = front-words ∙ rw (option-words n (r .derivation) d e) refl
 
-    a-flag : flagAt ws start ≡ 1
+    pub a-flag : flagAt ws start ≡ 1
     unfolding flagAt
     a-flag = value-there ws front ((early n d ++ tail) ++ i .after) 11 1 (start + 4 + kindCount ws start) derived-words flag-place (omega arith)
 
@@ -122,19 +122,19 @@ module _ (ws : List ℕ) (start n : ℕ) (r : Relation) (i : InWords ws start n 
     unfolding slotsPlace
     place-of-slots = ap (λ (s : ℕ). start + 4 + kindCount ws start + 3 + 3 * s) (ap repeats path-count ∙ steps-again (d .path) (g .steps))
 
-    abbrev before-slots : List ℕ
+    abbrev pub before-slots : List ℕ
     before-slots = front ++ (wordOf 11 1 ∷ wordOf 12 (d .source) ∷ pathWords)
 
-    before-length : length before-slots ≡ slotsPlace ws start
+    pub before-length : length before-slots ≡ slotsPlace ws start
     before-length = length-append front (wordOf 11 1 ∷ wordOf 12 (d .source) ∷ pathWords) ∙ omega (arith, flag-place, path-words n (d .path), place-of-slots)
 
-    slots-open : ws ≡ before-slots ++ (wordOf 17 (d .current) ∷ rest)
+    pub slots-open : ws ≡ before-slots ++ (wordOf 17 (d .current) ∷ rest)
     slots-open = opened ∙ sym (append-assoc front (wordOf 11 1 ∷ wordOf 12 (d .source) ∷ pathWords) (wordOf 17 (d .current) ∷ rest))
 
-    current-there : valueAt ws (slotsPlace ws start) ≡ d .current
+    pub current-there : valueAt ws (slotsPlace ws start) ≡ d .current
     current-there = value-there ws before-slots rest 17 (d .current) (slotsPlace ws start) slots-open before-length (g .current)
 
-    related-there : valueAt ws (slotsPlace ws start + 1) ≡ d .related
+    pub related-there : valueAt ws (slotsPlace ws start + 1) ≡ d .related
     related-there =
         let one : List ℕ = wordOf 17 (d .current) ∷ [] in
         value-there ws (before-slots ++ one) (wordOf 19 (d .entity) ∷ wordOf 20 (d .member) ∷ (tail ++ i .after)) 18 (d .related) (slotsPlace ws start + 1) (slots-open ∙ sym (append-assoc before-slots one rest))

@@ -74,7 +74,7 @@ slots-length c r [] = refl
 slots-length c r (f ∷ []) = refl
 slots-length c r (f ∷ g ∷ fs) = refl
 
-abbrev StepLong : Fields → Step → Type 0
+abbrev pub StepLong : Fields → Step → Type 0
 StepLong fs (goes fs′ entity first rest) = length fs′ ≡ length fs
 StepLong fs (stops number other) = Unit {0}
 
@@ -96,7 +96,7 @@ test-long fs entity m (Turned c r k) = slots-length c r fs
 test-long fs entity m (Open k) = tt
 
 module _ (C : Citing) where
-  step-long : (entity : ℕ) (m : Membership) (w : Follows) (v : ℕ) (fs : Fields) → StepLong fs (stepBy C entity m w v fs)
+  pub step-long : (entity : ℕ) (m : Membership) (w : Follows) (v : ℕ) (fs : Fields) → StepLong fs (stepBy C entity m w v fs)
   unfolding stepBy
   step-long entity m Nothing v fs = refl
   step-long entity m Counted v fs = refl

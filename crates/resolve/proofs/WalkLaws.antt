@@ -2,7 +2,7 @@
 use Prim.Native.Nat.{ℕ, zero, suc, _+_, _<_, _≤_}
 use native.Mathlib.Omega.{arith}
 use mathlib.Core.Path.{_≡_, refl, ap, sym, _∙_, subst}
-use mathlib.Core.List.{List, [], _∷_, _++_, append-assoc}
+use mathlib.Core.List.{List, [], _∷_, _++_, append-assoc, append-nil}
 use lib.ListN.{length, take, drop, length-append}
 use Rattle.pack.specs.declared.answer.Refusal.{Refusal}
 use Rattle.pack.specs.Table.{wordOf, entryOf}
@@ -10,8 +10,8 @@ use Rattle.pack.specs.Form.{Fine}
 use Rattle.pack.specs.Tree.{Tree, Forest, node, more, tree}
 use Rattle.pack.specs.Tree as trees
 use Rattle.resolve.specs.Direction.{Membership}
-use Rattle.resolve.specs.Turning.{Outcome, done, refused, mapDone, Citing, Fields, goes, stops, stepBy, fieldWords, treeWords, forestWords, size, sizes, resolveTree, resolveForest}
-use Rattle.resolve.specs.Walk.{refusalCode, Came, Walked, CameRow, RowFine, RowWalked}
+use Rattle.resolve.specs.Turning.{Step, atNode, Outcome, done, refused, mapDone, Citing, Fields, goes, stops, stepBy, fieldWords, treeWords, forestWords, size, sizes, resolveTree, resolveForest}
+use Rattle.resolve.specs.Walk.{refusalCode, stepCode, fieldsAfter, Came, Walked, CameRow, RowFine, RowWalked}
 use Rattle.resolve.proofs.KeepsForm.{Good}
 use Rattle.resolve.proofs.TreeWords.{size-is, size-kept}
 
@@ -25,22 +25,22 @@ row-tree k v fs front after words (done f) code left e h =
     (h .0, h .1 ∙ ap (λ (l : List ℕ). l ++ (forestWords f ++ after)) e ∙ ap (λ (l : List ℕ). wordOf k v ∷ l) (sym (append-assoc (fieldWords fs) (forestWords f) after)))
 row-tree k v fs front after words (refused r) code left e h = h
 
-fields-length : (fs : Fields) → length (fieldWords fs) ≡ length fs
+pub fields-length : (fs : Fields) → length (fieldWords fs) ≡ length fs
 fields-length [] = refl
 fields-length (f ∷ fs) = ap suc (fields-length fs)
 
-module _ (C : Citing) (n d entity : ℕ) (m : Membership) (place k v : ℕ) (fs : Fields) (f : Forest) (after : List ℕ) (code : ℕ) (left : List ℕ) where
+module _ (C : Citing) (n : ℕ) (most : n ≤ 4096) (d entity : ℕ) (m : Membership) (place k v : ℕ) (fs : Fields) (f : Forest) (after : List ℕ) (code : ℕ) (left : List ℕ) where
   pub node-stopped : {number other : ℕ} → stepBy C entity m (entryOf k .follows) v fs ≡ stops number other → code ≡ refusalCode number place other
       → Came after (size (node k v fs f)) (resolveTree C entity m place (node k v fs f)) code left
   unfolding resolveTree
   node-stopped e q = rw e q
 
   pub node-went : {fs′ : Fields} {e : ℕ} {first rest : Membership} {sorts work : List ℕ} {from : ℕ} → stepBy C entity m (entryOf k .follows) v fs ≡ goes fs′ e first rest → length fs′ ≡ length fs → from ≡ 1 + length fs
-      → RowFine n d sorts f → work ≡ wordOf k v ∷ (fieldWords fs′ ++ (forestWords f ++ after)) → RowWalked C n d sorts e first rest place from work code left
+      → RowFine n d sorts f → work ≡ wordOf k v ∷ (fieldWords fs′ ++ (forestWords f ++ after)) → RowWalked C d sorts e first rest place from work code left
       → Came after (size (node k v fs f)) (resolveTree C entity m place (node k v fs f)) code left
   unfolding resolveTree size
   node-went {fs′} {e} {first} {rest} {sorts} {work} {from} s l h fine stands w =
-      let r = w .each f (wordOf k v ∷ fieldWords fs′) after (omega (arith, fields-length fs′)) fine stands in
+      let r = w .each n most f (wordOf k v ∷ fieldWords fs′) after (omega (arith, fields-length fs′)) fine stands in
       let at : place + from ≡ place + 1 + length fs = omega arith in
       let many : from + sizes f ≡ 1 + length fs + sizes f = omega arith in
       let q = row-tree k v fs′ (wordOf k v ∷ fieldWords fs′) after (from + sizes f) (resolveForest C e first rest (place + from) f) code left refl r in
@@ -73,13 +73,13 @@ module _ (C : Citing) (n levels entity : ℕ) (place : ℕ) (after : List ℕ) w
   row-end {first} {rest} {at} {work} Goal r = r .finish at work (row-none first rest at (r .trees) (r .before) work (r .fine) (r .stands))
 
 -- the part of a slice from the trees on, and the slice when the part is back
-part-is : (before tail : List ℕ) (at : ℕ) → length before ≡ at → drop at (before ++ tail) ≡ tail
+pub part-is : (before tail : List ℕ) (at : ℕ) → length before ≡ at → drop at (before ++ tail) ≡ tail
 part-is [] tail zero e = refl
 part-is [] tail (suc at) e = absurd (omega arith)
 part-is (w ∷ before) tail zero e = absurd (omega arith)
 part-is (w ∷ before) tail (suc at) e = part-is before tail at (omega arith)
 
-front-is : (before tail : List ℕ) (at : ℕ) → length before ≡ at → take at (before ++ tail) ≡ before
+pub front-is : (before tail : List ℕ) (at : ℕ) → length before ≡ at → take at (before ++ tail) ≡ before
 front-is [] tail zero e = refl
 front-is [] tail (suc at) e = absurd (omega arith)
 front-is (w ∷ before) tail zero e = absurd (omega arith)
@@ -111,14 +111,14 @@ module _ (C : Citing) (n levels entity : ℕ) (place : ℕ) (after : List ℕ) w
 
   -- the words of the part and of the slice when it is back, of a row that begins with a tree
   module _ (sort : ℕ) (sorts : List ℕ) (x rest : Membership) (at : ℕ) (work : List ℕ) (Goal : ℕ → List ℕ → Type 0) (part back : List ℕ) (code : ℕ)
-      (w : Walked C n levels sort entity x (place + at) (drop at work) code part) where
+      (most : n ≤ 4096) (w : Walked C levels sort entity x (place + at) (drop at work) code part) where
     -- by the trees that are left
     module _ (before : List ℕ) (t : Tree) (g : Forest) (passed : length before ≡ at) (fine : Fine (tree n levels sort) t) (others : RowFine n levels sorts g) (stands : work ≡ before ++ (treeWords t ++ (forestWords g ++ after)))
         (finish : (c : ℕ) (left : List ℕ) → CameRow before after (at + sizes (more t g)) (resolveForest C entity x rest (place + at) (more t g)) c left → Goal c left) where
       came : Came (forestWords g ++ after) (size t) (resolveTree C entity x (place + at) t) code part
-      came = w .each t (forestWords g ++ after) fine (ap (drop at) stands ∙ part-is before (treeWords t ++ (forestWords g ++ after)) at passed)
+      came = w .each n most t (forestWords g ++ after) fine (ap (drop at) stands ∙ part-is before (treeWords t ++ (forestWords g ++ after)) at passed)
 
-      went-on : (o : Outcome Tree) → resolveTree C entity x (place + at) t ≡ o → Came (forestWords g ++ after) (size t) o code part → code < 65536 → back ≡ take at work ++ part
+      went-on : (o : Outcome Tree) → resolveTree C entity x (place + at) t ≡ o → Came (forestWords g ++ after) (size t) o code part → code < 16777216 → back ≡ take at work ++ part
           → RowLeft C n levels sorts entity rest rest place (at + code) after back Goal
       went-on (refused r) e h small b = absurd (omega arith)
       went-on (done t′) e h small b =
@@ -135,7 +135,7 @@ module _ (C : Citing) (n levels entity : ℕ) (place : ℕ) (after : List ℕ) w
           kept : (t′ : Tree) → resolveTree C entity x (place + at) t ≡ done t′ → size t′ ≡ size t
           kept t′ e = subst (Good (λ y. size y ≡ size t)) e (size-kept C t entity x (place + at))
 
-      refused-here : (o : Outcome Tree) → resolveTree C entity x (place + at) t ≡ o → Came (forestWords g ++ after) (size t) o code part → 65536 ≤ code → length work < 65536 → Goal code back
+      refused-here : (o : Outcome Tree) → resolveTree C entity x (place + at) t ≡ o → Came (forestWords g ++ after) (size t) o code part → 16777216 ≤ code → length work < 16777216 → Goal code back
       refused-here (refused r) e h big short = finish code back (stopped-at x rest at t g before r (at + sizes (more t g)) code back e h)
       refused-here (done t′) e h big short =
           let l = ap length stands ∙ length-append before (treeWords t ++ (forestWords g ++ after)) in
@@ -143,7 +143,7 @@ module _ (C : Citing) (n levels entity : ℕ) (place : ℕ) (after : List ℕ) w
           absurd (omega (arith, h .0, size-is t))
 
     first-of : (g : Forest) (before : List ℕ) → length before ≡ at → RowFine n levels (sort ∷ sorts) g → work ≡ before ++ (forestWords g ++ after)
-        → ((c : ℕ) (left : List ℕ) → CameRow before after (at + sizes g) (resolveForest C entity x rest (place + at) g) c left → Goal c left) → code < 65536 → back ≡ take at work ++ part
+        → ((c : ℕ) (left : List ℕ) → CameRow before after (at + sizes g) (resolveForest C entity x rest (place + at) g) c left → Goal c left) → code < 16777216 → back ≡ take at work ++ part
         → RowLeft C n levels sorts entity rest rest place (at + code) after back Goal
     unfolding treeWords
     first-of trees.none before p f s fin small b = absurd f
@@ -152,15 +152,45 @@ module _ (C : Citing) (n levels entity : ℕ) (place : ℕ) (after : List ℕ) w
         went-on before t g p (f .0) (f .1) stands fin (resolveTree C entity x (place + at) t) refl (came before t g p (f .0) (f .1) stands fin) small b
 
     first-refused : (g : Forest) (before : List ℕ) → length before ≡ at → RowFine n levels (sort ∷ sorts) g → work ≡ before ++ (forestWords g ++ after)
-        → ((c : ℕ) (left : List ℕ) → CameRow before after (at + sizes g) (resolveForest C entity x rest (place + at) g) c left → Goal c left) → 65536 ≤ code → length work < 65536 → Goal code back
+        → ((c : ℕ) (left : List ℕ) → CameRow before after (at + sizes g) (resolveForest C entity x rest (place + at) g) c left → Goal c left) → 16777216 ≤ code → length work < 16777216 → Goal code back
     unfolding treeWords
     first-refused trees.none before p f s fin big short = absurd f
     first-refused (more t g) before p f s fin big short =
         let stands = s ∙ ap (λ (l : List ℕ). before ++ l) (append-assoc (treeWords t) (forestWords g) after) in
         refused-here before t g p (f .0) (f .1) stands fin (resolveTree C entity x (place + at) t) refl (came before t g p (f .0) (f .1) stands fin) big short
 
-    pub row-next : RowLeft C n levels (sort ∷ sorts) entity x rest place at after work Goal → code < 65536 → back ≡ take at work ++ part → RowLeft C n levels sorts entity rest rest place (at + code) after back Goal
+    pub row-next : RowLeft C n levels (sort ∷ sorts) entity x rest place at after work Goal → code < 16777216 → back ≡ take at work ++ part → RowLeft C n levels sorts entity rest rest place (at + code) after back Goal
     row-next r small b = first-of (r .trees) (r .before) (r .passed) (r .fine) (r .stands) (r .finish) small b
 
-    pub row-refused : RowLeft C n levels (sort ∷ sorts) entity x rest place at after work Goal → 65536 ≤ code → length work < 65536 → Goal code back
+    pub row-refused : RowLeft C n levels (sort ∷ sorts) entity x rest place at after work Goal → 16777216 ≤ code → length work < 16777216 → Goal code back
     row-refused r big short = first-refused (r .trees) (r .before) (r .passed) (r .fine) (r .stands) (r .finish) big short
+
+-- ---- a node by its step's code
+
+-- an entity is a value, so that no entity is a refusal's code
+abbrev pub StepSmall : Step → Type 0
+StepSmall (goes fs entity first rest) = entity < 16777216
+StepSmall (stops number other) = Unit {0}
+
+module _ (C : Citing) (entity : ℕ) (m : Membership) (place k v : ℕ) (fs : Fields) (f : Forest) (after : List ℕ) (code : ℕ) where
+  abbrev its : Step
+  its = stepBy C entity m (entryOf k .follows) v fs
+
+  -- a code above all values is a refusal
+  pub node-refused : (left : List ℕ) → code ≡ stepCode place its → StepSmall its → 16777216 ≤ code → Came after (size (node k v fs f)) (resolveTree C entity m place (node k v fs f)) code left
+  node-refused left e small big = go its refl e small
+    where
+      go : (s : Step) → its ≡ s → code ≡ stepCode place s → StepSmall s → Came after (size (node k v fs f)) (resolveTree C entity m place (node k v fs f)) code left
+      go (goes fs′ x first rest) q e h = absurd (omega arith)
+      go (stops number other) q e h = node-stopped C 0 (omega arith) 0 entity m place k v fs f after code left q e
+
+  -- and below them it goes on; without children that is all
+  pub leaf-done : (words : ℕ) (left : List ℕ) → f ≡ trees.none → words ≡ 1 + length fs → code ≡ stepCode place its → code < 16777216 → left ≡ wordOf k v ∷ (fieldWords (fieldsAfter fs its) ++ (forestWords f ++ after))
+      → Came after (size (node k v fs f)) (resolveTree C entity m place (node k v fs f)) words left
+  unfolding resolveTree size treeWords
+  leaf-done words left z many e small l = rw z (go its refl e (l ∙ ap (λ (g : Forest). wordOf k v ∷ (fieldWords (fieldsAfter fs its) ++ (forestWords g ++ after))) z))
+    where
+      go : (s : Step) → its ≡ s → code ≡ stepCode place s → left ≡ wordOf k v ∷ (fieldWords (fieldsAfter fs its) ++ after)
+          → Came after (1 + length fs + 0) (atNode C place its (λ fs′ x first rest. mapDone (node k v fs′) (resolveForest C x first rest (place + 1 + length fs) trees.none))) words left
+      go (goes fs′ x first rest) q e l = rw q (omega arith, l ∙ ap (λ (s : Step). wordOf k v ∷ (fieldWords (fieldsAfter fs s) ++ after)) q ∙ ap (λ (y : List ℕ). wordOf k v ∷ y) (ap (λ (y : List ℕ). y ++ after) (sym (append-nil (fieldWords fs′)))))
+      go (stops number other) q e l = absurd (omega arith)

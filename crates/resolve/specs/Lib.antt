@@ -9,3 +9,6 @@ pub mod Words
 pub mod Blocks
 pub mod Walk
 pub mod Rows
+pub mod Stamping
+pub mod Passes
+pub mod Writing

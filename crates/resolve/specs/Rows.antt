@@ -30,6 +30,10 @@ rowBy Slots v = alike 1 scalar 0
 rowBy Atom v = alike 2 scalar 0
 rowBy Exists v = alike 2 judgment 1
 
+-- the where tree of an aggregate, by its flag
+abbrev pub whereRow : ℕ → Row
+whereRow flag = record { from = 5; first = judgment; other = judgment; count = flag; keep = 0 }
+
 -- the sorts of a row
 abbrev pub sorts : ℕ → ℕ → ℕ → List ℕ
 sorts first other zero = []

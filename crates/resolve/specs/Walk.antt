@@ -17,9 +17,9 @@ use Rattle.resolve.specs.Turning.{Outcome, done, refused, Citing, Fields
 use Rattle.resolve.specs.Words.{tablesIn, Recorded}
 use Rattle.resolve.specs.Blocks.{inputIn}
 
--- a refusal in one number, which no number of words is: its number, its place and its other
+-- a refusal in one number, which no number of words and no value is: its number, its place and its other
 abbrev pub refusalCode : ℕ → ℕ → ℕ → ℕ
-refusalCode number place other = 65536 + (number + 16 * (place + 16384 * other))
+refusalCode number place other = 16777216 + (number + 16 * (place + 16384 * other))
 
 -- a node with two slots at the front of a slice
 pub record TwoSlots (work : List ℕ) : Type 0 where
@@ -155,8 +155,8 @@ abbrev pub Came : List ℕ → ℕ → Outcome Tree → ℕ → List ℕ → Typ
 Came after words (done t) code left = (code ≡ words) × (left ≡ treeWords t ++ after)
 Came after words (refused r) code left = code ≡ refusalCode (r .number) (r .place) (r .other)
 
-pub record Walked (C : Citing) (n levels sort entity : ℕ) (m : Membership) (place : ℕ) (work : List ℕ) (code : ℕ) (left : List ℕ) : Type 0 where
-  pub each : (t : Tree) (after : List ℕ) → Fine (tree n levels sort) t → work ≡ treeWords t ++ after → Came after (size t) (resolveTree C entity m place t) code left
+pub record Walked (C : Citing) (levels sort entity : ℕ) (m : Membership) (place : ℕ) (work : List ℕ) (code : ℕ) (left : List ℕ) : Type 0 where
+  pub each : (n : ℕ) → n ≤ 4096 → (t : Tree) (after : List ℕ) → Fine (tree n levels sort) t → work ≡ treeWords t ++ after → Came after (size t) (resolveTree C entity m place t) code left
 
 -- and of the children of a node, after the words in front of them
 abbrev pub CameRow : List ℕ → List ℕ → ℕ → Outcome Forest → ℕ → List ℕ → Type 0
@@ -167,6 +167,67 @@ CameRow front after words (refused r) code left = code ≡ refusalCode (r .numbe
 abbrev pub RowFine : ℕ → ℕ → List ℕ → Forest → Type 0
 RowFine n levels sorts f = FineEach (λ sort t. Fine (tree n levels sort) t) sorts (ofForest f)
 
-pub record RowWalked (C : Citing) (n levels : ℕ) (sorts : List ℕ) (entity : ℕ) (first rest : Membership) (place from : ℕ) (work : List ℕ) (code : ℕ) (left : List ℕ) : Type 0 where
-  pub each : (f : Forest) (front after : List ℕ) → length front ≡ from → RowFine n levels sorts f → work ≡ front ++ (forestWords f ++ after)
+pub record RowWalked (C : Citing) (levels : ℕ) (sorts : List ℕ) (entity : ℕ) (first rest : Membership) (place from : ℕ) (work : List ℕ) (code : ℕ) (left : List ℕ) : Type 0 where
+  pub each : (n : ℕ) → n ≤ 4096 → (f : Forest) (front after : List ℕ) → length front ≡ from → RowFine n levels sorts f → work ≡ front ++ (forestWords f ++ after)
       → CameRow front after (from + sizes f) (resolveForest C entity first rest (place + from) f) code left
+
+-- what all walkers ask for: places, blocks and the records are within bounds
+pub record Standing (records work : List ℕ) (place entity blocks count : ℕ) : Type 0 where
+  pub recorded : Recorded records
+  pub value : entity < 16777216
+  pub near : place + length work ≤ 8192
+  pub low : blocks ≤ 65536
+  pub few : count ≤ 64
+
+-- a tree of a sort stands at the front of the slice
+pub record TreeAsked (records : List ℕ) (levels sort : ℕ) (work : List ℕ) (place entity blocks count : ℕ) : Type 0 where
+  pub standing : Standing records work place entity blocks count
+  pub names : ℕ
+  pub most : names ≤ 4096
+  pub root : Tree
+  pub after : List ℕ
+  pub fine : Fine (tree names levels sort) root
+  pub stands : work ≡ treeWords root ++ after
+
+-- a node of a kind stands there
+pub record NodeAsked (records : List ℕ) (kind : ℕ) (work : List ℕ) (place : ℕ) : Type 0 where
+  pub recorded : Recorded records
+  pub near : place + length work ≤ 8192
+  pub names : ℕ
+  pub most : names ≤ 4096
+  pub levels : ℕ
+  pub sort : ℕ
+  pub root : Tree
+  pub after : List ℕ
+  pub fine : Fine (tree names levels sort) root
+  pub stands : work ≡ treeWords root ++ after
+  pub kinded : kindOf (getD work 0 0) ≡ kind
+
+-- children of these sorts stand from a word on
+pub record RowAsked (records : List ℕ) (levels : ℕ) (sorts : List ℕ) (from : ℕ) (work : List ℕ) (place entity blocks count : ℕ) : Type 0 where
+  pub standing : Standing records work place entity blocks count
+  pub names : ℕ
+  pub most : names ≤ 4096
+  pub trees : Forest
+  pub front : List ℕ
+  pub after : List ℕ
+  pub passed : length front ≡ from
+  pub fine : RowFine names levels sorts trees
+  pub stands : work ≡ front ++ (forestWords trees ++ after)
+
+-- what a walker answers and leaves, whatever the name of the citing rule or relation
+pub record TreeTurned (ws records marks taken : List ℕ) (blocks count origin levels sort entity : ℕ) (m : Membership) (place : ℕ) (work : List ℕ) (code : ℕ) (left : List ℕ) : Type 0 where
+  pub each : (name : ℕ) → Walked (citingIn ws records marks taken blocks count name origin) levels sort entity m place work code left
+
+pub record RowTurned (ws records marks taken : List ℕ) (blocks count origin levels : ℕ) (sorts : List ℕ) (entity : ℕ) (first rest : Membership) (place from : ℕ) (work : List ℕ) (code : ℕ) (left : List ℕ) : Type 0 where
+  pub each : (name : ℕ) → RowWalked (citingIn ws records marks taken blocks count name origin) levels sorts entity first rest place from work code left
+
+-- nodes with slots: a test of membership, whatever the tables say of marks and entities; OnlyRelated and an aggregate, whatever the membership
+pub record MemberWalked (ws records : List ℕ) (entity : ℕ) (m : Membership) (place : ℕ) (work : List ℕ) (code : ℕ) (left : List ℕ) : Type 0 where
+  pub each : (C : Citing) (marks taken : List ℕ) → C .tables ≡ tablesIn ws records marks taken → (levels sort : ℕ) → Walked C levels sort entity m place work code left
+
+pub record OnlyWalked (ws records marks taken : List ℕ) (blocks count origin entity place : ℕ) (work : List ℕ) (code : ℕ) (left : List ℕ) : Type 0 where
+  pub each : (name : ℕ) (m : Membership) (levels sort : ℕ) → Walked (citingIn ws records marks taken blocks count name origin) levels sort entity m place work code left
+
+pub record AggregateWalked (ws records marks taken : List ℕ) (blocks count origin levels sort entity place : ℕ) (work : List ℕ) (code : ℕ) (left : List ℕ) : Type 0 where
+  pub each : (name : ℕ) (m : Membership) → Walked (citingIn ws records marks taken blocks count name origin) levels sort entity m place work code left

@@ -75,9 +75,9 @@ membershipOf Unknown = none
 pub record MemberTurned (ws records : List ℕ) (relation : ℕ) (m : Membership) (current related : ℕ) (d : Direction) : Type 0 where
   pub each : (marks taken : List ℕ) → d ≡ member (tablesIn ws records marks taken) relation m current related
 
--- the kinds in the slots of a derived relation, by the place of its list and of its record
-abbrev pub slotKindsIn : List ℕ → ℕ → ℕ → Membership
-slotKindsIn ws place start = membership (kindAt (namesAt ws place) (valueAt ws (slotsPlace ws start))) (kindAt (namesAt ws place) (valueAt ws (slotsPlace ws start + 1)))
+-- the kinds in the slots of a derived relation, by the place of its list, and of its record in the words that hold it
+abbrev pub slotKindsIn : List ℕ → List ℕ → ℕ → ℕ → Membership
+slotKindsIn ws work place start = membership (kindAt (namesAt ws place) (valueAt work (slotsPlace work start))) (kindAt (namesAt ws place) (valueAt work (slotsPlace work start + 1)))
 
 -- whether a name is that of a derived relation with equal kinds there
 unfoldable pub equalIn : List ℕ → List ℕ → List ℕ → ℕ → Bool

@@ -27,7 +27,7 @@ pub enum Membership {
 }
 
 // The kind at a slot of the list whose count word stands at a place, or 0.
-fn kind_or_zero(pack: &[u32], place: u32, slot: u32) -> u32
+pub fn kind_or_zero(pack: &[u32], place: u32, slot: u32) -> u32
     ensures { λ r. ⌜ r ≡ kindOrZero (namesAt (now (pack .entry)) place) slot ⌝ }
 {
     let Kind::Is(k) = kind_at(pack, place, slot) else {
@@ -87,7 +87,7 @@ fn between(a: u32, b: u32, c: u32, r: u32, current: u32, related: u32) -> Direct
 }
 
 // The number of a relation's slot kinds.
-fn kind_count(pack: &[u32], start: usize) -> usize
+pub fn kind_count(pack: &[u32], start: usize) -> usize
     requires { ⌜ start ≤ 65536 ⌝ }
     ensures { λ r. ⌜ (r ≡ kindCount (now (pack .entry)) start) × (r < 16777216) ⌝ }
 {

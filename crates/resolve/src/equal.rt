@@ -11,16 +11,17 @@ ghost use mathlib.Core.Path.{_≡_};
 ghost use Prim.Native.Nat.{_<_, _≤_};
 ghost use Rattle.resolve.specs.Words.{Recorded, membershipOf, slotKindsIn, equalIn, valueAt, firstEqual, DefaultedFit};
 
-// The kinds in the slots of a derived relation whose record starts at a place, from the list that settles it.
-pub fn slot_kinds(pack: &[u32], list: u32, start: usize) -> Membership
+// The kinds in the slots of a derived relation whose record starts at a place of some words, from the list of the pack
+// that settles it.
+pub fn slot_kinds(pack: &[u32], work: &[u32], list: u32, start: usize) -> Membership
     requires { ⌜ start ≤ 65536 ⌝ }
-    ensures { λ r. ⌜ membershipOf r ≡ slotKindsIn (now (pack .entry)) list start ⌝ }
+    ensures { λ r. ⌜ membershipOf r ≡ slotKindsIn (now (pack .entry)) (now (work .entry)) list start ⌝ }
 {
-    let at = slots_place(pack, start);
-    let Kind::Is(c) = kind_at(pack, list, value_at(pack, at)) else {
+    let at = slots_place(work, start);
+    let Kind::Is(c) = kind_at(pack, list, value_at(work, at)) else {
         return Membership::Unknown;
     };
-    let Kind::Is(r) = kind_at(pack, list, value_at(pack, at + 1)) else {
+    let Kind::Is(r) = kind_at(pack, list, value_at(work, at + 1)) else {
         return Membership::Unknown;
     };
     Membership::Kinds(c, r)
@@ -38,7 +39,7 @@ pub fn equal_kinds(pack: &[u32], records: &[u32; 4096], marks: &[u32; 4096], nam
     if flag_at(pack, start) != 1 {
         return false;
     }
-    let Membership::Kinds(c, r) = slot_kinds(pack, place_of(marks, name), start) else {
+    let Membership::Kinds(c, r) = slot_kinds(pack, pack, place_of(marks, name), start) else {
         return false;
     };
     c == r

@@ -3,7 +3,7 @@ use crate::words::value_at;
 use pack::kinds::Pack;
 ghost use mathlib.Core.Path.{_≡_};
 ghost use Prim.Native.Nat.{_≤_};
-ghost use Rattle.resolve.specs.Blocks.{seenAfter, inputNumber, inputIn, far, Near, SeenItems, NearBlock, SeenBlock, AfterBlock, SeenBlocks, placeOfKind};
+ghost use Rattle.resolve.specs.Blocks.{seenAfter, inputNumber, inputIn, far, Near, SeenItems, NearBlock, SeenBlock, AfterBlock, SeenBlocks};
 
 // The declarations of a name, as one number: 0, the place of the only one, or SEVERAL; LACKING where a block has no sequence.
 pub struct Seen {}
@@ -121,18 +121,4 @@ pub fn input(pack: &[u32], at: usize, count: usize, origin: u32, owner: u32, nam
     ensures { λ r. ⌜ r ≡ inputIn (now (pack .entry)) at count origin owner name ⌝ }
 {
     input_number(pack, seen_blocks(pack, at, count, origin, name), owner)
-}
-
-// The place of the count of blocks, the only word of its kind.
-pub fn blocks_place(pack: &[u32]) -> usize
-    ensures { λ r. ⌜ r ≡ placeOfKind 28 0 (now (pack .entry)) ⌝ }
-{
-    let mut i: usize = 0;
-    while i < pack.len() {
-        if pack[i] / Pack::VALUES == Pack::BLOCK_COUNT {
-            return i;
-        }
-        i += 1;
-    }
-    i
 }

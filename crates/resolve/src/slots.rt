@@ -27,7 +27,7 @@ fn refusal_code(number: u32, place: u32, other: u32) -> u64
     requires { ⌜ (number < 16) × (place < 16384) ⌝ }
     ensures { λ r. ⌜ r ≡ refusalCode number place other ⌝ }
 {
-    65536 + (number as u64 + 16 * (place as u64 + 16384 * other as u64))
+    Pack::VALUES as u64 + (number as u64 + 16 * (place as u64 + 16384 * other as u64))
 }
 
 // The kind that results, or the refusal of an open direction, in one number.

@@ -1,7 +1,6 @@
 -- `resolve::equal::slot_kinds` meets its contract.
 use Rattle.resolve.proofs.EqualLaws.{first-unknown, second-unknown, both-known}
 use borrow.Author.Needs.{needs}
-use borrow.Author.Needs.{needs}
 use Rattle.resolve.proofs.equal.slot_kinds.Statement.{statement}
 use Rattle.resolve.proofs.equal.slot_kinds.Tie as tie
 
@@ -21,7 +20,7 @@ enum-told : tie.Need-enum-told
 enum-told c = search needs
 
 returns : tie.Need-returns
-returns c = first-unknown _ _ _ ((c .before .before .before .before .slots-place) .ensures .0) ((c .before .before .before .value-at) .ensures .0) ((c .before .before .kind-at) .ensures) ((c .enum-told) .given .1)
+returns c = first-unknown _ _ _ _ ((c .before .before .before .before .slots-place) .ensures .0) ((c .before .before .before .value-at) .ensures .0) ((c .before .before .kind-at) .ensures) ((c .enum-told) .given .1)
 
 add-value-at : tie.Need-add-value-at
 add-value-at c = search needs
@@ -39,10 +38,10 @@ enum-told-2 : tie.Need-enum-told-2
 enum-told-2 c = search needs
 
 returns-2 : tie.Need-returns-2
-returns-2 c = second-unknown _ _ _ ((c .before .before .before .before .before .before .before .before .before .slots-place) .ensures .0) ((c .before .before .before .before .before .before .before .before .value-at) .ensures .0) ((c .before .before .before .before .before .before .before .kind-at) .ensures) ((c .before .before .before .before .before .c) .given .1) ((c .before .before .before .value-at2) .ensures .0) ((c .before .before .kind-at2) .ensures) ((c .enum-told2) .given .1)
+returns-2 c = second-unknown _ _ _ _ ((c .before .before .before .before .before .before .before .before .before .slots-place) .ensures .0) ((c .before .before .before .before .before .before .before .before .value-at) .ensures .0) ((c .before .before .before .before .before .before .before .kind-at) .ensures) ((c .before .before .before .before .before .c) .given .1) ((c .before .before .before .value-at2) .ensures .0) ((c .before .before .kind-at2) .ensures) ((c .enum-told2) .given .1)
 
 returns-3 : tie.Need-returns-3
-returns-3 c = both-known _ _ _ ((c .before .before .before .before .before .before .before .before .before .before .slots-place) .ensures .0) ((c .before .before .before .before .before .before .before .before .before .value-at) .ensures .0) ((c .before .before .before .before .before .before .before .before .kind-at) .ensures) ((c .before .before .before .before .before .before .c) .given .1) ((c .before .before .before .before .value-at2) .ensures .0) ((c .before .before .before .kind-at2) .ensures) ((c .before .r) .given .1)
+returns-3 c = both-known _ _ _ _ ((c .before .before .before .before .before .before .before .before .before .before .slots-place) .ensures .0) ((c .before .before .before .before .before .before .before .before .before .value-at) .ensures .0) ((c .before .before .before .before .before .before .before .before .kind-at) .ensures) ((c .before .before .before .before .before .before .c) .given .1) ((c .before .before .before .before .value-at2) .ensures .0) ((c .before .before .before .kind-at2) .ensures) ((c .before .r) .given .1)
 
 pub slot-kinds-spec : {M : Type 1} → statement M
 slot-kinds-spec =

@@ -1,17 +1,17 @@
--- `resolve::inputs::blocks_place` meets its contract.
+-- `resolve::words::place_of_kind` meets its contract.
 use native.Mathlib.Omega.{arith}
 use Prim.Native.Nat.{_-_}
 use lib.ListN.{length}
 use Rattle.resolve.proofs.InputWords.{Looking, look, here, further, nowhere}
 use borrow.Author.Needs.{needs}
-use Rattle.resolve.proofs.inputs.blocks_place.Statement.{statement}
-use Rattle.resolve.proofs.inputs.blocks_place.Tie as tie
+use Rattle.resolve.proofs.words.place_of_kind.Statement.{statement}
+use Rattle.resolve.proofs.words.place_of_kind.Tie as tie
 
 abbrev Inv-loop : tie.InvT-loop
-Inv-loop pack i₀ i = Looking 28 pack i
+Inv-loop pack kind i₀ i = Looking kind pack i
 
 abbrev μ-loop : tie.MeasureT-loop
-μ-loop pack i₀ i = length pack - i
+μ-loop pack kind i₀ i = length pack - i
 
 loop-holds : tie.Need-loop-holds Inv-loop μ-loop
 loop-holds c = look _ _
@@ -37,8 +37,8 @@ loop-again c = further _ _ ((c .before .before .before .loop) .inv) (omega arith
 returns-2 : tie.Need-returns-2 Inv-loop μ-loop
 returns-2 c = nowhere _ _ ((c .before .loop) .inv) (omega arith)
 
-pub blocks-place-spec : {M : Type 1} → statement M
-blocks-place-spec =
+pub place-of-kind-spec : {M : Type 1} → statement M
+place-of-kind-spec =
     tie.close
     (tie.spec
     Inv-loop

@@ -1,0 +1,175 @@
+-- An aggregate, walked in place: its slots are set, and its where tree follows as a row of its flag.
+use Prim.Native.Nat.{ℕ, _+_, _-_, _<_, _≤_}
+use native.Mathlib.Omega.{arith}
+use mathlib.Core.Path.{_≡_, refl, ap, sym, _∙_, subst}
+use mathlib.Core.List.{List, [], _∷_, _++_, append-assoc}
+use mathlib.Core.Option.{none}
+use lib.ListN.{length, getD}
+use Rattle.pack.specs.declared.table.Follows.{Follows}
+use Rattle.pack.specs.declared.table.Follows.the-variants.{Aggregate}
+use Rattle.pack.specs.Table.{kindOf, valueOf, wordOf, scalar, judgment, entryOf, childrenOf}
+use Rattle.pack.specs.Form.{Fine}
+use Rattle.pack.specs.Tree.{Tree, Forest, node, tree, lastField}
+use Rattle.resolve.specs.declared.direction.Direction.{Direction}
+use Rattle.resolve.specs.declared.direction.Direction.the-variants.{Turned, Open}
+use Rattle.resolve.specs.Direction.{turn, Membership}
+use Rattle.resolve.specs.Turning.{Citing, Fields, currentOf, relatedOf, Step, goes, aggregate, stepBy, fieldWords, treeWords, forestWords, size, resolveTree}
+use Rattle.resolve.specs.Words.{tablesIn}
+use Rattle.resolve.specs.Rows.{sorts}
+use Rattle.resolve.specs.Walk.{NodeTurned, citingIn, stepCode, AnyFields, Stepped, fieldsAfter, Came, RowFine, TurnAsked, TreeAsked, RowAsked, RowTurned, AggregateWalked}
+use Rattle.resolve.proofs.KeepsForm.{FieldFine, FieldsFine}
+use Rattle.resolve.proofs.TreeWords.{StepLong, step-long}
+use Rattle.resolve.proofs.SmallKinds.{KindFits, turn-small}
+use Rattle.resolve.proofs.StepWords.{aggregate-stepped}
+use Rattle.resolve.proofs.ShapeLaws.{Slotted, SlotForm, SlotTree, aggregate-form}
+use Rattle.resolve.proofs.NodeLaws.{slots-of, asked-slots, step-said, step-set, fields-count, long-node}
+use Rattle.resolve.proofs.WalkLaws.{fields-length, node-went, StepSmall, node-refused}
+use Rattle.resolve.proofs.ChildrenLaws.{sorts-same}
+
+-- the fields after the slots, and the flag, which is the last of them
+abbrev others : List (List ℕ)
+others = (86 ∷ []) ∷ (83 ∷ []) ∷ []
+
+value-fine : (n kind : ℕ) (f : ℕ × ℕ) → FieldFine n (kind ∷ []) f → f .1 < 16777216
+unfolding Fine
+value-fine n kind f h = h .1 .0
+
+flag-last : (n k v : ℕ) (fs : Fields) (tail : List ℕ) → Slotted n others fs → valueOf (getD (wordOf k v ∷ (fieldWords fs ++ tail)) 4 0) ≡ lastField fs
+flag-last n k v fs tail s = go (s .fields) (s .fine) (s .same)
+  where
+    small : (f : ℕ × ℕ) → FieldsFine n ((83 ∷ []) ∷ []) (f ∷ []) → valueOf (wordOf (f .0) (f .1)) ≡ f .1
+    small f h = let x = value-fine n 83 f (h .0) in omega arith
+
+    go : (fields : Fields) → FieldsFine n others fields → fs ≡ (80, s .current) ∷ (81, s .related) ∷ fields → valueOf (getD (wordOf k v ∷ (fieldWords fs ++ tail)) 4 0) ≡ lastField fs
+    go [] h e = absurd h
+    go (a ∷ []) h e = absurd (h .1)
+    go (a ∷ b ∷ []) h e = rw e (small b (h .1))
+    go (a ∷ b ∷ c ∷ l) h e = absurd (h .1 .1)
+
+where-sorts : (v last : ℕ) → childrenOf Aggregate v last ≡ sorts judgment judgment last
+unfolding childrenOf
+where-sorts v last = sorts-same judgment last
+
+-- its step
+step-small : (fs : Fields) (d : Direction) → KindFits 16777216 d → StepSmall (aggregate fs d)
+step-small fs (Turned c r k) h = h
+step-small fs (Open e) h = tt
+
+goes-on : (fs : Fields) (place code : ℕ) (d : Direction) → code ≡ stepCode place (aggregate fs d) → code < 16777216 → aggregate fs d ≡ goes (fieldsAfter fs (aggregate fs d)) code none none
+goes-on fs place code (Turned c r k) e small = ap (λ (x : ℕ). goes (fieldsAfter fs (aggregate fs (Turned c r k))) x none none) (sym e)
+goes-on fs place code (Open o) e small = absurd (omega arith)
+
+module _ {records : List ℕ} {levels : ℕ} {work : List ℕ} {place entity blocks count : ℕ} (a : TreeAsked records levels scalar work place entity blocks count) (lo : 74 ≤ kindOf (getD work 0 0)) (hi : kindOf (getD work 0 0) < 78) where
+  pub aggregate-asked : TurnAsked records work place entity
+  aggregate-asked =
+      record {
+        recorded = a .standing .recorded;
+        node = asked-slots (aggregate-form (kindOf (getD work 0 0)) lo hi) (a .names) (a .most) levels scalar (a .root) (a .after) work (a .fine) (a .stands) refl;
+        near = let h = a .standing .near in omega arith;
+      }
+
+  pub aggregate-long : 4 < length work
+  aggregate-long = long-node (aggregate-form (kindOf (getD work 0 0)) lo hi) (a .names) (a .most) levels scalar (a .root) (a .after) work (a .fine) (a .stands) refl
+
+module _ (ws records marks taken : List ℕ) (blocks count origin entity place : ℕ) (work : List ℕ) (lo : 74 ≤ kindOf (getD work 0 0)) (hi : kindOf (getD work 0 0) < 78) (levels : ℕ) where
+  abbrev form : SlotForm (kindOf (getD work 0 0)) Aggregate others
+  form = aggregate-form (kindOf (getD work 0 0)) lo hi
+
+  module _ {code : ℕ} {left : List ℕ} (t : NodeTurned (tablesIn ws records marks taken) work place entity code left) where
+    stepped : (name : ℕ) (m : Membership) → Stepped AnyFields (λ v fs. stepBy (citingIn ws records marks taken blocks count name origin) entity m Aggregate v fs) work place code left
+    unfolding citingIn
+    stepped name m = aggregate-stepped (citingIn ws records marks taken blocks count name origin) work place entity m t
+
+    module _ (name : ℕ) (m : Membership) (n : ℕ) (most : n ≤ 4096) (k v : ℕ) (fs : Fields) (f : Forest) (after : List ℕ) (h : Fine (tree n levels scalar) (node k v fs f)) (e : work ≡ treeWords (node k v fs f) ++ after) where
+      abbrev C : Citing
+      C = citingIn ws records marks taken blocks count name origin
+
+      abbrev its : Step
+      its = stepBy C entity m (entryOf k .follows) v fs
+
+      shape : SlotTree n levels (kindOf (getD work 0 0)) Aggregate others k v fs f
+      shape = slots-of form n most levels scalar k v fs f after work h e refl
+
+      said : code ≡ stepCode place its
+      said = step-said form n most levels scalar AnyFields C entity m work place code left (stepped name m) k v fs f after e shape tt
+
+      words : left ≡ wordOf k v ∷ (fieldWords (fieldsAfter fs its) ++ (forestWords f ++ after))
+      words = step-set form n most levels scalar AnyFields C entity m work place code left (stepped name m) k v fs f after e shape tt
+
+      follows-is : entryOf k .follows ≡ Aggregate
+      follows-is = ap (λ (x : ℕ). entryOf x .follows) (shape .same) ∙ form .follows
+
+      -- by the aggregate's own step
+      small : StepSmall its
+      unfolding stepBy citingIn
+      small = subst (λ (x : Follows). StepSmall (stepBy C entity m x v fs)) (sym follows-is) (step-small fs (turn (tablesIn ws records marks taken) v entity (currentOf fs) (relatedOf fs)) (turn-small ws records marks taken v entity (currentOf fs) (relatedOf fs)))
+
+      on : code < 16777216 → its ≡ goes (fieldsAfter fs its) code none none
+      unfolding stepBy
+      on below =
+          subst (λ (x : Follows). code ≡ stepCode place (stepBy C entity m x v fs) → stepBy C entity m x v fs ≡ goes (fieldsAfter fs (stepBy C entity m x v fs)) code none none) (sym follows-is)
+          (λ q. goes-on fs place code (turn (C .tables) v entity (currentOf fs) (relatedOf fs)) q below) said
+
+      as-many : code < 16777216 → length (fieldsAfter fs its) ≡ length fs
+      as-many below = subst (StepLong fs) (on below) (step-long C entity m (entryOf k .follows) v fs)
+
+      four : length fs ≡ 4
+      four = ap length (shape .its .same) ∙ omega (arith, fields-count n others (shape .its .fields) (shape .its .fine))
+
+      flag-is : valueOf (getD work 4 0) ≡ lastField fs
+      unfolding treeWords
+      flag-is =
+          ap (λ (l : List ℕ). valueOf (getD l 4 0)) (e ∙ ap (λ (l : List ℕ). wordOf k v ∷ l) (append-assoc (fieldWords fs) (forestWords f) after))
+          ∙ flag-last n k v fs (forestWords f ++ after) (shape .its)
+
+      row-fine : RowFine n (levels - 1) (sorts judgment judgment (valueOf (getD work 4 0))) f
+      row-fine =
+          subst (λ (x : ℕ). RowFine n x (sorts judgment judgment (valueOf (getD work 4 0))) f) (let l = shape .level in omega arith)
+          (subst (λ (x : List ℕ). RowFine n (shape .under) x f) (where-sorts v (lastField fs) ∙ ap (sorts judgment judgment) (sym flag-is)) (shape .children))
+
+      where-asked : code < 16777216 → TreeAsked records levels scalar work place entity blocks count → length left ≡ length work → RowAsked records (levels - 1) (sorts judgment judgment (valueOf (getD work 4 0))) 5 left place code blocks count
+      where-asked below a same =
+          record {
+            standing = record { recorded = a .standing .recorded; value = below; near = let x = a .standing .near in omega arith; low = a .standing .low; few = a .standing .few };
+            names = n;
+            most = most;
+            trees = f;
+            front = wordOf k v ∷ fieldWords (fieldsAfter fs its);
+            after = after;
+            passed = omega (arith, fields-length (fieldsAfter fs its), as-many below, four);
+            fine = row-fine;
+            stands = words;
+          }
+
+      where-came : code < 16777216 → {code′ : ℕ} {left′ : List ℕ}
+          → RowTurned ws records marks taken blocks count origin (levels - 1) (sorts judgment judgment (valueOf (getD work 4 0))) code none none place 5 left code′ left′
+          → Came after (size (node k v fs f)) (resolveTree C entity m place (node k v fs f)) code′ left′
+      where-came below {code′} {left′} r =
+          node-went C n most (levels - 1) entity m place k v fs f after code′ left′ (on below) (as-many below) (omega (arith, four)) row-fine words (r .each name)
+
+    stopped-tree : 16777216 ≤ code → (name : ℕ) (m : Membership) (n : ℕ) → n ≤ 4096 → (x : Tree) (after : List ℕ) → Fine (tree n levels scalar) x → work ≡ treeWords x ++ after
+        → Came after (size x) (resolveTree (citingIn ws records marks taken blocks count name origin) entity m place x) code left
+    stopped-tree big name m n most (node k v fs f) after h e =
+        node-refused (citingIn ws records marks taken blocks count name origin) entity m place k v fs f after code left (said name m n most k v fs f after h e) (small name m n most k v fs f after h e) big
+
+    pub aggregate-stopped : 16777216 ≤ code → AggregateWalked ws records marks taken blocks count origin levels scalar entity place work code left
+    aggregate-stopped big = record { each = λ name m. record { each = λ n most x after h e. stopped-tree big name m n most x after h e } }
+
+    asked-tree : code < 16777216 → (n : ℕ) → n ≤ 4096 → (x : Tree) (after : List ℕ) → Fine (tree n levels scalar) x → work ≡ treeWords x ++ after → TreeAsked records levels scalar work place entity blocks count → length left ≡ length work
+        → RowAsked records (levels - 1) (sorts judgment judgment (valueOf (getD work 4 0))) 5 left place code blocks count
+    asked-tree below n most (node k v fs f) after h e a same = where-asked 0 none n most k v fs f after h e below a same
+
+    pub aggregate-row : code < 16777216 → TreeAsked records levels scalar work place entity blocks count → length left ≡ length work
+        → RowAsked records (levels - 1) (sorts judgment judgment (valueOf (getD work 4 0))) 5 left place code blocks count
+    aggregate-row below a same = asked-tree below (a .names) (a .most) (a .root) (a .after) (a .fine) (a .stands) a same
+
+    went-tree : code < 16777216 → {code′ : ℕ} {left′ : List ℕ}
+        → RowTurned ws records marks taken blocks count origin (levels - 1) (sorts judgment judgment (valueOf (getD work 4 0))) code none none place 5 left code′ left′
+        → (name : ℕ) (m : Membership) (n : ℕ) → n ≤ 4096 → (x : Tree) (after : List ℕ) → Fine (tree n levels scalar) x → work ≡ treeWords x ++ after
+        → Came after (size x) (resolveTree (citingIn ws records marks taken blocks count name origin) entity m place x) code′ left′
+    went-tree below r name m n most (node k v fs f) after h e = where-came name m n most k v fs f after h e below r
+
+    pub aggregate-went : code < 16777216 → {code′ : ℕ} {left′ : List ℕ}
+        → RowTurned ws records marks taken blocks count origin (levels - 1) (sorts judgment judgment (valueOf (getD work 4 0))) code none none place 5 left code′ left′
+        → AggregateWalked ws records marks taken blocks count origin levels scalar entity place work code′ left′
+    aggregate-went below r = record { each = λ name m. record { each = λ n most x after h e. went-tree below r name m n most x after h e } }

@@ -1,0 +1,159 @@
+-- The list that the code finds for a relation is the one that stamping puts there.
+use Prim.Native.Nat.{ℕ, zero, suc, _+_, _-_, _<_, _≤_}
+use native.Mathlib.Omega.{arith}
+use mathlib.Core.Path.{_≡_, refl, ap, sym, _∙_}
+use mathlib.Core.List.{List, [], _∷_, _++_, append-assoc}
+use mathlib.Core.Bool.{Bool, true, false, _||_, _&&_}
+use mathlib.Core.Option.{Option, none, some}
+use lib.ListN.{length, getD, length-append, length-map}
+use lib.Dec.{eqb}
+use borrow.Author.Tests.{ne-eqb}
+use Rattle.pack.specs.Table.{pick, wordOf, judgment}
+use Rattle.pack.specs.Form.{Fine}
+use Rattle.pack.specs.Tree.{tree, root}
+use Rattle.pack.specs.Pack.{Derivation, Relation, Pack, derivation, member, relationTail}
+use Rattle.chains.specs.Kinds.{kindsOf}
+use Rattle.chains.specs.Filtered.{kindAt}
+use Rattle.chains.specs.Operations.{namesAt}
+use Rattle.chains.proofs.RelationScan.{kept}
+use Rattle.chains.proofs.ListAt.{nameWords, late, derived-fine, InWords}
+use Rattle.resolve.specs.Turning.{treeWords}
+use Rattle.resolve.specs.Resolving.{holds, roleJudgment, atomNames, empty, unlike, stampedWith, stampBy, stampDerived, stamp}
+use Rattle.resolve.specs.Words.{slotsPlace}
+use Rattle.resolve.specs.Stamping.{StampedBy, as-it-is, with-kinds, roleIn, entityCount, predicateAt, unstamped, passedIn, unlikeIn, listFor}
+use Rattle.resolve.proofs.TablesLaws.{value-there, counted, no-flag, a-flag, before-slots, before-length, slots-open, current-there, related-there}
+use Rattle.resolve.proofs.TreeWords.{tree-words}
+use Rattle.resolve.proofs.RoleLaws.{Ends, role-read}
+
+-- ---- what stands after the slots of a derivation
+
+predicate-fine : (n : ℕ) (d : Derivation) → Fine (derivation n) d → Fine (tree n 32 judgment) (d .predicate)
+unfolding derivation member root Fine
+predicate-fine n d f = f .1 .1 .1 .1
+
+module _ (work : List ℕ) (start n : ℕ) (r : Relation) (i : InWords work start n r) (most : n ≤ 4096) (d : Derivation) (e : r .derivation ≡ some d) where
+  abbrev es : List ℕ
+  es = d .slotEntities
+
+  abbrev before : List ℕ
+  before = before-slots work start n r i most d e
+
+  abbrev four : List ℕ
+  four = wordOf 17 (d .current) ∷ wordOf 18 (d .related) ∷ wordOf 19 (d .entity) ∷ wordOf 20 (d .member) ∷ []
+
+  opened : work ≡ (before ++ four) ++ (wordOf 21 (length es) ∷ ((nameWords es ++ late n d) ++ i .after))
+  opened = slots-open work start n r i most d e ∙ sym (append-assoc before four (wordOf 21 (length es) ∷ ((nameWords es ++ late n d) ++ i .after)))
+
+  four-length : length (before ++ four) ≡ slotsPlace work start + 4
+  four-length = length-append before four ∙ omega (arith, before-length work start n r i most d e)
+
+  pub entities-there : entityCount work start ≡ length es
+  unfolding entityCount
+  entities-there =
+      value-there work (before ++ four) ((nameWords es ++ late n d) ++ i .after) 21 (length es) (slotsPlace work start + 4) opened four-length (kept n (i .used) r (i .fine) .derived d e .entities)
+
+  pub its-fine : Fine (tree n 32 judgment) (d .predicate)
+  unfolding relationTail Fine
+  its-fine = predicate-fine n d (derived-fine n (r .derivation) d e (kept n (i .used) r (i .fine) .tail .1 .1 .1))
+
+  abbrev pub front : List ℕ
+  front = (before ++ four) ++ (wordOf 21 (length es) ∷ nameWords es)
+
+  pub predicate-open : work ≡ front ++ (treeWords (d .predicate) ++ i .after)
+  unfolding root
+  predicate-open =
+      let t : List ℕ = treeWords (d .predicate) in
+      let one : List ℕ = wordOf 21 (length es) ∷ [] in
+      opened
+      ∙ ap (λ (l : List ℕ). (before ++ four) ++ (wordOf 21 (length es) ∷ ((nameWords es ++ (l ++ [])) ++ i .after))) (tree-words (d .predicate) n 32 judgment its-fine)
+      ∙ ap (λ (l : List ℕ). (before ++ four) ++ (wordOf 21 (length es) ∷ l)) (append-assoc (nameWords es) (t ++ []) (i .after) ∙ ap (λ (l : List ℕ). nameWords es ++ l) (append-assoc t [] (i .after)))
+      ∙ sym (append-assoc (before ++ four) (wordOf 21 (length es) ∷ nameWords es) (t ++ i .after))
+
+  pub predicate-there : length front ≡ predicateAt work start
+  unfolding predicateAt
+  predicate-there = length-append (before ++ four) (wordOf 21 (length es) ∷ nameWords es) ∙ omega (arith, four-length, length-map es (wordOf 10), entities-there)
+
+  pub role-there : Ends (i .after) → roleIn work (predicateAt work start) ≡ holds roleJudgment (d .predicate)
+  role-there h = role-read work front (i .after) (predicateAt work start) n 32 judgment (d .predicate) predicate-open predicate-there (omega arith) its-fine h
+
+-- ---- the list
+
+no-names : (l : List ℕ) → eqb (length l) 0 ≡ empty l
+no-names [] = refl
+no-names (k ∷ l) = ne-eqb (length (k ∷ l)) 0 (λ e. omega arith)
+
+one-if : (b : Bool) → eqb (pick b 1 0) 1 ≡ b
+one-if true = refl
+one-if false = refl
+
+is-empty : (l : List ℕ) → empty l ≡ true → l ≡ []
+is-empty [] e = refl
+is-empty (k ∷ l) e = let z : _≡_ {A = ℕ} 0 1 = cc in absurd (omega arith)
+
+some-place : (ws : List ℕ) (list : ℕ) (ks : List ℕ) → namesAt ws list ≡ some ks → 0 < list
+unfolding namesAt
+some-place ws zero ks q = let z : _≡_ {A = ℕ} 0 1 = cc in absurd (omega arith)
+some-place ws (suc list) ks q = omega arith
+
+module _ (ws : List ℕ) (list : ℕ) (r : Relation) (d : Derivation) (e : r .derivation ≡ some d) where
+  abbrev differ : Option (List ℕ) → Bool
+  differ kinds = unlike (kindAt kinds (d .current)) (kindAt kinds (d .related))
+
+  abbrev stampedBy : Bool → Option (List ℕ) → Relation
+  stampedBy none-21 none = r
+  stampedBy none-21 (some ks) = pick (none-21 && differ (some ks)) (stampedWith r d ks) r
+
+  by-kinds : (kinds : Option (List ℕ)) → stampedBy (empty (d .slotEntities)) kinds ≡ stampBy kinds r d
+  by-kinds none = refl
+  by-kinds (some ks) = refl
+
+  kinds-decide : (kinds : Option (List ℕ)) → namesAt ws list ≡ kinds → d .slotEntities ≡ [] → StampedBy ws (pick (differ kinds) list 0) r (stampedBy true kinds)
+  kinds-decide none q z = as-it-is refl
+  kinds-decide (some ks) q z = go (differ (some ks))
+    where
+      go : (b : Bool) → StampedBy ws (pick b list 0) r (pick b (stampedWith r d ks) r)
+      go true = with-kinds d ks (some-place ws list ks q) q e z
+      go false = as-it-is refl
+
+  -- by whether list 9 and list 21 are empty, and whether the relation is named or its predicate holds a judgment of roles
+  decided : (none-9 none-21 spoken : Bool) (kinds : Option (List ℕ)) → namesAt ws list ≡ kinds → (none-21 ≡ true → d .slotEntities ≡ [])
+      → StampedBy ws (pick none-21 (pick (none-9 && spoken) 0 (pick (differ kinds) list 0)) 0) r (pick ((none-9 && none-21) && spoken) r (stampedBy none-21 kinds))
+  decided true true true kinds q z = as-it-is refl
+  decided true true false kinds q z = kinds-decide kinds q (z refl)
+  decided false true spoken kinds q z = kinds-decide kinds q (z refl)
+  decided true false spoken none q z = as-it-is refl
+  decided true false spoken (some ks) q z = as-it-is refl
+  decided false false spoken none q z = as-it-is refl
+  decided false false spoken (some ks) q z = as-it-is refl
+
+-- a relation of the words in which trees may have been resolved comes out as stamping says, from the list that the code finds for it
+module _ (ws work marks atoms : List ℕ) (p : Pack) (start : ℕ) (r : Relation) (i : InWords work start (p .names) r) (most : p .names ≤ 4096) (later : 0 < start) (ends : Ends (i .after))
+    (kinds : namesAt ws (getD marks (r .name) 0 - 2) ≡ kindsOf (p .relations) (r .name)) (named : getD atoms (r .name) 0 ≡ pick (atomNames p (r .name)) 1 0) where
+  abbrev list : ℕ
+  list = getD marks (r .name) 0 - 2
+
+  abbrev K : Option (List ℕ)
+  K = kindsOf (p .relations) (r .name)
+
+  not-derived : r .derivation ≡ none → listFor ws work marks atoms (r .name) start ≡ 0
+  unfolding listFor unstamped
+  not-derived e = rw (ne-eqb start 0 (λ z. omega arith), no-flag work start (p .names) r i most e) refl
+
+  list-read : (d : Derivation) → r .derivation ≡ some d
+      → listFor ws work marks atoms (r .name) start
+      ≡ pick (empty (d .slotEntities)) (pick (empty (r .slotKinds) && (atomNames p (r .name) || holds roleJudgment (d .predicate))) 0 (pick (unlike (kindAt K (d .current)) (kindAt K (d .related))) list 0)) 0
+  unfolding listFor unstamped passedIn unlikeIn
+  list-read d e =
+      rw (ne-eqb start 0 (λ z. omega arith), a-flag work start (p .names) r i most d e, entities-there work start (p .names) r i most d e, counted work start (p .names) r i most)
+      (rw (current-there work start (p .names) r i most d e, related-there work start (p .names) r i most d e, kinds, named, role-there work start (p .names) r i most d e ends)
+      (rw (one-if (atomNames p (r .name)), no-names (d .slotEntities), no-names (r .slotKinds)) refl))
+
+  pub stamped-by : StampedBy ws (listFor ws work marks atoms (r .name) start) r (stamp p r)
+  unfolding stamp
+  stamped-by = go (r .derivation) refl
+    where
+      go : (o : Option Derivation) → r .derivation ≡ o → StampedBy ws (listFor ws work marks atoms (r .name) start) r (stampDerived p r o)
+      go none e = as-it-is (not-derived e)
+      go (some d) e =
+          let spoken : Bool = atomNames p (r .name) || holds roleJudgment (d .predicate) in
+          rw (list-read d e, ← by-kinds ws list r d e K) (decided ws list r d e (empty (r .slotKinds)) (empty (d .slotEntities)) spoken K kinds (is-empty (d .slotEntities)))

@@ -1,0 +1,54 @@
+use mathlib.Core.Path.{refl}
+use Rattle.resolve.proofs.ResolveLaws.{asked-of, finish-of, whole-done, resolve-stopped, resolve-done}
+use borrow.Author.Needs.{needs}
+use Rattle.resolve.proofs.resolve.resolve_in.Statement.{statement}
+use Rattle.resolve.proofs.resolve.resolve_in.Tie as tie
+
+fill-tables-requires : tie.Need-fill-tables-requires
+fill-tables-requires c κs = (((c .before .before .before .before .before .before .pre) .checked), refl, refl, refl)
+
+copy-requires : tie.Need-copy-requires
+copy-requires c κs = ((c .before .before .before .before .before .before .before .before .pre) .room)
+
+turn-pack-requires : tie.Need-turn-pack-requires
+turn-pack-requires c κs = asked-of ((c .before .before .before .before .before .before .before .before .fill-tables) .ensures) ((c .before .before .before .before .before .before .copy) .ensures)
+
+enum-told : tie.Need-enum-told
+enum-told c = search needs
+
+enum-told-2 : tie.Need-enum-told-2
+enum-told-2 c = search needs
+
+same-length : tie.Need-same-length
+same-length c = search needs
+
+returns : tie.Need-returns
+returns c = resolve-stopped ((c .before .before .before .before .before .before .before .before .before .before .before .before .before .fill-tables) .ensures .checked) _ ((c .before .before .before .before .turn-pack) .ensures) ((c .enum-told2) .given .1)
+
+finish-requires : tie.Need-finish-requires
+finish-requires c κs = finish-of ((c .before .before .before .before .before .before .before .before .before .before .before .before .before .before .before .before .before .fill-tables) .ensures) ((c .before .before .before .before .before .before .before .before .turn-pack) .ensures) ((c .before .before .before .before .enum-told) .given .1)
+
+same-length-2 : tie.Need-same-length-2
+same-length-2 c = search needs
+
+same-length-3 : tie.Need-same-length-3
+same-length-3 c = search needs
+
+returns-2 : tie.Need-returns-2
+returns-2 c = resolve-done ((c .before .before .before .before .before .before .before .before .before .before .before .before .before .before .before .before .before .before .before .before .fill-tables) .ensures .checked) _ (whole-done ((c .before .before .before .before .before .before .before .before .before .before .before .before .before .before .before .before .before .before .before .before .fill-tables) .ensures .checked) _ ((c .before .before .before .before .before .before .before .before .before .before .before .turn-pack) .ensures) ((c .before .before .before .before .before .before .before .enum-told) .given .1)) ((c .before .before .finish) .ensures)
+
+pub resolve-in-spec : {M : Type 1} → statement M
+resolve-in-spec =
+    tie.close
+    (tie.spec
+    fill-tables-requires
+    copy-requires
+    turn-pack-requires
+    enum-told
+    enum-told-2
+    same-length
+    returns
+    finish-requires
+    same-length-2
+    same-length-3
+    returns-2)

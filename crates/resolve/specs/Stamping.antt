@@ -1,0 +1,70 @@
+-- Stamping, by the place of a list: what a relation comes out as when the list that stands at a place is stamped on it, 0 for none.
+use Prim.Native.Nat.{ℕ, _+_, _-_, _<_}
+use mathlib.Core.Path.{_≡_}
+use mathlib.Core.List.{List, [], _∷_}
+use mathlib.Core.Bool.{Bool, false, _||_, _&&_}
+use mathlib.Core.Option.{some}
+use lib.ListN.{getD, drop, set}
+use lib.Dec.{eqb, ltb, leb}
+use Rattle.pack.specs.Table.{pick, kindOf, valueOf}
+use Rattle.pack.specs.Pack.{Derivation, Relation}
+use Rattle.chains.specs.Filtered.{kindAt}
+use Rattle.chains.specs.Operations.{namesAt}
+use Rattle.resolve.specs.Resolving.{roleJudgment, unlike, stampedWith}
+use Rattle.resolve.specs.Words.{valueAt, kindCount, flagAt, slotsPlace}
+
+pub data StampedBy (ws : List ℕ) (list : ℕ) (r : Relation) : Relation → Type 0 where
+  as-it-is : list ≡ 0 → StampedBy ws list r r
+  with-kinds : (d : Derivation) (ks : List ℕ) → 0 < list → namesAt ws list ≡ some ks → r .derivation ≡ some d → d .slotEntities ≡ [] → StampedBy ws list r (stampedWith r d ks)
+
+-- ---- "that some atom or Exists names": 1 for each such name, after one word and after all words of a pack
+
+unfoldable pub atomAfter : List ℕ → ℕ → List ℕ
+atomAfter t w = pick ((eqb (kindOf w) 102 || eqb (kindOf w) 103) && ltb (valueOf w) 4096) (set t (valueOf w) 1) t
+
+unfoldable pub atomsIn : List ℕ → List ℕ → List ℕ
+atomsIn t [] = t
+atomsIn t (w ∷ ws) = atomsIn (atomAfter t w) ws
+
+-- ---- "whose predicate holds kinds 102 to 104": the words of a tree are those from its root on, as long as their kinds are 64 or more
+
+unfoldable pub roleAmong : List ℕ → Bool
+roleAmong [] = false
+roleAmong (w ∷ ws) = pick (leb 64 (kindOf w)) (roleJudgment (kindOf w) (valueOf w) || roleAmong ws) false
+
+unfoldable pub roleIn : List ℕ → ℕ → Bool
+roleIn ws at = roleAmong (drop at ws)
+
+-- ---- the list for the relation whose record starts at a place: `ws` are the words of the pack, `work` the same with trees resolved in place
+
+-- the number of names in its list 21, whose count stands after 17 to 20; its predicate stands after them
+unfoldable pub entityCount : List ℕ → ℕ → ℕ
+entityCount work start = valueAt work (slotsPlace work start + 4)
+
+unfoldable pub predicateAt : List ℕ → ℕ → ℕ
+predicateAt work start = slotsPlace work start + 5 + entityCount work start
+
+-- it has a derivation, "with list 21 empty"
+unfoldable pub unstamped : List ℕ → ℕ → Bool
+unstamped work start = eqb (flagAt work start) 1 && eqb (entityCount work start) 0
+
+-- "pass over a relation with both lists empty that some atom or Exists names, or whose predicate holds kinds 102 to 104", list 21 being empty
+unfoldable pub passedIn : List ℕ → List ℕ → ℕ → ℕ → Bool
+passedIn work atoms name start = eqb (kindCount work start) 0 && (eqb (getD atoms name 0) 1 || roleIn work (predicateAt work start))
+
+-- "current slot in range and its kind unlike the related one", by the kinds of the list at a place
+unfoldable pub unlikeIn : List ℕ → List ℕ → ℕ → ℕ → Bool
+unlikeIn ws work list start = unlike (kindAt (namesAt ws list) (valueAt work (slotsPlace work start))) (kindAt (namesAt ws list) (valueAt work (slotsPlace work start + 1)))
+
+-- the place of the list that settles its name, where the list is stamped, else 0; a name without a record has none
+unfoldable pub listFor : List ℕ → List ℕ → List ℕ → List ℕ → ℕ → ℕ → ℕ
+listFor ws work marks atoms name start =
+    pick (eqb start 0) 0
+    (pick (unstamped work start)
+    (pick (passedIn work atoms name start) 0
+    (pick (unlikeIn ws work (getD marks name 0 - 2) start) (getD marks name 0 - 2) 0))
+    0)
+
+-- the list for a name
+unfoldable pub listIn : List ℕ → List ℕ → List ℕ → List ℕ → List ℕ → ℕ → ℕ
+listIn ws work records marks atoms name = listFor ws work marks atoms name (getD records name 0)

@@ -1,0 +1,80 @@
+// Resolve: a pack with its directions settled, written out whole.
+use crate::equal::first_equal;
+use crate::finish::finish;
+use crate::trees::fill_tables;
+use crate::trees::trees;
+use pack::answer::Answer;
+use pack::answer::Refusal;
+use pack::check::check;
+use pack::kinds::Pack;
+ghost use mathlib.Core.Path.{_≡_};
+ghost use lib.ListN.{length};
+ghost use Rattle.chains.specs.AllKinds.{IsPack};
+ghost use Rattle.chains.specs.Operations.{Answered};
+ghost use Rattle.resolve.specs.Operations.{resolveAnswer, resolveBuffer};
+ghost use Rattle.resolve.specs.Passes.{TreesAsked, PackCame, ResolveAsked};
+
+// The words of a slice in another of the same length.
+fn copy(pack: &[u32], work: &mut [u32])
+    requires { ⌜ length (now work) ≡ length (now pack) ⌝ }
+    ensures { λ r. ⌜ now (work .exit) ≡ now (pack .entry) ⌝ }
+{
+    let mut i: usize = 0;
+    while i < pack.len() {
+        work[i] = pack[i];
+        i += 1;
+    }
+}
+
+// Defaulted names with equal kinds are refused; then all trees are resolved, in a copy of the words.
+fn turn_pack(
+    pack: &[u32],
+    starts: &[u32; 4096],
+    marks: &[u32; 4096],
+    taken: &[u32; 4096],
+    work: &mut [u32],
+) -> Answer
+    requires { ⌜ TreesAsked (now pack) (now starts) (now marks) (now taken) (now work) ⌝ }
+    ensures { λ r. ⌜ PackCame (now (pack .entry)) r (now (work .exit)) ⌝ }
+{
+    let name = first_equal(pack, starts, marks);
+    if name == Pack::NONE {
+        return trees(pack, starts, marks, taken, work);
+    }
+    Answer::Refused(Refusal {
+        number: 9,
+        place: starts[name as usize] as usize,
+        name,
+        other: 0,
+    })
+}
+
+// A checked pack, with a slice for its words.
+fn resolve_in(pack: &[u32], work: &mut [u32], out: &mut [u32]) -> Answer
+    requires { ⌜ ResolveAsked (now pack) (now work) ⌝ }
+    ensures { λ r. ⌜ Answered resolveAnswer resolveBuffer (now (pack .entry)) (now (out .entry)) r (now (out .exit)) ⌝ }
+{
+    let mut starts = [0u32; 4096];
+    let mut marks = [0u32; 4096];
+    let mut taken = [0u32; 4096];
+    let steps = fill_tables(pack, &mut starts, &mut marks, &mut taken);
+    copy(pack, work);
+    let a = turn_pack(pack, &starts, &marks, &taken, work);
+    let Answer::Given(_, _) = a else {
+        return a;
+    };
+    finish(pack, &starts, &marks, work, steps, out)
+}
+
+// The whole pack in record order, with slots and lists as resolving leaves them; the answer is its number of words and
+// how many declarations were read for its kinds.
+pub fn resolve(pack: &[u32], out: &mut [u32]) -> Answer
+    ensures { λ r. ⌜ Answered resolveAnswer resolveBuffer (now (pack .entry)) (now (out .entry)) r (now (out .exit)) ⌝ }
+{
+    let a = check(pack);
+    let Answer::Given(_, _) = a else {
+        return a;
+    };
+    let mut words = [0u32; 8192];
+    resolve_in(pack, &mut words[0..pack.len()], out)
+}

@@ -1,0 +1,182 @@
+// Stamping: which list of kinds each relation takes, by the place of the list.
+use crate::direction::flag_at;
+use crate::direction::slots_place;
+use crate::words::value_at;
+use chains::taking::Kind;
+use chains::taking::kind_at;
+use chains::taking::place_of;
+use pack::kinds::Pack;
+ghost use mathlib.Core.Path.{_≡_};
+ghost use mathlib.Core.List.{_++_};
+ghost use Prim.Native.Nat.{_<_, _≤_};
+ghost use lib.ListN.{length, drop};
+ghost use Rattle.pack.specs.Table.{kindOf, valueOf};
+ghost use Rattle.chains.specs.Operations.{tableFrom};
+ghost use Rattle.resolve.specs.Resolving.{roleJudgment};
+ghost use Rattle.resolve.specs.Words.{Recorded};
+ghost use Rattle.resolve.specs.Stamping.{atomAfter, atomsIn, roleIn, predicateAt, unstamped, passedIn, unlikeIn, listFor, listIn};
+
+// One word: an atom or Exists marks the relation that it names.
+fn atom_word(table: &mut [u32; 4096], word: u32)
+    ensures { λ r. ⌜ now (table .exit) ≡ atomAfter (now (table .entry)) word ⌝ }
+{
+    let kind = word / Pack::VALUES;
+    if kind < Pack::RELATION_ATOM {
+        return;
+    }
+    if Pack::EXISTS < kind {
+        return;
+    }
+    let name = word % Pack::VALUES;
+    if Pack::MOST_NAMES <= name {
+        return;
+    }
+    table[name as usize] = 1;
+}
+
+// The relations that atoms and Exists name, from all words of a pack; the table holds zeros before.
+pub fn atoms(pack: &[u32], table: &mut [u32; 4096])
+    ensures { λ r. ⌜ now (table .exit) ≡ atomsIn (now (table .entry)) (now (pack .entry)) ⌝ }
+{
+    let mut i: usize = 0;
+    while i < pack.len() {
+        let w = pack[i];
+        atom_word(table, w);
+        i += 1;
+    }
+}
+
+// Kinds of nodes: the first, and the last of the judgments of roles.
+struct Node {}
+
+impl Node {
+    const FIRST: u32 = 64;
+
+    const SAME_ENTITY: u32 = 104;
+}
+
+// Whether a word is that of a judgment of roles.
+fn role_word(word: u32) -> bool
+    ensures { λ r. ⌜ r ≡ roleJudgment (kindOf word) (valueOf word) ⌝ }
+{
+    let kind = word / Pack::VALUES;
+    if kind < Pack::RELATION_ATOM {
+        return false;
+    }
+    kind <= Node::SAME_ENTITY
+}
+
+// Whether the tree whose root stands at a place holds a judgment of roles.
+fn role(work: &[u32], at: usize) -> bool
+    ensures { λ r. ⌜ r ≡ roleIn (now (work .entry)) at ⌝ }
+{
+    let mut i = at;
+    while i < work.len() {
+        let w = work[i];
+        if w / Pack::VALUES < Node::FIRST {
+            return false;
+        }
+        if role_word(w) {
+            return true;
+        }
+        i += 1;
+    }
+    false
+}
+
+// The place of the predicate of the relation whose record starts at a place.
+pub fn predicate_place(work: &[u32], start: usize) -> usize
+    requires { ⌜ start ≤ 65536 ⌝ }
+    ensures { λ r. ⌜ (r ≡ predicateAt (now (work .entry)) start) × (r < 268435456) ⌝ }
+{
+    let at = slots_place(work, start);
+    at + 5 + value_at(work, at + 4) as usize
+}
+
+// Whether it has a derivation without names of its own.
+fn unstamped(work: &[u32], start: usize) -> bool
+    requires { ⌜ start ≤ 65536 ⌝ }
+    ensures { λ r. ⌜ r ≡ unstamped (now (work .entry)) start ⌝ }
+{
+    if flag_at(work, start) != 1 {
+        return false;
+    }
+    value_at(work, slots_place(work, start) + 4) == 0
+}
+
+// Whether it is then passed over: without slot kinds, named by an atom or Exists, or with a judgment of roles.
+fn passed_over(work: &[u32], atoms: &[u32; 4096], name: usize, start: usize) -> bool
+    requires { ⌜ (start ≤ 65536) × (name < 4096) ⌝ }
+    ensures { λ r. ⌜ r ≡ passedIn (now (work .entry)) (now (atoms .entry)) name start ⌝ }
+{
+    if value_at(work, start + 3) != 0 {
+        return false;
+    }
+    if atoms[name] == 1 {
+        return true;
+    }
+    role(work, predicate_place(work, start))
+}
+
+// Whether a list has a kind at its current slot, and not the same at its related slot.
+fn unlike(pack: &[u32], work: &[u32], list: u32, start: usize) -> bool
+    requires { ⌜ start ≤ 65536 ⌝ }
+    ensures { λ r. ⌜ r ≡ unlikeIn (now (pack .entry)) (now (work .entry)) list start ⌝ }
+{
+    let at = slots_place(work, start);
+    let Kind::Is(c) = kind_at(pack, list, value_at(work, at)) else {
+        return false;
+    };
+    let Kind::Is(r) = kind_at(pack, list, value_at(work, at + 1)) else {
+        return true;
+    };
+    c != r
+}
+
+// The place of the list that is stamped on the relation of a name, whose record starts at a place; 0 for none.
+fn list_for(
+    pack: &[u32],
+    work: &[u32],
+    marks: &[u32; 4096],
+    atoms: &[u32; 4096],
+    name: usize,
+    start: usize,
+) -> u32
+    requires { ⌜ (start ≤ 65536) × (name < 4096) ⌝ }
+    ensures { λ r. ⌜ r ≡ listFor (now (pack .entry)) (now (work .entry)) (now (marks .entry)) (now (atoms .entry)) name start ⌝ }
+{
+    if start == 0 {
+        return 0;
+    }
+    if !unstamped(work, start) {
+        return 0;
+    }
+    if passed_over(work, atoms, name, start) {
+        return 0;
+    }
+    let list = place_of(marks, name);
+    if unlike(pack, work, list, start) {
+        return list;
+    }
+    0
+}
+
+// The lists for the first names.
+pub fn lists(
+    pack: &[u32],
+    work: &[u32],
+    records: &[u32; 4096],
+    marks: &[u32; 4096],
+    atoms: &[u32; 4096],
+    names: usize,
+    table: &mut [u32; 4096],
+)
+    requires { ⌜ Recorded (now records) × (names ≤ 4096) × (length (now table) ≡ 4096) ⌝ }
+    ensures { λ r. ⌜ now (table .exit) ≡ tableFrom (listIn (now (pack .entry)) (now (work .entry)) (now (records .entry)) (now (marks .entry)) (now (atoms .entry))) 0 names ++ drop names (now (table .entry)) ⌝ }
+{
+    let mut j: usize = 0;
+    while j < names {
+        table[j] = list_for(pack, work, marks, atoms, j, records[j] as usize);
+        j += 1;
+    }
+}
