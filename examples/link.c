@@ -32,6 +32,10 @@ int main(void)
     printf("the same bytes: %s\n", memcmp(pack, out, sizeof pack) == 0 ? "yes" : "no");
 
     show("all kinds", cogunwa_all_kinds(pack, sizeof pack, out, sizeof out));
+    show("resolve", cogunwa_resolve(pack, sizeof pack, out, sizeof out));
+    printf("the same bytes: %s\n", memcmp(pack, out, sizeof pack) == 0 ? "yes" : "no");
+    show("resolve into five words", cogunwa_resolve(pack, sizeof pack, out, 20));
+
     show("kinds of the name 0", cogunwa_kinds_of(pack, sizeof pack, 0));
     show("kinds of the name 1", cogunwa_kinds_of(pack, sizeof pack, 1));
 

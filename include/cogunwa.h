@@ -29,12 +29,27 @@
  *    7  a relation name used before          place: the word, name: the relation
  *    8  words left over after the last block
  *                                            place: the first of them
- *   16  `out` has too few words
+ *    9  a defaulted relation whose current and related slot have equal kinds
+ *                                            place: its kind 6 word, name: the relation
+ *   10  the direction is open                place: the node, name: the citing rule or relation,
+ *                                            other: the entity, or at RelationMember the kind
+ *
+ *   Of an OnlyRelated node; each has         place: the node, name: the citing rule or relation,
+ *                                            other: the input or derived name
+ *   11  its value is a derived name
+ *   12  a block of the citing origin is no sequence
+ *   13  the input has not exactly one declaration in the blocks of the citing origin
+ *   14  its declaration is not Boolean
+ *   15  its declaration has another entity than the related kind, or there is no such kind
+ *
+ *   16  `out` has too few words, or the result of Resolve would have over 8,192
  *   17  a name handed over that is not below the pack's N (the value of its kind 2 word)
  *                                            name: that name
  *
  * Of several that hold, 1 comes first, then the one at the leftmost word (at one word 3, 2, 5, 4, 6, 7
- * in this order), then 8, then 16 or 17.
+ * in this order), then 8. Resolve's own come after them: 9 of the lowest such name; then the first of
+ * 10 to 15 in the rules, by the order of rules, bodies and nodes, and at one node by the number; then
+ * the first in the predicates of relations, in record order. 16 and 17 come last.
  *
  * A relation's kinds are the names of one list in the pack, its own or that of the relation that it
  * inherits from. They are answered as a place: the index of the list's count word, which is of kind 9
@@ -63,6 +78,14 @@ uint64_t cogunwa_rewrite(const uint8_t *pack, size_t pack_len, uint8_t *out, siz
  * read on the way, declared or not, each once. Or Check's refusal; or 16 where `out` has fewer whole
  * words than the pack has relations. Bytes of `out` past those words stay as they are. */
 uint64_t cogunwa_all_kinds(const uint8_t *pack, size_t pack_len, uint8_t *out, size_t out_len);
+
+/* Resolve: writes the whole pack to `out` with its directions settled: the records in the same order,
+ * the slots of aggregates and RelationMember nodes set by the kinds of their relations, the lists of
+ * relations stamped where that is due, the first word the result's own length, all else as it stood.
+ * Value: the number of words written; a stamped list makes the result longer than the pack. Steps: as of
+ * All kinds. Or Check's refusal; or 9 to 15; or 16 where the result would have over 8,192 words or more
+ * than `out` has whole words. Bytes of `out` past those words stay as they are. */
+uint64_t cogunwa_resolve(const uint8_t *pack, size_t pack_len, uint8_t *out, size_t out_len);
 
 /* Kinds of one name: value: the place of the name's kinds, or 0, also for a name that no relation has;
  * or Check's refusal; or 17 where the name is not below N. */
@@ -99,7 +122,8 @@ static inline uint32_t cogunwa_place(uint64_t answer) { return (uint32_t)(answer
 static inline uint32_t cogunwa_name(uint64_t answer) { return (uint32_t)(answer >> 20 & 0xFFFFFFFFu); }
 static inline uint32_t cogunwa_other(uint64_t answer) { return (uint32_t)(answer >> 52); }
 
-/* The same bits of an answer whose number is 0. Only All kinds counts steps; of the others they are 0. */
+/* The same bits of an answer whose number is 0. Only All kinds and Resolve count steps; of the
+ * others they are 0. */
 static inline uint32_t cogunwa_value(uint64_t answer) { return cogunwa_name(answer); }
 static inline uint32_t cogunwa_steps(uint64_t answer) { return cogunwa_other(answer); }
 

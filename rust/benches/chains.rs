@@ -1,4 +1,5 @@
-//! The time of All kinds, Kinds of one name, Lean and the filtered tables, on packs of 64, 128, 256 and 512 relations:
+//! The time of All kinds, Kinds of one name, Lean, Resolve and the filtered tables, on packs of 64, 128, 256 and 512
+//! relations:
 //!
 //!     cargo bench --offline --bench chains
 //!
@@ -33,7 +34,7 @@ fn row(count: u32, last: Relation) -> Vec<Relation> {
 }
 
 fn kinds() {
-    headed(&["copy", "check", "all kinds", "one name", "lean"]);
+    headed(&["copy", "check", "all kinds", "one name", "lean", "resolve"]);
     measure_kinds("no relations", 0, &graph(4096, &[]));
     for count in COUNTS {
         let chain = row(count, named(count - 1).kinds(&[1, 2]));
@@ -105,6 +106,9 @@ fn measure_kinds(shape: &str, count: u32, words: &[u32]) {
     let pack = &cogunwa::bytes_of(words);
     let (mut out, mut copy) = (vec![0u8; 2048], vec![0u8; pack.len()]);
     assert_eq!(cogunwa::all_kinds(pack, &mut out).map(|w| w.words), Ok(count as usize));
+    // Resolve leaves the pack's words as they are.
+    let mut resolved = vec![0u8; pack.len()];
+    assert_eq!(cogunwa::resolve(pack, &mut resolved).map(|w| w.words), Ok(words.len()));
     // The walk goes from the first name to the last.
     let last = count.saturating_sub(1);
     let times = times(&mut [
@@ -113,6 +117,7 @@ fn measure_kinds(shape: &str, count: u32, words: &[u32]) {
         Box::new(|| seen(cogunwa::all_kinds(black_box(pack), black_box(&mut out)))),
         Box::new(|| seen(cogunwa::kinds_of(black_box(pack), black_box(0)))),
         Box::new(|| seen(cogunwa::lean(black_box(pack), black_box(0), black_box(last)))),
+        Box::new(|| seen(cogunwa::resolve(black_box(pack), black_box(&mut resolved)))),
     ]);
     shown(shape, count, words.len(), &times);
 }

@@ -1,4 +1,5 @@
-//! Check, Rewrite and All kinds of a pack in a file: eight hexadecimal digits a word, with blanks or line ends between.
+//! Check, Rewrite, All kinds and Resolve of a pack in a file: eight hexadecimal digits a word, with blanks or line ends
+//! between.
 //!
 //!     cargo run --release --offline --example link -- ../examples/household.hex
 
@@ -52,10 +53,24 @@ fn main() -> ExitCode {
         Ok(written) => {
             println!("all kinds: {} relations, {} steps", written.words, written.steps);
             show_kinds(&words, &cogunwa::words_of(&out[..4 * written.words]));
-            ExitCode::SUCCESS
         }
         Err(r) => {
             println!("all kinds: refused {} {} {} {}", r.number, r.place, r.name, r.other);
+            return ExitCode::FAILURE;
+        }
+    }
+
+    // A resolved pack may have more words than the pack, but not more than 8,192.
+    let mut out = vec![0; 4 * 8192];
+    match cogunwa::resolve(&pack, &mut out) {
+        Ok(written) => {
+            println!("resolve: {} words, {} steps", written.words, written.steps);
+            show_changes(&words, &cogunwa::words_of(&out[..4 * written.words]));
+            ExitCode::SUCCESS
+        }
+        Err(r) => {
+            println!("resolve: refused {} {} {} {}", r.number, r.place, r.name, r.other);
+            println!("  {r}");
             ExitCode::FAILURE
         }
     }
@@ -70,9 +85,29 @@ fn show_kinds(words: &[u32], places: &[u32]) {
             println!("  relation {name}: none");
             continue;
         }
-        let list = &words[place as usize..];
-        let kinds: Vec<String> =
-            list[1..].iter().take((list[0] & 0xFF_FFFF) as usize).map(|kind| (kind & 0xFF_FFFF).to_string()).collect();
-        println!("  relation {name}: kinds {}, the list at word {place}", kinds.join(" "));
+        println!("  relation {name}: kinds {}, the list at word {place}", kinds(&words[place as usize..]));
+    }
+}
+
+/// The kinds of the list whose count word is the first.
+fn kinds(list: &[u32]) -> String {
+    let count = (list[0] & 0xFF_FFFF) as usize;
+    list[1..=count].iter().map(|kind| (kind & 0xFF_FFFF).to_string()).collect::<Vec<_>>().join(" ")
+}
+
+/// A line for each slot that is set another way and each empty list that is filled, with the place in the pack.
+fn show_changes(words: &[u32], result: &[u32]) {
+    let mut rest = &result[1..];
+    for (place, word) in words.iter().enumerate().skip(1) {
+        let (kind, before, after) = (word >> 24, word & 0xFF_FFFF, rest[0] & 0xFF_FFFF);
+        let filled = matches!(kind, 9 | 21) && before == 0;
+        match kind {
+            _ if before == after => {}
+            9 => println!("  word {place}, slot kinds: {}", kinds(rest)),
+            21 => println!("  word {place}, slot entities: {}", kinds(rest)),
+            80 => println!("  word {place}, current slot: {before} becomes {after}"),
+            _ => println!("  word {place}, related slot: {before} becomes {after}"),
+        }
+        rest = &rest[1 + if filled { after as usize } else { 0 }..];
     }
 }

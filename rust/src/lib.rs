@@ -4,8 +4,8 @@
 //! byte first; [`bytes_of`] makes them from words. Any bytes and any lengths may be handed over. A refusal changes no
 //! byte of an output buffer.
 //!
-//! The operations so far: [`check`], [`rewrite`], [`all_kinds`], [`kinds_of`], [`lean`], and the filtered tables
-//! [`direct`], [`innermost`], [`alias`] and [`unresolved`].
+//! The operations so far: [`check`], [`rewrite`], [`resolve`], [`all_kinds`], [`kinds_of`], [`lean`], and the filtered
+//! tables [`direct`], [`innermost`], [`alias`] and [`unresolved`].
 //!
 //! ```
 //! // The smallest pack: its length, one name, and no defaulted names, relations, rules and blocks.
@@ -36,6 +36,7 @@ unsafe extern "C" {
     fn cogunwa_check(pack: *const u8, pack_len: usize) -> u64;
     fn cogunwa_rewrite(pack: *const u8, pack_len: usize, out: *mut u8, out_len: usize) -> u64;
     fn cogunwa_all_kinds(pack: *const u8, pack_len: usize, out: *mut u8, out_len: usize) -> u64;
+    fn cogunwa_resolve(pack: *const u8, pack_len: usize, out: *mut u8, out_len: usize) -> u64;
     fn cogunwa_kinds_of(pack: *const u8, pack_len: usize, name: u32) -> u64;
     fn cogunwa_lean(pack: *const u8, pack_len: usize, a: u32, b: u32) -> u64;
     fn cogunwa_direct(pack: *const u8, pack_len: usize, out: *mut u8, out_len: usize) -> u64;
@@ -69,7 +70,17 @@ impl fmt::Display for Refusal {
             6 => write!(f, "word {place} is a defaulted name that is not above the one before"),
             7 => write!(f, "word {place} gives a relation the name {name}, which was used before"),
             8 => write!(f, "words are left over after the last block, from word {place} on"),
-            16 => write!(f, "the output buffer has too few words"),
+            9 => write!(f, "the defaulted relation {name}, at word {place}, has equal kinds at its two slots"),
+            10 => write!(f, "in {name}, the direction of word {place} is open: both slots fit {other}"),
+            11 => write!(f, "in {name}, word {place} asks for {other}, which is derived"),
+            12 => write!(f, "in {name}, word {place} asks for {other}, but a block of inputs is no sequence"),
+            13 => write!(f, "in {name}, word {place} asks for {other}, which is not declared exactly once"),
+            14 => write!(f, "in {name}, word {place} asks for {other}, which is not Boolean"),
+            15 => write!(
+                f,
+                "in {name}, word {place} asks for {other}, whose entity is not the owner, or there is no owner"
+            ),
+            16 => write!(f, "the output buffer has too few words, or the result more than 8,192"),
             17 => write!(f, "the name {name} is not one of the pack's names"),
             _ => write!(f, "refusal {number}: place {place}, name {name}, other {other}"),
         }
@@ -84,7 +95,7 @@ struct Given {
     steps: u32,
 }
 
-/// What [`all_kinds`] has written.
+/// What [`all_kinds`] or [`resolve`] has written.
 #[derive(Clone, Copy, Debug, PartialEq, Eq)]
 pub struct Written {
     pub words: usize,
@@ -125,6 +136,16 @@ pub fn rewrite(pack: &[u8], out: &mut [u8]) -> Result<usize, Refusal> {
 pub fn all_kinds(pack: &[u8], out: &mut [u8]) -> Result<Written, Refusal> {
     // SAFETY: as in `rewrite`.
     let answer = unsafe { cogunwa_all_kinds(pack.as_ptr(), pack.len(), out.as_mut_ptr(), out.len()) };
+    take_apart(answer).map(|given| Written { words: given.value as usize, steps: given.steps })
+}
+
+/// Settles the directions of a pack. Writes to `out` the whole pack in record order, with the slots of aggregates and
+/// membership tests set by the kinds of their relations and the lists of relations stamped where that is due; all else is
+/// as it stood. The result may have more words than the pack, up to 8,192. Bytes past it stay as they are, and a refusal
+/// leaves all of `out` as it is. Of `out` only whole words count. The steps are those of [`all_kinds`].
+pub fn resolve(pack: &[u8], out: &mut [u8]) -> Result<Written, Refusal> {
+    // SAFETY: as in `rewrite`.
+    let answer = unsafe { cogunwa_resolve(pack.as_ptr(), pack.len(), out.as_mut_ptr(), out.len()) };
     take_apart(answer).map(|given| Written { words: given.value as usize, steps: given.steps })
 }
 
@@ -224,11 +245,14 @@ mod tests {
 
     #[test]
     fn refusals_in_words() {
-        let said = |number, place, name| Refusal { number, place, name, other: 0 }.to_string();
+        let said = |number, place, name| Refusal { number, place, name, other: 3 }.to_string();
         assert_eq!(said(2, 5, 0), "word 5 is of the wrong kind");
         assert_eq!(said(7, 12, 9), "word 12 gives a relation the name 9, which was used before");
+        assert_eq!(said(9, 12, 7), "the defaulted relation 7, at word 12, has equal kinds at its two slots");
+        assert_eq!(said(10, 33, 8), "in 8, the direction of word 33 is open: both slots fit 3");
+        assert_eq!(said(13, 33, 8), "in 8, word 33 asks for 3, which is not declared exactly once");
         assert_eq!(said(17, 0, 4_000_000_000), "the name 4000000000 is not one of the pack's names");
-        assert_eq!(said(33, 1, 2), "refusal 33: place 1, name 2, other 0");
+        assert_eq!(said(33, 1, 2), "refusal 33: place 1, name 2, other 3");
     }
 
     #[test]

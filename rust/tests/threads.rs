@@ -2,7 +2,7 @@
 mod packs;
 mod plain;
 
-use cogunwa::{all_kinds, bytes_of, check, innermost, kinds_of, lean, rewrite, words_of};
+use cogunwa::{all_kinds, bytes_of, check, innermost, kinds_of, lean, resolve, rewrite, words_of};
 use packs::Chance;
 
 #[test]
@@ -15,6 +15,7 @@ fn several_threads_at_once() {
         all.push(bytes_of(&packs::damaged(&words, &mut chance)));
         all.push(bytes_of(&packs::tangled(&mut chance)));
         all.push(bytes_of(&packs::entities(&mut chance)));
+        all.push(bytes_of(&packs::turning(&mut chance)));
     }
     let expected: Vec<_> = all.iter().map(|pack| plain::check_bytes(pack)).collect();
     let read = |pack: &Vec<u8>| plain::read_bytes(pack);
@@ -22,10 +23,11 @@ fn several_threads_at_once() {
     let first: Vec<_> = all.iter().map(|pack| read(pack)?.kinds_of(0)).collect();
     let leans: Vec<_> = all.iter().map(|pack| read(pack)?.lean(0, 1)).collect();
     let inner: Vec<_> = all.iter().map(|pack| read(pack)?.innermost(8192)).collect();
+    let resolved: Vec<_> = all.iter().map(|pack| read(pack)?.resolve(8192)).collect();
     std::thread::scope(|scope| {
         for thread in 0..8 {
             let (all, expected, settled, first) = (&all, &expected, &settled, &first);
-            let (leans, inner) = (&leans, &inner);
+            let (leans, inner, resolved) = (&leans, &inner, &resolved);
             scope.spawn(move || {
                 let mut out = vec![0; 32_768];
                 for turn in 0..50 * all.len() {
@@ -43,6 +45,8 @@ fn several_threads_at_once() {
                     assert_eq!(lean(&all[i], 0, 1), leans[i]);
                     let answer = innermost(&all[i], &mut out).map(|words| words_of(&out[..4 * words]));
                     assert_eq!(answer, inner[i]);
+                    let answer = resolve(&all[i], &mut out).map(|w| (words_of(&out[..4 * w.words]), w.steps));
+                    assert_eq!(answer, resolved[i]);
                 }
             });
         }

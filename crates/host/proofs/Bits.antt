@@ -2,17 +2,17 @@
 use Prim.Native.Nat.{ℕ, _-_, _^_, _<_, _≤_}
 use native.Mathlib.Omega.{arith}
 use mathlib.Core.Path.{_≡_, refl, ap, sym, _∙_}
-use mathlib.Core.Bool.{Bool, true, false, _||_}
+use mathlib.Core.Bool.{Bool, true, false, _||_, _&&_}
 use mathlib.Core.List.{List, [], _∷_}
 use mathlib.Core.Option.{none}
 use lib.ListN.{length, getD, length-map}
 use lib.Dec.{leb, ltb}
-use borrow.Author.Tests.{ltb-true}
+use borrow.Author.Tests.{ltb-true, leb-true}
 use Rattle.pack.specs.declared.answer.Answer.{Answer}
 use Rattle.pack.specs.declared.answer.Answer.the-variants.{Given, Refused}
 use Rattle.pack.specs.Table.{pick}
 use Rattle.pack.specs.Form.{among}
-use Rattle.pack.specs.Pack.{Relation, Pack, WellFormed, Reading, yes, refuse, read, words}
+use Rattle.pack.specs.Pack.{Relation, Pack, WellFormed, Reading, yes, refuse, read, total, words}
 use Rattle.pack.specs.Operations.{answer, noRoom, checkAnswer, rewriteAnswer}
 use Rattle.pack.proofs.PackLaws.{words-read}
 use Rattle.pack.proofs.Refusals.{read-numbers}
@@ -29,6 +29,11 @@ use Rattle.chains.proofs.KindLaws.{kinds-steps, distinct-names}
 use Rattle.chains.proofs.PackIndex.{zeros, parts}
 use Rattle.chains.proofs.PlaceBounds.{indexes}
 use Rattle.chains.proofs.ListAt.{own-holds}
+use Rattle.resolve.specs.Turning.{Outcome, done, refused}
+use Rattle.resolve.specs.Resolving.{resolved}
+use Rattle.resolve.specs.Operations.{givenOut, resolveAnswer}
+use Rattle.resolve.proofs.Numbers.{refused-number}
+use Rattle.resolve.proofs.RefusalNames.{Told, resolved-told}
 use Rattle.host.specs.Bytes.{encode, areWords, notWords, overBytes, wordsOf}
 use Rattle.host.proofs.Writes.{few-words, few-places, few-names}
 use Rattle.host.proofs.Faithful.{parts-again}
@@ -114,6 +119,29 @@ pub all-kinds-fits : (ws : List ℕ) (room : ℕ) → FitsBits (allKindsAnswer w
 unfolding allKindsAnswer
 all-kinds-fits ws room =
     reads ws _ (λ p e. writes (allKindsWords p) (allKinds (p .relations) .steps) room (omega (arith, few-places ws p e)) (omega (arith, few-steps p (words-read ws p e .fine))))
+
+-- Resolve refuses by names and a place of the pack, and gives no more than 8,192 words
+resolve-gives : (ws : List ℕ) (room : ℕ) (p : Pack) → read ws ≡ yes p → FitsBits (givenOut (allKinds (p .relations) .steps) room (resolved p))
+resolve-gives ws room p e = go (resolved p) refl (resolved-told p fine)
+  where
+    fine : WellFormed p
+    fine = words-read ws p e .fine
+
+    steps : ℕ
+    steps = allKinds (p .relations) .steps
+
+    given : (a b : Bool) (n : ℕ) → leb n 8192 ≡ a → FitsBits (pick (a && b) (Given n steps) noRoom)
+    given true true n h = (let k = leb-true n 8192 h in omega arith, omega (arith, few-steps p fine))
+    given true false n h = (omega arith, omega arith, omega arith, omega arith, omega arith)
+    given false b n h = (omega arith, omega arith, omega arith, omega arith, omega arith)
+
+    go : (o : Outcome Pack) → resolved p ≡ o → Told 8192 o → FitsBits (givenOut steps room o)
+    go (done q) s t = given (leb (total q) 8192) (leb (total q) room) (total q) refl
+    go (refused r) s t = (omega (arith, refused-number p r s .0), omega (arith, t .0 .number), omega (arith, t .0 .place), omega (arith, t .1), omega (arith, t .0 .other))
+
+pub resolve-fits : (ws : List ℕ) (room : ℕ) → FitsBits (resolveAnswer ws room)
+unfolding resolveAnswer
+resolve-fits ws room = reads ws _ (resolve-gives ws room)
 
 -- a place is that of a step's end, and the index has those as small numbers
 coded-small : (x place : ℕ) → end place ≡ pick (ltb x 65536) (end x) (next (x - 65536)) → place < 65536

@@ -4,6 +4,7 @@ use mathlib.Core.Path.{_≡_, refl}
 use mathlib.Core.List.{[], _∷_}
 use Rattle.pack.specs.declared.answer.Answer.the-variants.{Given, Refused}
 use Rattle.pack.specs.Operations.{checkAnswer, rewriteAnswer, rewriteBuffer}
+use Rattle.resolve.specs.Operations.{resolveAnswer, resolveBuffer}
 use Rattle.host.specs.Bytes.{wordsOf, bytesOf, encode, overBytes, outAfter, Gives}
 
 -- "For 01000006 02000001 .. (hexadecimal)", low byte first
@@ -23,6 +24,10 @@ three-bytes = refl
 three-bytes-rewritten : Gives rewriteAnswer rewriteBuffer (6 ∷ 0 ∷ 0 ∷ []) (1 ∷ 2 ∷ 3 ∷ 4 ∷ 5 ∷ []) 1 (1 ∷ 2 ∷ 3 ∷ 4 ∷ 5 ∷ [])
 unfolding overBytes outAfter
 three-bytes-rewritten = record { answers = refl; leaves = refl }
+
+three-bytes-resolved : Gives resolveAnswer resolveBuffer (6 ∷ 0 ∷ 0 ∷ []) (1 ∷ 2 ∷ 3 ∷ 4 ∷ 5 ∷ []) 1 (1 ∷ 2 ∷ 3 ∷ 4 ∷ 5 ∷ [])
+unfolding overBytes outAfter
+three-bytes-resolved = record { answers = refl; leaves = refl }
 
 -- six words and no steps; and a refusal with all its parts
 answer : encode (Given 6 0) ≡ 0x0060_0000

@@ -2,16 +2,17 @@
 use Prim.Native.Nat.{ℕ, _≤_, min}
 use native.Mathlib.Omega.{arith}
 use mathlib.Core.Path.{_≡_, refl, sym, _∙_}
-use mathlib.Core.Bool.{Bool, true, false}
+use mathlib.Core.Bool.{Bool, true, false, _&&_}
 use mathlib.Core.List.{List, [], _++_}
-use lib.ListN.{length, drop, length-map}
+use lib.ListN.{length, take, drop, length-map}
 use lib.Seq.{take-append-seam}
 use lib.Dec.{leb}
 use borrow.Author.Tests.{leb-true, leb-false, le-leb, lt-leb}
 use Rattle.pack.specs.declared.answer.Answer.{Answer}
 use Rattle.pack.specs.declared.answer.Answer.the-variants.{Given, Refused}
+use Rattle.pack.specs.declared.answer.Refusal.{Refusal}
 use Rattle.pack.specs.Table.{pick}
-use Rattle.pack.specs.Pack.{Pack, Reading, yes, refuse, read, words}
+use Rattle.pack.specs.Pack.{Pack, Reading, yes, refuse, read, total, words}
 use Rattle.pack.specs.Operations.{answer, buffer, noRoom, checkAnswer, rewriteAnswer, rewriteBuffer}
 use Rattle.pack.proofs.PackLaws.{words-length, words-read}
 use Rattle.chains.specs.Kinds.{allKinds}
@@ -19,10 +20,13 @@ use Rattle.chains.specs.Operations.{writeAnswer, writeBuffer, allKindsWords, al
 use Rattle.chains.specs.declared.filtered.Filter.{Filter}
 use Rattle.chains.proofs.PackIndex.{parts}
 use Rattle.chains.proofs.FillLaws.{table-length}
+use Rattle.resolve.specs.Turning.{Outcome, done, refused}
+use Rattle.resolve.specs.Resolving.{resolved}
+use Rattle.resolve.specs.Operations.{givenOut, writtenOut, resolveAnswer, resolveBuffer}
 use Rattle.host.specs.declared.operations.Question.{Question}
 use Rattle.host.specs.declared.operations.Question.the-variants.{Check, KindsOf, Lean}
 use Rattle.host.specs.declared.operations.Writing.{Writing}
-use Rattle.host.specs.declared.operations.Writing.the-variants.{Rewrite, AllKinds, Filtered}
+use Rattle.host.specs.declared.operations.Writing.the-variants.{Rewrite, AllKinds, Filtered, Resolve}
 use Rattle.host.specs.Bytes.{notWords, outAfter}
 use Rattle.host.specs.Operations.{answerTo, answerOf, bufferOf, mostOf}
 
@@ -124,7 +128,77 @@ filtered-writes : (f : Filter) → Writes (filterAnswer f) (filterBuffer f) 4096
 unfolding filterAnswer filterBuffer
 filtered-writes f = writes-made (filterWords f) (λ p. 0) 4096 (few-names f)
 
+-- a refusal leaves all as it is
+after-refusal : (r : Refusal) (lent other out : List ℕ) → outAfter (Refused r) lent out ≡ outAfter (Refused r) other out
+unfolding outAfter
+after-refusal r lent other out = refl
+
+-- Resolve, by what resolving comes to: refused, or a pack, whose words are written if they are no more than 8,192
+module _ (steps : ℕ) where
+  outcome-fits : (o : Outcome Pack) (room : ℕ) → Within (givenOut steps room o) room
+  outcome-fits (refused r) room = tt
+  outcome-fits (done q) room = go (leb (total q) 8192) (leb (total q) room) refl
+    where
+      go : (a b : Bool) → leb (total q) room ≡ b → Within (pick (a && b) (Given (total q) steps) noRoom) room
+      go true true e = leb-true (total q) room e
+      go true false e = tt
+      go false b e = tt
+
+  -- the room past 8,192 words does not matter
+  both-min : (n room : ℕ) → (leb n 8192 && leb n (min room 8192)) ≡ (leb n 8192 && leb n room)
+  both-min n room = go (leb n 8192) refl
+    where
+      go : (b : Bool) → leb n 8192 ≡ b → (b && leb n (min room 8192)) ≡ (b && leb n room)
+      go true e = leb-min n room 8192 (leb-true n 8192 e)
+      go false e = refl
+
+  outcome-enough : (o : Outcome Pack) (room : ℕ) → givenOut steps (min room 8192) o ≡ givenOut steps room o
+  outcome-enough (refused r) room = refl
+  outcome-enough (done q) room = rw (both-min (total q) room)
+
+  outcome-own : (o : Outcome Pack) (lent other out : List ℕ) → length lent ≡ min (length other) 8192
+      → outAfter (givenOut steps (length other) o) (writtenOut lent o) out ≡ outAfter (givenOut steps (length other) o) (writtenOut other o) out
+  unfolding outAfter
+  outcome-own (refused r) lent other out e = refl
+  outcome-own (done q) lent other out e = rw (e, both-min (total q) (length other)) (go (leb (total q) 8192 && leb (total q) (length other)))
+    where
+      front : (rest : List ℕ) → take (total q) (words q ++ rest) ≡ words q
+      front rest = rw (← words-length q) (take-append-seam (words q) rest)
+
+      go : (b : Bool)
+          → outAfter (pick b (Given (total q) steps) noRoom) (pick b (words q ++ drop (total q) lent) lent) out
+          ≡ outAfter (pick b (Given (total q) steps) noRoom) (pick b (words q ++ drop (total q) other) other) out
+      go true = rw (front (drop (total q) lent), front (drop (total q) other))
+      go false = refl
+
+abbrev gives : ℕ → Pack → Answer
+gives room p = givenOut (allKinds (p .relations) .steps) room (resolved p)
+
+resolve-writes : Writes resolveAnswer resolveBuffer 8192
+unfolding resolveAnswer resolveBuffer
+resolve-writes =
+    record {
+      none = λ room. none-refused _;
+      fits = λ ws room. fits (read ws) room;
+      enough = λ ws room. enough (read ws) room;
+      own = λ ws lent other out e. own (read ws) lent other out e;
+    }
+  where
+    fits : (r : Reading) (room : ℕ) → Within (answer r (gives room)) room
+    fits (yes p) room = outcome-fits (allKinds (p .relations) .steps) (resolved p) room
+    fits (refuse r) room = tt
+
+    enough : (r : Reading) (room : ℕ) → answer r (gives (min room 8192)) ≡ answer r (gives room)
+    enough (yes p) room = outcome-enough (allKinds (p .relations) .steps) (resolved p) room
+    enough (refuse r) room = refl
+
+    own : (r : Reading) (lent other out : List ℕ) → length lent ≡ min (length other) 8192
+        → outAfter (answer r (gives (length other))) (buffer r (λ p. writtenOut lent (resolved p)) lent) out ≡ outAfter (answer r (gives (length other))) (buffer r (λ p. writtenOut other (resolved p)) other) out
+    own (yes p) lent other out e = outcome-own (allKinds (p .relations) .steps) (resolved p) lent other out e
+    own (refuse r) lent other out e = after-refusal r lent other out
+
 pub writes : (w : Writing) → Writes (answerOf w) (bufferOf w) (mostOf w)
 writes Rewrite = rewrite-writes
 writes AllKinds = all-kinds-writes
 writes (Filtered f) = filtered-writes f
+writes Resolve = resolve-writes

@@ -6,10 +6,11 @@ use lib.ListN.{length}
 use Rattle.pack.specs.declared.answer.Answer.{Answer}
 use Rattle.pack.specs.Operations.{checkAnswer, rewriteAnswer, rewriteBuffer}
 use Rattle.chains.specs.Operations.{allKindsAnswer, allKindsBuffer, kindsOfAnswer, leanAnswer, filterAnswer, filterBuffer}
+use Rattle.resolve.specs.Operations.{resolveAnswer, resolveBuffer}
 use Rattle.host.specs.declared.operations.Question.{Question}
 use Rattle.host.specs.declared.operations.Question.the-variants.{Check, KindsOf, Lean}
 use Rattle.host.specs.declared.operations.Writing.{Writing}
-use Rattle.host.specs.declared.operations.Writing.the-variants.{Rewrite, AllKinds, Filtered}
+use Rattle.host.specs.declared.operations.Writing.the-variants.{Rewrite, AllKinds, Filtered, Resolve}
 
 -- those that only answer
 abbrev pub answerTo : Question → List ℕ → Answer
@@ -22,16 +23,19 @@ abbrev pub answerOf : Writing → List ℕ → ℕ → Answer
 answerOf Rewrite ws room = rewriteAnswer ws room
 answerOf AllKinds ws room = allKindsAnswer ws room
 answerOf (Filtered f) ws room = filterAnswer f ws room
+answerOf Resolve ws room = resolveAnswer ws room
 
 abbrev pub bufferOf : Writing → List ℕ → List ℕ → List ℕ
 bufferOf Rewrite ws lent = rewriteBuffer ws lent
 bufferOf AllKinds ws lent = allKindsBuffer ws lent
 bufferOf (Filtered f) ws lent = filterBuffer f ws lent
+bufferOf Resolve ws lent = resolveBuffer ws lent
 
 abbrev pub mostOf : Writing → ℕ
 mostOf Rewrite = 8192
 mostOf AllKinds = 512
 mostOf (Filtered f) = 4096
+mostOf Resolve = 8192
 
 pub record Ran (w : Writing) (ws lent : List ℕ) (a : Answer) (left : List ℕ) : Type 0 where
   pub answers : a ≡ answerOf w ws (length lent)

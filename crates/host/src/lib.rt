@@ -13,6 +13,7 @@ use pack::kinds::Pack;
 ghost use mathlib.Core.Path.{_≡_};
 ghost use Rattle.pack.specs.Operations.{checkAnswer, rewriteAnswer, rewriteBuffer};
 ghost use Rattle.chains.specs.Operations.{allKindsAnswer, allKindsBuffer, kindsOfAnswer, leanAnswer, filterAnswer, filterBuffer};
+ghost use Rattle.resolve.specs.Operations.{resolveAnswer, resolveBuffer};
 ghost use Rattle.chains.specs.declared.filtered.Filter.the-variants.{Direct, Innermost, Alias, Unresolved};
 ghost use Rattle.host.specs.Bytes.{encode, overBytes, Gives};
 
@@ -40,6 +41,15 @@ pub extern "C" fn cogunwa_all_kinds(pack: &[u8], out: &mut [u8]) -> u64
 {
     let mut written = [0u32; Pack::MOST_RELATIONS as usize];
     write(Writing::AllKinds, pack, &mut written, out)
+}
+
+// Resolve.
+#[no_mangle]
+pub extern "C" fn cogunwa_resolve(pack: &[u8], out: &mut [u8]) -> u64
+    ensures { λ r. ⌜ Gives resolveAnswer resolveBuffer (now (pack .entry)) (now (out .entry)) r (now (out .exit)) ⌝ }
+{
+    let mut written = [0u32; Pack::MOST_WORDS];
+    write(Writing::Resolve, pack, &mut written, out)
 }
 
 // Kinds of one name.

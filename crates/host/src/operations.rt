@@ -12,6 +12,7 @@ use pack::answer::Answer;
 use pack::check::check;
 use pack::kinds::Pack;
 use pack::rewrite::rewrite;
+use resolve::resolve::resolve;
 ghost use mathlib.Core.Path.{_≡_};
 ghost use lib.ListN.{length};
 ghost use Rattle.chains.specs.Operations.{filterAnswer, filterBuffer};
@@ -30,6 +31,7 @@ pub enum Writing {
     Rewrite,
     AllKinds,
     Filtered(Filter),
+    Resolve,
 }
 
 fn answer_to(q: Question, words: &[u32]) -> Answer
@@ -57,6 +59,7 @@ fn run(w: Writing, words: &[u32], out: &mut [u32]) -> Answer
         Writing::Rewrite => rewrite(words, out),
         Writing::AllKinds => all_kinds(words, out),
         Writing::Filtered(filter) => filtered(words, filter, out),
+        Writing::Resolve => resolve(words, out),
     }
 }
 

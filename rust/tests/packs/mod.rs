@@ -254,6 +254,22 @@ fn node(c: &mut Chance, judgment: bool, last: bool) -> u8 {
     kinds[c.below(kinds.len() as u32) as usize]
 }
 
+// How many judgments come first, and how many scalars after them.
+fn children(kind: u8, value: u32, flag: bool) -> (u32, u32) {
+    match kind {
+        66 => (0, 1),
+        67 | 96 => (0, 2),
+        68..=70 => (0, value),
+        71 => (1, 2),
+        72 => (0, value + 1),
+        73 => (0, 1 + value % 2),
+        74..=77 => (flag.into(), 0),
+        97..=99 => (value, 0),
+        100 | 103 => (1, 0),
+        _ => (0, 0),
+    }
+}
+
 // A tree with at most so many levels. Most trees are slender, so that deep ones stay short.
 fn tree(w: &mut Words, c: &mut Chance, names: u32, judgment: bool, left: u32) {
     let last = left == 1 || w.0.len() > 6000 || c.often(4);
@@ -283,19 +299,7 @@ fn tree(w: &mut Words, c: &mut Chance, names: u32, judgment: bool, left: u32) {
         }
         _ => {}
     }
-    // How many judgments come first, and how many scalars after them.
-    let (judgments, scalars) = match kind {
-        66 => (0, 1),
-        67 | 96 => (0, 2),
-        68..=70 => (0, value),
-        71 => (1, 2),
-        72 => (0, value + 1),
-        73 => (0, 1 + value % 2),
-        74..=77 => (flag.into(), 0),
-        97..=99 => (value, 0),
-        100 | 103 => (1, 0),
-        _ => (0, 0),
-    };
+    let (judgments, scalars) = children(kind, value, flag);
     // One child goes on down, the others stay shallow.
     let main = c.below((judgments + scalars).max(1));
     for child in 0..judgments + scalars {
@@ -491,6 +495,156 @@ pub fn entities(c: &mut Chance) -> Vec<u32> {
     }
     mix(&mut relations, c);
     graph(names, &relations)
+}
+
+/// What the records of a pack for Resolve are made of.
+struct Few {
+    names: u32,
+    /// How often something stands there that Resolve may refuse.
+    risk: u32,
+    kinds: u32,
+}
+
+impl Few {
+    fn kind(&self, c: &mut Chance) -> u32 {
+        if c.often(5) { c.name(self.names) } else { 1 + c.below(self.kinds) }
+    }
+
+    fn origin(&self, c: &mut Chance) -> u32 {
+        if c.often(40) { NONE } else { c.below(3) }
+    }
+
+    /// Two kinds, seldom alike; or a list of any length.
+    fn list(&self, w: &mut Words, c: &mut Chance, kind: u8, two: u32) {
+        if !c.often(two) {
+            let count = if c.often(80) { 0 } else { c.below(9) };
+            w.put(kind, count);
+            for _ in 0..count {
+                w.put(10, self.kind(c));
+            }
+            return;
+        }
+        let first = self.kind(c);
+        let second = if c.often(self.risk) { first } else { first % self.kinds + 1 };
+        w.put(kind, 2).put(10, first).put(10, second);
+    }
+
+    fn relation(&self, w: &mut Words, c: &mut Chance, name: u32) {
+        w.put(6, name).put(7, self.origin(c)).put(8, c.any());
+        let derived = c.often(50);
+        self.list(w, c, 9, if derived { 25 } else { 85 });
+        w.put(11, derived.into());
+        if !derived {
+            return;
+        }
+        w.put(12, if c.often(70) { c.name(self.names) } else { NONE });
+        let steps = if c.often(85) { NONE } else { c.below(3) };
+        w.put(13, steps);
+        for _ in 0..if steps == NONE { 0 } else { steps } {
+            w.put(14, c.name(self.names)).put(15, c.any()).put(16, c.any());
+        }
+        self.slots(w, c, 17);
+        w.put(19, if c.often(60) { self.kind(c) } else { NONE }).put(20, NONE);
+        self.list(w, c, 21, 30);
+        let left = 1 + c.below(5);
+        self.tree(w, c, true, left);
+    }
+
+    fn slots(&self, w: &mut Words, c: &mut Chance, kind: u8) {
+        let current = if c.often(90) { c.below(2) } else { c.any() };
+        let related = if c.often(80) { current ^ 1 } else { c.below(3) };
+        w.put(kind, current).put(kind + 1, related & NONE);
+    }
+
+    fn rule(&self, w: &mut Words, c: &mut Chance) {
+        w.put(23, c.name(self.names)).put(24, self.origin(c)).put(25, self.kind(c));
+        let bodies = 1 + c.below(2);
+        w.put(26, bodies);
+        for _ in 0..bodies {
+            let judgment = c.often(30);
+            w.put(27, judgment.into());
+            let left = 1 + c.below(6);
+            self.tree(w, c, judgment, left);
+        }
+    }
+
+    fn block(&self, w: &mut Words, c: &mut Chance) {
+        w.put(29, self.origin(c));
+        if c.often(self.risk / 2) {
+            w.put(30, NONE);
+            return;
+        }
+        let inputs: Vec<u32> = (0..3).filter(|_| c.often(60)).collect();
+        w.put(30, inputs.len() as u32);
+        for input in inputs {
+            let name = if c.often(90) { input } else { NONE };
+            let boolean = !c.often(self.risk);
+            w.put(31, name).put(32, boolean.into()).put(33, if c.often(95) { self.kind(c) } else { NONE });
+        }
+    }
+
+    fn tree(&self, w: &mut Words, c: &mut Chance, judgment: bool, left: u32) {
+        let kinds: &[u8] = match (judgment, left == 1) {
+            (false, true) if c.often(2 * self.risk) => &[78],
+            (false, true) => &[64, 65, 74, 75, 76, 77],
+            (false, false) => &[66, 67, 68, 69, 70, 71, 72, 73, 74, 75, 76, 77, 77],
+            (true, true) => &[101, 101, 101, 101, 101, 102, 104, 105, 106, 106],
+            (true, false) => &[96, 96, 96, 97, 98, 99, 100, 101, 103],
+        };
+        let kind = kinds[c.below(kinds.len() as u32) as usize];
+        let value = match kind {
+            65 | 74..=78 | 101..=103 | 105 => c.name(self.names),
+            68..=70 | 72 | 97..=99 => c.below(3),
+            71 | 100 => 0,
+            73 => c.below(8),
+            _ => c.any(),
+        };
+        w.put(kind, value);
+        let flag = left > 1 && c.often(80);
+        if matches!(kind, 74..=78 | 101) {
+            self.slots(w, c, 80);
+        }
+        match kind {
+            74..=77 => _ = w.put(86, c.any()).put(83, flag.into()),
+            78 => _ = w.put(if c.often(90) { 82 } else { 84 }, c.below(3)),
+            102 | 103 => _ = w.put(85, c.any()),
+            _ => {}
+        }
+        let (judgments, scalars) = children(kind, value, flag);
+        for child in 0..judgments + scalars {
+            self.tree(w, c, child < judgments, left - 1);
+        }
+    }
+}
+
+/// A pack for Resolve: few names and few kinds, so that slots are turned, kept and left open, inputs allowed and refused,
+/// and lists stamped.
+pub fn turning(c: &mut Chance) -> Vec<u32> {
+    let names = if c.often(95) { 6 + c.below(20) } else { 4096 };
+    let few = Few { names, risk: if c.often(50) { 0 } else { c.below(40) }, kinds: 2 + c.below(3) };
+    let mut w = Words::start(names);
+    let defaulted: Vec<u32> = (0..names.min(25)).filter(|_| c.often(few.risk / 2)).collect();
+    w.put(3, defaulted.len() as u32);
+    for name in defaulted {
+        w.put(4, name);
+    }
+    let mut relations: Vec<u32> = (0..names.min(25)).filter(|_| c.often(70)).collect();
+    mix(&mut relations, c);
+    w.put(5, relations.len() as u32);
+    for name in relations {
+        few.relation(&mut w, c, name);
+    }
+    let rules = c.below(5);
+    w.put(22, rules);
+    for _ in 0..rules {
+        few.rule(&mut w, c);
+    }
+    let blocks = c.below(4);
+    w.put(28, blocks);
+    for _ in 0..blocks {
+        few.block(&mut w, c);
+    }
+    w.done()
 }
 
 /// Another order, by chance.

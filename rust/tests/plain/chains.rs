@@ -1,15 +1,23 @@
 //! The chain walks once more: All kinds, Kinds of one name, Lean and the filtered tables.
 
+use super::resolve::{Block, Rule, Tree};
 use super::{Outcome, refuse};
 use std::collections::{BTreeSet, HashMap};
 
 pub struct Pack {
     pub names: u32,
+    pub defaulted: Vec<u32>,
     pub relations: Vec<Relation>,
+    pub rules: Vec<Rule>,
+    pub blocks: Vec<Block>,
+    pub words: Vec<u32>,
 }
 
 pub struct Relation {
+    /// Of its kind 6 word.
+    pub place: usize,
     pub name: u32,
+    pub origin: Option<u32>,
     /// List 9.
     pub kinds: List,
     pub derivation: Option<Derivation>,
@@ -20,9 +28,11 @@ pub struct Derivation {
     /// Whether there is a path, of any count.
     pub path: bool,
     pub current: u32,
+    pub related: u32,
     pub entity: Option<u32>,
     /// List 21.
     pub entities: List,
+    pub predicate: Tree,
 }
 
 pub struct List {
@@ -66,7 +76,7 @@ fn innermost_of(direct: &[Option<u32>], entity: u32) -> Option<u32> {
 }
 
 impl Pack {
-    fn find(&self, name: u32) -> Option<&Relation> {
+    pub fn find(&self, name: u32) -> Option<&Relation> {
         self.relations.iter().find(|r| r.name == name)
     }
 
@@ -75,7 +85,7 @@ impl Pack {
     }
 
     /// A name's own walk. One that is longer than there are relations goes round.
-    fn own(&self, mut name: u32) -> Option<&List> {
+    pub fn own(&self, mut name: u32) -> Option<&List> {
         for _ in 0..=self.relations.len() {
             match self.find(name).map(says) {
                 Some(Says::Kinds(list)) => return Some(list),
@@ -159,7 +169,7 @@ impl Pack {
         (named, kinds)
     }
 
-    fn direct_of(&self, entity: u32) -> Option<u32> {
+    pub fn direct_of(&self, entity: u32) -> Option<u32> {
         let kinds = self.taken(entity).1;
         if kinds.len() == 1 { kinds.into_iter().next() } else { None }
     }

@@ -1,11 +1,13 @@
 //! The operations once more, in plain Rust straight from the description of packs: what the linked library is compared
-//! with. Check is here, the chain walks are in `chains`.
+//! with. Check is here, the chain walks are in `chains`, Resolve is in `resolve`.
 #![allow(dead_code)]
 
 pub mod chains;
+pub mod resolve;
 
 use chains::{Derivation, List, Pack, Relation};
 use cogunwa::Refusal;
+use resolve::{Block, Item, Rule, Tree};
 
 const NONE: u32 = 0xFF_FFFF;
 
@@ -96,13 +98,13 @@ impl Reader<'_> {
         self.field(1, |v| v == length)?;
         self.names = self.field(2, |v| (1..=4096).contains(&v))?;
 
-        let mut before = None;
+        let mut defaulted = vec![];
         for _ in 0..self.count(3, 512)? {
             let name = self.name(4)?;
-            if before >= Some(name) {
+            if defaulted.last() >= Some(&name) {
                 return refuse(6, self.at - 1, 0);
             }
-            before = Some(name);
+            defaulted.push(name);
         }
 
         let mut relations: Vec<Relation> = vec![];
@@ -114,25 +116,41 @@ impl Reader<'_> {
             relations.push(self.relation(name)?);
         }
 
+        let mut rules = vec![];
         for _ in 0..self.count(22, 1024)? {
-            self.name(23)?;
-            self.name_or_none(24)?;
-            self.name(25)?;
-            for _ in 0..self.field(26, |v| (1..=64).contains(&v))? {
-                let sort = self.flag(27)?;
-                self.tree(sort == 1, 1)?;
-            }
+            rules.push(self.rule()?);
         }
-
+        let mut blocks = vec![];
         for _ in 0..self.count(28, 64)? {
-            self.name_or_none(29)?;
-            for _ in 0..self.count_or_none(30, 1024)?.unwrap_or(0) {
-                self.name_or_none(31)?;
-                self.flag(32)?;
-                self.name_or_none(33)?;
-            }
+            blocks.push(self.block()?);
         }
-        Ok(Pack { names: self.names, relations })
+        Ok(Pack { names: self.names, defaulted, relations, rules, blocks, words: self.words.to_vec() })
+    }
+
+    fn rule(&mut self) -> Outcome<Rule> {
+        let citing = self.name(23)?;
+        let origin = self.name_or_none(24)?;
+        let entity = self.name(25)?;
+        let mut bodies = vec![];
+        for _ in 0..self.field(26, |v| (1..=64).contains(&v))? {
+            let sort = self.flag(27)?;
+            bodies.push(self.tree(sort == 1, 1)?);
+        }
+        Ok(Rule { citing, origin, entity, bodies })
+    }
+
+    fn block(&mut self) -> Outcome<Block> {
+        let origin = self.name_or_none(29)?;
+        let Some(count) = self.count_or_none(30, 1024)? else {
+            return Ok(Block { origin, items: None });
+        };
+        let mut items = vec![];
+        for _ in 0..count {
+            let name = self.name_or_none(31)?;
+            let boolean = self.flag(32)? == 1;
+            items.push(Item { name, boolean, entity: self.name_or_none(33)? });
+        }
+        Ok(Block { origin, items: Some(items) })
     }
 
     fn slot_kinds(&mut self, kind: u32) -> Outcome<List> {
@@ -145,11 +163,12 @@ impl Reader<'_> {
     }
 
     fn relation(&mut self, name: u32) -> Outcome<Relation> {
-        self.name_or_none(7)?;
+        let place = self.at - 1;
+        let origin = self.name_or_none(7)?;
         self.any(8)?;
         let kinds = self.slot_kinds(9)?;
         let derivation = if self.flag(11)? == 1 { Some(self.derivation()?) } else { None };
-        Ok(Relation { name, kinds, derivation })
+        Ok(Relation { place, name, origin, kinds, derivation })
     }
 
     fn derivation(&mut self) -> Outcome<Derivation> {
@@ -161,15 +180,15 @@ impl Reader<'_> {
             self.any(16)?;
         }
         let current = self.any(17)?;
-        self.any(18)?;
+        let related = self.any(18)?;
         let entity = self.name_or_none(19)?;
         self.name_or_none(20)?;
         let entities = self.slot_kinds(21)?;
-        self.tree(true, 1)?;
-        Ok(Derivation { source, path: path.is_some(), current, entity, entities })
+        let predicate = self.tree(true, 1)?;
+        Ok(Derivation { source, path: path.is_some(), current, related, entity, entities, predicate })
     }
 
-    fn tree(&mut self, judgment: bool, depth: u32) -> Outcome<()> {
+    fn tree(&mut self, judgment: bool, depth: u32) -> Outcome<Tree> {
         let at = self.at;
         let (kind, value) = self.next()?;
         let fits = if judgment { (96..=106).contains(&kind) } else { (64..=78).contains(&kind) };
@@ -188,53 +207,39 @@ impl Reader<'_> {
         if !allowed {
             return refuse(4, at, 0);
         }
+        let mut tree = Tree { place: at, kind, value, slots: (0, 0), input: None, children: vec![] };
         match kind {
-            66 => self.trees(false, 1, depth),
-            67 | 96 => self.trees(false, 2, depth),
-            68..=70 => self.trees(false, value, depth),
-            71 => {
-                self.trees(true, 1, depth)?;
-                self.trees(false, 2, depth)
-            }
-            72 => self.trees(false, 1 + value, depth),
-            73 => self.trees(false, 1 + value % 2, depth),
+            74..=78 | 101 => tree.slots = (self.any(80)?, self.any(81)?),
+            102 | 103 => _ = self.any(85)?,
+            _ => {}
+        }
+        let (judgments, scalars) = match kind {
+            66 => (0, 1),
+            67 | 96 => (0, 2),
+            68..=70 => (0, value),
+            71 => (1, 2),
+            72 => (0, 1 + value),
+            73 => (0, 1 + value % 2),
             74..=77 => {
-                self.any(80)?;
-                self.any(81)?;
                 self.any(86)?;
-                let tests = self.flag(83)?;
-                self.trees(true, tests, depth)
+                (self.flag(83)?, 0)
             }
             78 => {
-                self.any(80)?;
-                self.any(81)?;
                 let at = self.at;
                 match self.next()? {
-                    (82 | 84, name) if name < self.names => Ok(()),
-                    (82 | 84, _) => refuse(4, at, 0),
-                    _ => refuse(2, at, 0),
+                    (kind @ (82 | 84), name) if name < self.names => tree.input = Some((kind == 84, name)),
+                    (82 | 84, _) => return refuse(4, at, 0),
+                    _ => return refuse(2, at, 0),
                 }
+                (0, 0)
             }
-            97..=99 => self.trees(true, value, depth),
-            100 => self.trees(true, 1, depth),
-            101 => {
-                self.any(80)?;
-                self.any(81)?;
-                Ok(())
-            }
-            102 => self.any(85).map(|_| ()),
-            103 => {
-                self.any(85)?;
-                self.trees(true, 1, depth)
-            }
-            _ => Ok(()),
+            97..=99 => (value, 0),
+            100 | 103 => (1, 0),
+            _ => (0, 0),
+        };
+        for child in 0..judgments + scalars {
+            tree.children.push(self.tree(child < judgments, depth + 1)?);
         }
-    }
-
-    fn trees(&mut self, judgment: bool, count: u32, depth: u32) -> Outcome<()> {
-        for _ in 0..count {
-            self.tree(judgment, depth + 1)?;
-        }
-        Ok(())
+        Ok(tree)
     }
 }

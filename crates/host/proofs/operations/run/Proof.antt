@@ -21,6 +21,12 @@ enum-known-w c = search needs
 filtered-requires : tie.Need-filtered-requires
 filtered-requires c κs = search needs
 
+enum-told-3 : tie.Need-enum-told-3
+enum-told-3 c = search needs
+
+resolve-requires : tie.Need-resolve-requires
+resolve-requires c κs = search needs
+
 same-length : tie.Need-same-length
 same-length c = search needs
 
@@ -45,6 +51,14 @@ returns-3 c =
     let called = c .before .before in
     rw (called .before .before .before .w .given .1) (record { answers = called .filtered .ensures .answers; leaves = called .filtered .ensures .leaves })
 
+same-length-4 : tie.Need-same-length-4
+same-length-4 c = search needs
+
+returns-4 : tie.Need-returns-4
+returns-4 c =
+    let called = c .before .before in
+    rw (called .before .before .enum-told3 .given .1) (record { answers = called .resolve .ensures .answers; leaves = called .resolve .ensures .leaves })
+
 pub run-spec : {M : Type 1} → statement M
 run-spec =
     tie.close
@@ -55,9 +69,13 @@ run-spec =
     all-kinds-requires
     enum-known-w
     filtered-requires
+    enum-told-3
+    resolve-requires
     same-length
     returns
     same-length-2
     returns-2
     same-length-3
-    returns-3)
+    returns-3
+    same-length-4
+    returns-4)
