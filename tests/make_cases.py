@@ -3,21 +3,25 @@
 
 Nothing here reads a pack. A good pack is put together from records and trees; a damaged one is a good one in which a word
 that is known by its label is changed. So the answer that document 01 gives to a pack follows from how the pack was made.
-What the chain operations answer follows from the records, by the model below.
+What the chain operations and Resolve answer follows from the records, by the models below. The last part of the list is not
+made here: it is the file of the original's answers, tests/oracle/answers.txt.
 
 A line of the list is a comment, which begins with #, a case, or a call on the pack of the case above it:
 
     NAME | ok, or refused NUMBER PLACE NAME OTHER | WORDS | ROOM .. | the words of the pack
     NAME > OPERATION ARGUMENT .. | given VALUE STEPS, or refused NUMBER PLACE NAME OTHER | the words written
 
-Check and Rewrite are run on the pack of every case. A call runs one of the operations on chains: all_kinds, direct, innermost,
-alias and unresolved write, and their argument is the room they are lent; the argument of kinds_of is a name, lean has two names.
+Check and Rewrite are run on the pack of every case. A call runs one of the other operations: all_kinds, direct, innermost,
+alias, unresolved and resolve write, and their argument is the room they are lent; the argument of kinds_of is a name, lean has
+two names. --folder says where the two files are written.
 
 The number of words, the rooms for Rewrite and the arguments are decimal, the words hexadecimal. `W*N` is the word W N times,
 `(V W)*N` the words V W N times, and a word with `+S` is larger by S each time.
 """
+import argparse
+import functools
 import os
-from collections import namedtuple
+from collections import Counter, namedtuple
 
 NONE = 0xFFFFFF
 SCALARS = range(64, 79)
@@ -40,12 +44,27 @@ def F(kind, value, label=None):
     return [Word(kind, value, 'field', label)]
 
 
+class Tree(list):
+    """The words of a tree, with what it is made of: its head, its fields and its children."""
+
+    def __init__(self, head, rest):
+        super().__init__([head] + flat(rest))
+        self.head = head
+        self.fields = flat(p for p in rest if not isinstance(p, Tree))
+        self.children = [p for p in rest if isinstance(p, Tree)]
+
+    def nodes(self):
+        yield self.head
+        for child in self.children:
+            yield from child.nodes()
+
+
 def S(kind, value, *rest, label=None):
-    return [Word(kind, value, 'scalar', label)] + flat(rest)
+    return Tree(Word(kind, value, 'scalar', label), rest)
 
 
 def J(kind, value, *rest, label=None):
-    return [Word(kind, value, 'judgment', label)] + flat(rest)
+    return Tree(Word(kind, value, 'judgment', label), rest)
 
 
 def dotted(tag, name):
@@ -90,26 +109,33 @@ def body(tree, tag=None):
     return F(27, 0 if tree[0].takes == 'scalar' else 1, dotted(tag, 'sort')) + tree
 
 
-def rule(name, origin=NONE, entity=0, bodies=None, tag=None):
-    trees = [S(64, 0)] if bodies is None else bodies
-    return (F(23, name, dotted(tag, 'name')) + F(24, origin, dotted(tag, 'origin')) + F(25, entity, dotted(tag, 'entity'))
-            + F(26, len(trees), dotted(tag, 'bodies')) + flat(body(t, dotted(tag, f'body{i}')) for i, t in enumerate(trees)))
-
-
-def item(name=NONE, flag=0, entity=NONE, tag=None):
-    return F(31, name, dotted(tag, 'name')) + F(32, flag, dotted(tag, 'flag')) + F(33, entity, dotted(tag, 'entity'))
-
-
-def block(origin=NONE, items=None, tag=None):
-    return F(29, origin, dotted(tag, 'origin')) + F(30, NONE if items is None else len(items), dotted(tag, 'items')) + flat(items or [])
-
-
-class Pack(list):
-    """The words of a good pack, with what it was made of. A changed copy is a plain list."""
+class Record(list):
+    """The words of something, with what it was made of. A changed copy is a plain list."""
 
     def __init__(self, words, **records):
         super().__init__(words)
         self.records = records
+
+
+def rule(name, origin=NONE, entity=0, bodies=None, tag=None):
+    trees = [S(64, 0)] if bodies is None else bodies
+    return Record(F(23, name, dotted(tag, 'name')) + F(24, origin, dotted(tag, 'origin')) + F(25, entity, dotted(tag, 'entity'))
+                  + F(26, len(trees), dotted(tag, 'bodies')) + flat(body(t, dotted(tag, f'body{i}')) for i, t in enumerate(trees)),
+                  name=name, origin=origin, entity=entity, bodies=trees, tag=tag)
+
+
+def item(name=NONE, flag=0, entity=NONE, tag=None):
+    return Record(F(31, name, dotted(tag, 'name')) + F(32, flag, dotted(tag, 'flag')) + F(33, entity, dotted(tag, 'entity')),
+                  name=name, flag=flag, entity=entity)
+
+
+def block(origin=NONE, items=None, tag=None):
+    return Record(F(29, origin, dotted(tag, 'origin')) + F(30, NONE if items is None else len(items), dotted(tag, 'items'))
+                  + flat(items or []), origin=origin, items=items)
+
+
+class Pack(Record):
+    """A good pack."""
 
 
 def pack(n=1, defaulted=(), relations=(), rules=(), blocks=()):
@@ -276,6 +302,174 @@ class Chains:
         return f'given {value} 0', []
 
 
+# ---- what document 01 says of Resolve, over the records of a good pack
+
+MOST = 8192
+
+
+class Refusal(Exception):
+    """A number with place, name and other."""
+
+
+Citing = namedtuple('Citing', 'name origin')
+
+
+def kind_at(kinds, slot):
+    """The kind at a slot, None where there are no kinds or the slot is out of range."""
+    return kinds[slot] if kinds and slot < len(kinds) else None
+
+
+def bearing(kinds, kind):
+    return [i for i, k in enumerate(kinds) if k == kind]
+
+
+class Resolving:
+    """What Resolve comes to: a refusal, or the resolved pack and the steps."""
+
+    def __init__(self, p):
+        self.records, self.chains = p.records, Chains(p)
+        self.relations, self.rules = p.records['relations'], p.records['rules']
+        self.declared = self.chains.declared
+        self.kinds = {r.name: self.chains.kinds(r.name) for r in self.relations}
+        self.steps = self.chains.steps
+        # where the records begin
+        self.starts, at = {}, 4 + len(p.records['defaulted'])
+        for r in self.relations:
+            self.starts[r.name] = at
+            at += len(relation_words(r))
+        self.first_rule = at + 1
+        trees = [t for r in self.rules for t in r.records['bodies']] + [r.derived.predicate for r in self.relations if r.derived]
+        self.atoms = {w.value for t in trees for w in t.nodes() if w.kind in (102, 103)}
+        try:
+            self.result, self.refusal = self.resolved(), None
+        except Refusal as refusal:
+            self.result, self.refusal = None, refusal.args
+            _, at, name, _ = refusal.args
+            assert p[at].kind in (6, *range(74, 79), 101) and (p[at].kind != 6 or p[at].value == name)
+
+    def answer(self, room):
+        """The answer, and the words written."""
+        if self.refusal:
+            return 'refused {} {} {} {}'.format(*self.refusal), []
+        if len(self.result) > min(room, MOST):
+            return 'refused 16 0 0 0', []
+        return f'given {len(self.result)} {self.steps}', [number(w) for w in self.result]
+
+    def resolved(self):
+        self.defaulted()
+        rules, at = [], self.first_rule
+        for r in self.rules:
+            rules.append(self.rule(r, at))
+            at += len(r)
+        relations = [self.relation(r) for r in self.relations]
+        return pack(self.records['n'], self.records['defaulted'], [self.stamped(r) for r in relations], rules, self.records['blocks'])
+
+    def supplied(self, name):
+        """The slots of a derived relation and the kinds there; None where the name is none."""
+        r = self.declared.get(name)
+        if r and r.derived:
+            return r.derived.slots, [kind_at(self.kinds[name], slot) for slot in r.derived.slots]
+
+    def typed(self, name):
+        r = self.declared.get(name)
+        return r.kinds if r and not r.derived and len(r.kinds) == 2 else None
+
+    def defaulted(self):
+        for name in sorted(self.records['defaulted']):
+            found = self.supplied(name)
+            if found and found[1][0] is not None and found[1][0] == found[1][1]:
+                raise Refusal(9, self.starts[name], name, 0)
+
+    def rule(self, r, at):
+        bodies, at = [], at + 4
+        for tree in r.records['bodies']:
+            bodies.append(self.tree(tree, at + 1, r.records['entity'], None, Citing(r.records['name'], r.records['origin'])))
+            at += 1 + len(tree)
+        return rule(r.records['name'], r.records['origin'], r.records['entity'], bodies, r.records['tag'])
+
+    def relation(self, r):
+        if not r.derived:
+            return r
+        at = self.starts[r.name] + len(relation_words(r)) - len(r.derived.predicate)
+        membership = self.supplied(r.name)[1]
+        predicate = self.tree(r.derived.predicate, at, membership[1] or 0, membership, Citing(r.name, r.origin))
+        return r._replace(derived=r.derived._replace(predicate=predicate))
+
+    def tree(self, t, at, entity, membership, citing):
+        """The tree whose root stands at a place, resolved; membership is None where it is lost or there is none."""
+        head, fields = t.head, t.fields
+        below = [membership] * len(t.children)
+        if head.kind in range(74, 79) or head.kind == 101:
+            slots = fields[0].value, fields[1].value
+            if head.kind == 101:
+                slots = self.member(head.value, slots, membership, at, citing)
+            else:
+                slots, kind = self.aggregate(head.value, slots, entity, at, citing)
+                if head.kind == 78:
+                    self.only_related(fields[2], kind, at, citing)
+                entity, below = kind, [None] * len(t.children)
+            fields = [fields[0]._replace(value=slots[0]), fields[1]._replace(value=slots[1])] + fields[2:]
+        elif head.kind == 72:
+            below = [membership] + [None] * (len(t.children) - 1)
+        elif head.kind == 73:
+            below = [None] * len(t.children)
+        children, at = [], at + 1 + len(fields)
+        for child, m in zip(t.children, below):
+            children.append(self.tree(child, at, entity, m, citing))
+            at += len(child)
+        return Tree(head, [fields, *children])
+
+    def aggregate(self, relation, slots, entity, at, citing):
+        """The slots, and the kind that results."""
+        found = self.supplied(relation)
+        if found:
+            return found[0], found[1][1] or 0
+        kinds = self.typed(relation)
+        if kinds is None:
+            return slots, 0
+        direct = self.chains.direct(entity)
+        matches = bearing(kinds, entity if direct == NONE else direct)
+        if len(matches) == 2:
+            raise Refusal(10, at, citing.name, entity)
+        if len(matches) == 1:
+            slots = matches[0], 1 - matches[0]
+        return slots, kind_at(kinds, slots[1]) or 0
+
+    def member(self, relation, slots, membership, at, citing):
+        found = self.supplied(relation)
+        if found:
+            return found[0]
+        kinds = self.typed(relation)
+        if kinds is None or membership is None or None in membership:
+            return slots
+        current, related = membership
+        if current == related:
+            if kinds == [current, current]:
+                raise Refusal(10, at, citing.name, current)
+            return slots
+        a, b = bearing(kinds, current), bearing(kinds, related)
+        return (a[0], b[0]) if len(a) == len(b) == 1 else slots
+
+    def only_related(self, value, owner, at, citing):
+        blocks = [b.records['items'] for b in self.records['blocks'] if b.records['origin'] == citing.origin]
+        named = [i.records for items in blocks for i in items or () if i.records['name'] == value.value]
+        for number, wrong in ((11, lambda: value.kind == 84), (12, lambda: None in blocks), (13, lambda: len(named) != 1),
+                              (14, lambda: named[0]['flag'] != 1), (15, lambda: owner == 0 or named[0]['entity'] != owner)):
+            if wrong():
+                raise Refusal(number, at, citing.name, value.value)
+
+    def stamped(self, r):
+        if not r.derived or r.derived.kinds:
+            return r
+        if not r.kinds and (r.name in self.atoms or any(w.kind in range(102, 105) for w in r.derived.predicate.nodes())):
+            return r
+        current, related = self.supplied(r.name)[1]
+        if current is None or current == related:
+            return r
+        kinds = self.kinds[r.name]
+        return r._replace(kinds=r.kinds or kinds, derived=r.derived._replace(kinds=kinds))
+
+
 # ---- the list
 
 Case = namedtuple('Case', 'name expected words rooms')
@@ -303,12 +497,16 @@ def add(name, p, expected, rooms=None):
 
 def ok(name, p, rooms=None):
     add(name, p, 'ok', rooms)
+    if isinstance(p, Pack):
+        k = len(cases)
+        ask_resolve(name, Resolving(p), lambda n: [(n, n - 1), (n + 1, 0), (8400, n - 1)][k % 3])
 
 
 def refused(name, p, n, at, named=0, rooms=None):
     """Refusal n at a place, given by its index or by its label."""
     at = at if isinstance(at, int) else place(p, at)
     add(name, p, f'refused {n} {at} {named} 0', rooms)
+    call(name, 'resolve', ([len(p), 0, 8400][len(cases) % 3],), cases[-1].expected)
 
 
 def call(case, operation, args, expected, words=()):
@@ -316,6 +514,12 @@ def call(case, operation, args, expected, words=()):
     assert case == cases[-1].name and all(0 <= a < 2 ** 32 for a in args)
     calls.append(Call(case, operation, args, expected, words))
     lines.append(calls[-1])
+
+
+def ask_resolve(name, model, rooms):
+    """Calls of Resolve on the good pack of the last case, in the rooms for a result of so many words; two where it is refused."""
+    for room in rooms(len(model.result)) if model.result else (8400, 0):
+        call(name, 'resolve', (room,), *model.answer(room))
 
 
 def rooms_about(k):
@@ -343,6 +547,8 @@ def ask_refused(name, n, k):
     for operation in ('all_kinds', *TABLES):
         for room in rooms_about(k if operation == 'all_kinds' else n):
             call(name, operation, (room,), cases[-1].expected)
+    for room in rooms_about(len(cases[-1].words)):
+        call(name, 'resolve', (room,), cases[-1].expected)
     for x in (0, n - 1, n, 2 ** 32 - 1):
         call(name, 'kinds_of', (x,), cases[-1].expected)
         call(name, 'lean', (x, n), cases[-1].expected)
@@ -352,6 +558,8 @@ def ask_refused(name, n, k):
 
 def turns(words, i, g):
     """How often the g words at i come in a row, each larger by the same small step each time, and the steps."""
+    if i + g >= len(words) or not 0 <= words[i + g] - words[i] <= 255:
+        return 1, None
     steps = [words[i + g + k] - words[i + k] if i + g + k < len(words) else -1 for k in range(g)]
     if any(s < 0 or s > 255 for s in steps):
         return 1, None
@@ -361,6 +569,7 @@ def turns(words, i, g):
     return n, steps
 
 
+@functools.cache
 def short(words, digits=8):
     out, i = [], 0
     while i < len(words):
@@ -380,10 +589,10 @@ def short(words, digits=8):
 def text_of(line):
     if isinstance(line, Call):
         args = ' '.join(map(str, line.args))
-        return f'{line.case} > {line.operation} {args} | {line.expected} | {short(line.words, 1)}'.rstrip()
+        return f'{line.case} > {line.operation} {args} | {line.expected} | {short(tuple(line.words), 1)}'.rstrip()
     case = line
     rooms = ' '.join(map(str, case.rooms))
-    return f'{case.name} | {case.expected} | {len(case.words)} | {rooms} | {short(case.words)}'.rstrip()
+    return f'{case.name} | {case.expected} | {len(case.words)} | {rooms} | {short(tuple(case.words))}'.rstrip()
 
 
 # ---- packs that many cases start from
@@ -680,7 +889,7 @@ def nested(t, link, n):
 
 def chained(name, end, link, step=1, before=0):
     """Chains of links of `step` levels each: the end at 32 or 31, and at 33, where the first word as deep stands so many before it."""
-    end = [end[0]._replace(label='end')] + end[1:]
+    end = Tree(end.head._replace(label='end'), [end.fields, *end.children])
     most = (32 - 1) // step
     for where, make in (('body', one_body), ('predicate', one_predicate)):
         if where == 'predicate' and end[0].takes == 'scalar':
@@ -1208,12 +1417,867 @@ def chains_by_chance():
         chained_pack(f'graph-{i}', n, relations, deals=[[relations[x] for x in dealt]])
 
 
+# ---- sections of the list for Resolve
+
+LEAF, SAID = S(64, 6), J(106, 4)
+AUTHOR = 7, 9  # slots that an author may write and no relation here has
+
+
+def aggregate(relation, slots=AUTHOR, where=None, kind=74, label='node'):
+    return S(kind, relation, F(80, slots[0]), F(81, slots[1]), F(86, 3), F(83, int(where is not None)), where or [], label=label)
+
+
+def only(relation, name=12, slots=AUTHOR, value=82, label='node'):
+    """OnlyRelated of an input name, or of a derived one where the value's kind is 84."""
+    return S(78, relation, F(80, slots[0]), F(81, slots[1]), [Word(value, name, 'either', None)], label=label)
+
+
+def member(relation, slots=AUTHOR, label='node'):
+    return J(101, relation, F(80, slots[0]), F(81, slots[1]), label=label)
+
+
+def atom(relation):
+    return J(102, relation, F(85, 1))
+
+
+def exists(relation, inner=SAID):
+    return J(103, relation, F(85, 1), inner)
+
+
+def holds(scalar):
+    """A judgment that holds a scalar."""
+    return J(96, 5, scalar, S(64, 1))
+
+
+def chosen(judgment):
+    """A scalar that holds a judgment."""
+    return S(71, 0, judgment, S(64, 1), S(64, 2))
+
+
+def filtered(name, slots=(0, 1), nine=(), predicate=SAID, origin=NONE, **rest):
+    """A derived relation with list 9 as said; its predicate says nothing unless it is given."""
+    return relation(name, origin=origin, kinds=nine, derived=derivation(slots=slots, predicate=predicate, **rest))
+
+
+def ruled(*bodies, entity=2, name=17, origin=NONE):
+    return rule(name, origin, entity, list(bodies))
+
+
+def small(relations=(), rules=(), blocks=(), defaulted=(), n=20):
+    return pack(n, defaulted, relations, rules, blocks)
+
+
+def all_rooms(n):
+    return 0, n - 1, n, n + 1, 8400
+
+
+def two_rooms(n):
+    return n, n - 1
+
+
+def turned(name, p, slots=None, lists=None, steps=None, rooms=all_rooms):
+    """A pack that resolves: the slots that come out at nodes, by label, and lists 9 and 21 of relations; nothing else is changed."""
+    add(name, p, 'ok', [len(p)])
+    model = Resolving(p)
+    assert model.result, (name, model.refusal)
+    lists, records = lists or {}, p.records
+    relations = [r._replace(kinds=lists[r.name][0], derived=r.derived._replace(kinds=lists[r.name][1])) if r.name in lists else r
+                 for r in records['relations']]
+    q = pack(**{**records, 'relations': relations})
+    for label, (current, related) in (slots or {}).items():
+        q = put(put(q, place(q, label) + 1, current), place(q, label) + 2, related)
+    assert [number(w) for w in q] == [number(w) for w in model.result], name
+    assert steps is None or steps == model.steps, (name, model.steps)
+    ask_resolve(name, model, rooms)
+
+
+def stopped(name, p, n, at, named, other=0):
+    """A pack that Resolve refuses, whatever the room."""
+    add(name, p, 'ok', [len(p)])
+    model = Resolving(p)
+    assert model.refusal == (n, place(p, at), named, other), (name, model.refusal, (n, place(p, at), named, other))
+    ask_resolve(name, model, None)
+
+
+def worked_resolve():
+    section("resolve: the worked cases of 01's corners of the graph")
+    # lists come out as kinds and steps say: predicates hold nothing that passes a relation over
+    turned('resolve-K1', small([relation(5, kinds=[1, 2]), filtered(6, source=5)]), lists={6: ([1, 2], [1, 2])}, steps=2)
+    turned('resolve-K2', small([filtered(5, source=6), filtered(6, source=5)]), steps=2)
+    turned('resolve-K3', small([filtered(5, source=9)]), steps=2)
+    turned('resolve-K4', small([filtered(5, source=5)]), steps=1)
+    turned('resolve-K5', small([relation(5, kinds=[1, 2]), filtered(6, source=5, path=[])]), steps=2)
+    turned('resolve-K6', small([filtered(5, nine=[1, 2], kinds=[2, 1])]), steps=1)
+    # the kinds are [2,1]: below an aggregate over 5 the entity is 1
+    turned('resolve-K6-inner', small([filtered(5, nine=[1, 2], kinds=[2, 1]), relation(8, kinds=[3, 1])], [
+        ruled(aggregate(5, where=holds(aggregate(8, label='inner'))))]), {'node': (0, 1), 'inner': (1, 0)})
+
+    def one_node(relations, tree, entity, owner=1):
+        return small(relations, [ruled(tree, entity=entity)], [block(items=[item(12, 1, owner)])])
+
+    five, six = [relation(5, kinds=[1, 2])], filtered(6, entity=3, kinds=[2, 4])
+    for kind in range(74, 79):
+        node = lambda slots=AUTHOR: only(5, slots=slots) if kind == 78 else aggregate(5, slots, kind=kind)
+        turned(f'resolve-A1-{kind}', one_node(five, node(), 2), {'node': (1, 0)})
+        stopped(f'resolve-A2-{kind}', one_node([relation(5, kinds=[2, 2])], node(), 2), 10, 'node', 17, 2)
+        turned(f'resolve-A4-{kind}', one_node(five + [six], node(), 3), {'node': (1, 0)})
+        if kind == 78:
+            # no kind stands at slot 9, and a relation of three slots gives none: the owner is 0
+            stopped('resolve-A3-78', one_node(five, node(), 3), 15, 'node', 17, 12)
+            turned('resolve-A3-78-slot-0', one_node(five, node((7, 0)), 3))
+            stopped('resolve-A5-78', one_node([relation(5, kinds=[1, 2, 3])], node((0, 1)), 2, owner=2), 15, 'node', 17, 12)
+        else:
+            turned(f'resolve-A3-{kind}', one_node(five, node(), 3))
+            turned(f'resolve-A5-{kind}', one_node([relation(5, kinds=[1, 2, 3])], node(), 2))
+    turned('resolve-M1', small([relation(5, kinds=[2, 1]), filtered(6, kinds=[1, 2], predicate=member(5))]), {'node': (1, 0)})
+    g1 = small([relation(5), filtered(6, (0, 0), kinds=[1, 2])], defaulted=[6])
+    stopped('resolve-G1', g1, 9, 'relation 6.name', 6)
+    turned('resolve-S1', small([filtered(6, (0, 5), nine=[1, 2])]), lists={6: ([1, 2], [1, 2])})
+    # I1: direct(3) = 4, direct(4) = 3 and direct(5) = 3, which Resolve follows once
+    ring = [entity_of(0, 3, [4]), entity_of(1, 4, [3]), entity_of(2, 5, [3]), relation(7, kinds=[3, 4])]
+    turned('resolve-I1', small(ring, [ruled(aggregate(7, label=f'from {e}'), entity=e) for e in (3, 4, 5)]),
+           {'from 3': (1, 0), 'from 4': (0, 1), 'from 5': (0, 1)})
+
+    section('resolve: 01, tempting: innermost where direct is meant; an empty path read as no path; '
+            "a ring's feeders keeping kinds; membership carried into patterns")
+    # innermost where direct is meant: 3 on to 4, 4 on to 5
+    turned('resolve-not-innermost', small([entity_of(0, 3, [4]), entity_of(1, 4, [5]), relation(7, kinds=[5, 4]), relation(8, kinds=[5, 9]),
+                                           relation(9, kinds=[5, 5])],
+                                          [ruled(aggregate(7), aggregate(8, label='none'), aggregate(9, label='twice'), entity=3)]),
+           {'node': (1, 0)})
+    # an empty path read as no path: 6 would have 5's kinds
+    over_6 = [ruled(aggregate(6, where=holds(aggregate(8, label='inner'))))]
+    same, unlike, zero = relation(5, kinds=[2, 2]), relation(5, kinds=[1, 2]), relation(8, kinds=[0, 2])
+    turned('resolve-path-0-not-9', small([same, filtered(6, source=5, path=[])], defaulted=[6]))
+    stopped('resolve-path-none-9', small([same, filtered(6, source=5)], defaulted=[6]), 9, 'relation 6.name', 6)
+    turned('resolve-path-0-entity', small([unlike, filtered(6, source=5, path=[]), zero], over_6), {'node': (0, 1), 'inner': (0, 1)})
+    turned('resolve-path-none-entity', small([unlike, filtered(6, source=5), zero], over_6), {'node': (0, 1), 'inner': (1, 0)}, {6: ([1, 2], [1, 2])})
+    turned('resolve-path-0-member', small([unlike, filtered(6, source=5, path=[], predicate=member(5))]))
+    # a ring's feeders keeping kinds
+    fed = [filtered(4, source=6), filtered(6, source=7), filtered(7, source=6), filtered(3, source=4), zero]
+    over_all = [aggregate(x, where=holds(aggregate(8, label=f'in {x}')), label=f'{x}') for x in (3, 4, 6, 7)]
+    turned('resolve-ring-fed', small(fed, [ruled(*over_all)]), {f'{label}{x}': (0, 1) for x in (3, 4, 6, 7) for label in ('', 'in ')}, steps=5)
+    turned('resolve-ring-fed-dealt', small(fed[::-1], defaulted=[3, 4, 6, 7]), steps=5)
+    # membership carried into patterns
+    pattern = lambda t: holds(S(72, 1, LEAF, chosen(t)))
+    turned('resolve-pattern-member', small([relation(5, kinds=[2, 1]), filtered(6, kinds=[1, 2], predicate=pattern(member(5)))]))
+    turned('resolve-pattern-not-open', small([relation(5, kinds=[1, 1]), filtered(6, kinds=[1, 1], predicate=pattern(member(5)))]))
+    subject = holds(S(72, 1, chosen(member(5)), LEAF))
+    stopped('resolve-subject-open', small([relation(5, kinds=[1, 1]), filtered(6, kinds=[1, 1], predicate=subject)]), 10, 'node', 6, 1)
+
+
+def equal_kinds():
+    section("resolve: 01, 'a derived relation with kinds, both slots in range and equal kinds there: 9'")
+    two = relation(5, kinds=[3, 3])
+    for name, r in {'list-21': filtered(6, kinds=[3, 3]), 'list-9': filtered(6, nine=[3, 3]), 'source': filtered(6, source=5),
+                    'slots-equal': filtered(6, (1, 1), kinds=[1, 2]), 'slots-far': filtered(6, (7, 2), kinds=[1, 2, 3, 1, 2, 3, 1, 3]),
+                    'kind-0': filtered(6, kinds=[0, 0]), 'list-21-first': filtered(6, nine=[1, 2], kinds=[3, 3])}.items():
+        stopped(f'equal-{name}', small([two, r], defaulted=[6]), 9, 'relation 6.name', 6)
+        stopped(f'equal-{name}-first-record', small([r, two], defaulted=[1, 6, 9]), 9, 'relation 6.name', 6)
+    for name, r in {'unlike': filtered(6, kinds=[3, 4]), 'current-out': filtered(6, (2, 1), kinds=[3, 3]),
+                    'related-out': filtered(6, (0, 2), kinds=[3, 3]), 'both-out': filtered(6, (2, 2), kinds=[3, 3]),
+                    'far': filtered(6, (0, NONE), kinds=[3, 3]), 'no-kinds': filtered(6, source=9), 'kind-0-alone': filtered(6, (0, 1), kinds=[0]),
+                    'list-21-unlike': filtered(6, nine=[3, 3], kinds=[3, 4]), 'not-derived': relation(6, kinds=[3, 3])}.items():
+        turned(f'equal-not-{name}', small([two, r], defaulted=[6]))
+    turned('equal-not-defaulted', small([two, filtered(6, kinds=[3, 3])], defaulted=[5, 7]))
+    turned('equal-not-declared', small([two], defaulted=[4, 6, 19]))
+    stopped('equal-name-0', small([two, filtered(0, kinds=[3, 3])], defaulted=[0]), 9, 'relation 0.name', 0)
+    # names rise, whatever the order of the records
+    three = [filtered(8, kinds=[3, 3]), filtered(4, kinds=[1, 2]), filtered(6, kinds=[2, 2])]
+    for i, rs in enumerate((three, three[::-1], [three[0], three[2], three[1]])):
+        stopped(f'equal-lowest-{i}', small(rs, defaulted=[4, 6, 8]), 9, 'relation 6.name', 6)
+        stopped(f'equal-only-8-{i}', small(rs, defaulted=[4, 8]), 9, 'relation 8.name', 8)
+    last = [relation(i) for i in range(511)] + [filtered(600, kinds=[1, 1])]
+    stopped('equal-512th', small(last, defaulted=[*range(511), 600], n=601), 9, 'relation 600.name', 600)
+
+
+def frames():
+    """What may stand around a scalar: its name, the scalar around it, whether membership is lost, and whether the entity turns from 2 to 1."""
+    out = [('root', lambda t: t), ('one', lambda t: S(66, 1, t)), ('left', lambda t: S(67, 1, t, LEAF)), ('right', lambda t: S(67, 1, LEAF, t)),
+           ('add', lambda t: S(68, 3, LEAF, t, LEAF)), ('min', lambda t: S(69, 1, t)), ('max', lambda t: S(70, 2, LEAF, t)),
+           ('condition', lambda t: chosen(holds(t))), ('then', lambda t: S(71, 0, SAID, t, LEAF)), ('else', lambda t: S(71, 0, SAID, LEAF, t)),
+           ('subject', lambda t: S(72, 1, t, LEAF)), ('subject-alone', lambda t: S(72, 0, t)),
+           ('compared', lambda t: chosen(J(96, 3, LEAF, t))), ('and', lambda t: chosen(J(97, 2, SAID, holds(t)))),
+           ('or', lambda t: chosen(J(98, 1, holds(t)))), ('exactly-one', lambda t: chosen(J(99, 2, holds(t), SAID))),
+           ('not', lambda t: chosen(J(100, 0, holds(t)))), ('exists', lambda t: chosen(exists(3, holds(t))))]
+    lost = [('pattern', lambda t: S(72, 1, LEAF, t)), ('pattern-last', lambda t: S(72, 2, LEAF, LEAF, t)), ('periods', lambda t: S(73, 6, t)),
+            ('periods-value', lambda t: S(73, 7, t, LEAF)), ('periods-n', lambda t: S(73, 1, LEAF, t))]
+    where = [(f'where-{k}', lambda t, k=k: aggregate(5, where=holds(t), kind=k, label='around')) for k in range(74, 78)]
+    return [(n, f, False, False) for n, f in out] + [(n, f, True, False) for n, f in lost] + [(n, f, True, True) for n, f in where]
+
+
+def framed():
+    relations = [relation(5, kinds=[1, 2]), relation(8, kinds=[2, 2]), relation(9, kinds=[1, 1]), relation(4, kinds=[2, 1])]
+    around = lambda where: {'around': (1, 0)} if where else {}
+    first = [ruled(S(64, 0), J(104, 1), name=16, origin=6)]
+
+    def in_rule(tree, blocks=(), origin=6):
+        """In the second body of the second rule, of entity 2."""
+        return small(relations, first + [ruled(S(64, 1), tree, origin=origin)], blocks)
+
+    def in_predicate(tree, blocks=(), origin=6):
+        """In the predicate of 7, where the entity is 2 and the membership (1, 2)."""
+        return small(relations + [filtered(7, kinds=[1, 2], predicate=holds(tree), origin=origin)], blocks=blocks)
+
+    section("resolve: 01, 'each node's kind decides what follows it': aggregates below every node, in a later body and in a predicate")
+    for name, frame, lost, where in frames():
+        slots = {'node': (0, 1) if where else (1, 0), **around(where)}
+        turned(f'below-{name}', in_rule(frame(aggregate(5))), slots, rooms=two_rooms)
+        turned(f'below-{name}-predicate', in_predicate(frame(aggregate(5, kind=76))), slots, rooms=two_rooms)
+    section("resolve: 01, 'Membership is lost in where trees, NoMatch patterns and both parts of OverPeriods'; and kept in all other children")
+    for name, frame, lost, where in frames():
+        slots = {} if lost else {'node': (1, 0)}
+        turned(f'member-below-{name}', in_predicate(frame(chosen(member(4)))), {**slots, **around(where)}, rooms=two_rooms)
+        # a rule has none
+        turned(f'member-below-{name}-rule', in_rule(frame(chosen(member(4)))), around(where), rooms=two_rooms)
+    twice = S(68, 2, S(72, 1, chosen(member(4, label='subject')), chosen(member(4, label='pattern'))), chosen(member(4, label='after')))
+    turned('member-lost-and-after', in_predicate(twice), {'subject': (1, 0), 'after': (1, 0)})
+    section("resolve: 01, 'place the node, name the citing one': 10 to 15 below every node")
+    good = [block(6, [item(13, 0, 1), item(14, 1, 3), item(12, 1, 1)]), block(6, [item(15, 0, 2)])]
+    no_sequence = good + [block(6)]
+    for name, frame, lost, where in frames():
+        open_to, owner_input = (9, 15) if where else (8, 13)
+        leaves = [(10, aggregate(open_to), good, 1 if where else 2), (11, only(5, 18, value=84), good, 18), (12, only(5), no_sequence, 12),
+                  (13, only(5, 11), good, 11), (14, only(5, owner_input), good, owner_input), (15, only(5, 14), good, 14)]
+        for n, leaf, blocks, other in leaves:
+            stopped(f'{n}-below-{name}', in_rule(frame(leaf), blocks), n, 'node', 17, other)
+            if n in (10, 15) or name in ('root', 'pattern', 'where-75', 'periods-n'):
+                stopped(f'{n}-below-{name}-predicate', in_predicate(frame(leaf), blocks), n, 'node', 7, other)
+        # 10 for a membership of equal kinds, over a relation with that kind in both slots, where membership is kept
+        p = small(relations + [filtered(7, (0, 0), kinds=[2, 1], predicate=holds(frame(chosen(member(8)))))])
+        if lost:
+            turned(f'10-member-below-{name}', p, around(where), rooms=two_rooms)
+        else:
+            stopped(f'10-member-below-{name}', p, 10, 'node', 7, 2)
+
+
+def first_refusals():
+    section("resolve: 01, 'Rules in order, bodies in order', then 'Relation predicates in order': the first of several refusals")
+    five, eight, nine = relation(5, kinds=[1, 2]), relation(8, kinds=[2, 2]), relation(9, kinds=[1, 1])
+    equal = filtered(6, kinds=[3, 3])
+    opened, missing = aggregate(8, label='open'), only(5, label='missing')
+    # 9 before all
+    stopped('first-9', small([five, eight, equal], [ruled(opened)], defaulted=[6]), 9, 'relation 6.name', 6)
+    stopped('first-9-before-13', small([five, equal], [ruled(missing)], defaulted=[6]), 9, 'relation 6.name', 6)
+    inside = filtered(7, kinds=[1, 2], predicate=holds(opened))
+    stopped('first-9-before-predicate', small([eight, inside, equal], defaulted=[6]), 9, 'relation 6.name', 6)
+    # rules before relations
+    stopped('first-rule', small([five, eight, inside], [ruled(missing)]), 13, 'missing', 17, 12)
+    stopped('first-rule-last', small([five, eight, inside], [ruled(LEAF), ruled(LEAF, J(104, 0), missing, name=18)]), 13, 'missing', 18, 12)
+    stopped('first-relation', small([five, eight, inside], [ruled(LEAF)]), 10, 'open', 7, 2)
+    # rules and bodies in order
+    stopped('first-rule-of-two', small([five, eight], [ruled(missing), ruled(opened, name=16)]), 13, 'missing', 17, 12)
+    stopped('first-rule-of-two-dealt', small([five, eight], [ruled(opened, name=16), ruled(missing)]), 10, 'open', 16, 2)
+    stopped('first-body', small([five, eight], [ruled(LEAF, missing, holds(opened))]), 13, 'missing', 17, 12)
+    stopped('first-body-other', small([five, eight], [ruled(LEAF, holds(opened), missing)]), 10, 'open', 17, 2)
+    # predicates in record order, not by name
+    other = filtered(3, kinds=[1, 2], predicate=holds(missing))
+    stopped('first-predicate', small([five, eight, inside, other]), 10, 'open', 7, 2)
+    stopped('first-predicate-dealt', small([five, eight, other, inside]), 13, 'missing', 3, 12)
+    # a node before its children, children from left to right
+    stopped('first-node', small([eight, nine], [ruled(aggregate(8, where=holds(aggregate(9, label='inner'))))]), 10, 'node', 17, 2)
+    around = aggregate(5, where=holds(aggregate(9, label='inner')), label='around')
+    stopped('first-child', small([five, eight, nine], [ruled(S(67, 0, around, opened))]), 10, 'inner', 17, 1)
+    stopped('first-left', small([five, eight], [ruled(S(68, 3, aggregate(5), missing, opened))]), 13, 'missing', 17, 12)
+    stopped('first-condition', small([five, eight], [ruled(S(71, 0, holds(missing), opened, LEAF))]), 13, 'missing', 17, 12)
+    stopped('first-subject', small([five, eight], [ruled(S(72, 1, opened, missing))]), 10, 'open', 17, 2)
+    # at one OnlyRelated: 10, then 11 to 15
+    bad = [block(), block(items=[item(12, 0, 3)] * 2)]
+    one = lambda tree, blocks: small([five, eight], [ruled(tree)], blocks)
+    stopped('first-10-before-11', one(only(8, value=84), bad), 10, 'node', 17, 2)
+    stopped('first-10-before-12', one(only(8), bad), 10, 'node', 17, 2)
+    stopped('first-11-before-12', one(only(5, value=84), bad), 11, 'node', 17, 12)
+    stopped('first-11-owner-0', one(only(19, value=84), bad), 11, 'node', 17, 12)
+    stopped('first-12-before-13', one(only(5), bad), 12, 'node', 17, 12)
+    stopped('first-12-before-13-block-after', one(only(5), bad[::-1]), 12, 'node', 17, 12)
+    stopped('first-12-none-declared', one(only(5, 11), bad), 12, 'node', 17, 11)
+    stopped('first-13-before-14', one(only(5), bad[1:]), 13, 'node', 17, 12)
+    stopped('first-13-owner-0', one(only(19), bad[1:]), 13, 'node', 17, 12)
+    stopped('first-14-before-15', one(only(5), [block(items=[item(12, 0, 3)])]), 14, 'node', 17, 12)
+    stopped('first-14-owner-0', one(only(19), [block(items=[item(12, 0, 0)])]), 14, 'node', 17, 12)
+    stopped('first-15', one(only(5), [block(items=[item(12, 1, 3)])]), 15, 'node', 17, 12)
+
+
+def inputs():
+    section("resolve: 01, '11, 12, 13, 14, 15 in this order, over blocks of the citing origin (none equals none). Owner 0 is 15'")
+    five = relation(5, kinds=[1, 2])
+    item_1 = item(12, 1, 1)
+
+    def asked(name, blocks, n=None, origin=6, tree=None, entity=2, relations=(five,), slots=(1, 0)):
+        """The same in a rule and in a predicate of that origin."""
+        tree = only(5) if tree is None else tree
+        related = filtered(7, kinds=[9, entity], predicate=holds(tree), origin=origin)
+        for suffix, p, citing in (('', small(relations, [ruled(tree, entity=entity, origin=origin)], blocks), 17),
+                                  ('-predicate', small([*relations, related], blocks=blocks), 7)):
+            if n is None:
+                turned(f'input-{name}{suffix}', p, {'node': slots}, rooms=two_rooms)
+            else:
+                stopped(f'input-{name}{suffix}', p, n, 'node', citing, tree.fields[2].value)
+
+    asked('declared', [block(6, [item_1])])
+    asked('declared-among-others', [block(6, [item(11, 0, 3), item_1, item(), item(13, 1, 1)])])
+    asked('declared-in-second-block', [block(6, []), block(6, [item(11, 1, 1)]), block(6, [item_1])])
+    asked('name-0', [block(6, [item(0, 1, 1), item(NONE, 0, 3)])], tree=only(5, 0))
+    asked('name-none-is-no-name', [block(6, [item(NONE, 1, 1)])], 13, tree=only(5, 0))
+    # origins: none equals none, and no name equals none
+    asked('origin-none', [block(items=[item_1])], origin=NONE)
+    asked('origin-none-and-0', [block(0, [item_1])], 13, origin=NONE)
+    asked('origin-0', [block(0, [item_1]), block()], origin=0)
+    asked('origin-0-and-none', [block(items=[item_1])], 13, origin=0)
+    asked('origin-other', [block(7, [item_1])], 13)
+    asked('origin-other-no-sequence', [block(7), block(), block(6, [item_1]), block(5)])
+    asked('origin-other-declares-too', [block(7, [item_1]), block(6, [item_1]), block(items=[item_1])])
+    asked('no-sequence', [block(6)], 12)
+    asked('no-sequence-beside', [block(6, [item_1]), block(6)], 12)
+    asked('no-sequence-before', [block(6), block(6, [item_1])], 12)
+    asked('no-sequence-none', [block(items=[item_1]), block()], 12, origin=NONE)
+    asked('no-blocks', [], 13)
+    asked('no-items', [block(6, [])], 13)
+    asked('not-declared', [block(6, [item(11, 1, 1), item(13, 1, 1)])], 13)
+    asked('twice', [block(6, [item_1, item_1])], 13)
+    asked('twice-in-two-blocks', [block(6, [item_1]), block(6, [item_1])], 13)
+    asked('twice-unlike', [block(6, [item_1, item(12, 0, 3)])], 13)
+    asked('thrice', [block(6, [item_1]), block(7), block(6, [item_1, item_1])], 13)
+    asked('not-boolean', [block(6, [item(12, 0, 1)])], 14)
+    asked('owner-wrong', [block(6, [item(12, 1, 2)])], 15)
+    asked('owner-none', [block(6, [item(12, 1)])], 15)
+    asked('owner-0-declared', [block(6, [item(12, 1, 0)])], 15)
+    # where the owner comes from
+    to_0, far = relation(5, kinds=[0, 2]), relation(5, kinds=[1, 3])
+    asked('owner-kind-0', [block(6, [item(12, 1, 0)])], 15, relations=[to_0])
+    asked('owner-unknown', [block(6, [item(12, 1, 0)])], 15, tree=only(19))
+    asked('owner-unknown-none', [block(6, [item(12, 1)])], 15, tree=only(19))
+    asked('owner-no-match', [block(6, [item(12, 1, 3)])], relations=[far], tree=only(5, slots=(9, 1)), slots=(9, 1))
+    asked('owner-no-match-wrong', [block(6, [item_1])], 15, relations=[far], tree=only(5, slots=(9, 1)))
+    asked('owner-no-match-out-of-range', [block(6, [item(12, 1, 0)])], 15, relations=[far], tree=only(5, slots=(0, 2)))
+    asked('owner-derived', [block(6, [item(12, 1, 3)])], relations=[filtered(5, (1, 2), kinds=[2, 2, 3])], slots=(1, 2))
+    asked('owner-derived-inherited', [block(6, [item(12, 1, 1)])], relations=[relation(4, kinds=[1, 1]), filtered(5, (7, 0), source=4)], slots=(7, 0))
+    asked('owner-derived-out-of-range', [block(6, [item(12, 1, 0)])], 15, relations=[filtered(5, (1, 3), kinds=[2, 2, 3])])
+    asked('owner-derived-kind-0', [block(6, [item(12, 1, 0)])], 15, relations=[filtered(5, kinds=[2, 0])])
+    asked('owner-derived-no-kinds', [block(6, [item(12, 1, 0)])], 15, relations=[filtered(5, source=9)])
+    asked('owner-wide', [block(6, [item(12, 1, 2)])], 15, relations=[relation(5, kinds=[1, 2, 3])], tree=only(5, slots=(0, 1)))
+    asked('owner-by-direct', [block(6, [item_1])], relations=[five, filtered(4, entity=3, kinds=[2, 9])], entity=3)
+    # the rule's own origin, not that of the rule before or of a relation
+    p = small([relation(5, origin=8, kinds=[1, 2])], [ruled(LEAF, origin=8), ruled(only(5), origin=6)], [block(8, [item_1]), block(6, [])])
+    stopped('input-own-origin', p, 13, 'node', 17, 12)
+    # in a where tree: the citing origin, and the owner by the entity there
+    for owner, n in ((2, None), (1, 15)):
+        tree = aggregate(5, where=holds(only(5)), label='around')
+        p = small([five], [ruled(tree, origin=6)], [block(6, [item(12, 1, owner)])])
+        if n:
+            stopped(f'input-where-{owner}', p, n, 'node', 17, 12)
+        else:
+            turned(f'input-where-{owner}', p, {'around': (1, 0), 'node': (0, 1)})
+
+
+def directions():
+    section("resolve: 01, 'one match sets current, related = 1 - current; two give 10; no match keeps the slots'")
+    five = relation(5, kinds=[1, 2])
+    for slots in ((0, 0), (1, 1), (0, 1), (1, 0), (2, 0), (NONE, NONE), (0, NONE), (5, 5)):
+        text = '-'.join(map(str, slots))
+        for entity, out in ((1, (0, 1)), (2, (1, 0)), (3, slots), (0, slots)):
+            turned(f'slots-{text}-entity-{entity}', small([five], [ruled(aggregate(5, slots), entity=entity)]), {'node': out}, rooms=two_rooms)
+    section("resolve: 01, 'Any other keeps the slots, with 0'")
+    zero = relation(8, kinds=[0, 3])
+    for name, rs in {'undeclared': [], 'no-kinds': [relation(5)], 'one-kind': [relation(5, kinds=[2])], 'three-kinds': [relation(5, kinds=[2, 2, 2])],
+                     'eight-kinds': [relation(5, kinds=[2, 1] * 4)]}.items():
+        for kind in range(74, 78):
+            turned(f'other-{name}-{kind}', small(rs + [zero], [ruled(aggregate(5, kind=kind, where=holds(aggregate(8, label='inner'))))]),
+                   {'inner': (0, 1)}, rooms=two_rooms)
+        turned(f'other-{name}-member', small(rs + [filtered(6, kinds=[1, 2], predicate=member(5))]), rooms=two_rooms)
+    section("resolve: 01, 'a derived relation supplies both slots', whatever they are")
+    for slots in ((0, 1), (1, 0), (0, 0), (5, 0), (0, 5), (NONE, NONE), (8, 9)):
+        text = '-'.join(map(str, slots))
+        for kind in range(74, 78):
+            p = small([filtered(5, slots, kinds=[1, 1])], [ruled(aggregate(5, kind=kind), entity=1)])
+            turned(f'derived-{text}-{kind}', p, {'node': slots}, rooms=two_rooms)
+        both = [filtered(5, slots, kinds=[1, 2]), filtered(6, kinds=[1, 2], predicate=member(5))]
+        turned(f'derived-{text}-member', small(both, [ruled(member(5, label='rule'))]), {'node': slots, 'rule': slots}, rooms=two_rooms)
+        turned(f'derived-{text}-member-no-kinds', small([filtered(5, slots, source=9), both[1]]), {'node': slots}, rooms=two_rooms)
+        lost = filtered(6, kinds=[1, 2], predicate=holds(S(73, 0, chosen(member(5)))))
+        turned(f'derived-{text}-member-lost', small([both[0], lost]), {'node': slots}, rooms=two_rooms)
+    turned('derived-itself', small([filtered(5, (3, 4), kinds=[1, 2], predicate=J(97, 2, member(5), holds(aggregate(5, label='count'))))]),
+           {'node': (3, 4), 'count': (3, 4)})
+    section("resolve: 01, 'matched against direct(entity), or the entity itself'")
+    one = filtered(6, entity=3, kinds=[2, 9])
+    for name, more, out in (('one', [one], (1, 0)), ('two-alike', [one, filtered(7, (1, 0), entity=3, kinds=[9, 2])], (1, 0)),
+                            ('two-unlike', [one, filtered(7, entity=3, kinds=[1, 9])], AUTHOR),
+                            ('out-of-range', [filtered(6, (2, 0), entity=3, kinds=[2, 9])], AUTHOR),
+                            ('no-kinds', [filtered(6, entity=3, source=9)], AUTHOR), ('one-and-no-kinds', [one, filtered(7, entity=3)], (1, 0)),
+                            ('list-9', [filtered(6, entity=3, nine=[9, 1], kinds=[2, 9])], (1, 0)),
+                            ('inherited', [filtered(6, (1, 0), entity=3, source=5, predicate=J(104, 0))], (1, 0)),
+                            ('other-entity', [filtered(6, entity=4, kinds=[2, 9])], AUTHOR), ('no-entity', [filtered(6, kinds=[2, 9])], AUTHOR)):
+        turned(f'direct-{name}', small([five] + more, [ruled(aggregate(5), entity=3)]), {'node': out}, rooms=two_rooms)
+    # an entity that stands for another is not matched by its own name
+    from_1 = [ruled(aggregate(5), entity=1)]
+    turned('direct-hides-the-entity', small([five, filtered(6, entity=1, kinds=[9, 2])], from_1), rooms=two_rooms)
+    turned('direct-turns-the-entity', small([five, filtered(6, entity=1, kinds=[2, 9])], from_1), {'node': (1, 0)}, rooms=two_rooms)
+    turned('direct-is-the-entity', small([five, filtered(6, entity=1, kinds=[1, 9])], from_1), {'node': (0, 1)}, rooms=two_rooms)
+    turned('direct-two-unlike-itself', small([five, filtered(6, entity=1, kinds=[2, 9]), filtered(7, entity=1, kinds=[3, 9])], from_1),
+           {'node': (0, 1)}, rooms=two_rooms)
+    # direct(3) = 0 is a kind
+    turned('direct-kind-0', small([relation(5, kinds=[3, 0]), filtered(6, entity=3, kinds=[0, 9])], [ruled(aggregate(5), entity=3)]),
+           {'node': (1, 0)}, rooms=two_rooms)
+    # 10 reports the entity itself
+    twice = relation(5, kinds=[2, 2])
+    stopped('direct-open', small([twice, one], [ruled(aggregate(5), entity=3)]), 10, 'node', 17, 3)
+    stopped('direct-open-in-where', small([relation(4, kinds=[1, 3]), twice, one], [
+        ruled(aggregate(4, where=holds(aggregate(5)), label='around'), entity=1)]), 10, 'node', 17, 3)
+    in_7 = lambda tree: filtered(7, kinds=[1, 3], predicate=tree)
+    stopped('direct-open-in-predicate', small([twice, one, in_7(holds(aggregate(5)))]), 10, 'node', 7, 3)
+    turned('direct-in-predicate', small([five, one, in_7(holds(aggregate(5)))]), {'node': (1, 0)}, rooms=two_rooms)
+    # membership is compared as it is
+    turned('direct-not-in-membership', small([relation(5, kinds=[2, 1]), one, in_7(member(5))]), rooms=two_rooms)
+    section("resolve: 01, 'the kind at the related slot or 0 results': the entity below an aggregate")
+    inner = lambda k: relation(8, kinds=[k, 18])
+    far = relation(5, kinds=[1, 3])
+    for name, r, slots, outer, k in (('typed', five, AUTHOR, (1, 0), 1), ('kept-0', far, (9, 0), (9, 0), 1), ('kept-1', far, (9, 1), (9, 1), 3),
+                                     ('kept-out', far, (0, 2), (0, 2), 0), ('derived', filtered(5, (1, 2), kinds=[4, 5, 6]), AUTHOR, (1, 2), 6),
+                                     ('derived-out', filtered(5, (1, 3), kinds=[4, 5, 6]), AUTHOR, (1, 3), 0),
+                                     ('derived-no-kinds', filtered(5, (1, 3), source=5), AUTHOR, (1, 3), 0)):
+        # beside the aggregate it is 2 again
+        below = aggregate(5, slots, where=holds(aggregate(8, label='inner')))
+        p = small([r, inner(k)], [ruled(S(67, 0, below, aggregate(8, label='after')))])
+        turned(f'entity-below-{name}', p, {'node': outer, 'inner': (0, 1)}, rooms=two_rooms)
+
+
+def kind_0():
+    section("resolve: 01, 'entity = related kind or 0': an unknown entity is the name 0; a known kind 0 is not unknown")
+    zero, zeros = relation(8, kinds=[0, 2]), relation(9, kinds=[0, 0])
+    turned('zero-rule', small([zero], [ruled(aggregate(8), entity=0)]), {'node': (0, 1)})
+    stopped('zero-rule-open', small([zeros], [ruled(aggregate(9), entity=0)]), 10, 'node', 17, 0)
+    unknown = aggregate(19, where=holds(aggregate(9)), label='around')
+    stopped('zero-where-open', small([zeros], [ruled(unknown)]), 10, 'node', 17, 0)
+    known = aggregate(8, where=holds(aggregate(9)), label='around')
+    stopped('zero-where-known-open', small([zero, zeros], [ruled(known)]), 10, 'node', 17, 0)
+    for name, rest in (('no-kinds', {'source': 19}), ('related-out', {'slots': (0, 2), 'kinds': [1, 2]}), ('known', {'kinds': [1, 0]})):
+        stopped(f'zero-predicate-{name}', small([zeros, filtered(6, predicate=holds(aggregate(9)), **rest)]), 10, 'node', 6, 0)
+    # direct(0) counts for it as for any name
+    turned('zero-direct', small([relation(8, kinds=[0, 4]), filtered(6, entity=0, kinds=[4, 9])], [
+        ruled(aggregate(19, where=holds(aggregate(8)), label='around'))]), {'node': (1, 0)})
+    turned('zero-direct-hides', small([zeros, filtered(6, entity=0, kinds=[4, 9])], [ruled(aggregate(9), entity=0)]))
+    section("resolve: 01, 'RelationMember: derived supplies slots; else both membership kinds and a typed relation are needed or slots stay'")
+
+    def membered(name, kinds, over, out=AUTHOR, slots=(0, 1), n=None):
+        p = small([relation(5, kinds=over), filtered(6, slots, kinds=kinds, predicate=member(5))])
+        if n is None:
+            turned(f'member-{name}', p, {'node': out}, rooms=two_rooms)
+        else:
+            stopped(f'member-{name}', p, 10, 'node', 6, n)
+
+    membered('both', [1, 2], [1, 2], (0, 1))
+    membered('both-turned', [1, 2], [2, 1], (1, 0))
+    membered('slots-turned', [1, 2], [1, 2], (1, 0), slots=(1, 0))
+    membered('slots-far', [3, 3, 1, 3, 3, 3, 3, 2], [1, 2], (1, 0), slots=(7, 2))
+    membered('one-alone', [1, 2], [1, 3])
+    membered('other-alone', [1, 2], [3, 2])
+    membered('neither', [1, 2], [3, 4])
+    membered('one-twice', [1, 2], [1, 1])
+    membered('other-twice', [1, 2], [2, 2])
+    membered('equal-open', [2, 2], [2, 2], n=2)
+    membered('equal-slots-open', [1, 2], [2, 2], slots=(1, 1), n=2)
+    membered('equal-once', [2, 2], [2, 1])
+    membered('equal-once-right', [2, 2], [1, 2])
+    membered('equal-neither', [2, 2], [1, 1])
+    membered('equal-three', [2, 2], [2, 2, 2])
+    membered('current-unknown', [1, 2], [1, 2], slots=(2, 1))
+    membered('related-unknown', [1, 2], [1, 2], slots=(0, 2))
+    membered('both-unknown', [1, 2], [1, 2], slots=(2, 2))
+    membered('kind-0', [0, 2], [2, 0], (1, 0))
+    membered('kind-0-related', [2, 0], [2, 0], (0, 1))
+    membered('kind-0-open', [0, 0], [0, 0], n=0)
+    # an unknown kind is not the kind 0
+    membered('unknown-not-0', [2], [2, 0])
+    membered('unknown-not-0-current', [2], [0, 2], slots=(1, 0))
+    membered('unknown-not-0-both', [2], [0, 0], slots=(1, 2))
+    turned('member-no-kinds', small([relation(5, kinds=[0, 0]), filtered(6, source=9, predicate=member(5))]))
+    turned('member-inherited', small([relation(5, kinds=[2, 1]), relation(4, kinds=[1, 2]), filtered(6, source=4, predicate=member(5))]),
+           {'node': (1, 0)}, {6: ([1, 2], [1, 2])})
+    turned('member-in-rule', small([relation(5, kinds=[2, 2])], [ruled(member(5), chosen(member(5, label='later')))]))
+    links = (lambda t: t, lambda t: J(100, 0, t), lambda t: J(98, 1, t), lambda t: J(99, 2, SAID, t), lambda t: exists(5, t))
+    every = J(97, 5, *[link(member(5, label=f'{i}')) for i, link in enumerate(links)])
+    turned('member-below-judgments', small([relation(5, kinds=[2, 1]), filtered(6, kinds=[1, 2], predicate=every)]),
+           {f'{i}': (1, 0) for i in range(5)})
+
+
+def stamping():
+    section("resolve: 01, stamping: 'list 21 becomes the kinds, and so does list 9 if empty'")
+    four = relation(4, kinds=[1, 2])
+    both = ([1, 2], [1, 2])
+
+    def stamped(name, r, lists, rules=(), more=(four,), rooms=two_rooms, **rest):
+        turned(f'stamp-{name}', small([*more, r], rules, **rest), lists=None if lists is None else {r.name: lists}, rooms=rooms)
+
+    # both lists: which is empty, and where the kinds come from
+    stamped('inherited', filtered(6, source=4), both, rooms=all_rooms)
+    stamped('list-9', filtered(6, nine=[1, 2]), both, rooms=all_rooms)
+    stamped('list-9-and-source', filtered(6, nine=[3, 2], source=4), ([3, 2], [3, 2]))
+    stamped('list-21', filtered(6, kinds=[1, 2]), None)
+    stamped('list-21-and-source', filtered(6, kinds=[3, 2], source=4), None)
+    stamped('both-lists', filtered(6, nine=[2, 1], kinds=[1, 2]), None)
+    stamped('none', filtered(6), None)
+    stamped('not-derived', relation(6, kinds=[1, 2]), None)
+    stamped('not-derived-named', relation(6), None, [ruled(atom(6))])
+    stamped('eight', filtered(6, (6, 7), source=4), ([*range(1, 9)], [*range(1, 9)]), more=[relation(4, kinds=range(1, 9))], rooms=all_rooms)
+    stamped('one', filtered(6, (0, 1), source=4), ([3], [3]), more=[relation(4, kinds=[3])])
+    stamped('three', filtered(6, (2, 0), source=4), ([3, 4, 5], [3, 4, 5]), more=[relation(4, kinds=[3, 4, 5])])
+    stamped('defaulted', filtered(6, source=4), both, defaulted=[4, 6])
+    # the source's list 21 and not its list 9
+    stamped('from-list-21', filtered(6, source=4), ([5, 6], [5, 6]), more=[filtered(4, nine=[1, 2], kinds=[5, 6])])
+    chain = [filtered(9, source=8), filtered(8, source=7), filtered(7, source=4), four]
+    for name, rs in (('', chain), ('-dealt', chain[::-1])):
+        turned(f'stamp-chain{name}', small(rs), lists={7: both, 8: both, 9: both}, steps=4)
+    # a passed over link does not break the chain behind it
+    link = [filtered(9, source=8), filtered(8, source=7, predicate=J(104, 3)), filtered(7, source=4), four]
+    turned('stamp-chain-link-passed', small(link), lists={7: both, 9: both}, steps=4)
+    section("resolve: 01, stamping: 'current slot in range and its kind unlike the related one (out of range counts as unlike)'")
+    for name, slots, kinds, yes in (('unlike', (0, 1), [1, 2], True), ('unlike-turned', (1, 0), [1, 2], True), ('equal', (0, 1), [2, 2], False),
+                                    ('equal-slots', (1, 1), [1, 2], False), ('equal-far', (0, 7), [3, 1, 2, 4, 5, 6, 7, 3], False),
+                                    ('unlike-far', (0, 7), [3, 1, 2, 4, 5, 6, 7, 8], True), ('current-out', (2, 1), [1, 2], False),
+                                    ('current-far', (NONE, 0), [1, 2], False), ('related-out', (0, 2), [1, 2], True),
+                                    ('related-far', (1, NONE), [2, 2], True), ('both-out', (2, 2), [1, 2], False),
+                                    ('both-out-unlike', (2, 3), [1, 2], False), ('kind-0', (0, 1), [0, 2], True),
+                                    ('kind-0-related', (0, 1), [2, 0], True), ('kind-0-twice', (0, 1), [0, 0], False),
+                                    ('kind-0-related-out', (0, 1), [0], True), ('kind-0-current-out', (1, 0), [0], False)):
+        stamped(f'{name}-inherited', filtered(6, slots, source=4), (kinds, kinds) if yes else None, more=[relation(4, kinds=kinds)])
+        stamped(f'{name}-list-9', filtered(6, slots, nine=kinds), (kinds, kinds) if yes else None)
+    for name, r in (('ring', filtered(6, source=6)), ('undeclared', filtered(6, source=9)), ('path', filtered(6, source=4, path=[(4, 0, 1)])),
+                    ('path-0', filtered(6, source=4, path=[])), ('no-source', filtered(6)), ('empty-source', filtered(6, source=5))):
+        stamped(f'unknown-{name}', r, None, more=[four, relation(5)])
+    section("resolve: 01, stamping: 'pass over a relation with both lists empty that some atom or Exists names, "
+            "or whose predicate holds kinds 102 to 104'")
+    inherits, has_9, has_21 = filtered(6, source=4), filtered(6, nine=[1, 2]), filtered(6, kinds=[1, 2])
+    named = {'atom': atom(6), 'exists': exists(6)}
+    for name, tree in named.items():
+        # from a rule and from another relation's predicate
+        for where, rules, more in (('rule', [ruled(LEAF), ruled(LEAF, chosen(tree), name=16)], []),
+                                   ('predicate', [], [filtered(7, kinds=[1, 2], predicate=tree)]),
+                                   ('predicate-below', [], [filtered(3, predicate=J(100, 0, tree))])):
+            stamped(f'{name}-{where}', inherits, None, rules, more=[four, *more])
+            stamped(f'{name}-{where}-list-9', has_9, both, rules, more=[four, *more])
+            stamped(f'{name}-{where}-list-21', has_21, None, rules, more=[four, *more])
+        for frame_name, frame, _, where in frames():
+            slots = {'around': (1, 0)} if where else {}
+            turned(f'stamp-{name}-below-{frame_name}', small([four, relation(5, kinds=[1, 2]), inherits], [ruled(frame(chosen(tree)))]),
+                   slots, rooms=two_rooms)
+    stamped('named-another', inherits, both, [ruled(chosen(J(97, 2, atom(4), exists(5))))])
+    stamped('named-source', inherits, both, [ruled(atom(4))])
+    for kind, inner in ((101, member(6)), (105, J(105, 6)), (106, J(106, 6)), (104, J(104, 6)), (96, holds(S(65, 6)))):
+        turned(f'stamp-not-named-by-{kind}', small([four, inherits], [ruled(inner)]), {'node': (0, 1)} if kind == 101 else None,
+               {6: both}, rooms=two_rooms)
+    turned('stamp-not-named-by-count', small([four, inherits], [ruled(aggregate(6))]), {'node': (0, 1)}, {6: both}, rooms=two_rooms)
+    holding = {102: atom(4), 103: exists(4), 104: J(104, 0)}
+    for kind, tree in holding.items():
+        stamped(f'holds-{kind}', filtered(6, source=4, predicate=tree), None)
+        stamped(f'holds-{kind}-list-9', filtered(6, nine=[1, 2], predicate=tree), both)
+        stamped(f'holds-{kind}-list-21', filtered(6, kinds=[1, 2], predicate=tree), None)
+        # in a rule or in another's predicate it does not count
+        stamped(f'rule-holds-{kind}', inherits, both, [ruled(tree)])
+        stamped(f'another-holds-{kind}', inherits, both, more=[four, filtered(7, kinds=[1, 2], predicate=tree)])
+    for frame_name, frame, _, where in frames():
+        deep = filtered(6, source=4, predicate=holds(frame(chosen(J(104, 9)))))
+        turned(f'stamp-holds-below-{frame_name}', small([four, relation(5, kinds=[1, 2]), deep]), {'around': (1, 0)} if where else {},
+               rooms=two_rooms)
+    for name, tree in {'101': member(4), '105': J(105, 4), '106': J(106, 4), '97': J(97, 0), '98': J(98, 2, J(105, 4), J(106, 4)),
+                       '96': holds(S(64, 102)), 'value-102': J(106, 102), 'not': J(100, 0, J(106, 104))}.items():
+        turned(f'stamp-holds-{name}', small([four, filtered(6, source=4, predicate=tree)]), {'node': (0, 1)} if name == '101' else None,
+               {6: both}, rooms=two_rooms)
+    section("resolve: 01, stamping comes last: the tables are those of the pack as it stood")
+    # below 6 the entity is 2 whether or not 6 is stamped
+    tree = aggregate(6, where=holds(aggregate(5, label='inner')))
+    for name, predicate, lists in (('stamped', SAID, {6: both}), ('passed-over', J(104, 0), {})):
+        turned(f'tables-{name}', small([four, filtered(6, source=4, predicate=predicate), relation(5, kinds=[2, 9])], [ruled(tree)]),
+               {'node': (0, 1), 'inner': (0, 1)}, lists)
+    turned('tables-direct', small([four, filtered(6, (1, 0), source=4, entity=3), relation(5, kinds=[2, 9])], [ruled(aggregate(5), entity=3)]),
+           {'node': (0, 1)}, {6: both})
+
+
+def put_defaulted(p, names):
+    """The pack with these defaulted names."""
+    return pack(**{**p.records, 'defaulted': names})
+
+
+def rooms_and_lengths():
+    section("resolve: 01, 'more than the output slice has'; 'output past the length is untouched': slices of every length around the result's")
+    grows = small([relation(4, kinds=[1, 2]), filtered(6, source=4)], [ruled(aggregate(4))], [block()])
+    turned('room-every-length', grows, {'node': (1, 0)}, {6: ([1, 2], [1, 2])}, rooms=lambda n: [*range(n + 4), 8192, 8400, 8448])
+    keeps = small([relation(4, kinds=[1, 2])], [ruled(aggregate(4))])
+    turned('room-every-length-kept', keeps, {'node': (1, 0)}, rooms=lambda n: [*range(n + 4), 8192, 8400, 8448])
+    turned('room-smallest', pack(), rooms=lambda n: [*range(10), 8448])
+    section("resolve: 01, '16: the result needs over 8,192 words'")
+
+    def long(length, kinds, predicate=SAID, more=(), bodies=()):
+        """A pack of so many words with a relation that is stamped with so many kinds, if its predicate lets it."""
+        parts = lambda k: small([relation(4, kinds=range(1, 1 + kinds)), filtered(6, source=4, predicate=predicate), *more], [
+            ruled(S(68, k, *[LEAF] * k), *bodies)])
+        return parts(length - len(parts(0)))
+
+    both = lambda k: {6: ([*range(1, 1 + k)], [*range(1, 1 + k)])}
+    edges = lambda n: [0, n - 1, n, 8191, 8192, 8193, 8400]
+    for kinds in (2, 8):
+        turned(f'long-8192-stamped-{kinds}', long(8192 - 2 * kinds, kinds), lists=both(kinds), rooms=lambda n: edges(n)[:-1])
+        turned(f'long-8191-stamped-{kinds}', long(8191 - 2 * kinds, kinds), lists=both(kinds), rooms=lambda n: (8190, 8191, 8192))
+        for over in (1, 2, 2 * kinds):
+            p = long(8192 - 2 * kinds + over, kinds)
+            assert len(Resolving(p).result) == 8192 + over
+            turned(f'long-{8192 + over}-stamped-{kinds}', p, lists=both(kinds), rooms=edges)
+    # as long, and nothing stamped
+    turned('long-8192-not-stamped', long(8192, 2, J(104, 0)), rooms=lambda n: (8191, 8192))
+    # many lists at once: 510 derived relations, of which so many are stamped with eight kinds each
+    for k, over in ((96, False), (97, True), (200, True)):
+        rs = [relation(0, kinds=range(8))] + [filtered(i, source=0, predicate=SAID if i <= k else J(104, 0)) for i in range(1, 511)]
+        p = small(rs, n=600)
+        assert (len(p) + 16 * k > 8192) == over
+        turned(f'long-many-{k}', p, lists={i: ([*range(8)],) * 2 for i in range(1, k + 1)}, rooms=two_rooms, steps=511)
+    # other refusals come first
+    eight = [relation(8, kinds=[2, 2])]
+    stopped('long-10-before-16', long(8192, 8, more=eight, bodies=[aggregate(8)]), 10, 'node', 17, 2)
+    stopped('long-9-before-16', put_defaulted(long(8191, 8, more=[filtered(9, kinds=[3, 3])]), [9]), 9, 'relation 9.name', 9)
+
+
+def deep_trees():
+    section("resolve: 01, 'Depth 32 passes'")
+    five, eight, nine = relation(5, kinds=[1, 2]), relation(8, kinds=[2, 2]), relation(4, kinds=[2, 1])
+    links = {'one': lambda t: S(66, 0, t), 'right': lambda t: S(67, 0, LEAF, t), 'else': lambda t: S(71, 0, SAID, LEAF, t),
+             'subject': lambda t: S(72, 0, t), 'pattern': lambda t: S(72, 1, LEAF, t), 'periods': lambda t: S(73, 2, t)}
+    for name, link in links.items():
+        turned(f'deep-{name}', small([five], [ruled(nested(aggregate(5), link, 31))]), {'node': (1, 0)}, rooms=two_rooms)
+        stopped(f'deep-{name}-open', small([eight], [ruled(nested(aggregate(8), link, 31))]), 10, 'node', 17, 2)
+    links = {'not': lambda t: J(100, 0, t), 'and': lambda t: J(97, 2, SAID, t), 'exists': lambda t: exists(19, t)}
+    for name, link in links.items():
+        turned(f'deep-{name}', small([nine, filtered(6, kinds=[1, 2], predicate=nested(member(4), link, 31))],
+                                     [ruled(nested(member(4, label=None), link, 31))]), {'node': (1, 0)}, rooms=two_rooms)
+        stopped(f'deep-{name}-open', small([eight, filtered(6, kinds=[2, 2], predicate=nested(member(8), link, 31))]), 10, 'node', 6, 2)
+    # where trees in where trees, two levels each: from 2 to 1 and back; membership is lost there
+    in_turn = lambda k: {f'at {i}': (0, 1) if i % 2 else (1, 0) for i in range(k)}
+    for kind in range(74, 78):
+        turned(f'deep-where-{kind}', small([five], [ruled(nested_where(J(104, 1), 16, kind))]), in_turn(16), rooms=two_rooms)
+    turned('deep-where-member', small([five, nine, filtered(6, kinds=[1, 2], predicate=holds(nested_where(member(4), 15)))]),
+           in_turn(15), rooms=two_rooms)
+    stopped('deep-where-open', small([five, relation(8, kinds=[1, 1])], [ruled(nested_where(holds(aggregate(8)), 15))]), 10, 'node', 17, 1)
+    last = [ruled(nested_where(holds(only(5)), 15), origin=6)]
+    stopped('deep-where-input', small([five], last, [block(6, [item(12, 1, 1)])]), 15, 'node', 17, 12)
+    turned('deep-where-input-owned', small([five], last, [block(6, [item(12, 1, 2)])]), {'node': (0, 1), **in_turn(15)}, rooms=two_rooms)
+    # two deep arms: the second starts where the first ends
+    arms = lambda *bottoms: [ruled(S(67, 0, *[nested(t, lambda t: S(66, 0, t), 30) for t in bottoms]))]
+    left = aggregate(5, label='left')
+    turned('deep-two-arms', small([five], arms(left, aggregate(5))), {'left': (1, 0), 'node': (1, 0)}, rooms=two_rooms)
+    stopped('deep-second-arm', small([five, eight], arms(left, aggregate(8))), 10, 'node', 17, 2)
+
+
+def nested_where(t, k, kind=74):
+    """A judgment below k aggregates over 5, with comparisons between them."""
+    for i in reversed(range(k)):
+        t = aggregate(5, where=t, kind=kind, label=f'at {i}')
+        t = holds(t) if i else t
+    return t
+
+
+def places_of_refusals():
+    section("resolve: 01, 'Place is a word's index in the pack': refusals at far places")
+    five, eight = relation(5, kinds=[1, 2]), relation(8, kinds=[2, 2])
+    many = [ruled(aggregate(5, label=None), name=i % 20) for i in range(600)]
+    stopped('far-rule', small([five, eight], many + [ruled(LEAF, aggregate(8), name=3)]), 10, 'node', 3, 2)
+    stopped('far-body', small([five, eight], [ruled(*[aggregate(5, label=None)] * 63, only(5))]), 13, 'node', 17, 12)
+    relations = [filtered(20 + i, kinds=[1, 2], predicate=holds(aggregate(5, label=None))) for i in range(300)]
+    last = filtered(6, kinds=[1, 2], predicate=holds(only(5, 11, value=84)))
+    stopped('far-predicate', small([five, eight, *relations, last], n=400), 11, 'node', 6, 11)
+    last = [ruled(aggregate(4094), entity=4095, name=4093)]
+    stopped('far-name', small([relation(4094, kinds=[4095, 4095])], last, n=4096), 10, 'node', 4093, 4095)
+    stopped('far-input', small([five], [ruled(only(5, 4095), entity=2, name=4095)], n=4096), 13, 'node', 4095, 4095)
+    stopped('far-last-word', small([eight], [ruled(S(68, 8150, *[LEAF] * 8149, aggregate(8)))]), 10, 'node', 17, 2)
+
+
+# ---- packs made by chance for Resolve
+
+def chance_resolved_tree(r, n, sort, left):
+    """A tree of few names and many relations."""
+    slot = lambda: r.one_of([0, 1, 1, 2, 7, NONE])
+    name = lambda: r.below(n)
+
+    def child(s):
+        return chance_resolved_tree(r, n, s, left - 1)
+
+    if sort == 'scalar':
+        kind = r.one_of([64, 65, 74, 75, 76, 78]) if left <= 1 else r.one_of([64, 66, 67, 68, 70, 71, 72, 73, 74, 74, 75, 76, 77, 74, 78])
+        if kind == 64:
+            return S(64, r.below(99))
+        if kind == 65:
+            return S(65, name())
+        if kind == 78:
+            return only(name(), r.below(4), (slot(), slot()), 84 if r.below(12) == 0 else 82, None)
+        if kind >= 74:
+            return aggregate(name(), (slot(), slot()), child('judgment') if left > 1 and r.below(2) else None, kind, None)
+        if kind in (66, 67):
+            return S(kind, 5, *[child('scalar') for _ in range(kind - 65)])
+        if kind in (68, 70):
+            k = r.below(3)
+            return S(kind, k, *[child('scalar') for _ in range(k)])
+        if kind == 71:
+            return S(71, 0, child('judgment'), child('scalar'), child('scalar'))
+        if kind == 72:
+            k = r.below(3)
+            return S(72, k, *[child('scalar') for _ in range(k + 1)])
+        v = r.below(8)
+        return S(73, v, *[child('scalar') for _ in range(1 + v % 2)])
+    kind = r.one_of([101, 101, 105, 106, 102, 104]) if left <= 1 else r.one_of([96, 96, 97, 98, 99, 100, 101, 101, 103, 106])
+    if kind == 96:
+        return J(96, 1, child('scalar'), child('scalar'))
+    if kind in (97, 98, 99):
+        k = r.below(3)
+        return J(kind, k, *[child('judgment') for _ in range(k)])
+    if kind == 100:
+        return J(100, 0, child('judgment'))
+    if kind == 101:
+        return member(name(), (slot(), slot()), None)
+    if kind == 102:
+        return atom(name())
+    if kind == 103:
+        return exists(name(), child('judgment'))
+    return J(kind, name())
+
+
+def chance_resolved_pack(r):
+    n = 5 + r.below(4)
+    name, kind, origin = lambda: r.below(n), lambda: r.below(3), lambda: r.one_of([NONE, NONE, 1, 2])
+    kinds = lambda: [kind() for _ in range(r.one_of([1, 2, 2, 2, 2, 2, 2, 3]))]
+    tree = lambda sort: chance_resolved_tree(r, n, sort, 1 + r.below(4))
+    order = [x for _, x in sorted((r.below(1000), x) for x in range(n) if r.below(5))]
+    relations = []
+    for x in order:
+        if r.below(2):
+            relations.append(relation(x, origin(), kinds=kinds() if r.below(8) else ()))
+        else:
+            relations.append(relation(x, origin(), kinds=kinds() if r.below(5) == 0 else (), derived=derivation(
+                NONE if r.below(8) == 0 else name(), [(name(), 0, 1)] * r.below(3) if r.below(6) == 0 else None,
+                (r.one_of([0, 0, 1, 2]), r.one_of([1, 1, 0, 2])), kind() if r.below(3) == 0 else NONE, kinds=kinds() if r.below(3) == 0 else (),
+                predicate=tree('judgment'))))
+    rules = [rule(name(), origin(), kind(), [tree(r.one_of(['scalar', 'judgment'])) for _ in range(1 + r.below(2))]) for _ in range(r.below(4))]
+    blocks = [block(o, None if r.below(9) == 0 else [item(x, int(r.below(6) > 0), kind()) for x in range(4) if r.below(8)]
+                    + ([item(r.below(4), 1, kind())] if r.below(6) == 0 else [])) for o in (NONE, 1, 2) if r.below(6)]
+    return pack(n, [x for x in range(n) if r.below(5) == 0], relations, rules, blocks)
+
+
+def without(t, at, wanted):
+    """The tree whose root stands at a place, with a leaf in place of the node that stands where it is said."""
+    if at == wanted:
+        return S(64, 3) if t.head.takes == 'scalar' else J(106, 3)
+    children, at = [], at + 1 + len(t.fields)
+    for child in t.children:
+        children.append(without(child, at, wanted))
+        at += len(child)
+    return Tree(t.head, [t.fields, *children])
+
+
+def mended(p, refusal):
+    """The pack without what it is refused for: a defaulted name, or a node."""
+    number, wanted, name, _ = refusal
+    records = dict(p.records)
+    if number == 9:
+        return pack(**{**records, 'defaulted': [d for d in records['defaulted'] if d != name]})
+    relations, rules, at = [], [], 4 + len(records['defaulted'])
+    for r in records['relations']:
+        at += len(relation_words(r))
+        d = r.derived
+        relations.append(r._replace(derived=d._replace(predicate=without(d.predicate, at - len(d.predicate), wanted))) if d else r)
+    at += 1
+    for r in records['rules']:
+        bodies, at = [], at + 4
+        for t in r.records['bodies']:
+            bodies.append(without(t, at + 1, wanted))
+            at += 1 + len(t)
+        rules.append(rule(r.records['name'], r.records['origin'], r.records['entity'], bodies))
+    return pack(**{**records, 'relations': relations, 'rules': rules})
+
+
+def dealt(p, r):
+    """The pack's relations, rules, blocks and items in an order made by chance."""
+    mixed = lambda things: [x for _, _, x in sorted((r.below(1000), i, x) for i, x in enumerate(things))]
+    records = p.records
+    blocks = [block(b.records['origin'], None if b.records['items'] is None else mixed(b.records['items'])) for b in mixed(records['blocks'])]
+    return pack(records['n'], records['defaulted'], mixed(records['relations']), mixed(records['rules']), blocks)
+
+
+def words_of(p):
+    """The records of a pack by their words, however they are ordered; a block's items too."""
+    records = p.records
+    texts = [('relation', tuple(map(number, relation_words(r)))) for r in records['relations']]
+    texts += [('rule', tuple(map(number, r))) for r in records['rules']]
+    for b in records['blocks']:
+        items = b.records['items']
+        texts.append(('block', b.records['origin'], items if items is None else tuple(sorted(tuple(map(number, i)) for i in items))))
+    return Counter(texts)
+
+
+def resolve_by_chance():
+    section('resolve: packs made by chance, mended as often as chance has it, and dealt out again')
+    r = Chance(20250107)
+    for i in range(300):
+        p = chance_resolved_pack(r)
+        for _ in range(r.one_of([0, 0, 1, 2, 3, 8])):
+            refusal = Resolving(p).refusal
+            if refusal is None:
+                break
+            p = mended(p, refusal)
+        model = Resolving(p)
+        ok(f'any-{i}', p, [len(p)])
+        q = dealt(p, r)
+        other = Resolving(q)
+        # demand 3: both resolve, record by record alike, or both refuse, by 9 and the same name or each by one of 10 to 15
+        if model.refusal:
+            assert other.refusal and (model.refusal[0] == 9) == (other.refusal[0] == 9), i
+            assert model.refusal[0] != 9 or model.refusal[2] == other.refusal[2], i
+        else:
+            assert other.result and words_of(model.result) == words_of(other.result) and len(model.result) == len(other.result), i
+            assert model.steps == other.steps, i
+        if i % 4 == 0:
+            ok(f'any-{i}-dealt', q, [len(q)])
+
+
+# ---- the original's answers
+
+def originals():
+    """The lines of tests/oracle/answers.txt, which tests/oracle wrote from the original's answers, as they stand there."""
+    here = os.path.dirname(os.path.abspath(__file__))
+    with open(os.path.join(here, 'oracle', 'answers.txt')) as f:
+        texts = f.read().splitlines()
+    words = lambda text: [int(w, 16) for w in text.split()]
+    for text in texts:
+        head, *rest = [part.strip() for part in text.split('|')]
+        if text.startswith('#'):
+            lines.append(text)
+        elif len(rest) == 4:
+            expected, length, rooms, pack_words = rest
+            add(head, words(pack_words), expected, [int(r) for r in rooms.split()])
+            assert len(cases[-1].words) == int(length), head
+        else:
+            name, operation, *args = head.replace(' > ', ' ').split()
+            call(name, operation, tuple(map(int, args)), rest[0], words(rest[1]))
+
+
+RESOLVE = (worked_resolve, equal_kinds, framed, first_refusals, inputs, directions, kind_0, stamping, rooms_and_lengths, deep_trees,
+           places_of_refusals, resolve_by_chance)
+
+
+def counted():
+    """How many packs Resolve refuses by each number, and how many it resolves, as 0."""
+    found = {(c.case, int(c.expected.split()[1]) if c.expected.startswith('refused') else 0) for c in calls if c.operation == 'resolve'}
+    return sorted(Counter(n for _, n in found).items())
+
+
 def main():
+    here = os.path.dirname(os.path.abspath(__file__))
+    parser = argparse.ArgumentParser(description='Writes the list of packs and what the program that replays it must write.')
+    parser.add_argument('--folder', default=os.path.join(here, '..', 'crates', 'cases'), help='where stdin and stdout are written')
+    options = parser.parse_args()
     for part in (lengths, limits, names, values, counts, any_values, depth, order, rising, used, places, heads, by_chance,
                  worked, graphs, lists, large_chains, sizes, entities, damaged_chains, chains_by_chance):
         part()
     tables_by_hand()
-    folder = os.path.join(os.path.dirname(os.path.abspath(__file__)), '..', 'crates', 'cases')
+    for part in RESOLVE:
+        part()
+    originals()
+    folder = options.folder
     words = [w for c in cases for w in c.words]
     texts = [t if isinstance(t, str) else text_of(t) for t in lines]
     assert max(map(len, texts)) < 65536  # the program's buffer
@@ -1222,6 +2286,7 @@ def main():
     with open(os.path.join(folder, 'stdout'), 'w') as f:
         f.write(f'{len(words)} words, sum {sum(words) % 2 ** 32:08x}, {sum(len(c.rooms) for c in cases)} rewrites, {len(calls)} calls\n')
         f.write(f'{len(cases)} cases, 0 differ\n')
+    print(', '.join(f'{k} packs refused by {n}' if n else f'{k} packs resolved' for n, k in counted()))
 
 
 if __name__ == '__main__':

@@ -1,4 +1,4 @@
-// Calls of the operations on chains, on the pack of the last case: All kinds, Kinds of one name, Lean and the filtered tables.
+// Calls of the other operations on the pack of the last case: All kinds, Kinds of one name, Lean, the filtered tables and Resolve.
 use crate::compare::fill;
 use crate::compare::same;
 use crate::compare::unlike;
@@ -15,6 +15,7 @@ use chains::kinds_of::kinds_of;
 use chains::lean::lean;
 use pack::answer::Answer;
 use pack::check::refuse;
+use resolve::resolve::resolve;
 
 // What the operation that is named here answers; no operation gives refusal 0.
 fn answer_of(line: &[u8], c: Call, pack: &[u32], out: &mut [u32]) -> Answer {
@@ -39,6 +40,9 @@ fn answer_of(line: &[u8], c: Call, pack: &[u32], out: &mut [u32]) -> Answer {
     }
     if stands(line, at, b"unresolved ") {
         return filtered(pack, Filter::Unresolved, out);
+    }
+    if stands(line, at, b"resolve ") {
+        return resolve(pack, out);
     }
     refuse(0, 0)
 }

@@ -1,6 +1,6 @@
 // Replays a list of packs with the answers that document 01 gives to them: Check, Rewrite into buffers of several lengths,
 // and calls of the operations on chains: All kinds, Kinds of one name, Lean, and the tables of direct and innermost kinds,
-// of aliases and of entities that are unresolved.
+// of aliases and of entities that are unresolved; and of Resolve.
 // It reads the list, which tests/make_cases.py makes and describes, from standard input.
 mod call;
 mod compare;
