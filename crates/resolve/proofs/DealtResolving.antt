@@ -18,9 +18,8 @@ use Rattle.chains.proofs.Names.{shuffled-any, shuffled-map}
 use Rattle.chains.proofs.KindLaws.{kinds-dealt, distinct-names}
 use Rattle.chains.proofs.FilteredLaws.{filtered-dealt}
 use Rattle.resolve.specs.Tables.{derivedAt, typedAt, Tables, tables}
-use Rattle.resolve.specs.Turning.{Outcome, done, refused, andThen, mapDone, Citing}
+use Rattle.resolve.specs.Turning.{Outcome, done, refused, andThen, mapDone, Citing, InRange, result}
 use Rattle.resolve.specs.Resolving.{cites, defaultedEqual, equalRefusal, ruleBy, resolveRule, resolveRules, predicateBy, withPredicate, resolveDerivation, resolveRelation, resolveRelations, holds, roleJudgment, atomOf, inDerivation, inRule, atomNames, empty, stampBy, stampDerived, stamp, firstRule, resolveRecords, resolved}
-use Rattle.resolve.specs.Demand3.{InRange, result}
 use Rattle.resolve.proofs.OutcomeLaws.{result-map, allDone, Alike, all-dealt}
 use Rattle.resolve.proofs.PlaceFree.{rules-each, relations-each}
 use Rattle.resolve.proofs.Numbers.{Numbered, rules-numbered, relations-numbered}

@@ -20,10 +20,10 @@ use Rattle.chains.proofs.KindLaws.{kinds-dealt, distinct-names}
 use Rattle.chains.proofs.ListAt.{place-holds}
 use Rattle.chains.proofs.DealtChains.{all-kinds-steps, chains-dealt}
 use Rattle.resolve.specs.Tables.{tables}
-use Rattle.resolve.specs.Turning.{Outcome, done, refused, andThen, mapDone}
+use Rattle.resolve.specs.Turning.{Outcome, done, refused, andThen, mapDone, result}
 use Rattle.resolve.specs.Resolving.{defaultedEqual, equalRefusal, resolveRules, resolveRelation, resolveRelations, stamp, firstRule, resolveRecords, resolved}
 use Rattle.resolve.specs.Operations.{givenOut, writtenOut, resolveAnswer, resolveBuffer}
-use Rattle.resolve.specs.Demand3.{AnswersAlike, bothGiven, bothEqual, bothRoom, bothOpen, BuffersAlike, untouched, written, result, ruleOut, Each, nil, cons, ComesOut, Demand3}
+use Rattle.resolve.specs.Demand3.{AnswersAlike, bothGiven, bothEqual, bothRoom, bothOpen, BuffersAlike, untouched, written, ruleOut, Each, nil, cons, ComesOut, Demand3}
 use Rattle.resolve.proofs.OutcomeLaws.{bound, allDone}
 use Rattle.resolve.proofs.PlaceFree.{rules-each, relations-each}
 use Rattle.resolve.proofs.DealtResolving.{ResolvedAlike, bothDone, bothRefused, rule-alike, relation-alike, stamp-alike, resolve-dealt}

@@ -2,6 +2,7 @@ pub mod Worked
 pub mod OutcomeLaws
 pub mod PlaceFree
 pub mod Numbers
+pub mod ResolveNumbers
 pub mod InputLaws
 pub mod DealtResolving
 pub mod KeepsForm

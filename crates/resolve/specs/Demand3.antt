@@ -11,13 +11,9 @@ use Rattle.pack.specs.Pack.{Relation, Rule, Pack, total, words}
 use Rattle.pack.specs.Dealt.{Checked, Dealt}
 use Rattle.chains.specs.Kinds.{undeclaredSources, ownAnswer, kindsOf}
 use Rattle.chains.specs.Operations.{placeOf, namesAt, allKindsAnswer}
-use Rattle.resolve.specs.Turning.{Outcome, done, refused}
+use Rattle.resolve.specs.Turning.{Outcome, done, InRange, result}
 use Rattle.resolve.specs.Resolving.{resolveRule, resolveRelation, stamp, resolved}
 use Rattle.resolve.specs.Operations.{resolveAnswer, resolveBuffer}
-
--- 10 to 15
-abbrev pub InRange : ℕ → Type 0
-InRange n = (10 ≤ n) × (n ≤ 15)
 
 -- "both resolve or both refuse": with the same length and steps; by 9 with the same name; by 16; or each by one of 10 to 15
 pub data AnswersAlike : Answer → Answer → Type 0 where
@@ -30,10 +26,6 @@ pub data AnswersAlike : Answer → Answer → Type 0 where
 pub data BuffersAlike (lent lent′ : List ℕ) : List ℕ → List ℕ → Type 0 where
   untouched : BuffersAlike lent lent′ lent lent′
   written : {p q : Pack} → Dealt p q → total p ≡ total q → BuffersAlike lent lent′ (words p ++ drop (total p) lent) (words q ++ drop (total q) lent′)
-
-abbrev pub result : {A : Type 0} → Outcome A → Option A
-result (done a) = some a
-result (refused r) = none
 
 -- what a record comes out as, wherever it stands
 abbrev pub relationOut : Pack → Relation → Option Relation

@@ -1,5 +1,5 @@
 -- Resolving a tree: its slots are set from the kinds of relations, or it is refused at a node. 01, "Resolving".
-use Prim.Native.Nat.{ℕ, _+_}
+use Prim.Native.Nat.{ℕ, _+_, _≤_}
 use mathlib.Core.List.{List, [], _∷_, _++_}
 use mathlib.Core.Option.{Option, none, some}
 use lib.ListN.{length}
@@ -27,6 +27,15 @@ andThen (refused r) f = refused r
 abbrev pub mapDone : {A B : Type 0} → (A → B) → Outcome A → Outcome B
 mapDone f (done a) = done (f a)
 mapDone f (refused r) = refused r
+
+-- what it resolves to, if it does
+abbrev pub result : {A : Type 0} → Outcome A → Option A
+result (done a) = some a
+result (refused r) = none
+
+-- the numbers by which trees are refused: 10 to 15
+abbrev pub InRange : ℕ → Type 0
+InRange n = (10 ≤ n) × (n ≤ 15)
 
 -- what a tree is resolved by: the tables, the citing rule or relation, and the test of an input name with its owner
 pub record Citing : Type 0 where
