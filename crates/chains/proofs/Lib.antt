@@ -31,4 +31,5 @@ pub mod KindBounds
 pub mod InnerLaws
 pub mod SaysLaws
 pub mod OperationLaws
+pub mod RefusalNumbers
 pub mod DealtChains
