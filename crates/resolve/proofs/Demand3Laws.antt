@@ -1,5 +1,5 @@
 -- Demand 3 holds for every checked pack and every pack dealt out of it.
-use Prim.Native.Nat.{ℕ}
+use Prim.Native.Nat.{ℕ, _≤_}
 use native.Mathlib.Omega.{arith}
 use mathlib.Core.Path.{_≡_, refl, ap, sym, _∙_, subst}
 use mathlib.Core.List.{List, [], _∷_, _++_, map}
@@ -7,23 +7,25 @@ use mathlib.Core.Bool.{Bool, true, false, _&&_}
 use mathlib.Core.Option.{Option, none, some, Option·map}
 use lib.ListN.{length, drop}
 use lib.Dec.{leb}
+use borrow.Author.Tests.{le-leb}
 use Rattle.pack.specs.declared.answer.Answer.the-variants.{Given}
 use Rattle.pack.specs.Table.{pick}
-use Rattle.pack.specs.Pack.{Relation, Rule, Pack, WellFormed, yes, read, words, total}
+use Rattle.pack.specs.Pack.{Derivation, Relation, Rule, Pack, WellFormed, yes, read, words, total}
 use Rattle.pack.specs.Operations.{noRoom}
 use Rattle.pack.specs.Dealt.{Checked, Dealt}
 use Rattle.pack.proofs.PackLaws.{words-read}
 use Rattle.pack.proofs.DealtLaws.{dealt-total, dealt-again, dealt-checked}
-use Rattle.chains.specs.Kinds.{allKinds, ownAnswer, kindsOf}
-use Rattle.chains.specs.Operations.{placeOf, namesAt, firstRelation}
-use Rattle.chains.proofs.KindLaws.{kinds-dealt, distinct-names}
+use Rattle.chains.specs.Kinds.{list21, listOf, find, allKinds, ownAnswer, kindsOf}
+use Rattle.chains.specs.Filtered.{kindAt}
+use Rattle.chains.specs.Operations.{placeOf, namesAt, firstRelation, allKindsWords, allKindsBuffer}
+use Rattle.chains.proofs.KindLaws.{kinds-dealt, distinct-names, words-own, words-count, kinds-steps}
 use Rattle.chains.proofs.ListAt.{place-holds}
 use Rattle.chains.proofs.DealtChains.{all-kinds-steps, chains-dealt}
-use Rattle.resolve.specs.Tables.{tables}
+use Rattle.resolve.specs.Tables.{Derived, derivedBy, derivedAt, tables}
 use Rattle.resolve.specs.Turning.{Outcome, done, refused, andThen, mapDone, result}
-use Rattle.resolve.specs.Resolving.{defaultedEqual, equalRefusal, resolveRules, resolveRelation, resolveRelations, stamp, firstRule, resolveRecords, resolved}
+use Rattle.resolve.specs.Resolving.{defaultedEqual, equalRefusal, resolveRules, resolveRelation, resolveRelations, empty, unlike, passedOver, stampedWith, stampBy, stampDerived, stamp, firstRule, resolveRecords, resolved}
 use Rattle.resolve.specs.Operations.{givenOut, writtenOut, resolveAnswer, resolveBuffer}
-use Rattle.resolve.specs.Demand3.{AnswersAlike, bothGiven, bothEqual, bothRoom, bothOpen, BuffersAlike, untouched, written, ruleOut, Each, nil, cons, ComesOut, Demand3}
+use Rattle.resolve.specs.Demand3.{AnswersAlike, bothGiven, bothEqual, bothRoom, bothOpen, BuffersAlike, untouched, written, ruleOut, Each, nil, cons, ComesOut, KindsWritten, no-more, one-more, KindsUsed, stepSum, Demand3}
 use Rattle.resolve.proofs.OutcomeLaws.{bound, allDone}
 use Rattle.resolve.proofs.PlaceFree.{rules-each, relations-each}
 use Rattle.resolve.proofs.DealtResolving.{ResolvedAlike, bothDone, bothRefused, rule-alike, relation-alike, stamp-alike, resolve-dealt}
@@ -99,6 +101,72 @@ comes-out p r e = go (defaultedEqual (tables (p .names) (p .relations)) (p .defa
     go (some n) e = let z : _≡_ {A = ℕ} 0 1 = cc in absurd (omega arith)
     go none e = records-out (resolveRules p (firstRule p) (p .rules)) refl (resolveRelations p (firstRelation p) (p .relations)) refl e
 
+-- ---- kinds and steps
+
+-- at the place of a name's own walk stand its kinds
+kinds-at : (ws : List ℕ) (p : Pack) → read ws ≡ yes p → (n : ℕ) → namesAt ws (placeOf p (ownAnswer (p .relations) n)) ≡ kindsOf (p .relations) n
+kinds-at ws p h n = let r = words-read ws p h in rw (← r .same) (place-holds p (r .fine) n)
+
+kinds-row : (ws : List ℕ) (p : Pack) → read ws ≡ yes p → (l : List Relation) (rest : List ℕ)
+    → KindsWritten ws (p .relations) l (map (λ (r : Relation). placeOf p (ownAnswer (p .relations) (r .name))) l ++ rest)
+kinds-row ws p h [] rest = no-more
+kinds-row ws p h (r ∷ l) rest = one-more (kinds-at ws p h (r .name)) (kinds-row ws p h l rest)
+
+kinds-written : (ws : List ℕ) (p : Pack) → read ws ≡ yes p → (lent : List ℕ) → length (p .relations) ≤ length lent → KindsWritten ws (p .relations) (p .relations) (allKindsBuffer ws lent)
+unfolding allKindsBuffer
+kinds-written ws p h lent fits =
+    let c : length (allKindsWords p) ≡ length (p .relations) = words-count p in
+    rw (h, le-leb (length (allKindsWords p)) (length lent) (omega arith), words-own p) (kinds-row ws p h (p .relations) _)
+
+derived-kinds : (ks : Option (List ℕ)) (o : Option Relation) (d : Derived) → derivedAt ks o ≡ some d → d .kinds ≡ ks
+derived-kinds ks none d e = let z : _≡_ {A = ℕ} 0 1 = cc in absurd (omega arith)
+derived-kinds ks (some r) d e = go (r .derivation) e
+  where
+    go : (o : Option Derivation) → derivedBy ks o ≡ some d → d .kinds ≡ ks
+    go none e = let z : _≡_ {A = ℕ} 0 1 = cc in absurd (omega arith)
+    go (some b) e = let u : record { current = b .current; related = b .related; kinds = ks } ≡ d = cc in ap (λ (x : Derived). x .kinds) (sym u)
+
+-- a relation that stamping changes has its kinds in list 21
+stamped-kinds : (p : Pack) (r : Relation) → (stamp p r ≡ r → ⊥) → kindsOf (p .relations) (r .name) ≡ some (listOf list21 (stamp p r))
+unfolding stamp
+stamped-kinds p r = go (r .derivation)
+  where
+    by : (ks : Option (List ℕ)) (d : Derivation) → (stampBy ks r d ≡ r → ⊥) → ks ≡ some (listOf list21 (stampBy ks r d))
+    by none d changes = absurd (changes refl)
+    by (some ks) d changes = unlikely (empty (d .slotEntities) && unlike (kindAt (some ks) (d .current)) (kindAt (some ks) (d .related))) changes
+      where
+        unlikely : (b : Bool) → (pick b (stampedWith r d ks) r ≡ r → ⊥) → some ks ≡ some (listOf list21 (pick b (stampedWith r d ks) r))
+        unlikely true changes = refl
+        unlikely false changes = absurd (changes refl)
+
+    go : (o : Option Derivation) → (stampDerived p r o ≡ r → ⊥) → kindsOf (p .relations) (r .name) ≡ some (listOf list21 (stampDerived p r o))
+    go none changes = absurd (changes refl)
+    go (some d) changes = over (passedOver p r d) changes
+      where
+        over : (b : Bool) → (pick b r (stampBy (kindsOf (p .relations) (r .name)) r d) ≡ r → ⊥)
+            → kindsOf (p .relations) (r .name) ≡ some (listOf list21 (pick b r (stampBy (kindsOf (p .relations) (r .name)) r d)))
+        over true changes = absurd (changes refl)
+        over false changes = by (kindsOf (p .relations) (r .name)) d changes
+
+kinds-used : (p : Pack) → KindsUsed p
+unfolding tables
+kinds-used p = record { table = λ n d e. derived-kinds (kindsOf (p .relations) n) (find n (p .relations)) d e; stamps = stamped-kinds p }
+
+steps-answered : (ws : List ℕ) (p : Pack) → read ws ≡ yes p → (room len steps : ℕ) → resolveAnswer ws room ≡ Given len steps → steps ≡ stepSum p
+unfolding resolveAnswer
+steps-answered ws p h room len steps e = go (resolved p) (rw h at e)
+  where
+    sum : ℕ
+    sum = allKinds (p .relations) .steps
+
+    go : (o : Outcome Pack) → givenOut sum room o ≡ Given len steps → steps ≡ stepSum p
+    go (refused r) q = let z : _≡_ {A = ℕ} 0 1 = cc in absurd (omega arith)
+    go (done r) q = fits (leb (total r) 8192 && leb (total r) room) q
+      where
+        fits : (b : Bool) → pick b (Given (total r) sum) noRoom ≡ Given len steps → steps ≡ stepSum p
+        fits true q = let u : sum ≡ steps = cc in sym u ∙ kinds-steps (p .relations) (distinct-names p (words-read ws p h .fine))
+        fits false q = let z : _≡_ {A = ℕ} 0 1 = cc in absurd (omega arith)
+
 -- ---- the whole
 
 pub demand-3 : (ws : List ℕ) (p q : Pack) → read ws ≡ yes p → Dealt p q → Demand3 ws p q (words q)
@@ -118,19 +186,19 @@ demand-3 ws p q h d =
       comes-again = comes-out q;
       same-relation = λ r. ap (Option·map (stamp p)) (relation-alike p q w d r) ∙ stamped (result (resolveRelation q 0 r));
       same-rule = rule-alike p q w d;
-      kinds = λ n. kinds-at ws p h n;
-      kinds-again = λ n. kinds-at (words q) q k n;
+      kinds = kinds-written ws p h;
+      kinds-again = kinds-written (words q) q k;
+      resolving = kinds-used p;
+      resolving-again = kinds-used q;
       same-kinds = kinds .kinds;
       all-kinds = chains .all-kinds;
       steps = all-kinds-steps ws p h;
+      resolve-steps = steps-answered ws p h;
     }
   where
     stamped : (o : Option Relation) → Option·map (stamp p) o ≡ Option·map (stamp q) o
     stamped none = refl
     stamped (some s) = ap some (stamp-alike p q (words-read ws p h .fine) d s)
-
-    kinds-at : (ws : List ℕ) (p : Pack) → read ws ≡ yes p → (n : ℕ) → namesAt ws (placeOf p (ownAnswer (p .relations) n)) ≡ kindsOf (p .relations) n
-    kinds-at ws p h n = let r = words-read ws p h in rw (← r .same) (place-holds p (r .fine) n)
 
 -- for every checked pack
 pub record OrderNeverMatters (ws : List ℕ) : Type 0 where

@@ -9,8 +9,9 @@ use Rattle.pack.specs.declared.answer.Answer.{Answer}
 use Rattle.pack.specs.declared.answer.Answer.the-variants.{Given, Refused}
 use Rattle.pack.specs.Pack.{Relation, Rule, Pack, total, words}
 use Rattle.pack.specs.Dealt.{Checked, Dealt}
-use Rattle.chains.specs.Kinds.{undeclaredSources, ownAnswer, kindsOf}
-use Rattle.chains.specs.Operations.{placeOf, namesAt, allKindsAnswer}
+use Rattle.chains.specs.Kinds.{list21, listOf, undeclaredSources, kindsOf}
+use Rattle.chains.specs.Operations.{namesAt, allKindsAnswer, allKindsBuffer}
+use Rattle.resolve.specs.Tables.{Derived, tables}
 use Rattle.resolve.specs.Turning.{Outcome, done, InRange, result}
 use Rattle.resolve.specs.Resolving.{resolveRule, resolveRelation, stamp, resolved}
 use Rattle.resolve.specs.Operations.{resolveAnswer, resolveBuffer}
@@ -47,6 +48,21 @@ pub record ComesOut (p q : Pack) : Type 0 where
   pub defaulted : q .defaulted ≡ p .defaulted
   pub names : q .names ≡ p .names
 
+-- "A relation's kinds are the names, in order, of the list at the place that All kinds, where it answers, writes for it, none at 0": one word for each
+-- relation of a list, and there the kinds of its own walk among the relations `rs`
+pub data KindsWritten (ws : List ℕ) (rs : List Relation) : List Relation → List ℕ → Type 0 where
+  no-more : {rest : List ℕ} → KindsWritten ws rs [] rest
+  one-more : {r : Relation} {l : List Relation} {place : ℕ} {out : List ℕ} → namesAt ws place ≡ kindsOf rs (r .name) → KindsWritten ws rs l out → KindsWritten ws rs (r ∷ l) (place ∷ out)
+
+-- "in Resolve, those that tables and stamping use, so a stamped list holds them"
+pub record KindsUsed (p : Pack) : Type 0 where
+  pub table : (n : ℕ) (d : Derived) → tables (p .names) (p .relations) .derived n ≡ some d → d .kinds ≡ kindsOf (p .relations) n
+  pub stamps : (r : Relation) → (stamp p r ≡ r → ⊥) → kindsOf (p .relations) (r .name) ≡ some (listOf list21 (stamp p r))
+
+-- "relations + distinct undeclared sources that inheriting relations name"
+abbrev pub stepSum : Pack → ℕ
+stepSum p = length (p .relations) + length (undeclaredSources (p .relations))
+
 -- the words of a checked pack, the pack itself, one dealt out of it, and that one's words
 pub record Demand3 (ws : List ℕ) (p q : Pack) (vs : List ℕ) : Type 0 where
   -- "a checked pack dealt out again is checked"
@@ -59,10 +75,13 @@ pub record Demand3 (ws : List ℕ) (p q : Pack) (vs : List ℕ) : Type 0 where
   pub comes-again : (r : Pack) → resolved q ≡ done r → ComesOut q r
   pub same-relation : (r : Relation) → relationOut p r ≡ relationOut q r
   pub same-rule : (r : Rule) → ruleOut p r ≡ ruleOut q r
-  -- the kinds: those of All kinds are the own walk's, and Resolve uses the same; alike in both
-  pub kinds : (n : ℕ) → namesAt ws (placeOf p (ownAnswer (p .relations) n)) ≡ kindsOf (p .relations) n
-  pub kinds-again : (n : ℕ) → namesAt vs (placeOf q (ownAnswer (q .relations) n)) ≡ kindsOf (q .relations) n
+  -- "every relation's kinds, from All kinds and in Resolve, are exactly those of its own walk, and alike in both packs"
+  pub kinds : (lent : List ℕ) → length (p .relations) ≤ length lent → KindsWritten ws (p .relations) (p .relations) (allKindsBuffer ws lent)
+  pub kinds-again : (lent : List ℕ) → length (q .relations) ≤ length lent → KindsWritten vs (q .relations) (q .relations) (allKindsBuffer vs lent)
+  pub resolving : KindsUsed p
+  pub resolving-again : KindsUsed q
   pub same-kinds : (n : ℕ) → kindsOf (p .relations) n ≡ kindsOf (q .relations) n
   pub all-kinds : (room : ℕ) → allKindsAnswer ws room ≡ allKindsAnswer vs room
-  -- "and the step count is an exact sum"
-  pub steps : (room : ℕ) → length (p .relations) ≤ room → allKindsAnswer ws room ≡ Given (length (p .relations)) (length (p .relations) + length (undeclaredSources (p .relations)))
+  -- "The steps that All kinds and Resolve answer are exactly relations + distinct undeclared sources that inheriting relations name."
+  pub steps : (room : ℕ) → length (p .relations) ≤ room → allKindsAnswer ws room ≡ Given (length (p .relations)) (stepSum p)
+  pub resolve-steps : (room len steps : ℕ) → resolveAnswer ws room ≡ Given len steps → steps ≡ stepSum p
