@@ -67,6 +67,6 @@ pub record Worked : Type 0 where
   -- I1: direct 3→4, 4→3, 5→3
   pub inner : map (innermostBy (directs ((3, 4) ∷ (4, 3) ∷ (5, 3) ∷ [])) 10) (3 ∷ 4 ∷ 5 ∷ 6 ∷ []) ≡ none ∷ none ∷ none ∷ none ∷ []
 
-worked : Worked
+pub worked : Worked
 unfolding walk walksFrom own find kindStep kindsOf
 worked = record { kinds = refl; inner = refl }

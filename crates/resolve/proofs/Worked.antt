@@ -1,4 +1,4 @@
--- 01's starred cases A1 to A3, M1, G1 and S1, and A4 and A5: a table of packs and what resolving comes to, held by one theorem on the definitions.
+-- 01's starred cases: a table of packs and what resolving comes to, with A4 and A5, beside the table of kinds and steps; both are held by one theorem on the definitions.
 use Prim.Native.Nat.{ℕ}
 use mathlib.Core.Path.{_≡_, refl}
 use mathlib.Core.List.{List, [], _∷_, map}
@@ -12,6 +12,7 @@ use Rattle.chains.specs.Chain.{walk, own}
 use Rattle.chains.specs.Kinds.{find, kindStep, kindsOf}
 use Rattle.chains.specs.Filtered.{taken, direct}
 use Rattle.chains.specs.Operations.{startOf}
+use Rattle.chains.proofs.Worked.{Worked, worked}
 use Rattle.resolve.specs.Tables.{tables}
 use Rattle.resolve.specs.Direction.{turn}
 use Rattle.resolve.specs.Direction as direction
@@ -83,6 +84,11 @@ cases =
     ∷ record { given = packed [] (derived (1 ∷ 2 ∷ []) [] 0 5 3 nothing ∷ []) []; comes = done (packed [] (derived (1 ∷ 2 ∷ []) (1 ∷ 2 ∷ []) 0 5 3 nothing ∷ []) []) }
     ∷ []
 
-pub worked : map (λ (c : Case). resolved (c .given)) cases ≡ map (λ (c : Case). c .comes) cases
+-- K1 to K6 and I1, then A1 to A5, M1, G1 and S1
+pub record Starred : Type 0 where
+  pub chains : Worked
+  pub resolving : map (λ (c : Case). resolved (c .given)) cases ≡ map (λ (c : Case). c .comes) cases
+
+pub starred : Starred
 unfolding entryOf table wordsBy count items tree root follow fields relation newName relationTail nameList optionalDerivation derivation chain path hop member walk own find kindStep kindsOf taken direct startOf tables turn direction.member input stepBy size resolveTree defaultedEqual resolveBodies ruleBy resolveRules predicateBy resolveRelation resolveRelations holds atomNames stamp resolved
-worked = refl
+starred = record { chains = worked; resolving = refl }
