@@ -24,6 +24,7 @@ pub mod CheckedLaws
 pub mod SourceLaws
 pub mod TakingLaws
 pub mod ListAt
+pub mod RecordLaws
 pub mod TakenKnown
 pub mod FillLaws
 pub mod SaidLaws

@@ -3,6 +3,7 @@ pub mod Kinds
 pub mod Reach
 pub mod Filtered
 pub mod Operations
+pub mod Record
 pub mod Scan
 pub mod Index
 pub mod Settle

@@ -10,6 +10,7 @@ pub mod index;
 pub mod kinds_of;
 pub mod lean;
 pub mod mark_kinds;
+pub mod record;
 mod settle;
 mod sources;
 pub mod taking;

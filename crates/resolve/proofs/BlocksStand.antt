@@ -14,9 +14,9 @@ use Rattle.pack.specs.Pack.{Item, Block, Pack, WellFormed, yes, read, item, blo
 use Rattle.pack.proofs.PackLaws.{words-read}
 use Rattle.chains.proofs.Hushed.{Quiet, quiet-append, quiet-word}
 use Rattle.resolve.specs.Inputs.{sequence, input}
-use Rattle.resolve.specs.Words.{valueAt}
+use Rattle.chains.specs.Record.{valueAt}
 use Rattle.resolve.specs.Blocks.{inputIn, placeOfKind}
-use Rattle.resolve.proofs.TablesLaws.{value-there}
+use Rattle.chains.proofs.RecordLaws.{value-there}
 use Rattle.resolve.proofs.WordsBefore.{loud, defaulted-hushed, relations-hushed, rules-hushed, place-quiet}
 use Rattle.resolve.proofs.InputRead.{numberOf, input-read, itemsWords, blockWords, blocksWords, ItemsFit, BlockFits, BlocksFit}
 

@@ -32,7 +32,8 @@ use Rattle.chains.proofs.PackIndex.{zeros, parts, scan-table, find-kept, find-n
 use Rattle.chains.proofs.ListAt.{InWords, in-pack, place-holds}
 use Rattle.chains.proofs.SaysLaws.{direct-in}
 use Rattle.resolve.specs.Tables.{derivedAt, typedAt, Tables, tables}
-use Rattle.resolve.specs.Words.{directBy, recordAfter, typedIn, derivedIn, tablesIn, Recorded}
+use Rattle.resolve.specs.Words.{directBy, recordAfter, typedIn, derivedIn, tablesIn}
+use Rattle.chains.specs.Record.{Recorded}
 use Rattle.resolve.proofs.TablesLaws.{typed-read, derived-read}
 
 -- ---- the places of records

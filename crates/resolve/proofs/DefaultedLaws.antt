@@ -16,7 +16,8 @@ use Rattle.pack.proofs.PackLaws.{words-read}
 use Rattle.chains.proofs.PackIndex.{Parts, parts, split, relationsPart}
 use Rattle.resolve.specs.Tables.{Tables}
 use Rattle.resolve.specs.Resolving.{equalKinds, defaultedEqual}
-use Rattle.resolve.specs.Words.{valueAt, derivedBy, equalIn, firstEqual, DefaultedFit}
+use Rattle.resolve.specs.Words.{derivedBy, equalIn, firstEqual, DefaultedFit}
+use Rattle.chains.specs.Record.{valueAt}
 
 -- a name, or the number for none
 abbrev pub orNone : Option ℕ → ℕ

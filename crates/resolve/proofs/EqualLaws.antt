@@ -19,7 +19,8 @@ use Rattle.resolve.specs.Direction.{Membership, membership}
 use Rattle.resolve.specs.Resolving.{sameKind}
 use Rattle.pack.specs.Table.{pick}
 use Rattle.pack.specs.Table as table
-use Rattle.resolve.specs.Words.{valueAt, firstEqual, DefaultedFit, flagAt, slotsPlace, derivedIn, equalIn, slotKindsIn, membershipOf}
+use Rattle.resolve.specs.Words.{firstEqual, DefaultedFit, derivedIn, equalIn, slotKindsIn, membershipOf}
+use Rattle.chains.specs.Record.{valueAt, flagAt, slotsPlace}
 
 -- ---- the kinds in the slots
 

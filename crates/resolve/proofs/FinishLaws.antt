@@ -25,7 +25,7 @@ use Rattle.chains.proofs.PackIndex.{parts, zeros}
 use Rattle.chains.proofs.CheckedLaws.{same-pack}
 use Rattle.resolve.specs.Turning.{Outcome, done, refused, andThen, mapDone}
 use Rattle.resolve.specs.Resolving.{stamp, ruleWords, resolveRule, resolveRules, resolveRelation, resolveRelations, firstRule}
-use Rattle.resolve.specs.Words.{Recorded}
+use Rattle.chains.specs.Record.{Recorded}
 use Rattle.resolve.specs.Stamping.{atomsIn, listIn}
 use Rattle.resolve.specs.Writing.{written, Stamped}
 use Rattle.resolve.specs.Operations.{givenOut, writtenOut}

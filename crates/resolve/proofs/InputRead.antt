@@ -14,9 +14,9 @@ use Rattle.pack.specs.Form.{listOrNone, count, repeats}
 use Rattle.pack.specs.Pack.{Item, Block}
 use Rattle.chains.specs.Reach.{any}
 use Rattle.resolve.specs.Inputs.{ofOrigin, noSequence, named, sequence, declarations, owned, input}
-use Rattle.resolve.specs.Words.{valueAt}
+use Rattle.chains.specs.Record.{valueAt}
 use Rattle.resolve.specs.Blocks.{seenAfter, seenItems, seenBlock, seenBlocks, inputNumber, inputIn}
-use Rattle.resolve.proofs.TablesLaws.{value-there}
+use Rattle.chains.proofs.RecordLaws.{value-there}
 
 -- the words of items and of blocks
 abbrev pub itemsWords : List Item → List ℕ

@@ -10,7 +10,7 @@ use mathlib.Core.Bool.{Bool, true, false, not}
 use lib.Dec.{eqb}
 use borrow.Author.Tests.{eq-eqb, ne-eqb}
 use Rattle.pack.specs.Table.{pick, kindOf}
-use Rattle.resolve.specs.Words.{valueAt}
+use Rattle.chains.specs.Record.{valueAt}
 use Rattle.resolve.specs.Blocks.{seenAfter, seenItems, seenBlock, seenBlocks, inputNumber, inputIn, far, Near, SeenItems, SeenBlock, AfterBlock, SeenBlocks, placeOfKind}
 
 pub another-name : (seen at : ℕ) (b : Bool) → not b ≡ true → seen ≡ seenAfter seen at b

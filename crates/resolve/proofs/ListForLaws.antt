@@ -9,18 +9,14 @@ use borrow.Author.Tests.{eq-eqb, ne-eqb}
 use Rattle.chains.specs.declared.taking.Kind.{Kind}
 use Rattle.chains.specs.declared.taking.Kind.the-variants as kind
 use Rattle.chains.specs.Taking.{KindFound}
-use Rattle.resolve.specs.Words.{valueAt, kindCount, flagAt, slotsPlace}
-use Rattle.resolve.specs.Stamping.{roleIn, entityCount, predicateAt, unstamped, passedIn, unlikeIn, listFor}
+use Rattle.chains.specs.Record.{valueAt, kindCount, flagAt, slotsPlace, entityCount, predicateAt}
+use Rattle.resolve.specs.Stamping.{roleIn, unstamped, passedIn, unlikeIn, listFor}
 use Rattle.resolve.proofs.EqualLaws.{is-known, is-unknown}
 
--- ---- list 21, and the predicate after it
+-- ---- list 21
 
 module _ (work : List ℕ) (start : ℕ) where
   module _ {at count : ℕ} (s : at ≡ slotsPlace work start) (e : count ≡ valueAt work (at + 4)) where
-    pub predicate-there : at + 5 + count ≡ predicateAt work start
-    unfolding predicateAt entityCount
-    predicate-there = rw (e, s) refl
-
     pub its-entities : {flag : ℕ} → flag ≡ flagAt work start → flag ≡ 1 → eqb count 0 ≡ unstamped work start
     unfolding unstamped entityCount
     its-entities {flag} f z = rw (e, s, ← f, eq-eqb flag 1 z) refl

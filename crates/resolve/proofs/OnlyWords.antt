@@ -13,7 +13,8 @@ use Rattle.resolve.specs.declared.direction.Direction.{Direction}
 use Rattle.resolve.specs.declared.direction.Direction.the-variants.{Turned, Open}
 use Rattle.resolve.specs.Direction.{turn}
 use Rattle.resolve.specs.Turning.{Fields, stops, allowedInput, onlyRelated, stepBy, fieldWords}
-use Rattle.resolve.specs.Words.{tablesIn, valueAt}
+use Rattle.resolve.specs.Words.{tablesIn}
+use Rattle.chains.specs.Record.{valueAt}
 use Rattle.resolve.specs.Blocks.{inputNumber, inputIn, seenBlocks}
 use Rattle.resolve.specs.Walk.{SlotsSet, refusalCode, kindCode, inputCode, onlyCode, setIfNone, onlySet, OnlyOut, orNot, citingIn, stepCode, fieldsAfter, SlotNode, ValueFirst, OnlyStepped}
 use Rattle.resolve.proofs.SlotLaws.{head-is, current-is, related-is}

@@ -22,18 +22,18 @@ use Rattle.chains.proofs.CheckedLaws.{same-pack}
 use Rattle.resolve.specs.Direction.{Membership, membership, orElse, kindOrZero}
 use Rattle.resolve.specs.Turning.{Outcome, done, refused, mapDone, Citing, treeWords, size, resolveTree}
 use Rattle.resolve.specs.Resolving.{cites, predicatePlace, withPredicate, predicateBy, resolvePredicate, resolveDerivation, resolveRelation}
-use Rattle.resolve.specs.Words.{valueAt, kindCount, flagAt, slotsPlace, slotKindsIn}
-use Rattle.resolve.specs.Stamping.{predicateAt}
+use Rattle.resolve.specs.Words.{slotKindsIn}
+use Rattle.chains.specs.Record.{valueAt, kindCount, flagAt, slotsPlace, predicateAt}
 use Rattle.resolve.specs.Walk.{citingIn, TreeAsked, TreeTurned}
 use Rattle.resolve.specs.Passes.{RefusedAs, CameAt, CameFrom, wordsOf, runBy, Many, Ready, Bodily, RelationKeeps, KindsReady, RelationAsked, RelationCame, RelationsAsked, RelationsCame}
 use Rattle.resolve.proofs.KeepsForm.{Good, tree-good}
 use Rattle.resolve.proofs.SlotLaws.{tables-fit-in}
 use Rattle.resolve.proofs.RefusalBounds.{MemberSmall}
-use Rattle.resolve.proofs.TablesLaws.{value-there, counted, no-flag, a-flag, current-there, related-there}
+use Rattle.chains.proofs.RecordLaws.{value-there, counted, no-flag, a-flag, current-there, related-there, its-fine, predicate-there}
 use Rattle.resolve.proofs.TreeWords.{size-is, size-kept, tree-words}
 use Rattle.resolve.proofs.SmallKinds.{names-small}
 use Rattle.resolve.proofs.ResolvedFine.{tail-derivation, tables-fit}
-use Rattle.resolve.proofs.StampLaws.{front, its-fine, predicate-open, predicate-there}
+use Rattle.resolve.proofs.StampLaws.{front, predicate-open}
 use Rattle.resolve.proofs.ThereLaws.{there-inside, there-asked, there-went, there-stopped}
 use Rattle.resolve.proofs.RunLaws.{RunGoing, run-begin, run-end, run-asked, run-next, run-stop}
 use Rattle.resolve.proofs.ChildrenLaws.{part, back}

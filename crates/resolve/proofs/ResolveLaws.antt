@@ -27,7 +27,8 @@ use Rattle.resolve.specs.Tables.{Tables, derivedAt, tables}
 use Rattle.resolve.specs.Turning.{Outcome, done, refused, andThen, mapDone}
 use Rattle.resolve.specs.Resolving.{equalKinds, defaultedEqual, equalRefusal, resolveRules, resolveRelations, stamp, firstRule, resolveRecords, resolved}
 use Rattle.resolve.specs.Operations.{givenOut, writtenOut, resolveAnswer, resolveBuffer}
-use Rattle.resolve.specs.Words.{valueAt, derivedBy, tablesIn, firstEqual, DefaultedFit, Recorded}
+use Rattle.resolve.specs.Words.{derivedBy, tablesIn, firstEqual, DefaultedFit}
+use Rattle.chains.specs.Record.{valueAt, Recorded}
 use Rattle.resolve.specs.Passes.{withRecords, turned, stampAll, unstamped, CameWhole, TreesCame, Tabled, TreesAsked, PackCame, ResolveAsked, FinishAsked, FinishCame}
 use Rattle.resolve.proofs.CheckedTables.{its-records, declared-at, derived-alike}
 use Rattle.resolve.proofs.DefaultedLaws.{orNone, defaulted-fit, first-equal-is}

@@ -16,13 +16,13 @@ use Rattle.chains.proofs.PackIndex.{parts as packed}
 use Rattle.chains.proofs.CheckedLaws.{same-pack}
 use Rattle.resolve.specs.Turning.{Outcome, done, refused, andThen, mapDone, Citing}
 use Rattle.resolve.specs.Resolving.{cites, resolveBody, resolveBodies, bodySize, ruleBy, resolveRule, ruleWords}
-use Rattle.resolve.specs.Words.{valueAt}
+use Rattle.chains.specs.Record.{valueAt}
 use Rattle.resolve.specs.Walk.{citingIn}
 use Rattle.resolve.specs.Passes.{CameAt, CameFrom, wordsOf, runBy, All, Many, bodyWords, BodyFine, Bodily, BodiesAsked, BodiesCame, RuleAsked, RuleCame, RulesAsked, RulesCame}
 use Rattle.resolve.proofs.KeepsForm.{Good}
 use Rattle.resolve.proofs.TreeWords.{size-is, tree-words}
 use Rattle.resolve.proofs.ResolvedFine.{rule-good}
-use Rattle.resolve.proofs.TablesLaws.{value-there}
+use Rattle.chains.proofs.RecordLaws.{value-there}
 use Rattle.resolve.proofs.BodyLaws.{body-long}
 use Rattle.resolve.proofs.RunLaws.{run-words, RunGoing, run-begin, run-end, run-asked, run-next, run-stop}
 

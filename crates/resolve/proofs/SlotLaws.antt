@@ -13,7 +13,8 @@ use Rattle.resolve.specs.declared.direction.Direction.{Direction}
 use Rattle.resolve.specs.declared.direction.Direction.the-variants.{Turned, Open}
 use Rattle.resolve.specs.Tables.{Derived, Tables}
 use Rattle.resolve.specs.Direction.{turn}
-use Rattle.resolve.specs.Words.{valueAt, kindCount, flagAt, slotsPlace, typedIn, derivedIn, tablesIn}
+use Rattle.resolve.specs.Words.{typedIn, derivedIn, tablesIn}
+use Rattle.chains.specs.Record.{valueAt, kindCount, flagAt, slotsPlace}
 use Rattle.resolve.specs.Walk.{TwoSlots, SlotsFit, SlotsSet, slotsSet, kindCode, NodeTurned}
 use Rattle.resolve.proofs.KeepsForm.{DirectionFits, TablesFit, turn-fits}
 

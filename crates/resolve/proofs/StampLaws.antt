@@ -1,80 +1,39 @@
 -- The list that the code finds for a relation is the one that stamping puts there.
 use Prim.Native.Nat.{ℕ, zero, suc, _+_, _-_, _<_, _≤_}
 use native.Mathlib.Omega.{arith}
-use mathlib.Core.Path.{_≡_, refl, ap, sym, _∙_}
-use mathlib.Core.List.{List, [], _∷_, _++_, append-assoc}
+use mathlib.Core.Path.{_≡_, refl, ap, _∙_}
+use mathlib.Core.List.{List, [], _∷_, _++_}
 use mathlib.Core.Bool.{Bool, true, false, _||_, _&&_}
 use mathlib.Core.Option.{Option, none, some}
-use lib.ListN.{length, getD, length-append, length-map}
+use lib.ListN.{length, getD}
 use lib.Dec.{eqb}
 use borrow.Author.Tests.{ne-eqb}
-use Rattle.pack.specs.Table.{pick, wordOf, judgment}
-use Rattle.pack.specs.Form.{Fine}
-use Rattle.pack.specs.Tree.{tree, root}
-use Rattle.pack.specs.Pack.{Derivation, Relation, Pack, derivation, member, relationTail}
+use Rattle.pack.specs.Table.{pick, judgment}
+use Rattle.pack.specs.Pack.{Derivation, Relation, Pack, derivation}
 use Rattle.chains.specs.Kinds.{kindsOf}
 use Rattle.chains.specs.Filtered.{kindAt}
 use Rattle.chains.specs.Operations.{namesAt}
-use Rattle.chains.proofs.RelationScan.{kept}
-use Rattle.chains.proofs.ListAt.{nameWords, late, derived-fine, InWords}
+use Rattle.chains.proofs.ListAt.{InWords}
 use Rattle.resolve.specs.Turning.{treeWords}
 use Rattle.resolve.specs.Resolving.{holds, roleJudgment, atomNames, empty, unlike, stampedWith, stampBy, stampDerived, stamp}
-use Rattle.resolve.specs.Words.{slotsPlace}
-use Rattle.resolve.specs.Stamping.{StampedBy, as-it-is, with-kinds, roleIn, entityCount, predicateAt, unstamped, passedIn, unlikeIn, listFor}
-use Rattle.resolve.proofs.TablesLaws.{value-there, counted, no-flag, a-flag, before-slots, before-length, slots-open, current-there, related-there}
+use Rattle.chains.specs.Record.{predicateAt}
+use Rattle.resolve.specs.Stamping.{StampedBy, as-it-is, with-kinds, roleIn, unstamped, passedIn, unlikeIn, listFor}
+use Rattle.chains.proofs.RecordLaws as record-laws
+use Rattle.chains.proofs.RecordLaws.{counted, no-flag, a-flag, current-there, related-there, entities-there, its-fine, before-predicate, predicate-there}
 use Rattle.resolve.proofs.TreeWords.{tree-words}
 use Rattle.resolve.proofs.RoleLaws.{Ends, role-read}
 
--- ---- what stands after the slots of a derivation
-
-predicate-fine : (n : ℕ) (d : Derivation) → Fine (derivation n) d → Fine (tree n 32 judgment) (d .predicate)
-unfolding derivation member root Fine
-predicate-fine n d f = f .1 .1 .1 .1
+-- ---- the predicate of a derivation
 
 module _ (work : List ℕ) (start n : ℕ) (r : Relation) (i : InWords work start n r) (most : n ≤ 4096) (d : Derivation) (e : r .derivation ≡ some d) where
-  abbrev es : List ℕ
-  es = d .slotEntities
-
-  abbrev before : List ℕ
-  before = before-slots work start n r i most d e
-
-  abbrev four : List ℕ
-  four = wordOf 17 (d .current) ∷ wordOf 18 (d .related) ∷ wordOf 19 (d .entity) ∷ wordOf 20 (d .member) ∷ []
-
-  opened : work ≡ (before ++ four) ++ (wordOf 21 (length es) ∷ ((nameWords es ++ late n d) ++ i .after))
-  opened = slots-open work start n r i most d e ∙ sym (append-assoc before four (wordOf 21 (length es) ∷ ((nameWords es ++ late n d) ++ i .after)))
-
-  four-length : length (before ++ four) ≡ slotsPlace work start + 4
-  four-length = length-append before four ∙ omega (arith, before-length work start n r i most d e)
-
-  pub entities-there : entityCount work start ≡ length es
-  unfolding entityCount
-  entities-there =
-      value-there work (before ++ four) ((nameWords es ++ late n d) ++ i .after) 21 (length es) (slotsPlace work start + 4) opened four-length (kept n (i .used) r (i .fine) .derived d e .entities)
-
-  pub its-fine : Fine (tree n 32 judgment) (d .predicate)
-  unfolding relationTail Fine
-  its-fine = predicate-fine n d (derived-fine n (r .derivation) d e (kept n (i .used) r (i .fine) .tail .1 .1 .1))
-
   abbrev pub front : List ℕ
-  front = (before ++ four) ++ (wordOf 21 (length es) ∷ nameWords es)
+  front = before-predicate work start n r i most d e
 
   pub predicate-open : work ≡ front ++ (treeWords (d .predicate) ++ i .after)
-  unfolding root
-  predicate-open =
-      let t : List ℕ = treeWords (d .predicate) in
-      let one : List ℕ = wordOf 21 (length es) ∷ [] in
-      opened
-      ∙ ap (λ (l : List ℕ). (before ++ four) ++ (wordOf 21 (length es) ∷ ((nameWords es ++ (l ++ [])) ++ i .after))) (tree-words (d .predicate) n 32 judgment its-fine)
-      ∙ ap (λ (l : List ℕ). (before ++ four) ++ (wordOf 21 (length es) ∷ l)) (append-assoc (nameWords es) (t ++ []) (i .after) ∙ ap (λ (l : List ℕ). nameWords es ++ l) (append-assoc t [] (i .after)))
-      ∙ sym (append-assoc (before ++ four) (wordOf 21 (length es) ∷ nameWords es) (t ++ i .after))
-
-  pub predicate-there : length front ≡ predicateAt work start
-  unfolding predicateAt
-  predicate-there = length-append (before ++ four) (wordOf 21 (length es) ∷ nameWords es) ∙ omega (arith, four-length, length-map es (wordOf 10), entities-there)
+  predicate-open = record-laws.predicate-open work start n r i most d e ∙ ap (λ (l : List ℕ). front ++ (l ++ i .after)) (tree-words (d .predicate) n 32 judgment (its-fine work start n r i most d e))
 
   pub role-there : Ends (i .after) → roleIn work (predicateAt work start) ≡ holds roleJudgment (d .predicate)
-  role-there h = role-read work front (i .after) (predicateAt work start) n 32 judgment (d .predicate) predicate-open predicate-there (omega arith) its-fine h
+  role-there h = role-read work front (i .after) (predicateAt work start) n 32 judgment (d .predicate) predicate-open (predicate-there work start n r i most d e) (omega arith) (its-fine work start n r i most d e) h
 
 -- ---- the list
 

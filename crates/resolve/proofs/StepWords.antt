@@ -20,7 +20,8 @@ use Rattle.resolve.specs.Direction as direction
 use Rattle.resolve.specs.Inputs.{input}
 use Rattle.resolve.specs.Turning.{Citing, Fields, aggregate, membershipTest, stepBy, fieldWords}
 use Rattle.resolve.specs.Resolving.{cites}
-use Rattle.resolve.specs.Words.{recordAfter, tablesIn, valueAt, MemberTurned}
+use Rattle.resolve.specs.Words.{recordAfter, tablesIn, MemberTurned}
+use Rattle.chains.specs.Record.{valueAt}
 use Rattle.resolve.specs.Blocks.{placeOfKind}
 use Rattle.resolve.specs.Walk.{TwoSlots, SlotsFit, SlotsSet, slotsSet, kindCode, testCode, NodeTurned, MemberStepped, orNot, citingIn, stepCode, fieldsAfter, SlotNode, AnyFields, Stepped}
 use Rattle.resolve.proofs.KeepsForm.{member-fits}

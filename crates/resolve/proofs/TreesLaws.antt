@@ -22,13 +22,14 @@ use Rattle.chains.proofs.ListAt.{place-holds}
 use Rattle.chains.proofs.CheckedLaws.{same-pack}
 use Rattle.resolve.specs.Turning.{Outcome, done, refused, andThen, mapDone}
 use Rattle.resolve.specs.Resolving.{ruleWords, resolveRule, resolveRules, resolveRelation, resolveRelations, firstRule}
-use Rattle.resolve.specs.Words.{valueAt, recordAfter}
+use Rattle.resolve.specs.Words.{recordAfter}
+use Rattle.chains.specs.Record.{valueAt}
 use Rattle.resolve.specs.Blocks.{placeOfKind}
 use Rattle.resolve.specs.Walk.{citingIn}
 use Rattle.resolve.specs.Passes.{CameAt, wordsOf, runBy, Many, Ready, KindsReady, RelationKeeps, RulesAsked, RulesCame, RelationsAsked, RelationsCame, withRecords, turned, CameWhole, TreesCame, Tabled}
 use Rattle.resolve.proofs.CheckedTables.{its-records}
 use Rattle.resolve.proofs.StepWords.{citing-is}
-use Rattle.resolve.proofs.TablesLaws.{value-there}
+use Rattle.chains.proofs.RecordLaws.{value-there}
 use Rattle.resolve.proofs.BlocksStand.{reads-inputs}
 use Rattle.resolve.proofs.WordsBefore.{place-quiet}
 use Rattle.resolve.proofs.RunLaws.{run-words}

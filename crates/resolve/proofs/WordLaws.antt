@@ -1,15 +1,15 @@
 -- What the code reads of a relation by place, in each way out.
-use Prim.Native.Nat.{ℕ, zero, suc, _+_, _-_, _*_, _<_, _≤_}
+use Prim.Native.Nat.{ℕ, _+_, _-_, _<_, _≤_}
 use native.Mathlib.Omega.{arith}
 use mathlib.Core.Path.{_≡_, refl, ap, sym, _∙_}
 use mathlib.Core.List.{List, [], _∷_}
 use mathlib.Core.Bool.{Bool, true, false}
 use mathlib.Core.Option.{Option, none, some}
-use lib.ListN.{length, getD, set}
+use lib.ListN.{getD, set}
 use lib.Seq.{set-getD}
 use lib.Dec.{eqb}
 use borrow.Author.Tests.{eq-eqb, ne-eqb, eqb-true, eqb-false, lt-ltb, le-ltb}
-use Rattle.pack.specs.Table.{pick, kindOf, valueOf}
+use Rattle.pack.specs.Table.{pick, kindOf}
 use Rattle.chains.specs.declared.taking.Kind.{Kind}
 use Rattle.chains.specs.declared.taking.Kind.the-variants as kind
 use Rattle.chains.specs.Filtered.{kindAt}
@@ -24,20 +24,8 @@ use Rattle.resolve.specs.declared.direction.Membership as direction
 use Rattle.resolve.specs.declared.direction.Membership.the-variants.{Kinds, Unknown}
 use Rattle.resolve.specs.Direction.{bearing, orElse, kindOrZero, matched, towards, turn, Membership, eachOnce, between, tested, member}
 use Rattle.resolve.specs.Tables.{Derived, Tables}
-use Rattle.resolve.specs.Words.{directBy, recordAfter, valueAt, kindCount, flagAt, slotsPlace, typedIn, derivedIn, tablesIn, Recorded, membershipOf, MemberTurned}
-
-pub beyond : (ws : List ℕ) (at : ℕ) → length ws ≤ at → getD ws at 0 ≡ 0
-beyond [] at h = refl
-beyond (w ∷ ws) zero h = absurd (omega arith)
-beyond (w ∷ ws) (suc at) h = beyond ws at (omega arith)
-
-pub past-end : (ws : List ℕ) (at : ℕ) → length ws ≤ at → 0 ≡ valueAt ws at
-unfolding valueAt
-past-end ws at h = sym (rw (beyond ws at h) refl)
-
-pub in-words : (ws : List ℕ) (at : ℕ) → valueOf (getD ws at 0) ≡ valueAt ws at
-unfolding valueAt
-in-words ws at = refl
+use Rattle.resolve.specs.Words.{directBy, recordAfter, typedIn, derivedIn, tablesIn, membershipOf, MemberTurned}
+use Rattle.chains.specs.Record.{valueAt, kindCount, flagAt, slotsPlace, Recorded}
 
 -- ---- records
 
@@ -91,25 +79,6 @@ module _ (a b k e c r : ℕ) where
 
         past : 2 ≤ r → kindOrZero (some (a ∷ b ∷ [])) r ≡ 0
         past h = rw (le-ltb r 2 h) refl
-
--- ---- places
-
-module _ (ws : List ℕ) (start : ℕ) where
-  pub no-steps : {count steps : ℕ} → count ≡ kindCount ws start → steps ≡ valueAt ws (start + 4 + count + 2) → steps ≡ 16777215 → start + 4 + count + 3 ≡ slotsPlace ws start
-  unfolding slotsPlace
-  no-steps {count} {steps} k s e = sym (rw (← k, ← s, eq-eqb steps 16777215 e) (omega arith))
-
-  pub some-steps : {count steps : ℕ} → count ≡ kindCount ws start → steps ≡ valueAt ws (start + 4 + count + 2) → (steps ≡ 16777215 → ⊥) → start + 4 + count + 3 + 3 * steps ≡ slotsPlace ws start
-  unfolding slotsPlace
-  some-steps {count} {steps} k s e = sym (rw (← k, ← s, ne-eqb steps 16777215 e) refl)
-
-  pub the-flag : {count flag : ℕ} → count ≡ kindCount ws start → flag ≡ valueAt ws (start + 4 + count) → flag ≡ flagAt ws start
-  unfolding flagAt
-  the-flag k f = rw (← k) f
-
-  pub the-count : {count : ℕ} → count ≡ valueAt ws (start + 3) → count ≡ kindCount ws start
-  unfolding kindCount
-  the-count e = e
 
 -- ---- an aggregate
 

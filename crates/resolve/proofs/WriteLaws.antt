@@ -13,7 +13,7 @@ use lib.Dec.{eqb, ltb}
 use borrow.Author.Tests.{ne-eqb, ltb-true, ltb-false}
 use Rattle.pack.specs.Table.{pick, kindOf, valueOf, wordOf}
 use Rattle.chains.specs.Operations.{namesAt}
-use Rattle.resolve.specs.Words.{valueAt}
+use Rattle.chains.specs.Record.{valueAt}
 use Rattle.resolve.specs.Writing.{listAfter, namesOr, namesPut, wordWritten, writtenFrom, written, Lists, Puts}
 
 -- ---- the list in force after a word

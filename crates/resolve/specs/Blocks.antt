@@ -7,7 +7,7 @@ use lib.Dec.{eqb}
 use Rattle.pack.specs.Table.{pick, kindOf}
 use Rattle.pack.specs.Table as table
 use Rattle.pack.specs.Form.{repeats}
-use Rattle.resolve.specs.Words.{valueAt}
+use Rattle.chains.specs.Record.{valueAt}
 
 -- the declarations of a name so far: 0 none, the place of the only one, or 1
 unfoldable pub seenAfter : ℕ → ℕ → Bool → ℕ

@@ -20,7 +20,8 @@ use Rattle.resolve.specs.Tables.{tables}
 use Rattle.resolve.specs.Resolving.{defaultedEqual, equalRefusal, cites, resolveBody, ruleWords, resolveRule, resolveRules, resolveRelation, resolveRelations, stamp, firstRule}
 use Rattle.resolve.specs.Operations.{givenOut, writtenOut}
 use Rattle.resolve.specs.Writing.{withRelations}
-use Rattle.resolve.specs.Words.{Recorded, recordAfter}
+use Rattle.resolve.specs.Words.{recordAfter}
+use Rattle.chains.specs.Record.{Recorded}
 use Rattle.resolve.specs.Walk.{citingIn, refusalCode}
 
 -- a refusal's code with the name of the citing rule or relation

@@ -10,8 +10,8 @@ use Rattle.pack.specs.Table.{pick, kindOf, valueOf}
 use Rattle.pack.specs.Pack.{Derivation, Relation}
 use Rattle.chains.specs.Filtered.{kindAt}
 use Rattle.chains.specs.Operations.{namesAt}
+use Rattle.chains.specs.Record.{valueAt, kindCount, flagAt, slotsPlace, entityCount, predicateAt}
 use Rattle.resolve.specs.Resolving.{roleJudgment, unlike, stampedWith}
-use Rattle.resolve.specs.Words.{valueAt, kindCount, flagAt, slotsPlace}
 
 pub data StampedBy (ws : List ℕ) (list : ℕ) (r : Relation) : Relation → Type 0 where
   as-it-is : list ≡ 0 → StampedBy ws list r r
@@ -36,13 +36,6 @@ unfoldable pub roleIn : List ℕ → ℕ → Bool
 roleIn ws at = roleAmong (drop at ws)
 
 -- ---- the list for the relation whose record starts at a place: `ws` are the words of the pack, `work` the same with trees resolved in place
-
--- the number of names in its list 21, whose count stands after 17 to 20; its predicate stands after them
-unfoldable pub entityCount : List ℕ → ℕ → ℕ
-entityCount work start = valueAt work (slotsPlace work start + 4)
-
-unfoldable pub predicateAt : List ℕ → ℕ → ℕ
-predicateAt work start = slotsPlace work start + 5 + entityCount work start
 
 -- it has a derivation, "with list 21 empty"
 unfoldable pub unstamped : List ℕ → ℕ → Bool

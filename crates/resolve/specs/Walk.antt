@@ -14,7 +14,8 @@ use Rattle.resolve.specs.declared.direction.Direction.the-variants.{Turn
 use Rattle.resolve.specs.Tables.{Tables}
 use Rattle.resolve.specs.Direction.{turn, Membership}
 use Rattle.resolve.specs.Turning.{Outcome, done, refused, Citing, Fields, Step, goes, stops, stepBy, fieldWords, treeWords, forestWords, size, sizes, resolveTree, resolveForest}
-use Rattle.resolve.specs.Words.{tablesIn, Recorded}
+use Rattle.resolve.specs.Words.{tablesIn}
+use Rattle.chains.specs.Record.{Recorded}
 use Rattle.resolve.specs.Blocks.{inputIn}
 
 -- a refusal in one number, which no number of words and no value is: its number, its place and its other

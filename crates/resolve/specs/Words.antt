@@ -1,15 +1,15 @@
 -- What the code reads of a relation from the words of a pack.
-use Prim.Native.Nat.{ℕ, zero, suc, _+_, _-_, _*_, _<_, _≤_}
+use Prim.Native.Nat.{ℕ, zero, suc, _+_, _-_, _<_}
 use mathlib.Core.Path.{_≡_}
 use mathlib.Core.List.{List, [], _∷_}
 use mathlib.Core.Option.{Option, none, some}
 use mathlib.Core.Bool.{Bool}
 use lib.ListN.{getD}
 use lib.Dec.{eqb, ltb}
-use Rattle.pack.specs.Table.{pick, kindOf, valueOf}
+use Rattle.pack.specs.Table.{pick, kindOf}
 use Rattle.pack.specs.Table as table
-use Rattle.pack.specs.Form.{repeats}
 use Rattle.chains.specs.Operations.{namesAt}
+use Rattle.chains.specs.Record.{valueAt, kindCount, flagAt, slotsPlace}
 use Rattle.chains.specs.Filtered.{kindAt}
 use Rattle.chains.specs.Said.{directIn}
 use Rattle.resolve.specs.declared.direction.Direction.{Direction}
@@ -22,19 +22,6 @@ use Rattle.resolve.specs.Resolving.{equalKinds}
 -- the place of a relation's record, by name
 unfoldable pub recordAfter : ℕ → ℕ → ℕ → ℕ
 recordAfter x place w = pick (eqb (kindOf w) 6) place x
-
-unfoldable pub valueAt : List ℕ → ℕ → ℕ
-valueAt ws at = valueOf (getD ws at 0)
-
--- of the relation whose record starts at a place: the number of its slot kinds (9), its flag (11), and the place of its current slot (17)
-unfoldable pub kindCount : List ℕ → ℕ → ℕ
-kindCount ws start = valueAt ws (start + 3)
-
-unfoldable pub flagAt : List ℕ → ℕ → ℕ
-flagAt ws start = valueAt ws (start + 4 + kindCount ws start)
-
-unfoldable pub slotsPlace : List ℕ → ℕ → ℕ
-slotsPlace ws start = start + 4 + kindCount ws start + 3 + 3 * repeats (valueAt ws (start + 4 + kindCount ws start + 2))
 
 -- it as a typed relation, and as a derived one whose kinds stand at a place
 unfoldable pub typedIn : List ℕ → ℕ → Option (List ℕ)
@@ -61,10 +48,6 @@ tablesIn ws records marks taken =
       derived = derivedBy ws records marks;
       direct = directBy taken;
     }
-
--- every record starts within the words
-unfoldable pub Recorded : List ℕ → Type 0
-Recorded records = (n : ℕ) → getD records n 0 ≤ 65536
 
 -- the code's membership
 abbrev pub membershipOf : direction.Membership → Membership

@@ -1,18 +1,20 @@
 // The direction of one node, from what the pack says of its relation.
-use crate::words::value_at;
 use chains::filtered::direct_of;
+use chains::record::flag_at;
+use chains::record::kind_count;
+use chains::record::slots_place;
+use chains::record::value_at;
 use chains::taking::Kind;
 use chains::taking::kind_at;
 use chains::taking::place_of;
 use pack::kinds::Pack;
 ghost use mathlib.Core.Path.{_≡_};
 ghost use mathlib.Core.List.{[], _∷_};
-ghost use mathlib.Core.Option.{some};
 ghost use Prim.Native.Nat.{_<_, _≤_};
-ghost use lib.ListN.{length};
 ghost use Rattle.chains.specs.Operations.{namesAt};
 ghost use Rattle.resolve.specs.Direction.{bearing, orElse, kindOrZero, matched, towards, turn, between, tested};
-ghost use Rattle.resolve.specs.Words.{kindCount, flagAt, slotsPlace, typedIn, directBy, tablesIn, Recorded, membershipOf, MemberTurned};
+ghost use Rattle.resolve.specs.Words.{typedIn, directBy, tablesIn, membershipOf, MemberTurned};
+ghost use Rattle.chains.specs.Record.{flagAt, Recorded};
 
 // How a node comes out: its slots and the kind that results; or its direction is open, between slots of this kind or entity.
 pub enum Direction {
@@ -84,35 +86,6 @@ fn between(a: u32, b: u32, c: u32, r: u32, current: u32, related: u32) -> Direct
         return Direction::Turned(current, related, 0);
     }
     Direction::Turned(current, related, 0)
-}
-
-// The number of a relation's slot kinds.
-pub fn kind_count(pack: &[u32], start: usize) -> usize
-    requires { ⌜ start ≤ 65536 ⌝ }
-    ensures { λ r. ⌜ (r ≡ kindCount (now (pack .entry)) start) × (r < 16777216) ⌝ }
-{
-    value_at(pack, start + 3) as usize
-}
-
-// Whether it has a derivation.
-pub fn flag_at(pack: &[u32], start: usize) -> u32
-    requires { ⌜ start ≤ 65536 ⌝ }
-    ensures { λ r. ⌜ r ≡ flagAt (now (pack .entry)) start ⌝ }
-{
-    value_at(pack, start + 4 + kind_count(pack, start))
-}
-
-// The place of its current slot, after which the related one stands.
-pub fn slots_place(pack: &[u32], start: usize) -> usize
-    requires { ⌜ start ≤ 65536 ⌝ }
-    ensures { λ r. ⌜ (r ≡ slotsPlace (now (pack .entry)) start) × (r < 134217728) ⌝ }
-{
-    let at = start + 4 + kind_count(pack, start);
-    let steps = value_at(pack, at + 2);
-    if steps == Pack::NONE {
-        return at + 3;
-    }
-    at + 3 + 3 * steps as usize
 }
 
 // The kind by which an entity is matched: the one that it takes, or itself.

@@ -1,15 +1,16 @@
 // Derived relations with equal kinds in both slots.
 use crate::direction::Membership;
-use crate::direction::flag_at;
-use crate::direction::slots_place;
-use crate::words::value_at;
+use chains::record::flag_at;
+use chains::record::slots_place;
+use chains::record::value_at;
 use chains::taking::Kind;
 use chains::taking::kind_at;
 use chains::taking::place_of;
 use pack::kinds::Pack;
 ghost use mathlib.Core.Path.{_≡_};
 ghost use Prim.Native.Nat.{_<_, _≤_};
-ghost use Rattle.resolve.specs.Words.{Recorded, membershipOf, slotKindsIn, equalIn, valueAt, firstEqual, DefaultedFit};
+ghost use Rattle.resolve.specs.Words.{membershipOf, slotKindsIn, equalIn, firstEqual, DefaultedFit};
+ghost use Rattle.chains.specs.Record.{Recorded, valueAt};
 
 // The kinds in the slots of a derived relation whose record starts at a place of some words, from the list of the pack
 // that settles it.

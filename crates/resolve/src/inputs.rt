@@ -1,5 +1,5 @@
 // The input that an OnlyRelated node names: the blocks of an origin, and the declarations of a name in them.
-use crate::words::value_at;
+use chains::record::value_at;
 use pack::kinds::Pack;
 ghost use mathlib.Core.Path.{_≡_};
 ghost use Prim.Native.Nat.{_≤_};

@@ -1,19 +1,19 @@
 // Relations, resolved where they stand in the words.
 use crate::bodies::refused;
-use crate::direction::flag_at;
-use crate::direction::kind_count;
 use crate::direction::kind_or_zero;
-use crate::direction::slots_place;
 use crate::equal::slot_kinds;
 use crate::leaves::Cited;
-use crate::stamping::predicate_place;
 use crate::walk::tree;
-use crate::words::value_at;
+use chains::record::flag_at;
+use chains::record::kind_count;
+use chains::record::predicate_place;
+use chains::record::slots_place;
+use chains::record::value_at;
 use chains::taking::place_of;
 use pack::answer::Answer;
 use pack::kinds::Pack;
 ghost use mathlib.Core.Path.{_≡_};
-ghost use Rattle.resolve.specs.Words.{flagAt};
+ghost use Rattle.chains.specs.Record.{flagAt};
 ghost use Rattle.resolve.specs.Passes.{RelationAsked, RelationCame, RelationsAsked, RelationsCame};
 
 // The predicate of a relation: its entity is the kind at the related slot, its membership that of both slots. The answer

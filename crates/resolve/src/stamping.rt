@@ -1,7 +1,8 @@
 // Stamping: which list of kinds each relation takes, by the place of the list.
-use crate::direction::flag_at;
-use crate::direction::slots_place;
-use crate::words::value_at;
+use chains::record::flag_at;
+use chains::record::predicate_place;
+use chains::record::slots_place;
+use chains::record::value_at;
 use chains::taking::Kind;
 use chains::taking::kind_at;
 use chains::taking::place_of;
@@ -13,8 +14,8 @@ ghost use lib.ListN.{length, drop};
 ghost use Rattle.pack.specs.Table.{kindOf, valueOf};
 ghost use Rattle.chains.specs.Operations.{tableFrom};
 ghost use Rattle.resolve.specs.Resolving.{roleJudgment};
-ghost use Rattle.resolve.specs.Words.{Recorded};
-ghost use Rattle.resolve.specs.Stamping.{atomAfter, atomsIn, roleIn, predicateAt, unstamped, passedIn, unlikeIn, listFor, listIn};
+ghost use Rattle.chains.specs.Record.{Recorded};
+ghost use Rattle.resolve.specs.Stamping.{atomAfter, atomsIn, roleIn, unstamped, passedIn, unlikeIn, listFor, listIn};
 
 // One word: an atom or Exists marks the relation that it names.
 fn atom_word(table: &mut [u32; 4096], word: u32)
@@ -82,15 +83,6 @@ fn role(work: &[u32], at: usize) -> bool
         i += 1;
     }
     false
-}
-
-// The place of the predicate of the relation whose record starts at a place.
-pub fn predicate_place(work: &[u32], start: usize) -> usize
-    requires { ⌜ start ≤ 65536 ⌝ }
-    ensures { λ r. ⌜ (r ≡ predicateAt (now (work .entry)) start) × (r < 268435456) ⌝ }
-{
-    let at = slots_place(work, start);
-    at + 5 + value_at(work, at + 4) as usize
 }
 
 // Whether it has a derivation without names of its own.

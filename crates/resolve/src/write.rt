@@ -1,7 +1,7 @@
 // Writing the whole pack: the resolved words as they stand, but each stamped list in place of an empty one.
 // `pack` are the words in which the lists stand; `lists` has, by name, the place there of the list that is stamped on a
 // relation, 0 for none.
-use crate::words::value_at;
+use chains::record::value_at;
 use pack::kinds::Pack;
 ghost use mathlib.Core.Path.{_≡_};
 ghost use Prim.Native.Nat.{_≤_};

@@ -1,8 +1,8 @@
--- `resolve::direction::kind_count` meets its contract.
-use Rattle.resolve.proofs.WordLaws.{the-count}
+-- `chains::record::kind_count` meets its contract.
+use Rattle.chains.proofs.RecordLaws.{the-count}
 use borrow.Author.Needs.{needs}
-use Rattle.resolve.proofs.direction.kind_count.Statement.{statement}
-use Rattle.resolve.proofs.direction.kind_count.Tie as tie
+use Rattle.chains.proofs.record.kind_count.Statement.{statement}
+use Rattle.chains.proofs.record.kind_count.Tie as tie
 
 add-value-at : tie.Need-add-value-at
 add-value-at c = search needs

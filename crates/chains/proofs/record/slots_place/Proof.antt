@@ -1,9 +1,9 @@
--- `resolve::direction::slots_place` meets its contract.
+-- `chains::record::slots_place` meets its contract.
 use native.Mathlib.Omega.{arith}
-use Rattle.resolve.proofs.WordLaws.{no-steps, some-steps}
+use Rattle.chains.proofs.RecordLaws.{no-steps, some-steps}
 use borrow.Author.Needs.{needs}
-use Rattle.resolve.proofs.direction.slots_place.Statement.{statement}
-use Rattle.resolve.proofs.direction.slots_place.Tie as tie
+use Rattle.chains.proofs.record.slots_place.Statement.{statement}
+use Rattle.chains.proofs.record.slots_place.Tie as tie
 
 add-at : tie.Need-add-at
 add-at c = search needs

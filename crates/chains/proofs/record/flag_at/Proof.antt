@@ -1,8 +1,8 @@
--- `resolve::direction::flag_at` meets its contract.
-use Rattle.resolve.proofs.WordLaws.{the-flag}
+-- `chains::record::flag_at` meets its contract.
+use Rattle.chains.proofs.RecordLaws.{the-flag}
 use borrow.Author.Needs.{needs}
-use Rattle.resolve.proofs.direction.flag_at.Statement.{statement}
-use Rattle.resolve.proofs.direction.flag_at.Tie as tie
+use Rattle.chains.proofs.record.flag_at.Statement.{statement}
+use Rattle.chains.proofs.record.flag_at.Tie as tie
 
 add-value-at : tie.Need-add-value-at
 add-value-at c = search needs

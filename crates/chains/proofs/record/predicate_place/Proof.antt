@@ -1,9 +1,9 @@
--- `resolve::stamping::predicate_place` meets its contract.
+-- `chains::record::predicate_place` meets its contract.
 use native.Mathlib.Omega.{arith}
-use Rattle.resolve.proofs.ListForLaws.{predicate-there}
+use Rattle.chains.proofs.RecordLaws.{the-predicate}
 use borrow.Author.Needs.{needs}
-use Rattle.resolve.proofs.stamping.predicate_place.Statement.{statement}
-use Rattle.resolve.proofs.stamping.predicate_place.Tie as tie
+use Rattle.chains.proofs.record.predicate_place.Statement.{statement}
+use Rattle.chains.proofs.record.predicate_place.Tie as tie
 
 slots-place-requires : tie.Need-slots-place-requires
 slots-place-requires c κs = search needs
@@ -24,7 +24,7 @@ add-result-2 : tie.Need-add-result-2
 add-result-2 c = search needs
 
 returns : tie.Need-returns
-returns c = (predicate-there _ _ ((c .before .slots-place) .ensures .0) ((c .value-at) .ensures .0), omega (arith, (c .value-at) .ensures .1, (c .before .slots-place) .ensures .1))
+returns c = (the-predicate _ _ ((c .before .slots-place) .ensures .0) ((c .value-at) .ensures .0), omega (arith, (c .value-at) .ensures .1, (c .before .slots-place) .ensures .1))
 
 pub predicate-place-spec : {M : Type 1} → statement M
 predicate-place-spec =

@@ -1,9 +1,9 @@
--- `resolve::words::value_at` meets its contract.
+-- `chains::record::value_at` meets its contract.
 use native.Mathlib.Omega.{arith}
-use Rattle.resolve.proofs.WordLaws.{past-end, in-words}
+use Rattle.chains.proofs.RecordLaws.{past-end, in-words}
 use borrow.Author.Needs.{needs}
-use Rattle.resolve.proofs.words.value_at.Statement.{statement}
-use Rattle.resolve.proofs.words.value_at.Tie as tie
+use Rattle.chains.proofs.record.value_at.Statement.{statement}
+use Rattle.chains.proofs.record.value_at.Tie as tie
 
 returns : tie.Need-returns
 returns c = (past-end _ _ (omega arith), omega arith)
