@@ -1,20 +1,21 @@
 -- Laws of the relations that atoms and Exists name.
-use Prim.Native.Nat.{ℕ, _+_, _<_, _≤_}
+use Prim.Native.Nat.{ℕ, _+_, _-_, _/_, _<_, _≤_}
 use native.Mathlib.Omega.{arith}
 use native.Mathlib.Numerals.{add-one}
 use mathlib.Core.Path.{_≡_, refl, ap, sym, _∙_}
-use mathlib.Core.List.{List, [], _∷_}
+use mathlib.Core.List.{List, [], _∷_, _++_}
 use mathlib.Core.Bool.{Bool, true, false, _||_, _&&_}
-use lib.ListN.{length, getD, drop, set, replicate, drop-of-length-le, length-set, length-replicate, getD-replicate}
+use lib.ListN.{length, getD, drop, set, replicate, drop-of-length-le, length-set, length-replicate, getD-replicate, take-append-drop}
 use lib.Seq.{drop-cons, getD-set-same, getD-set-other}
 use lib.Dec.{eqb, ltb}
 use borrow.Author.Tests.{eq-eqb, ne-eqb, eqb-true, eqb-false, lt-ltb, le-ltb, ltb-false}
+use borrow.Rule.Slice.PartMut.{midOf, postOf, post-is}
 use Rattle.pack.specs.Table.{pick, kindOf, valueOf}
 use Rattle.pack.specs.Pack.{Relation, Pack, yes, read}
 use Rattle.pack.proofs.PackLaws.{words-read}
 use Rattle.chains.specs.Reach.{any}
 use Rattle.resolve.specs.Resolving.{atomOf, inDerivation, inRule, atomNames}
-use Rattle.resolve.specs.Stamping.{atomAfter, atomsIn}
+use Rattle.resolve.specs.Stamping.{atomAfter, atomsIn, NoAtoms}
 use Rattle.resolve.proofs.HeldWords.{OfNodes, found, pack-tells}
 
 -- ---- one word
@@ -46,6 +47,11 @@ module _ (t : List ℕ) (w : ℕ) where
 
 -- ---- all words
 
+atoms-append : (t us vs : List ℕ) → atomsIn t (us ++ vs) ≡ atomsIn (atomsIn t us) vs
+unfolding atomsIn
+atoms-append t [] vs = refl
+atoms-append t (u ∷ us) vs = atoms-append (atomAfter t u) us vs
+
 -- what is left to do from here on gives what the whole gives
 pub record Named (ws t₀ t : List ℕ) (i : ℕ) : Type 0 where
   pub todo : atomsIn t (drop i ws) ≡ atomsIn t₀ ws
@@ -62,6 +68,40 @@ module _ (ws t₀ : List ℕ) where
     pub named-all : length ws ≤ i → t ≡ atomsIn t₀ ws
     unfolding atomsIn
     named-all h = sym (ap (atomsIn t) (drop-of-length-le ws h)) ∙ s .todo
+
+    -- a part of them in one go
+    pub named-part : (e : ℕ) → i ≤ e → {u : List ℕ} → u ≡ atomsIn t (midOf i (e - i) ws) → Named ws t₀ u e
+    named-part e h q =
+        record {
+          todo = rw (q, ← post-is i e ws h) (sym (atoms-append t (midOf i (e - i) ws) (postOf i (e - i) ws)) ∙ ap (atomsIn t) (take-append-drop (e - i) (drop i ws)) ∙ s .todo);
+        }
+
+-- ---- words of no atom
+
+module _ (w : ℕ) where
+  pub an-atom : NoAtoms (w ∷ []) 1
+  an-atom = record { leave = λ e t. absurd (omega arith) }
+
+  pub no-atom : (kindOf w / 2 ≡ 51 → ⊥) → NoAtoms (w ∷ []) 0
+  unfolding atomsIn atomAfter
+  no-atom h = record { leave = λ e t. sym (rw (ne-eqb (kindOf w) 102 (λ k. h (omega arith)), ne-eqb (kindOf w) 103 (λ k. h (omega arith))) refl) }
+
+-- so many of the words up to a place are those of atoms
+pub record Counting (ws : List ℕ) (n i : ℕ) : Type 0 where
+  pub small : n ≤ i
+  pub kept : n ≡ 0 → (t : List ℕ) → Named ws t t i
+
+module _ (ws : List ℕ) where
+  pub count-begin : Counting ws 0 0
+  count-begin = record { small = omega arith; kept = λ e t. begin ws t }
+
+  module _ {n i : ℕ} (s : Counting ws n i) where
+    pub count-next : i < length ws → {m : ℕ} → NoAtoms (getD ws i 0 ∷ []) m → m ≤ 1 → Counting ws (n + m) (i + 1)
+    unfolding atomsIn
+    count-next h a b = record { small = let q = s .small in omega arith; kept = λ e t. named-next ws t (s .kept (omega arith) t) h (a .leave (omega arith) t) }
+
+    pub count-all : length ws ≤ i → NoAtoms ws n
+    count-all h = record { leave = λ e t. named-all ws t (s .kept e t) h }
 
 -- ---- of a checked pack
 

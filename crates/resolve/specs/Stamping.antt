@@ -26,6 +26,10 @@ unfoldable pub atomsIn : List ℕ → List ℕ → List ℕ
 atomsIn t [] = t
 atomsIn t (w ∷ ws) = atomsIn (atomAfter t w) ws
 
+-- where so many of the words are those of an atom or Exists: with none, they leave the table as it is
+pub record NoAtoms (ws : List ℕ) (count : ℕ) : Type 0 where
+  pub leave : count ≡ 0 → (t : List ℕ) → t ≡ atomsIn t ws
+
 -- ---- "whose predicate holds kinds 102 to 104": the words of a tree are those from its root on, as long as their kinds are 64 or more
 
 unfoldable pub roleAmong : List ℕ → Bool

@@ -21,7 +21,7 @@ pub fn finish(
     requires { ⌜ FinishAsked (now pack) (now starts) (now marks) (now work) steps ⌝ }
     ensures { λ r. ⌜ FinishCame (now (pack .entry)) (now (out .entry)) r (now (out .exit)) ⌝ }
 {
-    let mut named = [0u32; 4096];
+    let mut named = [0u8; 4096];
     let mut stamped = [0u32; 4096];
     let names = name_count(pack) as usize;
     atoms(pack, &mut named);

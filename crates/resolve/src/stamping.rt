@@ -8,17 +8,17 @@ use chains::taking::kind_at;
 use chains::taking::place_of;
 use pack::kinds::Pack;
 ghost use mathlib.Core.Path.{_≡_};
-ghost use mathlib.Core.List.{_++_};
+ghost use mathlib.Core.List.{[], _∷_, _++_};
 ghost use Prim.Native.Nat.{_<_, _≤_};
 ghost use lib.ListN.{length, drop};
 ghost use Rattle.pack.specs.Table.{kindOf, valueOf};
 ghost use Rattle.chains.specs.Operations.{tableFrom};
 ghost use Rattle.resolve.specs.Resolving.{roleJudgment};
 ghost use Rattle.chains.specs.Record.{Recorded};
-ghost use Rattle.resolve.specs.Stamping.{atomAfter, atomsIn, roleIn, unstamped, passedIn, unlikeIn, listFor, listIn};
+ghost use Rattle.resolve.specs.Stamping.{atomAfter, atomsIn, NoAtoms, roleIn, unstamped, passedIn, unlikeIn, listFor, listIn};
 
 // One word: an atom or Exists marks the relation that it names.
-fn atom_word(table: &mut [u32; 4096], word: u32)
+fn atom_word(table: &mut [u8; 4096], word: u32)
     ensures { λ r. ⌜ now (table .exit) ≡ atomAfter (now (table .entry)) word ⌝ }
 {
     let kind = word / Pack::VALUES;
@@ -35,16 +35,57 @@ fn atom_word(table: &mut [u32; 4096], word: u32)
     table[name as usize] = 1;
 }
 
-// The relations that atoms and Exists name, from all words of a pack; the table holds zeros before.
-pub fn atoms(pack: &[u32], table: &mut [u32; 4096])
-    ensures { λ r. ⌜ now (table .exit) ≡ atomsIn (now (table .entry)) (now (pack .entry)) ⌝ }
+// 1 for a word of an atom or Exists, else 0.
+fn is_atom(word: u32) -> u32
+    ensures { λ r. ⌜ NoAtoms (word ∷ []) r × (r ≤ 1) ⌝ }
 {
+    if word / Pack::VALUES / 2 == Pack::RELATION_ATOM / 2 {
+        return 1;
+    }
+    0
+}
+
+// How many words of a part are those of an atom or Exists.
+fn atom_count(part: &[u32]) -> u32
+    requires { ⌜ length (now part) ≤ 128 ⌝ }
+    ensures { λ r. ⌜ NoAtoms (now (part .entry)) r ⌝ }
+{
+    let mut n: u32 = 0;
     let mut i: usize = 0;
-    while i < pack.len() {
-        let w = pack[i];
+    while i < part.len() {
+        let w = part[i];
+        n += is_atom(w);
+        i += 1;
+    }
+    n
+}
+
+// The relations that atoms and Exists name, from a part of the words of a pack; few parts have any.
+fn atoms_part(part: &[u32], table: &mut [u8; 4096])
+    requires { ⌜ length (now part) ≤ 128 ⌝ }
+    ensures { λ r. ⌜ now (table .exit) ≡ atomsIn (now (table .entry)) (now (part .entry)) ⌝ }
+{
+    if atom_count(part) == 0 {
+        return;
+    }
+    let mut i: usize = 0;
+    while i < part.len() {
+        let w = part[i];
         atom_word(table, w);
         i += 1;
     }
+}
+
+// From all words of a pack; the table holds zeros before.
+pub fn atoms(pack: &[u32], table: &mut [u8; 4096])
+    ensures { λ r. ⌜ now (table .exit) ≡ atomsIn (now (table .entry)) (now (pack .entry)) ⌝ }
+{
+    let mut i: usize = 0;
+    while 128 <= pack.len() - i {
+        atoms_part(&pack[i..i + 128], table);
+        i += 128;
+    }
+    atoms_part(&pack[i..], table);
 }
 
 // Kinds of nodes: the first, and the last of the judgments of roles.
@@ -97,7 +138,7 @@ fn unstamped(work: &[u32], start: usize) -> bool
 }
 
 // Whether it is then passed over: without slot kinds, named by an atom or Exists, or with a judgment of roles.
-fn passed_over(work: &[u32], atoms: &[u32; 4096], name: usize, start: usize) -> bool
+fn passed_over(work: &[u32], atoms: &[u8; 4096], name: usize, start: usize) -> bool
     requires { ⌜ (start ≤ 65536) × (name < 4096) ⌝ }
     ensures { λ r. ⌜ r ≡ passedIn (now (work .entry)) (now (atoms .entry)) name start ⌝ }
 {
@@ -130,7 +171,7 @@ fn list_for(
     pack: &[u32],
     work: &[u32],
     marks: &[u32; 4096],
-    atoms: &[u32; 4096],
+    atoms: &[u8; 4096],
     name: usize,
     start: usize,
 ) -> u32
@@ -159,7 +200,7 @@ pub fn lists(
     work: &[u32],
     records: &[u32; 4096],
     marks: &[u32; 4096],
-    atoms: &[u32; 4096],
+    atoms: &[u8; 4096],
     names: usize,
     table: &mut [u32; 4096],
 )

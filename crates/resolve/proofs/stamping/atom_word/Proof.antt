@@ -16,9 +16,6 @@ returns-3 c = no-name _ _ ((c .before .before .if1) .left) ((c .before .if2) .le
 cast-table : tie.Need-cast-table
 cast-table c = search needs
 
-mul-table : tie.Need-mul-table
-mul-table c = search needs
-
 element-write-table : tie.Need-element-write-table
 element-write-table c = search needs
 
@@ -28,4 +25,4 @@ returns-4 c = a-name _ _ ((c .before .before .if1) .left) ((c .before .if2) .lef
 pub atom-word-spec : {M : Type 1} → statement M
 atom-word-spec =
     tie.close
-    (tie.spec returns returns-2 returns-3 cast-table mul-table element-write-table returns-4)
+    (tie.spec returns returns-2 returns-3 cast-table element-write-table returns-4)

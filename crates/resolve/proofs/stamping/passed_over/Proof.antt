@@ -13,9 +13,6 @@ value-at-requires c κs = search needs
 returns : tie.Need-returns
 returns c = has-kinds _ _ _ _ ((c .before .value-at) .ensures .0) ((c .if1) .taken)
 
-mul-if2 : tie.Need-mul-if2
-mul-if2 c = search needs
-
 element-copy-out-if2 : tie.Need-element-copy-out-if2
 element-copy-out-if2 c = search needs
 
@@ -38,7 +35,6 @@ passed-over-spec =
     add-value-at
     value-at-requires
     returns
-    mul-if2
     element-copy-out-if2
     returns-2
     predicate-place-requires
