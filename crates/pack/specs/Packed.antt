@@ -45,6 +45,10 @@ followsFrom x = followsBy (x / 262144)
 abbrev pub entryFrom : ℕ → Entry
 entryFrom x = record { sort = x / 65536 % 4; rule = ruleFrom x; follows = followsFrom x }
 
+-- the rule by which the table allows a word of this kind its values
+abbrev pub Ruled : ℕ → Rule → Type 0
+Ruled kind rule = entryOf kind .rule ≡ rule
+
 -- a list that holds the table: at each kind an entry's number
 unfoldable pub Tabled : List ℕ → Type 0
 Tabled t = (k : ℕ) → k < 256 → entryFrom (getD t k 0) ≡ entryOf k

@@ -3,6 +3,7 @@ use crate::answer::Answer;
 use crate::answer::Refusal;
 use crate::cursor::Step;
 use crate::kinds::Pack;
+use crate::table::Rule;
 use crate::table::table;
 ghost use mathlib.Core.Path.{_≡_};
 ghost use Prim.Native.Nat.{_≤_};
@@ -29,11 +30,11 @@ fn layout(s: &[u32], len: u32) -> Step
 {
     let t = table();
     let c = Pack::start();
-    let f1 = c.skip(s, &t, len, Pack::TOTAL);
+    let f1 = c.skip(s, len, Pack::TOTAL, Rule::Total);
     let Step::On(_, c1) = f1 else {
         return f1;
     };
-    let f2 = c1.field(s, &t, 0, Pack::NAMES);
+    let f2 = c1.field(s, 0, Pack::NAMES, Rule::FromOne(Pack::MOST_NAMES));
     let Step::On(n, c2) = f2 else {
         return f2;
     };

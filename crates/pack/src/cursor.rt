@@ -1,13 +1,12 @@
 // The reading place, and the words that are read there.
 use crate::answer::Refusal;
 use crate::kinds::Pack;
+use crate::table::Rule;
 use crate::table::allows;
-use crate::table::entry_of;
 ghost use mathlib.Core.Path.{_≡_};
-ghost use Rattle.pack.specs.Packed.{Lent, Tabled};
-ghost use Prim.Native.Nat.{_<_};
+ghost use Rattle.pack.specs.Packed.{Ruled};
 ghost use mathlib.Core.List.{[], _∷_};
-ghost use Rattle.pack.specs.Form.{allowedHere, field, word, only};
+ghost use Rattle.pack.specs.Form.{field, word, only};
 ghost use Rattle.pack.specs.Steps.{wordStep, fieldStep, walk};
 
 // A place of the pack. It starts at word 0 and moves on by whole words.
@@ -41,16 +40,6 @@ pub fn stop(number: u32, place: usize) -> Step
     })
 }
 
-// Whether the table allows a word of this kind the value v.
-fn allowed_here(t: &[u32; 256], n: u32, kind: u32, v: u32) -> bool
-    requires { ⌜ (kind < 256) × Tabled (now t) ⌝ }
-    ensures { λ r. ⌜ r ≡ allowedHere n kind v ⌝ }
-{
-    let e = entry_of(t, kind);
-    let rule = e.rule;
-    allows(rule, n, v)
-}
-
 impl Cursor {
     // The word at this place, whatever it is.
     pub fn word(self, s: &[u32]) -> Step
@@ -64,9 +53,9 @@ impl Cursor {
         }
     }
 
-    // A word of this kind: its value.
-    pub fn field(self, s: &[u32], t: &[u32; 256], n: u32, kind: u32) -> Step
-        requires { ⌜ Lent (now s) (now t) ⌝ }
+    // A word of this kind, whose values the table allows by this rule: its value.
+    pub fn field(self, s: &[u32], n: u32, kind: u32, rule: Rule) -> Step
+        requires { ⌜ Ruled kind rule ⌝ }
         ensures { λ r. ⌜ r ≡ fieldStep n kind (now (s .entry)) (self .at) ⌝ }
     {
         let at = self.at;
@@ -78,7 +67,7 @@ impl Cursor {
             return stop(2, at);
         }
         let v = w % Pack::VALUES;
-        if allowed_here(t, n, kind, v) {
+        if allows(rule, n, v) {
             Step::On(v, c)
         } else {
             stop(4, at)
@@ -86,20 +75,20 @@ impl Cursor {
     }
 
     // A word of which only the place after it is wanted.
-    pub fn skip(self, s: &[u32], t: &[u32; 256], n: u32, kind: u32) -> Step
-        requires { ⌜ Lent (now s) (now t) ⌝ }
+    pub fn skip(self, s: &[u32], n: u32, kind: u32, rule: Rule) -> Step
+        requires { ⌜ Ruled kind rule ⌝ }
         ensures { λ r. ⌜ r ≡ walk (field n kind) (now (s .entry)) (self .at) ⌝ }
     {
-        let f = self.field(s, t, n, kind);
+        let f = self.field(s, n, kind, rule);
         let Step::On(_, c) = f else {
             return f;
         };
         Step::On(0, c)
     }
 
-    // A word of one of two kinds.
-    pub fn either(self, s: &[u32], t: &[u32; 256], n: u32, a: u32, b: u32) -> Step
-        requires { ⌜ Lent (now s) (now t) ⌝ }
+    // A word of one of two kinds, which have the same rule.
+    pub fn either(self, s: &[u32], n: u32, a: u32, b: u32, rule: Rule) -> Step
+        requires { ⌜ Ruled a rule × Ruled b rule ⌝ }
         ensures { λ r. ⌜ r ≡ walk (word (only (a ∷ b ∷ [])) n) (now (s .entry)) (self .at) ⌝ }
     {
         let at = self.at;
@@ -113,7 +102,7 @@ impl Cursor {
                 return stop(2, at);
             }
         }
-        if allowed_here(t, n, kind, w % Pack::VALUES) {
+        if allows(rule, n, w % Pack::VALUES) {
             Step::On(0, c)
         } else {
             stop(4, at)

@@ -4,10 +4,12 @@ use crate::cursor::Cursor;
 use crate::cursor::Step;
 use crate::cursor::stop;
 use crate::kinds::Pack;
+use crate::table::Rule;
 use crate::tree::judgment;
 use crate::tree::scalar;
 ghost use mathlib.Core.Path.{_≡_};
-ghost use Rattle.pack.specs.Packed.{Lent};
+ghost use Rattle.pack.specs.declared.table.Rule.the-variants.{AtMost};
+ghost use Rattle.pack.specs.Packed.{Lent, Ruled};
 ghost use Prim.Native.Nat.{_≤_};
 ghost use Rattle.pack.specs.Pack.{Edition, defaultedName, defaulted, nameList, hop, path, chain, member, derivation, optionalDerivation, relationTail, newName, relation, relations, body, bodies, rule, rules, item, blockItems, block, blocks, records};
 ghost use Rattle.pack.specs.Form.{repeats};
@@ -23,12 +25,11 @@ fn repeats(count: u32) -> u32
 // The defaulted names.
 impl Cursor {
     // One that is at least `low`.
-    fn defaulted_name(self, s: &[u32], t: &[u32; 256], n: u32, low: u32) -> Step
-        requires { ⌜ Lent (now s) (now t) ⌝ }
+    fn defaulted_name(self, s: &[u32], n: u32, low: u32) -> Step
         ensures { λ r. ⌜ r ≡ stepOf same (defaultedName n low) (now (s .entry)) (self .at) ⌝ }
     {
         let at = self.at;
-        let f = self.field(s, t, n, Pack::DEFAULTED);
+        let f = self.field(s, n, Pack::DEFAULTED, Rule::Name);
         let Step::On(v, c) = f else {
             return f;
         };
@@ -38,11 +39,15 @@ impl Cursor {
         Step::On(v, c)
     }
 
-    pub fn defaulted(self, s: &[u32], t: &[u32; 256], n: u32) -> Step
-        requires { ⌜ Lent (now s) (now t) ⌝ }
+    pub fn defaulted(self, s: &[u32], n: u32) -> Step
         ensures { λ r. ⌜ r ≡ walk (defaulted n) (now (s .entry)) (self .at) ⌝ }
     {
-        let f = self.field(s, t, n, Pack::DEFAULTED_COUNT);
+        let f = self.field(
+            s,
+            n,
+            Pack::DEFAULTED_COUNT,
+            Rule::AtMost(Pack::MOST_DEFAULTED),
+        );
         let Step::On(count, first) = f else {
             return f;
         };
@@ -50,7 +55,7 @@ impl Cursor {
         let mut left = count;
         let mut low: u32 = 0;
         while 0 < left {
-            let g = c.defaulted_name(s, t, n, low);
+            let g = c.defaulted_name(s, n, low);
             let Step::On(v, next) = g else {
                 return g;
             };
@@ -65,18 +70,18 @@ impl Cursor {
 // Derivations.
 impl Cursor {
     // A count of this kind, and as many names.
-    fn name_list(self, s: &[u32], t: &[u32; 256], n: u32, kind: u32) -> Step
-        requires { ⌜ Lent (now s) (now t) ⌝ }
+    fn name_list(self, s: &[u32], n: u32, kind: u32) -> Step
+        requires { ⌜ Ruled kind (AtMost 8) ⌝ }
         ensures { λ r. ⌜ r ≡ walk (nameList n kind) (now (s .entry)) (self .at) ⌝ }
     {
-        let f = self.field(s, t, n, kind);
+        let f = self.field(s, n, kind, Rule::AtMost(Pack::MOST_SLOTS));
         let Step::On(count, first) = f else {
             return f;
         };
         let mut c = first;
         let mut left = count;
         while 0 < left {
-            let g = c.field(s, t, n, Pack::SLOT_KIND);
+            let g = c.field(s, n, Pack::SLOT_KIND, Rule::Name);
             let Step::On(_, next) = g else {
                 return g;
             };
@@ -87,33 +92,31 @@ impl Cursor {
     }
 
     // A step of a path.
-    fn hop(self, s: &[u32], t: &[u32; 256], n: u32) -> Step
-        requires { ⌜ Lent (now s) (now t) ⌝ }
+    fn hop(self, s: &[u32], n: u32) -> Step
         ensures { λ r. ⌜ r ≡ walk (hop n) (now (s .entry)) (self .at) ⌝ }
     {
-        let f1 = self.skip(s, t, n, Pack::STEP_RELATION);
+        let f1 = self.skip(s, n, Pack::STEP_RELATION, Rule::Name);
         let Step::On(_, c1) = f1 else {
             return f1;
         };
-        let f2 = c1.skip(s, t, n, Pack::STEP_CURRENT);
+        let f2 = c1.skip(s, n, Pack::STEP_CURRENT, Rule::Any);
         let Step::On(_, c2) = f2 else {
             return f2;
         };
-        c2.skip(s, t, n, Pack::STEP_RELATED)
+        c2.skip(s, n, Pack::STEP_RELATED, Rule::Any)
     }
 
-    fn path(self, s: &[u32], t: &[u32; 256], n: u32) -> Step
-        requires { ⌜ Lent (now s) (now t) ⌝ }
+    fn path(self, s: &[u32], n: u32) -> Step
         ensures { λ r. ⌜ r ≡ walk (path n) (now (s .entry)) (self .at) ⌝ }
     {
-        let f = self.field(s, t, n, Pack::PATH);
+        let f = self.field(s, n, Pack::PATH, Rule::AtMostOrNone(Pack::MOST_STEPS));
         let Step::On(count, first) = f else {
             return f;
         };
         let mut c = first;
         let mut left = repeats(count);
         while 0 < left {
-            let g = c.hop(s, t, n);
+            let g = c.hop(s, n);
             let Step::On(_, next) = g else {
                 return g;
             };
@@ -124,23 +127,22 @@ impl Cursor {
     }
 
     // The source, the path and the slots.
-    fn chain(self, s: &[u32], t: &[u32; 256], n: u32) -> Step
-        requires { ⌜ Lent (now s) (now t) ⌝ }
+    fn chain(self, s: &[u32], n: u32) -> Step
         ensures { λ r. ⌜ r ≡ walk (chain n) (now (s .entry)) (self .at) ⌝ }
     {
-        let f1 = self.skip(s, t, n, Pack::SOURCE);
+        let f1 = self.skip(s, n, Pack::SOURCE, Rule::NameOrNone);
         let Step::On(_, c1) = f1 else {
             return f1;
         };
-        let f2 = c1.path(s, t, n);
+        let f2 = c1.path(s, n);
         let Step::On(_, c2) = f2 else {
             return f2;
         };
-        let f3 = c2.skip(s, t, n, Pack::CURRENT_SLOT);
+        let f3 = c2.skip(s, n, Pack::CURRENT_SLOT, Rule::Any);
         let Step::On(_, c3) = f3 else {
             return f3;
         };
-        c3.skip(s, t, n, Pack::RELATED_SLOT)
+        c3.skip(s, n, Pack::RELATED_SLOT, Rule::Any)
     }
 
     // The entity, the member relation, the list and the predicate.
@@ -148,15 +150,15 @@ impl Cursor {
         requires { ⌜ Lent (now s) (now t) ⌝ }
         ensures { λ r. ⌜ r ≡ walk (member n) (now (s .entry)) (self .at) ⌝ }
     {
-        let f1 = self.skip(s, t, n, Pack::ENTITY);
+        let f1 = self.skip(s, n, Pack::ENTITY, Rule::NameOrNone);
         let Step::On(_, c1) = f1 else {
             return f1;
         };
-        let f2 = c1.skip(s, t, n, Pack::MEMBER);
+        let f2 = c1.skip(s, n, Pack::MEMBER, Rule::NameOrNone);
         let Step::On(_, c2) = f2 else {
             return f2;
         };
-        let f3 = c2.name_list(s, t, n, Pack::SLOT_ENTITIES);
+        let f3 = c2.name_list(s, n, Pack::SLOT_ENTITIES);
         let Step::On(_, c3) = f3 else {
             return f3;
         };
@@ -167,7 +169,7 @@ impl Cursor {
         requires { ⌜ Lent (now s) (now t) ⌝ }
         ensures { λ r. ⌜ r ≡ walk (derivation n) (now (s .entry)) (self .at) ⌝ }
     {
-        let f1 = self.chain(s, t, n);
+        let f1 = self.chain(s, n);
         let Step::On(_, c1) = f1 else {
             return f1;
         };
@@ -179,7 +181,7 @@ impl Cursor {
         requires { ⌜ Lent (now s) (now t) ⌝ }
         ensures { λ r. ⌜ r ≡ walk (optionalDerivation n) (now (s .entry)) (self .at) ⌝ }
     {
-        let f = self.field(s, t, n, Pack::DERIVATION);
+        let f = self.field(s, n, Pack::DERIVATION, Rule::AtMost(1));
         let Step::On(flag, c) = f else {
             return f;
         };
@@ -197,15 +199,15 @@ impl Cursor {
         requires { ⌜ Lent (now s) (now t) ⌝ }
         ensures { λ r. ⌜ r ≡ walk (relationTail n) (now (s .entry)) (self .at) ⌝ }
     {
-        let f1 = self.skip(s, t, n, Pack::RELATION_ORIGIN);
+        let f1 = self.skip(s, n, Pack::RELATION_ORIGIN, Rule::NameOrNone);
         let Step::On(_, c1) = f1 else {
             return f1;
         };
-        let f2 = c1.skip(s, t, n, Pack::ARITY);
+        let f2 = c1.skip(s, n, Pack::ARITY, Rule::Any);
         let Step::On(_, c2) = f2 else {
             return f2;
         };
-        let f3 = c2.name_list(s, t, n, Pack::SLOT_KINDS);
+        let f3 = c2.name_list(s, n, Pack::SLOT_KINDS);
         let Step::On(_, c3) = f3 else {
             return f3;
         };
@@ -213,12 +215,12 @@ impl Cursor {
     }
 
     // A name that has no mark.
-    fn new_name(self, s: &[u32], t: &[u32; 256], n: u32, marks: &[u8; 4096]) -> Step
-        requires { ⌜ (n ≤ 4096) × Lent (now s) (now t) ⌝ }
+    fn new_name(self, s: &[u32], n: u32, marks: &[u8; 4096]) -> Step
+        requires { ⌜ n ≤ 4096 ⌝ }
         ensures { λ r. ⌜ r ≡ stepOf same (newName n (marked (now (marks .entry)))) (now (s .entry)) (self .at) ⌝ }
     {
         let at = self.at;
-        let f = self.field(s, t, n, Pack::RELATION);
+        let f = self.field(s, n, Pack::RELATION, Rule::Name);
         let Step::On(v, c) = f else {
             return f;
         };
@@ -239,7 +241,7 @@ impl Cursor {
         requires { ⌜ (n ≤ 4096) × Lent (now s) (now t) ⌝ }
         ensures { λ r. ⌜ r ≡ stepOf nameOf (relation n (marked (now (marks .entry)))) (now (s .entry)) (self .at) ⌝ }
     {
-        let f1 = self.new_name(s, t, n, marks);
+        let f1 = self.new_name(s, n, marks);
         let Step::On(v, c1) = f1 else {
             return f1;
         };
@@ -255,7 +257,12 @@ impl Cursor {
         requires { ⌜ (n ≤ 4096) × Lent (now s) (now t) ⌝ }
         ensures { λ r. ⌜ r ≡ walk (relations n) (now (s .entry)) (self .at) ⌝ }
     {
-        let f = self.field(s, t, n, Pack::RELATION_COUNT);
+        let f = self.field(
+            s,
+            n,
+            Pack::RELATION_COUNT,
+            Rule::AtMost(Pack::MOST_RELATIONS),
+        );
         let Step::On(count, first) = f else {
             return f;
         };
@@ -283,7 +290,7 @@ impl Cursor {
         requires { ⌜ Lent (now s) (now t) ⌝ }
         ensures { λ r. ⌜ r ≡ walk (body n) (now (s .entry)) (self .at) ⌝ }
     {
-        let f = self.field(s, t, n, Pack::BODY);
+        let f = self.field(s, n, Pack::BODY, Rule::AtMost(1));
         let Step::On(sort, c) = f else {
             return f;
         };
@@ -299,7 +306,7 @@ impl Cursor {
         requires { ⌜ Lent (now s) (now t) ⌝ }
         ensures { λ r. ⌜ r ≡ walk (bodies n) (now (s .entry)) (self .at) ⌝ }
     {
-        let f = self.field(s, t, n, Pack::BODIES);
+        let f = self.field(s, n, Pack::BODIES, Rule::FromOne(Pack::MOST_BODIES));
         let Step::On(count, c0) = f else {
             return f;
         };
@@ -324,15 +331,15 @@ impl Cursor {
         requires { ⌜ Lent (now s) (now t) ⌝ }
         ensures { λ r. ⌜ r ≡ walk (rule n) (now (s .entry)) (self .at) ⌝ }
     {
-        let f1 = self.skip(s, t, n, Pack::RULE);
+        let f1 = self.skip(s, n, Pack::RULE, Rule::Name);
         let Step::On(_, c1) = f1 else {
             return f1;
         };
-        let f2 = c1.skip(s, t, n, Pack::RULE_ORIGIN);
+        let f2 = c1.skip(s, n, Pack::RULE_ORIGIN, Rule::NameOrNone);
         let Step::On(_, c2) = f2 else {
             return f2;
         };
-        let f3 = c2.skip(s, t, n, Pack::RULE_ENTITY);
+        let f3 = c2.skip(s, n, Pack::RULE_ENTITY, Rule::Name);
         let Step::On(_, c3) = f3 else {
             return f3;
         };
@@ -343,7 +350,7 @@ impl Cursor {
         requires { ⌜ Lent (now s) (now t) ⌝ }
         ensures { λ r. ⌜ r ≡ walk (rules n) (now (s .entry)) (self .at) ⌝ }
     {
-        let f = self.field(s, t, n, Pack::RULE_COUNT);
+        let f = self.field(s, n, Pack::RULE_COUNT, Rule::AtMost(Pack::MOST_RULES));
         let Step::On(count, first) = f else {
             return f;
         };
@@ -363,34 +370,32 @@ impl Cursor {
 
 // Blocks.
 impl Cursor {
-    fn item(self, s: &[u32], t: &[u32; 256], n: u32) -> Step
-        requires { ⌜ Lent (now s) (now t) ⌝ }
+    fn item(self, s: &[u32], n: u32) -> Step
         ensures { λ r. ⌜ r ≡ walk (item n) (now (s .entry)) (self .at) ⌝ }
     {
-        let f1 = self.skip(s, t, n, Pack::ITEM);
+        let f1 = self.skip(s, n, Pack::ITEM, Rule::NameOrNone);
         let Step::On(_, c1) = f1 else {
             return f1;
         };
-        let f2 = c1.skip(s, t, n, Pack::ITEM_BOOLEAN);
+        let f2 = c1.skip(s, n, Pack::ITEM_BOOLEAN, Rule::AtMost(1));
         let Step::On(_, c2) = f2 else {
             return f2;
         };
-        c2.skip(s, t, n, Pack::ITEM_ENTITY)
+        c2.skip(s, n, Pack::ITEM_ENTITY, Rule::NameOrNone)
     }
 
     // A count or none, and as many items.
-    fn items(self, s: &[u32], t: &[u32; 256], n: u32) -> Step
-        requires { ⌜ Lent (now s) (now t) ⌝ }
+    fn items(self, s: &[u32], n: u32) -> Step
         ensures { λ r. ⌜ r ≡ walk (blockItems n) (now (s .entry)) (self .at) ⌝ }
     {
-        let f = self.field(s, t, n, Pack::ITEMS);
+        let f = self.field(s, n, Pack::ITEMS, Rule::AtMostOrNone(Pack::MOST_ITEMS));
         let Step::On(count, first) = f else {
             return f;
         };
         let mut c = first;
         let mut left = repeats(count);
         while 0 < left {
-            let g = c.item(s, t, n);
+            let g = c.item(s, n);
             let Step::On(_, next) = g else {
                 return g;
             };
@@ -400,29 +405,27 @@ impl Cursor {
         Step::On(0, c)
     }
 
-    fn block(self, s: &[u32], t: &[u32; 256], n: u32) -> Step
-        requires { ⌜ Lent (now s) (now t) ⌝ }
+    fn block(self, s: &[u32], n: u32) -> Step
         ensures { λ r. ⌜ r ≡ walk (block n) (now (s .entry)) (self .at) ⌝ }
     {
-        let f1 = self.skip(s, t, n, Pack::BLOCK_ORIGIN);
+        let f1 = self.skip(s, n, Pack::BLOCK_ORIGIN, Rule::NameOrNone);
         let Step::On(_, c1) = f1 else {
             return f1;
         };
-        c1.items(s, t, n)
+        c1.items(s, n)
     }
 
-    pub fn blocks(self, s: &[u32], t: &[u32; 256], n: u32) -> Step
-        requires { ⌜ Lent (now s) (now t) ⌝ }
+    pub fn blocks(self, s: &[u32], n: u32) -> Step
         ensures { λ r. ⌜ r ≡ walk (blocks n) (now (s .entry)) (self .at) ⌝ }
     {
-        let f = self.field(s, t, n, Pack::BLOCK_COUNT);
+        let f = self.field(s, n, Pack::BLOCK_COUNT, Rule::AtMost(Pack::MOST_BLOCKS));
         let Step::On(count, first) = f else {
             return f;
         };
         let mut c = first;
         let mut left = count;
         while 0 < left {
-            let g = c.block(s, t, n);
+            let g = c.block(s, n);
             let Step::On(_, next) = g else {
                 return g;
             };
@@ -439,7 +442,7 @@ impl Cursor {
         requires { ⌜ (n ≤ 4096) × Lent (now s) (now t) ⌝ }
         ensures { λ r. ⌜ r ≡ walk (records Edition.undated n) (now (s .entry)) (self .at) ⌝ }
     {
-        let f1 = self.defaulted(s, t, n);
+        let f1 = self.defaulted(s, n);
         let Step::On(_, c1) = f1 else {
             return f1;
         };
@@ -451,6 +454,6 @@ impl Cursor {
         let Step::On(_, c3) = f3 else {
             return f3;
         };
-        c3.blocks(s, t, n)
+        c3.blocks(s, n)
     }
 }

@@ -4,6 +4,7 @@ use crate::cursor::Cursor;
 use crate::cursor::Step;
 use crate::cursor::stop;
 use crate::kinds::Pack;
+use crate::table::Rule;
 use crate::table::allows;
 use crate::table::entry_of;
 use crate::table::how_many;
@@ -99,8 +100,8 @@ fn atom(s: &[u32], at: usize) -> usize
 }
 
 // The slots of an OnlyRelated, and its input's or derived name.
-fn only_related(s: &[u32], t: &[u32; 256], at: usize, n: u32) -> usize
-    requires { ⌜ Lent (now s) (now t) × (at ≤ length (now s)) ⌝ }
+fn only_related(s: &[u32], at: usize, n: u32) -> usize
+    requires { ⌜ (length (now s) ≤ 8192) × (at ≤ length (now s)) ⌝ }
     ensures { λ r. ⌜ r ≡ coded (walk (fields n (fieldsOf OnlyRelated)) (now (s .entry)) at) ⌝ }
 {
     let f1 = up_to(s, at, Pack::CURRENT, Pack::NONE);
@@ -112,7 +113,7 @@ fn only_related(s: &[u32], t: &[u32; 256], at: usize, n: u32) -> usize
         return f2;
     }
     let c = Cursor { at: at + 2 };
-    match c.either(s, t, n, Pack::INPUT, Pack::DERIVED) {
+    match c.either(s, n, Pack::INPUT, Pack::DERIVED, Rule::Name) {
         Step::On(_, next) => next.at,
         Step::Refused(r) => refused(r.number, r.place),
     }
@@ -253,7 +254,7 @@ fn after_scalar(s: &[u32], t: &[u32; 256], at: usize, n: u32, w: u32, left: u32)
         ),
         Pack::IF => choice(s, t, at, n, left),
         Pack::COUNT..=Pack::SINGLE => aggregate(s, t, at, n, left),
-        Pack::ONLY_RELATED => only_related(s, t, at, n),
+        Pack::ONLY_RELATED => only_related(s, at, n),
         _ => at,
     }
 }

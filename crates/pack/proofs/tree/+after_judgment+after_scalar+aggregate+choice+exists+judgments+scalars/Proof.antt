@@ -206,7 +206,7 @@ after-scalar-choice-requires : (t : ℕ) → after-scalar-lts.Need-choice-requir
 after-scalar-choice-requires t c κs = (omega arith, ((c .before .before .before .pre .1 .0), (c .before .before .before .pre .1 .1)))
 
 after-scalar-only-related-requires : (t : ℕ) → after-scalar-lts.Need-only-related-requires (after-scalar-calls t) (after-scalar-at t) after-scalar.Post
-after-scalar-only-related-requires t c κs = ((c .before .before .before .pre .1 .0), (c .before .before .before .pre .1 .1))
+after-scalar-only-related-requires t c κs = ((c .before .before .before .pre .1 .0 .most), (c .before .before .before .pre .1 .1))
 
 after-scalar-how-many-requires : (t : ℕ) → after-scalar-lts.Need-how-many-requires (after-scalar-calls t) (after-scalar-at t) after-scalar.Post
 after-scalar-how-many-requires t c κs = search needs

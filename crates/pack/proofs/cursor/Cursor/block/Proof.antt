@@ -1,12 +1,15 @@
 -- `pack::cursor::Cursor::block` meets its contract.
+use mathlib.Core.Path.{refl}
 use Rattle.pack.specs.Pack.{block}
 use Rattle.pack.proofs.StepLaws.{walks}
+use Rattle.pack.specs.Table.{entryOf, table}
 use borrow.Author.Needs.{needs}
 use Rattle.pack.proofs.cursor.Cursor.block.Statement.{statement}
 use Rattle.pack.proofs.cursor.Cursor.block.Tie as tie
 
 skip-requires : tie.Need-skip-requires
-skip-requires c κs = search needs
+unfolding entryOf table
+skip-requires c κs = refl
 
 enum-known-f1 : tie.Need-enum-known-f1
 enum-known-f1 c = search needs

@@ -1,17 +1,19 @@
 -- `pack::cursor::Cursor::body` meets its contract.
-use mathlib.Core.Path.{_≡_}
+use mathlib.Core.Path.{_≡_, refl}
 use native.Mathlib.Omega.{arith}
 use Rattle.pack.specs.Pack.{body}
 use Rattle.pack.specs.Tree.{root}
 use Rattle.pack.proofs.StepLaws.{walks, by-via, by-value}
 use Rattle.pack.proofs.RecordLaws.{body-sort}
 use Rattle.pack.proofs.CodeLaws.{field-within}
+use Rattle.pack.specs.Table.{entryOf, table}
 use borrow.Author.Needs.{needs}
 use Rattle.pack.proofs.cursor.Cursor.body.Statement.{statement}
 use Rattle.pack.proofs.cursor.Cursor.body.Tie as tie
 
 field-requires : tie.Need-field-requires
-field-requires c κs = search needs
+unfolding entryOf table
+field-requires c κs = refl
 
 enum-known-f : tie.Need-enum-known-f
 enum-known-f c = search needs

@@ -1,12 +1,15 @@
 -- `pack::cursor::Cursor::chain` meets its contract.
+use mathlib.Core.Path.{refl}
 use Rattle.pack.specs.Pack.{chain}
 use Rattle.pack.proofs.StepLaws.{by-then, then-stop}
+use Rattle.pack.specs.Table.{entryOf, table}
 use borrow.Author.Needs.{needs}
 use Rattle.pack.proofs.cursor.Cursor.chain.Statement.{statement}
 use Rattle.pack.proofs.cursor.Cursor.chain.Tie as tie
 
 skip-requires : tie.Need-skip-requires
-skip-requires c κs = search needs
+unfolding entryOf table
+skip-requires c κs = refl
 
 enum-known-f1 : tie.Need-enum-known-f1
 enum-known-f1 c = search needs
@@ -32,7 +35,8 @@ unfolding chain
 returns-2 c = search (by-then, then-stop) depth 12
 
 skip-requires-2 : tie.Need-skip-requires-2
-skip-requires-2 c κs = search needs
+unfolding entryOf table
+skip-requires-2 c κs = refl
 
 enum-known-f3 : tie.Need-enum-known-f3
 enum-known-f3 c = search needs
@@ -45,7 +49,8 @@ unfolding chain
 returns-3 c = search (by-then, then-stop) depth 12
 
 skip-requires-3 : tie.Need-skip-requires-3
-skip-requires-3 c κs = search needs
+unfolding entryOf table
+skip-requires-3 c κs = refl
 
 returns-4 : tie.Need-returns-4
 unfolding chain

@@ -9,6 +9,7 @@ use Rattle.pack.specs.Form.{says}
 use Rattle.pack.specs.Steps.{walkAll}
 use Rattle.pack.proofs.StepLaws.{walks, by-left, by-inv, all-done, all-stop, all-next}
 use Rattle.pack.proofs.RecordLaws.{defaulted-small}
+use Rattle.pack.specs.Table.{entryOf, table}
 use borrow.Author.Needs.{needs}
 use Rattle.pack.proofs.cursor.Cursor.defaulted.Statement.{statement}
 use Rattle.pack.proofs.cursor.Cursor.defaulted.Tie as tie
@@ -18,13 +19,14 @@ abbrev left-over : ℕ → ℕ → ℕ → List ℕ → ℕ → Step
 left-over n k low = walkAll above (defaultedName n) k low
 
 abbrev Inv-loop : tie.InvT-loop
-Inv-loop s t n count c₀ left₀ low₀ c left low = left-over n left₀ low₀ s (c₀ .at) ≡ left-over n left low s (c .at)
+Inv-loop s n count c₀ left₀ low₀ c left low = left-over n left₀ low₀ s (c₀ .at) ≡ left-over n left low s (c .at)
 
 abbrev μ-loop : tie.MeasureT-loop
-μ-loop s t n count c₀ left₀ low₀ c left low = left
+μ-loop s n count c₀ left₀ low₀ c left low = left
 
 field-requires : tie.Need-field-requires Inv-loop μ-loop
-field-requires c κs = search needs
+unfolding entryOf table
+field-requires c κs = refl
 
 enum-known-f : tie.Need-enum-known-f Inv-loop μ-loop
 enum-known-f c = search needs

@@ -1,14 +1,16 @@
 -- `pack::cursor::Cursor::defaulted_name` meets its contract.
-use mathlib.Core.Path.{_∙_}
+use mathlib.Core.Path.{_∙_, refl}
 use borrow.Author.Tests.{lt-leb, le-leb}
 use Rattle.pack.specs.Pack.{defaultedName}
 use Rattle.pack.proofs.StepLaws.{guarded-stop, guarded-no, guarded-on}
+use Rattle.pack.specs.Table.{entryOf, table}
 use borrow.Author.Needs.{needs}
 use Rattle.pack.proofs.cursor.Cursor.defaulted_name.Statement.{statement}
 use Rattle.pack.proofs.cursor.Cursor.defaulted_name.Tie as tie
 
 field-requires : tie.Need-field-requires
-field-requires c κs = search needs
+unfolding entryOf table
+field-requires c κs = refl
 
 enum-known-f : tie.Need-enum-known-f
 enum-known-f c = search needs

@@ -4,6 +4,7 @@ use native.Mathlib.Omega.{arith}
 use mathlib.Core.Logic.{⊎-elim}
 use Rattle.pack.proofs.StepLaws.{word-stop, word-turned, word-value, word-on}
 use Rattle.pack.proofs.FormLaws.{either-other, either-first, either-second}
+use Rattle.pack.specs.Form.{allowedHere}
 use borrow.Author.Needs.{needs}
 use Rattle.pack.proofs.cursor.Cursor.either.Statement.{statement}
 use Rattle.pack.proofs.cursor.Cursor.either.Tie as tie
@@ -26,17 +27,19 @@ stop-requires c κs = search needs
 returns-2 : tie.Need-returns-2
 returns-2 c = (c .stop .ensures) ∙ word-turned _ _ _ _ _ (c .before .before .before .before .before .before .word .ensures) (c .before .before .before .before .f .given .1) (either-other _ _ _ (c .before .before .if1 .taken) (c .before .if2 .taken)) (λ h. omega arith)
 
-allowed-here-requires : tie.Need-allowed-here-requires
-allowed-here-requires c κs = (omega arith, (c .before .before .before .before .before .before .pre .tabled))
+allows-requires : tie.Need-allows-requires
+allows-requires c κs = search needs
 
 stop-requires-2 : tie.Need-stop-requires-2
 stop-requires-2 c κs = search needs
 
 returns-3 : tie.Need-returns-3
-returns-3 c = word-on _ _ _ _ _ (c .before .before .before .before .before .before .word .ensures) (c .before .before .before .before .f .given .1) (⊎-elim (λ w. either-second _ _ _ (w .1 .left)) (λ w. either-first _ _ _ (w .left)) (c .before .before .if1 .came)) (sym (c .before .allowed-here .ensures) ∙ (c .if3 .taken)) refl
+unfolding allowedHere
+returns-3 c = word-on _ _ _ _ _ (c .before .before .before .before .before .before .word .ensures) (c .before .before .before .before .f .given .1) (⊎-elim (λ w. either-second _ _ _ (w .1 .left)) (λ w. either-first _ _ _ (w .left)) (c .before .before .if1 .came)) (⊎-elim (λ w. rw (w .1 .left, c .before .before .before .before .before .before .before .before .pre .1) (sym (c .before .allows .ensures) ∙ (c .if3 .taken))) (λ w. rw (w .left, c .before .before .before .before .before .before .before .before .pre .0) (sym (c .before .allows .ensures) ∙ (c .if3 .taken))) (c .before .before .if1 .came)) refl
 
 returns-4 : tie.Need-returns-4
-returns-4 c = (c .stop2 .ensures) ∙ word-value _ _ _ _ _ (c .before .before .before .before .before .before .before .word .ensures) (c .before .before .before .before .before .f .given .1) (⊎-elim (λ w. either-second _ _ _ (w .1 .left)) (λ w. either-first _ _ _ (w .left)) (c .before .before .before .if1 .came)) (sym (c .before .before .allowed-here .ensures) ∙ (c .before .if3 .left))
+unfolding allowedHere
+returns-4 c = (c .stop2 .ensures) ∙ word-value _ _ _ _ _ (c .before .before .before .before .before .before .before .word .ensures) (c .before .before .before .before .before .f .given .1) (⊎-elim (λ w. either-second _ _ _ (w .1 .left)) (λ w. either-first _ _ _ (w .left)) (c .before .before .before .if1 .came)) (⊎-elim (λ w. rw (w .1 .left, c .before .before .before .before .before .before .before .before .before .pre .1) (sym (c .before .before .allows .ensures) ∙ (c .before .if3 .left))) (λ w. rw (w .left, c .before .before .before .before .before .before .before .before .before .pre .0) (sym (c .before .before .allows .ensures) ∙ (c .before .if3 .left))) (c .before .before .before .if1 .came))
 
 pub either-spec : {M : Type 1} → statement M
 either-spec =
@@ -48,7 +51,7 @@ either-spec =
     returns
     stop-requires
     returns-2
-    allowed-here-requires
+    allows-requires
     stop-requires-2
     returns-3
     returns-4)

@@ -3,6 +3,7 @@ use mathlib.Core.Path.{refl, sym, _∙_}
 use native.Mathlib.Omega.{arith}
 use Rattle.pack.proofs.StepLaws.{word-stop, word-turned, word-value, word-on, field-word}
 use Rattle.pack.proofs.FormLaws.{only-same, only-other}
+use Rattle.pack.specs.Form.{allowedHere}
 use borrow.Author.Needs.{needs}
 use Rattle.pack.proofs.cursor.Cursor.field.Statement.{statement}
 use Rattle.pack.proofs.cursor.Cursor.field.Tie as tie
@@ -25,17 +26,19 @@ stop-requires c κs = search needs
 returns-2 : tie.Need-returns-2
 returns-2 c = (c .stop .ensures) ∙ word-turned _ _ _ _ _ (c .before .before .before .before .before .word .ensures) (c .before .before .before .f .given .1) (only-other _ _ (c .before .if1 .taken)) (λ h. omega arith) ∙ field-word _ _ _ _ _
 
-allowed-here-requires : tie.Need-allowed-here-requires
-allowed-here-requires c κs = (omega arith, (c .before .before .before .before .before .before .pre .tabled))
+allows-requires : tie.Need-allows-requires
+allows-requires c κs = search needs
 
 stop-requires-2 : tie.Need-stop-requires-2
 stop-requires-2 c κs = search needs
 
 returns-3 : tie.Need-returns-3
-returns-3 c = word-on _ _ _ _ _ (c .before .before .before .before .before .before .word .ensures) (c .before .before .before .before .f .given .1) (only-same _ _ (c .before .before .if1 .left)) (rw ((c .before .before .if1 .left)) (sym (c .before .allowed-here .ensures) ∙ (c .if2 .taken))) refl ∙ field-word _ _ _ _ _
+unfolding allowedHere
+returns-3 c = word-on _ _ _ _ _ (c .before .before .before .before .before .before .word .ensures) (c .before .before .before .before .f .given .1) (only-same _ _ (c .before .before .if1 .left)) (rw ((c .before .before .if1 .left), (c .before .before .before .before .before .before .before .before .pre)) (sym (c .before .allows .ensures) ∙ (c .if2 .taken))) refl ∙ field-word _ _ _ _ _
 
 returns-4 : tie.Need-returns-4
-returns-4 c = (c .stop2 .ensures) ∙ word-value _ _ _ _ _ (c .before .before .before .before .before .before .before .word .ensures) (c .before .before .before .before .before .f .given .1) (only-same _ _ (c .before .before .before .if1 .left)) (rw ((c .before .before .before .if1 .left)) (sym (c .before .before .allowed-here .ensures) ∙ (c .before .if2 .left))) ∙ field-word _ _ _ _ _
+unfolding allowedHere
+returns-4 c = (c .stop2 .ensures) ∙ word-value _ _ _ _ _ (c .before .before .before .before .before .before .before .word .ensures) (c .before .before .before .before .before .f .given .1) (only-same _ _ (c .before .before .before .if1 .left)) (rw ((c .before .before .before .if1 .left), (c .before .before .before .before .before .before .before .before .before .pre)) (sym (c .before .before .allows .ensures) ∙ (c .before .if2 .left))) ∙ field-word _ _ _ _ _
 
 pub field-spec : {M : Type 1} → statement M
 field-spec =
@@ -47,7 +50,7 @@ field-spec =
     returns
     stop-requires
     returns-2
-    allowed-here-requires
+    allows-requires
     stop-requires-2
     returns-3
     returns-4)

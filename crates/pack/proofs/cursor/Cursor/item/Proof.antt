@@ -1,12 +1,15 @@
 -- `pack::cursor::Cursor::item` meets its contract.
+use mathlib.Core.Path.{refl}
 use Rattle.pack.specs.Pack.{item}
 use Rattle.pack.proofs.StepLaws.{walks}
+use Rattle.pack.specs.Table.{entryOf, table}
 use borrow.Author.Needs.{needs}
 use Rattle.pack.proofs.cursor.Cursor.item.Statement.{statement}
 use Rattle.pack.proofs.cursor.Cursor.item.Tie as tie
 
 skip-requires : tie.Need-skip-requires
-skip-requires c κs = search needs
+unfolding entryOf table
+skip-requires c κs = refl
 
 enum-known-f1 : tie.Need-enum-known-f1
 enum-known-f1 c = search needs
@@ -19,7 +22,8 @@ unfolding item
 returns c = search walks depth 12
 
 skip-requires-2 : tie.Need-skip-requires-2
-skip-requires-2 c κs = search needs
+unfolding entryOf table
+skip-requires-2 c κs = refl
 
 enum-known-f2 : tie.Need-enum-known-f2
 enum-known-f2 c = search needs
@@ -32,7 +36,8 @@ unfolding item
 returns-2 c = search walks depth 12
 
 skip-requires-3 : tie.Need-skip-requires-3
-skip-requires-3 c κs = search needs
+unfolding entryOf table
+skip-requires-3 c κs = refl
 
 returns-3 : tie.Need-returns-3
 unfolding item

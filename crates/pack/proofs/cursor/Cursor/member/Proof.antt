@@ -1,14 +1,17 @@
 -- `pack::cursor::Cursor::member` meets its contract.
+use mathlib.Core.Path.{refl}
 use Rattle.pack.specs.Pack.{member}
 use Rattle.pack.specs.Tree.{root}
 use Rattle.pack.proofs.StepLaws.{by-then, then-stop}
 use Rattle.pack.proofs.CodeLaws.{field-within, step-within}
+use Rattle.pack.specs.Table.{entryOf, table}
 use borrow.Author.Needs.{needs}
 use Rattle.pack.proofs.cursor.Cursor.member.Statement.{statement}
 use Rattle.pack.proofs.cursor.Cursor.member.Tie as tie
 
 skip-requires : tie.Need-skip-requires
-skip-requires c κs = search needs
+unfolding entryOf table
+skip-requires c κs = refl
 
 enum-known-f1 : tie.Need-enum-known-f1
 enum-known-f1 c = search needs
@@ -21,7 +24,8 @@ unfolding member root
 returns c = search (by-then, then-stop) depth 12
 
 skip-requires-2 : tie.Need-skip-requires-2
-skip-requires-2 c κs = search needs
+unfolding entryOf table
+skip-requires-2 c κs = refl
 
 enum-known-f2 : tie.Need-enum-known-f2
 enum-known-f2 c = search needs
@@ -34,7 +38,8 @@ unfolding member root
 returns-2 c = search (by-then, then-stop) depth 12
 
 name-list-requires : tie.Need-name-list-requires
-name-list-requires c κs = search needs
+unfolding entryOf table
+name-list-requires c κs = refl
 
 enum-known-f3 : tie.Need-enum-known-f3
 enum-known-f3 c = search needs

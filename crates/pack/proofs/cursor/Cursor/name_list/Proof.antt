@@ -9,6 +9,7 @@ use Rattle.pack.specs.Form.{field}
 use Rattle.pack.proofs.StepLaws.{walks, by-left, by-inv, all-done, all-stop, all-next}
 use Rattle.pack.specs.Steps.{walkAll}
 use Rattle.pack.specs.Form.{says}
+use Rattle.pack.specs.Table.{entryOf, table}
 use borrow.Author.Needs.{needs}
 use Rattle.pack.proofs.cursor.Cursor.name_list.Statement.{statement}
 use Rattle.pack.proofs.cursor.Cursor.name_list.Tie as tie
@@ -18,10 +19,10 @@ abbrev left-over : ℕ → ℕ → List ℕ → ℕ → Step
 left-over n k = walkAll {S = Unit {0}} (λ u a. u) (λ u. field n 10) k tt
 
 abbrev Inv-loop : tie.InvT-loop
-Inv-loop s t n kind count c₀ left₀ c left = left-over n left₀ s (c₀ .at) ≡ left-over n left s (c .at)
+Inv-loop s n kind count c₀ left₀ c left = left-over n left₀ s (c₀ .at) ≡ left-over n left s (c .at)
 
 abbrev μ-loop : tie.MeasureT-loop
-μ-loop s t n kind count c₀ left₀ c left = left
+μ-loop s n kind count c₀ left₀ c left = left
 
 field-requires : tie.Need-field-requires Inv-loop μ-loop
 field-requires c κs = search needs
@@ -40,7 +41,8 @@ loop-holds : tie.Need-loop-holds Inv-loop μ-loop
 loop-holds c = refl
 
 field-requires-2 : tie.Need-field-requires-2 Inv-loop μ-loop
-field-requires-2 c κs = search needs
+unfolding entryOf table
+field-requires-2 c κs = refl
 
 enum-known-g : tie.Need-enum-known-g Inv-loop μ-loop
 enum-known-g c = search needs

@@ -1,17 +1,19 @@
 -- `pack::cursor::Cursor::new_name` meets its contract.
-use mathlib.Core.Path.{ap}
+use mathlib.Core.Path.{ap, refl}
 use native.Mathlib.Omega.{arith}
 use mathlib.Core.Bool.{not}
 use borrow.Author.Tests.{eq-eqb, ne-eqb}
 use Rattle.pack.specs.Pack.{newName}
 use Rattle.pack.proofs.StepLaws.{guarded-stop, guarded-no, guarded-on}
 use Rattle.pack.proofs.RecordLaws.{name-below}
+use Rattle.pack.specs.Table.{entryOf, table}
 use borrow.Author.Needs.{needs}
 use Rattle.pack.proofs.cursor.Cursor.new_name.Statement.{statement}
 use Rattle.pack.proofs.cursor.Cursor.new_name.Tie as tie
 
 field-requires : tie.Need-field-requires
-field-requires c κs = search needs
+unfolding entryOf table
+field-requires c κs = refl
 
 enum-known-f : tie.Need-enum-known-f
 enum-known-f c = search needs

@@ -1,4 +1,5 @@
 -- `pack::cursor::Cursor::optional_derivation` meets its contract.
+use mathlib.Core.Path.{refl}
 use Rattle.pack.specs.Pack.{optionalDerivation}
 use Rattle.pack.specs.Table.{entryOf, table}
 use Rattle.pack.proofs.StepLaws.{walks, optional-none, optional-some}
@@ -7,7 +8,8 @@ use Rattle.pack.proofs.cursor.Cursor.optional_derivation.Statement.{sta
 use Rattle.pack.proofs.cursor.Cursor.optional_derivation.Tie as tie
 
 field-requires : tie.Need-field-requires
-field-requires c κs = search needs
+unfolding entryOf table
+field-requires c κs = refl
 
 enum-known-f : tie.Need-enum-known-f
 enum-known-f c = search needs

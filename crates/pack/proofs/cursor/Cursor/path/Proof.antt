@@ -8,6 +8,7 @@ use Rattle.pack.specs.Pack.{path, hop}
 use Rattle.pack.proofs.StepLaws.{walks, by-left, by-inv, all-done, all-stop, all-next}
 use Rattle.pack.specs.Steps.{walkAll}
 use Rattle.pack.specs.Form.{says}
+use Rattle.pack.specs.Table.{entryOf, table}
 use borrow.Author.Needs.{needs}
 use Rattle.pack.proofs.cursor.Cursor.path.Statement.{statement}
 use Rattle.pack.proofs.cursor.Cursor.path.Tie as tie
@@ -17,13 +18,14 @@ abbrev left-over : ℕ → ℕ → List ℕ → ℕ → Step
 left-over n k = walkAll {S = Unit {0}} (λ u a. u) (λ u. hop n) k tt
 
 abbrev Inv-loop : tie.InvT-loop
-Inv-loop s t n count c₀ left₀ c left = left-over n left₀ s (c₀ .at) ≡ left-over n left s (c .at)
+Inv-loop s n count c₀ left₀ c left = left-over n left₀ s (c₀ .at) ≡ left-over n left s (c .at)
 
 abbrev μ-loop : tie.MeasureT-loop
-μ-loop s t n count c₀ left₀ c left = left
+μ-loop s n count c₀ left₀ c left = left
 
 field-requires : tie.Need-field-requires Inv-loop μ-loop
-field-requires c κs = search needs
+unfolding entryOf table
+field-requires c κs = refl
 
 enum-known-f : tie.Need-enum-known-f Inv-loop μ-loop
 enum-known-f c = search needs

@@ -9,6 +9,7 @@ use Rattle.pack.specs.Form.{says, among}
 use Rattle.pack.specs.Steps.{walkAll}
 use Rattle.pack.proofs.StepLaws.{walks, by-left, by-inv, all-done, all-stop, all-next}
 use Rattle.pack.proofs.RecordLaws.{marksOf, relation-below, by-marks, marks-none, marks-more}
+use Rattle.pack.specs.Table.{entryOf, table}
 use borrow.Author.Needs.{needs}
 use Rattle.pack.proofs.cursor.Cursor.relations.Statement.{statement}
 use Rattle.pack.proofs.cursor.Cursor.relations.Tie as tie
@@ -30,7 +31,8 @@ abbrev μ-loop : tie.MeasureT-loop
 μ-loop s t n count marks₀ c₀ left₀ marks c left = left
 
 field-requires : tie.Need-field-requires Inv-loop μ-loop
-field-requires c κs = search needs
+unfolding entryOf table
+field-requires c κs = refl
 
 enum-known-f : tie.Need-enum-known-f Inv-loop μ-loop
 enum-known-f c = search needs

@@ -1,12 +1,15 @@
 -- `pack::cursor::Cursor::rule` meets its contract.
+use mathlib.Core.Path.{refl}
 use Rattle.pack.specs.Pack.{rule}
 use Rattle.pack.proofs.StepLaws.{by-via, by-then, then-stop}
+use Rattle.pack.specs.Table.{entryOf, table}
 use borrow.Author.Needs.{needs}
 use Rattle.pack.proofs.cursor.Cursor.rule.Statement.{statement}
 use Rattle.pack.proofs.cursor.Cursor.rule.Tie as tie
 
 skip-requires : tie.Need-skip-requires
-skip-requires c κs = search needs
+unfolding entryOf table
+skip-requires c κs = refl
 
 enum-known-f1 : tie.Need-enum-known-f1
 enum-known-f1 c = search needs
@@ -19,7 +22,8 @@ unfolding rule
 returns c = search (by-via, by-then, then-stop) depth 12
 
 skip-requires-2 : tie.Need-skip-requires-2
-skip-requires-2 c κs = search needs
+unfolding entryOf table
+skip-requires-2 c κs = refl
 
 enum-known-f2 : tie.Need-enum-known-f2
 enum-known-f2 c = search needs
@@ -32,7 +36,8 @@ unfolding rule
 returns-2 c = search (by-via, by-then, then-stop) depth 12
 
 skip-requires-3 : tie.Need-skip-requires-3
-skip-requires-3 c κs = search needs
+unfolding entryOf table
+skip-requires-3 c κs = refl
 
 enum-known-f3 : tie.Need-enum-known-f3
 enum-known-f3 c = search needs

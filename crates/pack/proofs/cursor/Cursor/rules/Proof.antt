@@ -8,6 +8,7 @@ use Rattle.pack.specs.Pack.{rules, rule}
 use Rattle.pack.proofs.StepLaws.{walks, by-left, by-inv, all-done, all-stop, all-next}
 use Rattle.pack.specs.Steps.{walkAll}
 use Rattle.pack.specs.Form.{says}
+use Rattle.pack.specs.Table.{entryOf, table}
 use borrow.Author.Needs.{needs}
 use Rattle.pack.proofs.cursor.Cursor.rules.Statement.{statement}
 use Rattle.pack.proofs.cursor.Cursor.rules.Tie as tie
@@ -23,7 +24,8 @@ abbrev μ-loop : tie.MeasureT-loop
 μ-loop s t n count c₀ left₀ c left = left
 
 field-requires : tie.Need-field-requires Inv-loop μ-loop
-field-requires c κs = search needs
+unfolding entryOf table
+field-requires c κs = refl
 
 enum-known-f : tie.Need-enum-known-f Inv-loop μ-loop
 enum-known-f c = search needs
