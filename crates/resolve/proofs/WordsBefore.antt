@@ -1,14 +1,14 @@
 -- The words of a pack's records in front of a count word of a later kind are all of other kinds: a relation holds none of
 -- kind 22 to 63, a rule none of kind 28 to 63.
-use Prim.Native.Nat.{ℕ, suc, _+_, _<_, _≤_}
+use Prim.Native.Nat.{ℕ, zero, suc, _+_, _<_, _≤_}
 use native.Mathlib.Omega.{arith}
-use mathlib.Core.Path.{_≡_, refl, _∙_}
+use mathlib.Core.Path.{_≡_, refl, ap, _∙_}
 use mathlib.Core.List.{List, [], _∷_, _++_}
 use mathlib.Core.Bool.{Bool, false}
-use lib.ListN.{length}
+use lib.ListN.{length, getD}
 use lib.Dec.{eqb}
-use borrow.Author.Tests.{eq-eqb, ne-eqb}
-use Rattle.pack.specs.Table.{wordOf, judgment}
+use borrow.Author.Tests.{eq-eqb, ne-eqb, eqb-false}
+use Rattle.pack.specs.Table.{kindOf, wordOf, judgment}
 use Rattle.pack.specs.Form.{among, wordsBy, Fine}
 use Rattle.pack.specs.Tree.{root}
 use Rattle.pack.specs.Pack.{newName, nameList, chain, member, derivation, optionalDerivation, relationTail, relation, rules, relations, defaultedName, defaulted}
@@ -73,3 +73,16 @@ pub place-quiet : (kind : ℕ) (us vs : List ℕ) (v at : ℕ) → v < 16777216 
 unfolding placeOfKind
 place-quiet kind [] vs v at h q = rw (kind-word kind v h, eq-eqb kind kind refl) (omega arith)
 place-quiet kind (u ∷ us) vs v at h q = rw (q .0) (place-quiet kind us vs v (suc at) h (q .1) ∙ omega arith)
+
+-- among words of other kinds there is none of it
+quiet-at : (kind : ℕ) (us : List ℕ) (k : ℕ) → Quiet (loud kind) us → k < length us → kindOf (getD us k 0) ≡ kind → ⊥
+quiet-at kind [] k q h e = omega arith
+quiet-at kind (u ∷ us) zero q h e = eqb-false (kindOf u) kind (q .0) e
+quiet-at kind (u ∷ us) (suc k) q h e = quiet-at kind us k (q .1) (omega arith) e
+
+-- with words of other kinds on both sides of a word, only that one can be of the kind
+pub only-there : (kind : ℕ) (us vs : List ℕ) (w k : ℕ) → Quiet (loud kind) us → Quiet (loud kind) vs → k < length (us ++ (w ∷ vs)) → kindOf (getD (us ++ (w ∷ vs)) k 0) ≡ kind → k ≡ length us
+only-there kind [] vs w zero q r h e = refl
+only-there kind [] vs w (suc k) q r h e = absurd (quiet-at kind vs k r (omega arith) e)
+only-there kind (u ∷ us) vs w zero q r h e = absurd (eqb-false (kindOf u) kind (q .0) e)
+only-there kind (u ∷ us) vs w (suc k) q r h e = ap suc (only-there kind us vs w k (q .1) r (omega arith) e)

@@ -2,6 +2,7 @@
 use crate::records::records;
 use crate::relations::relations;
 use crate::rules::rules;
+use crate::words::place_of_blocks;
 use crate::words::place_of_kind;
 use chains::header::relation_count;
 use chains::mark_kinds::mark_kinds;
@@ -44,7 +45,7 @@ pub fn trees(
     requires { ⌜ TreesAsked (now pack) (now starts) (now marks) (now taken) (now work) ⌝ }
     ensures { λ r. ⌜ TreesCame (now (pack .entry)) r (now (work .exit)) ⌝ }
 {
-    let blocks = place_of_kind(pack, Pack::BLOCK_COUNT);
+    let blocks = place_of_blocks(pack);
     let count = value_at(pack, blocks) as usize;
     let first = place_of_kind(pack, Pack::RULE_COUNT);
     let a = rules(

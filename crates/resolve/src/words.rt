@@ -3,6 +3,7 @@ use pack::kinds::Pack;
 ghost use mathlib.Core.Path.{_≡_};
 ghost use Prim.Native.Nat.{_<_};
 ghost use Rattle.pack.specs.Table.{kindOf};
+ghost use Rattle.chains.specs.AllKinds.{IsPack};
 ghost use Rattle.resolve.specs.Blocks.{placeOfKind};
 
 // The kind of a word.
@@ -22,6 +23,22 @@ pub fn place_of_kind(pack: &[u32], kind: u32) -> usize
             return i;
         }
         i += 1;
+    }
+    i
+}
+
+// The place of the count of a checked pack's blocks, its only word of that kind. The blocks stand last, and most packs
+// have few: it is looked for from the end.
+pub fn place_of_blocks(pack: &[u32]) -> usize
+    requires { ⌜ IsPack (now pack) ⌝ }
+    ensures { λ r. ⌜ r ≡ placeOfKind 28 0 (now (pack .entry)) ⌝ }
+{
+    let mut i = pack.len();
+    while 0 < i {
+        i -= 1;
+        if pack[i] / Pack::VALUES == Pack::BLOCK_COUNT {
+            return i;
+        }
     }
     i
 }
