@@ -1,10 +1,10 @@
--- An aggregate, walked in place: its slots are set, and its where tree follows as a row of its flag.
+-- An aggregate, walked in place: its slots are set, and its where tree is a row of its flag.
 use Prim.Native.Nat.{ℕ, _+_, _-_, _<_, _≤_}
 use native.Mathlib.Omega.{arith}
 use mathlib.Core.Path.{_≡_, refl, ap, sym, _∙_, subst}
 use mathlib.Core.List.{List, [], _∷_, _++_, append-assoc}
 use mathlib.Core.Option.{none}
-use lib.ListN.{length, getD}
+use lib.ListN.{length, getD, replicate}
 use Rattle.pack.specs.declared.table.Follows.{Follows}
 use Rattle.pack.specs.declared.table.Follows.the-variants.{Aggregate}
 use Rattle.pack.specs.Table.{kindOf, valueOf, wordOf, scalar, judgment, entryOf, childrenOf}
@@ -15,16 +15,15 @@ use Rattle.resolve.specs.declared.direction.Direction.the-variants.{Turn
 use Rattle.resolve.specs.Direction.{turn, Membership}
 use Rattle.resolve.specs.Turning.{Citing, Fields, currentOf, relatedOf, Step, goes, aggregate, stepBy, fieldWords, treeWords, forestWords, size, resolveTree}
 use Rattle.resolve.specs.Words.{tablesIn}
-use Rattle.resolve.specs.Rows.{sorts}
-use Rattle.resolve.specs.Walk.{NodeTurned, citingIn, stepCode, AnyFields, Stepped, fieldsAfter, Came, RowFine, TurnAsked, TreeAsked, RowAsked, RowTurned, AggregateWalked}
+use Rattle.resolve.specs.Walk.{NodeTurned, citingIn, stepCode, AnyFields, Stepped, fieldsAfter, Came, RowFine, TurnAsked, TreeAsked, RowAsked, TreeTurned, RowTurned}
 use Rattle.resolve.proofs.KeepsForm.{FieldFine, FieldsFine}
 use Rattle.resolve.proofs.TreeWords.{StepLong, step-long}
 use Rattle.resolve.proofs.SmallKinds.{KindFits, turn-small}
 use Rattle.resolve.proofs.StepWords.{aggregate-stepped}
 use Rattle.resolve.proofs.ShapeLaws.{Slotted, SlotForm, SlotTree, aggregate-form}
 use Rattle.resolve.proofs.NodeLaws.{slots-of, asked-slots, step-said, step-set, fields-count, long-node}
-use Rattle.resolve.proofs.WalkLaws.{fields-length, node-went, StepSmall, node-refused}
-use Rattle.resolve.proofs.ChildrenLaws.{sorts-same}
+use Rattle.resolve.proofs.WalkLaws.{RowLeft, node-left, StepSmall, node-refused}
+use Rattle.resolve.proofs.ChildrenLaws.{part, back, Going, going-end, all-asked, all-done, all-refused, tree-there, treeCases, tree-shown}
 
 -- the fields after the slots, and the flag, which is the last of them
 abbrev others : List (List ℕ)
@@ -46,9 +45,9 @@ flag-last n k v fs tail s = go (s .fields) (s .fine) (s .same)
     go (a ∷ b ∷ []) h e = rw e (small b (h .1))
     go (a ∷ b ∷ c ∷ l) h e = absurd (h .1 .1)
 
-where-sorts : (v last : ℕ) → childrenOf Aggregate v last ≡ sorts judgment judgment last
+where-sorts : (v last : ℕ) → childrenOf Aggregate v last ≡ replicate last judgment
 unfolding childrenOf
-where-sorts v last = sorts-same judgment last
+where-sorts v last = refl
 
 -- its step
 step-small : (fs : Fields) (d : Direction) → KindFits 16777216 d → StepSmall (aggregate fs d)
@@ -122,54 +121,55 @@ module _ (ws records marks taken : List ℕ) (blocks count origin entity place :
           ap (λ (l : List ℕ). valueOf (getD l 4 0)) (e ∙ ap (λ (l : List ℕ). wordOf k v ∷ l) (append-assoc (fieldWords fs) (forestWords f) after))
           ∙ flag-last n k v fs (forestWords f ++ after) (shape .its)
 
-      row-fine : RowFine n (levels - 1) (sorts judgment judgment (valueOf (getD work 4 0))) f
+      row-fine : RowFine n (levels - 1) (replicate (valueOf (getD work 4 0)) judgment) f
       row-fine =
-          subst (λ (x : ℕ). RowFine n x (sorts judgment judgment (valueOf (getD work 4 0))) f) (let l = shape .level in omega arith)
-          (subst (λ (x : List ℕ). RowFine n (shape .under) x f) (where-sorts v (lastField fs) ∙ ap (sorts judgment judgment) (sym flag-is)) (shape .children))
+          subst (λ (x : ℕ). RowFine n x (replicate (valueOf (getD work 4 0)) judgment) f) (let l = shape .level in omega arith)
+          (subst (λ (x : List ℕ). RowFine n (shape .under) x f) (where-sorts v (lastField fs) ∙ ap (λ (x : ℕ). replicate x judgment) (sym flag-is)) (shape .children))
 
-      where-asked : code < 16777216 → TreeAsked records levels scalar work place entity blocks count → length left ≡ length work → RowAsked records (levels - 1) (sorts judgment judgment (valueOf (getD work 4 0))) 5 left place code blocks count
-      where-asked below a same =
-          record {
-            standing = record { recorded = a .standing .recorded; value = below; near = let x = a .standing .near in omega arith; low = a .standing .low; few = a .standing .few };
-            names = n;
-            most = most;
-            trees = f;
-            front = wordOf k v ∷ fieldWords (fieldsAfter fs its);
-            after = after;
-            passed = omega (arith, fields-length (fieldsAfter fs its), as-many below, four);
-            fine = row-fine;
-            stands = words;
-          }
-
-      where-came : code < 16777216 → {code′ : ℕ} {left′ : List ℕ}
-          → RowTurned ws records marks taken blocks count origin (levels - 1) (sorts judgment judgment (valueOf (getD work 4 0))) code none none place 5 left code′ left′
-          → Came after (size (node k v fs f)) (resolveTree C entity m place (node k v fs f)) code′ left′
-      where-came below {code′} {left′} r =
-          node-went C n most (levels - 1) entity m place k v fs f after code′ left′ (on below) (as-many below) (omega (arith, four)) row-fine words (r .each name)
+      where-left : code < 16777216
+          → RowLeft C n (levels - 1) (replicate (valueOf (getD work 4 0)) judgment) code none none place 5 after left (Came after (size (node k v fs f)) (resolveTree C entity m place (node k v fs f)))
+      where-left below = node-left C n (levels - 1) entity m place k v fs f after (on below) (as-many below) (omega (arith, four)) row-fine words
 
     stopped-tree : 16777216 ≤ code → (name : ℕ) (m : Membership) (n : ℕ) → n ≤ 4096 → (x : Tree) (after : List ℕ) → Fine (tree n levels scalar) x → work ≡ treeWords x ++ after
         → Came after (size x) (resolveTree (citingIn ws records marks taken blocks count name origin) entity m place x) code left
     stopped-tree big name m n most (node k v fs f) after h e =
         node-refused (citingIn ws records marks taken blocks count name origin) entity m place k v fs f after code left (said name m n most k v fs f after h e) (small name m n most k v fs f after h e) big
 
-    pub aggregate-stopped : 16777216 ≤ code → AggregateWalked ws records marks taken blocks count origin levels scalar entity place work code left
-    aggregate-stopped big = record { each = λ name m. record { each = λ n most x after h e. stopped-tree big name m n most x after h e } }
+    module _ (m : Membership) where
+      pub aggregate-stopped : 16777216 ≤ code → TreeTurned ws records marks taken blocks count origin levels scalar entity m place work code left
+      aggregate-stopped big = tree-shown ws records marks taken blocks count origin levels scalar entity m place work (λ name t. stopped-tree big name m (t .names) (t .most) (t .root) (t .after) (t .fine) (t .stands))
 
-    asked-tree : code < 16777216 → (n : ℕ) → n ≤ 4096 → (x : Tree) (after : List ℕ) → Fine (tree n levels scalar) x → work ≡ treeWords x ++ after → TreeAsked records levels scalar work place entity blocks count → length left ≡ length work
-        → RowAsked records (levels - 1) (sorts judgment judgment (valueOf (getD work 4 0))) 5 left place code blocks count
-    asked-tree below n most (node k v fs f) after h e a same = where-asked 0 none n most k v fs f after h e below a same
+      went-tree : code < 16777216 → (name n : ℕ) → n ≤ 4096 → (x : Tree) (after : List ℕ) → Fine (tree n levels scalar) x → work ≡ treeWords x ++ after
+          → RowLeft (citingIn ws records marks taken blocks count name origin) n (levels - 1) (replicate (valueOf (getD work 4 0)) judgment) code none none place 5 after left
+          (Came after (size x) (resolveTree (citingIn ws records marks taken blocks count name origin) entity m place x))
+      went-tree below name n most (node k v fs f) after h e = where-left name m n most k v fs f after h e below
 
-    pub aggregate-row : code < 16777216 → TreeAsked records levels scalar work place entity blocks count → length left ≡ length work
-        → RowAsked records (levels - 1) (sorts judgment judgment (valueOf (getD work 4 0))) 5 left place code blocks count
-    aggregate-row below a same = asked-tree below (a .names) (a .most) (a .root) (a .after) (a .fine) (a .stands) a same
+      -- its where tree is what is left of it
+      aggregate-going : code < 16777216 → length left ≡ length work
+          → Going ws records marks taken blocks count origin (levels - 1) code place work (treeCases ws records marks taken blocks count origin levels scalar entity m place work)
+          (replicate (valueOf (getD work 4 0)) judgment) none none 5 left
+      aggregate-going below same = record { each = λ name t. went-tree below name (t .names) (t .most) (t .root) (t .after) (t .fine) (t .stands); same = same }
 
-    went-tree : code < 16777216 → {code′ : ℕ} {left′ : List ℕ}
-        → RowTurned ws records marks taken blocks count origin (levels - 1) (sorts judgment judgment (valueOf (getD work 4 0))) code none none place 5 left code′ left′
-        → (name : ℕ) (m : Membership) (n : ℕ) → n ≤ 4096 → (x : Tree) (after : List ℕ) → Fine (tree n levels scalar) x → work ≡ treeWords x ++ after
-        → Came after (size x) (resolveTree (citingIn ws records marks taken blocks count name origin) entity m place x) code′ left′
-    went-tree below r name m n most (node k v fs f) after h e = where-came name m n most k v fs f after h e below r
+      module _ (below : code < 16777216) (same : length left ≡ length work) where
+        -- without one it is done
+        pub aggregate-bare : valueOf (getD work 4 0) ≡ 0 → TreeTurned ws records marks taken blocks count origin levels scalar entity m place work 5 left
+        aggregate-bare flag =
+            tree-shown ws records marks taken blocks count origin levels scalar entity m place work
+            (going-end ws records marks taken blocks count origin (levels - 1) code place work _
+            (subst (λ (x : ℕ). Going ws records marks taken blocks count origin (levels - 1) code place work (treeCases ws records marks taken blocks count origin levels scalar entity m place work) (replicate x judgment) none none 5 left) flag (aggregate-going below same)))
 
-    pub aggregate-went : code < 16777216 → {code′ : ℕ} {left′ : List ℕ}
-        → RowTurned ws records marks taken blocks count origin (levels - 1) (sorts judgment judgment (valueOf (getD work 4 0))) code none none place 5 left code′ left′
-        → AggregateWalked ws records marks taken blocks count origin levels scalar entity place work code′ left′
-    aggregate-went below r = record { each = λ name m. record { each = λ n most x after h e. went-tree below r name m n most x after h e } }
+        pub where-asked : TreeAsked records levels scalar work place entity blocks count → RowAsked records (levels - 1) judgment (valueOf (getD work 4 0)) (part 5 left) (place + 5) code blocks count
+        where-asked a =
+            all-asked ws records marks taken blocks count origin (levels - 1) code place work _ (aggregate-going below same) (tree-there a)
+            (record { recorded = a .standing .recorded; value = below; near = a .standing .near; low = a .standing .low; few = a .standing .few })
+
+        module _ {code′ : ℕ} {l : List ℕ} (w : RowTurned ws records marks taken blocks count origin (levels - 1) judgment (valueOf (getD work 4 0)) code none (place + 5) (part 5 left) code′ l) where
+          pub where-done : code′ < 16777216 → TreeTurned ws records marks taken blocks count origin levels scalar entity m place work (5 + code′) (back 5 left l)
+          where-done low =
+              tree-shown ws records marks taken blocks count origin levels scalar entity m place work
+              (all-done ws records marks taken blocks count origin (levels - 1) code place work _ (aggregate-going below same) w low)
+
+          pub where-refused : 16777216 ≤ code′ → length left < 16777216 → TreeTurned ws records marks taken blocks count origin levels scalar entity m place work code′ (back 5 left l)
+          where-refused big short =
+              tree-shown ws records marks taken blocks count origin levels scalar entity m place work
+              (all-refused ws records marks taken blocks count origin (levels - 1) code place work _ (aggregate-going below same) w big short)

@@ -30,6 +30,7 @@ pub mod ChildrenLaws
 pub mod PlainLaws
 pub mod AggregateLaws
 pub mod WalkerLaws
+pub mod JoinLaws
 pub mod RunLaws
 pub mod BodyLaws
 pub mod RefusalBounds

@@ -1,177 +1,256 @@
--- Laws of the children of a node without slots.
-use Prim.Native.Nat.{ℕ, zero, suc, _+_, _%_, _≤_, _<_}
+-- Which nodes have children that join their row, by the kind.
+use Prim.Native.Nat.{ℕ, _≤_, _<_}
 use native.Mathlib.Omega.{arith}
-use mathlib.Core.Path.{_≡_, refl, ap, sym}
+use mathlib.Core.Path.{_≡_, refl, ap, sym, _∙_}
 use mathlib.Core.Logic.{_⊎_, inl, inr}
 use mathlib.Core.Bool.{Bool, true, false}
-use mathlib.Core.Option.{none}
 use lib.ListN.{length, replicate}
-use lib.Dec.{ltb}
-use borrow.Author.Tests.{ltb-true, ltb-false, lt-ltb, le-ltb}
+use lib.Dec.{eqb, ltb}
+use borrow.Author.Tests.{eq-eqb, ltb-true, ltb-false}
 use Rattle.pack.specs.declared.table.Follows.{Follows}
 use Rattle.pack.specs.declared.table.Follows.the-variants.{Nothing, Counted, OneScalar, TwoScalars, Scalars, Patterns, Periods, OneJudgment, Judgments, Choice, Aggregate, OnlyRelated, Slots, Atom, Exists}
 use Rattle.pack.specs.Table.{pick, scalar, judgment, entryOf, table, fieldsOf, childrenOf}
-use Rattle.pack.proofs.Listed.{agree}
-use Rattle.resolve.specs.declared.rows.Row.{Row}
+use Rattle.pack.proofs.Listed.{in-range}
 use Rattle.resolve.specs.Direction.{Membership}
 use Rattle.resolve.specs.Turning.{Citing, Fields, goes, stepBy}
-use Rattle.resolve.specs.Rows.{alike, rowBy, sorts, kept, Plain}
+use Rattle.resolve.specs.Rows.{joined, headWords}
+use Rattle.resolve.proofs.JoinLaws.{Joining}
 
--- ---- the row of a kind
+-- ---- how many join, by the kind
+
+abbrev joining : ℕ → ℕ → ℕ
+joining v k = joined (entryOf k .follows) v
 
 module _ (k v : ℕ) where
-  pub one-scalar : k ≡ 66 → _≡_ {A = Row} (alike 1 scalar 1) (rowBy (entryOf k .follows) v)
-  unfolding rowBy entryOf table
+  pub one-scalar : k ≡ 66 → 1 ≡ joining v k
+  unfolding joined entryOf table
   one-scalar e = rw e refl
 
-  pub two-scalars : k ≡ 67 → _≡_ {A = Row} (alike 1 scalar 2) (rowBy (entryOf k .follows) v)
-  unfolding rowBy entryOf table
+  pub two-scalars : k ≡ 67 → 2 ≡ joining v k
+  unfolding joined entryOf table
   two-scalars e = rw e refl
 
-  pub choice : k ≡ 71 → _≡_ {A = Row} (record { from = 1; first = judgment; other = scalar; count = 3; keep = 2 }) (rowBy (entryOf k .follows) v)
-  unfolding rowBy entryOf table
-  choice e = rw e refl
+  pub many-scalars : 68 ≤ k → k < 71 → v ≡ joining v k
+  unfolding joined entryOf table
+  many-scalars lo hi = sym (in-range (joining v) v 68 3 refl k lo hi)
 
-  pub patterns : k ≡ 72 → _≡_ {A = Row} (record { from = 1; first = scalar; other = scalar; count = v + 1; keep = 1 }) (rowBy (entryOf k .follows) v)
-  unfolding rowBy entryOf table
-  patterns e = rw e refl
+  pub no-scalar : k < 66 → 0 ≡ joining v k
+  unfolding joined entryOf table
+  no-scalar hi = sym (in-range (joining v) 0 0 66 refl k (omega arith) hi)
 
-  pub periods : k ≡ 73 → _≡_ {A = Row} (record { from = 1; first = scalar; other = scalar; count = 1 + v % 2; keep = 0 }) (rowBy (entryOf k .follows) v)
-  unfolding rowBy entryOf table
-  periods e = rw e refl
+  pub one-judgment : (k ≡ 100) ⊎ (k ≡ 103) → 1 ≡ joining v k
+  unfolding joined entryOf table
+  one-judgment (inl e) = rw e refl
+  one-judgment (inr e) = rw e refl
 
-  pub compared : k ≡ 96 → _≡_ {A = Row} (alike 1 scalar 2) (rowBy (entryOf k .follows) v)
-  unfolding rowBy entryOf table
-  compared e = rw e refl
+  pub many-judgments : 97 ≤ k → k < 100 → v ≡ joining v k
+  unfolding joined entryOf table
+  many-judgments lo hi = sym (in-range (joining v) v 97 3 refl k lo hi)
 
-  pub one-judgment : k ≡ 100 → _≡_ {A = Row} (alike 1 judgment 1) (rowBy (entryOf k .follows) v)
-  unfolding rowBy entryOf table
-  one-judgment e = rw e refl
+  high-judgment : 104 ≤ k → k < 256 → 0 ≡ joining v k
+  unfolding joined entryOf table
+  high-judgment lo hi = sym (in-range (joining v) 0 104 152 refl k lo hi)
 
-  pub atom : k ≡ 102 → _≡_ {A = Row} (alike 2 scalar 0) (rowBy (entryOf k .follows) v)
-  unfolding rowBy entryOf table
-  atom e = rw e refl
+  low-judgment : 101 ≤ k → k < 103 → 0 ≡ joining v k
+  unfolding joined entryOf table
+  low-judgment lo hi = sym (in-range (joining v) 0 101 2 refl k lo hi)
 
-  pub exists : k ≡ 103 → _≡_ {A = Row} (alike 2 judgment 1) (rowBy (entryOf k .follows) v)
-  unfolding rowBy entryOf table
-  exists e = rw e refl
+  pub no-judgment : 100 ≤ k → k < 256 → ((k ≡ 100) ⊎ (k ≡ 103) → ⊥) → 0 ≡ joining v k
+  no-judgment lo hi keys = go (ltb k 103) refl
+    where
+      go : (b : Bool) → ltb k 103 ≡ b → 0 ≡ joining v k
+      go true e = low-judgment (let x : k ≡ 100 → ⊥ = λ q. keys (inl q) in omega arith) (ltb-true k 103 e)
+      go false e = high-judgment (let x : k ≡ 103 → ⊥ = λ q. keys (inr q) in let y = ltb-false k 103 e in omega arith) hi
 
-  -- and where none follows
-  pub no-children : (k < 66) ⊎ (((74 ≤ k) × (k < 96)) ⊎ ((k ≡ 101) ⊎ ((104 ≤ k) × (k < 256)))) → alike 1 scalar 0 ≡ rowBy (entryOf k .follows) v
-  unfolding rowBy entryOf table
-  no-children (inl h) = agree (λ k. alike 1 scalar 0) (λ k. rowBy (entryOf k .follows) v) 0 66 refl k (omega arith) h
-  no-children (inr (inl h)) = agree (λ k. alike 1 scalar 0) (λ k. rowBy (entryOf k .follows) v) 74 22 refl k (h .0) (h .1)
-  no-children (inr (inr (inl e))) = rw e refl
-  no-children (inr (inr (inr h))) = agree (λ k. alike 1 scalar 0) (λ k. rowBy (entryOf k .follows) v) 104 152 refl k (h .0) (h .1)
+pub from-68 : (k : ℕ) → 66 ≤ k → (k ≡ 66 → ⊥) → (k ≡ 67 → ⊥) → 68 ≤ k
+from-68 k lo a b = omega arith
 
-pub many-scalars : (k v : ℕ) → 68 ≤ k → k < 71 → alike 1 scalar v ≡ rowBy (entryOf k .follows) v
-unfolding rowBy entryOf table
-many-scalars k v lo hi = agree (λ k. alike 1 scalar v) (λ k. rowBy (entryOf k .follows) v) 68 3 refl k lo hi
+-- and how many words stand before them
+abbrev heading : ℕ → ℕ
+heading k = headWords (entryOf k .follows)
 
-pub many-judgments : (k v : ℕ) → 97 ≤ k → k < 100 → alike 1 judgment v ≡ rowBy (entryOf k .follows) v
-unfolding rowBy entryOf table
-many-judgments k v lo hi = agree (λ k. alike 1 judgment v) (λ k. rowBy (entryOf k .follows) v) 97 3 refl k lo hi
+pub two-words : (k : ℕ) → 102 ≤ k → k < 104 → 2 ≡ heading k
+unfolding fieldsOf entryOf table
+two-words k lo hi = sym (in-range heading 2 102 2 refl k lo hi)
 
--- where a kind stands that is none of the keys
-pub from-68 : (k : ℕ) → 66 ≤ k → (k ≡ 66 → ⊥) → ((k ≡ 67) ⊎ (k ≡ 96) → ⊥) → 68 ≤ k
-from-68 k lo a b = let z : k ≡ 67 → ⊥ = λ e. b (inl e) in omega arith
+low-word : (k : ℕ) → 97 ≤ k → k < 101 → 1 ≡ heading k
+unfolding fieldsOf entryOf table
+low-word k lo hi = sym (in-range heading 1 97 4 refl k lo hi)
 
-pub between-rows : (k : ℕ) → 71 ≤ k → k < 96 → (k ≡ 71 → ⊥) → (k ≡ 72 → ⊥) → (k ≡ 73 → ⊥) → (74 ≤ k) × (k < 96)
-between-rows k lo hi a b c = (omega arith, hi)
+pub one-word : (k : ℕ) → 97 ≤ k → k < 102 → (k ≡ 101 → ⊥) → 1 ≡ heading k
+one-word k lo hi test = low-word k lo (omega arith)
 
-pub from-97 : (k : ℕ) → 96 ≤ k → ((k ≡ 67) ⊎ (k ≡ 96) → ⊥) → 97 ≤ k
-from-97 k lo b = let z : k ≡ 96 → ⊥ = λ e. b (inr e) in omega arith
+pub last-word : (k : ℕ) → 104 ≤ k → k < 256 → 1 ≡ heading k
+unfolding fieldsOf entryOf table
+last-word k lo hi = sym (in-range heading 1 104 152 refl k lo hi)
 
-pub after-rows : (k : ℕ) → 100 ≤ k → k < 256 → (k ≡ 100 → ⊥) → (k ≡ 102 → ⊥) → (k ≡ 103 → ⊥) → (k ≡ 101) ⊎ ((104 ≤ k) × (k < 256))
-after-rows k lo hi a b c = go (ltb k 102) refl
+-- which are few
+few-fields : (w : Follows) → length (fieldsOf w) ≤ 4
+unfolding fieldsOf
+few-fields Nothing = omega arith
+few-fields Counted = omega arith
+few-fields OneScalar = omega arith
+few-fields TwoScalars = omega arith
+few-fields Scalars = omega arith
+few-fields Patterns = omega arith
+few-fields Periods = omega arith
+few-fields OneJudgment = omega arith
+few-fields Judgments = omega arith
+few-fields Choice = omega arith
+few-fields Aggregate = omega arith
+few-fields OnlyRelated = omega arith
+few-fields Slots = omega arith
+few-fields Atom = omega arith
+few-fields Exists = omega arith
+
+pub head-small : (w : Follows) {n : ℕ} → n ≡ headWords w → n ≤ 5
+head-small w e = omega (arith, few-fields w)
+
+-- a scalar has no other word
+pub scalar-word : (k : ℕ) → k ≤ 70 → 1 ≡ heading k
+unfolding fieldsOf entryOf table
+scalar-word k h = sym (in-range heading 1 0 71 refl k (omega arith) (omega arith))
+
+-- ---- that they are of the row's sort and keep its entity and membership
+
+-- scalars only, or judgments only
+abbrev ofScalars : Follows → Bool
+ofScalars Nothing = true
+ofScalars Counted = false
+ofScalars OneScalar = true
+ofScalars TwoScalars = true
+ofScalars Scalars = true
+ofScalars Patterns = false
+ofScalars Periods = false
+ofScalars OneJudgment = false
+ofScalars Judgments = false
+ofScalars Choice = false
+ofScalars Aggregate = false
+ofScalars OnlyRelated = false
+ofScalars Slots = false
+ofScalars Atom = false
+ofScalars Exists = false
+
+abbrev ofJudgments : Follows → Bool
+ofJudgments Nothing = true
+ofJudgments Counted = false
+ofJudgments OneScalar = false
+ofJudgments TwoScalars = false
+ofJudgments Scalars = false
+ofJudgments Patterns = false
+ofJudgments Periods = false
+ofJudgments OneJudgment = true
+ofJudgments Judgments = true
+ofJudgments Choice = false
+ofJudgments Aggregate = false
+ofJudgments OnlyRelated = false
+ofJudgments Slots = false
+ofJudgments Atom = true
+ofJudgments Exists = true
+
+abbrev Stays : ℕ → Follows → Type 0
+Stays sort w = ((v last : ℕ) → childrenOf w v last ≡ replicate (joined w v) sort) × ((C : Citing) (entity : ℕ) (m : Membership) (v : ℕ) (fs : Fields) → stepBy C entity m w v fs ≡ goes fs entity m m)
+
+no : {A : Type 0} → false ≡ true → A
+no e = let z : _≡_ {A = ℕ} 0 1 = cc in absurd (omega arith)
+
+scalars-stay : (w : Follows) → ofScalars w ≡ true → Stays scalar w
+unfolding joined childrenOf stepBy
+scalars-stay Nothing e = (λ v last. refl, λ C entity m v fs. refl)
+scalars-stay Counted e = no e
+scalars-stay OneScalar e = (λ v last. refl, λ C entity m v fs. refl)
+scalars-stay TwoScalars e = (λ v last. refl, λ C entity m v fs. refl)
+scalars-stay Scalars e = (λ v last. refl, λ C entity m v fs. refl)
+scalars-stay Patterns e = no e
+scalars-stay Periods e = no e
+scalars-stay OneJudgment e = no e
+scalars-stay Judgments e = no e
+scalars-stay Choice e = no e
+scalars-stay Aggregate e = no e
+scalars-stay OnlyRelated e = no e
+scalars-stay Slots e = no e
+scalars-stay Atom e = no e
+scalars-stay Exists e = no e
+
+judgments-stay : (w : Follows) → ofJudgments w ≡ true → Stays judgment w
+unfolding joined childrenOf stepBy
+judgments-stay Nothing e = (λ v last. refl, λ C entity m v fs. refl)
+judgments-stay Counted e = no e
+judgments-stay OneScalar e = no e
+judgments-stay TwoScalars e = no e
+judgments-stay Scalars e = no e
+judgments-stay Patterns e = no e
+judgments-stay Periods e = no e
+judgments-stay OneJudgment e = (λ v last. refl, λ C entity m v fs. refl)
+judgments-stay Judgments e = (λ v last. refl, λ C entity m v fs. refl)
+judgments-stay Choice e = no e
+judgments-stay Aggregate e = no e
+judgments-stay OnlyRelated e = no e
+judgments-stay Slots e = no e
+judgments-stay Atom e = (λ v last. refl, λ C entity m v fs. refl)
+judgments-stay Exists e = (λ v last. refl, λ C entity m v fs. refl)
+
+-- by the kind, where it is of the sort
+abbrev scalarStays : ℕ → Bool
+scalarStays k = pick (eqb (entryOf k .sort) scalar) (ofScalars (entryOf k .follows)) true
+
+abbrev judgmentStays : ℕ → Bool
+judgmentStays k = pick (eqb (entryOf k .sort) judgment) (ofJudgments (entryOf k .follows)) true
+
+of-sort : (sort k : ℕ) (b : Bool) → entryOf k .sort ≡ sort → pick (eqb (entryOf k .sort) sort) b true ≡ true → b ≡ true
+of-sort sort k b s e = ap (λ (x : Bool). pick x b true) (sym (eq-eqb _ _ s)) ∙ e
+
+scalars-low : (k : ℕ) → k < 71 → scalarStays k ≡ true
+unfolding entryOf table
+scalars-low k h = in-range scalarStays true 0 71 refl k (omega arith) h
+
+judgments-low : (k : ℕ) → k < 96 → judgmentStays k ≡ true
+unfolding entryOf table
+judgments-low k h = in-range judgmentStays true 0 96 refl k (omega arith) h
+
+judgments-middle : (k : ℕ) → 97 ≤ k → k < 101 → judgmentStays k ≡ true
+unfolding entryOf table
+judgments-middle k l h = in-range judgmentStays true 97 4 refl k l h
+
+judgments-high : (k : ℕ) → 102 ≤ k → k < 256 → judgmentStays k ≡ true
+unfolding entryOf table
+judgments-high k l h = in-range judgmentStays true 102 154 refl k l h
+
+pub scalar-joins : (k : ℕ) → entryOf k .sort ≡ scalar → k ≤ 70 → Joining scalar k
+scalar-joins k s h =
+    let t = scalars-stay (entryOf k .follows) (of-sort scalar k (ofScalars (entryOf k .follows)) s (scalars-low k (omega arith))) in
+    record { children = t .0; step = t .1 }
+
+pub judgment-joins : (k : ℕ) → entryOf k .sort ≡ judgment → k < 256 → ((k ≡ 96) ⊎ (k ≡ 101) → ⊥) → Joining judgment k
+judgment-joins k s small apart =
+    let t = judgments-stay (entryOf k .follows) (of-sort judgment k (ofJudgments (entryOf k .follows)) s (go (ltb k 96) refl (ltb k 101) refl)) in
+    record { children = t .0; step = t .1 }
   where
-    go : (x : Bool) → ltb k 102 ≡ x → (k ≡ 101) ⊎ ((104 ≤ k) × (k < 256))
-    go true e = inl (omega (arith, ltb-true k 102 e))
-    go false e = inr (omega (arith, ltb-false k 102 e), hi)
+    go : (a : Bool) → ltb k 96 ≡ a → (b : Bool) → ltb k 101 ≡ b → judgmentStays k ≡ true
+    go true p b q = judgments-low k (ltb-true k 96 p)
+    go false p true q = judgments-middle k (let x : k ≡ 96 → ⊥ = λ e. apart (inl e) in let y = ltb-false k 96 p in omega arith) (ltb-true k 101 q)
+    go false p false q = judgments-high k (let x : k ≡ 101 → ⊥ = λ e. apart (inr e) in let y = ltb-false k 101 q in omega arith) small
 
-same-many : (s : ℕ) (v : ℕ) → replicate v s ≡ sorts s s v
-same-many s zero = refl
-same-many s (suc v) = refl
+-- ---- which kinds are of a sort
 
-pub row-sorts : (w : Follows) → Plain w → (v last : ℕ) → childrenOf w v last ≡ sorts (rowBy w v .first) (rowBy w v .other) (rowBy w v .count)
-unfolding rowBy childrenOf
-row-sorts Nothing p v last = refl
-row-sorts Counted p v last = refl
-row-sorts OneScalar p v last = refl
-row-sorts TwoScalars p v last = refl
-row-sorts Scalars p v last = same-many _ v
-row-sorts Patterns p v last = same-many _ (v + 1)
-row-sorts Periods p v last = same-many _ (1 + v % 2)
-row-sorts OneJudgment p v last = refl
-row-sorts Judgments p v last = same-many _ v
-row-sorts Choice p v last = refl
-row-sorts Aggregate p v last = absurd p
-row-sorts OnlyRelated p v last = absurd p
-row-sorts Slots p v last = absurd p
-row-sorts Atom p v last = refl
-row-sorts Exists p v last = refl
+scalar-most : (k : ℕ) → 79 ≤ k → k < 256 → entryOf k .sort ≡ scalar → ⊥
+unfolding entryOf table
+scalar-most k l h e = let z = in-range (λ (k : ℕ). eqb (entryOf k .sort) scalar) false 79 177 refl k l h in no (sym z ∙ eq-eqb _ _ e)
 
-pub row-from : (w : Follows) → Plain w → (v : ℕ) → rowBy w v .from ≡ 1 + length (fieldsOf w)
-unfolding rowBy fieldsOf
-row-from Nothing p v = refl
-row-from Counted p v = refl
-row-from OneScalar p v = refl
-row-from TwoScalars p v = refl
-row-from Scalars p v = refl
-row-from Patterns p v = refl
-row-from Periods p v = refl
-row-from OneJudgment p v = refl
-row-from Judgments p v = refl
-row-from Choice p v = refl
-row-from Aggregate p v = absurd p
-row-from OnlyRelated p v = absurd p
-row-from Slots p v = absurd p
-row-from Atom p v = refl
-row-from Exists p v = refl
+pub scalar-kind : (k : ℕ) → k < 256 → entryOf k .sort ≡ scalar → k < 79
+scalar-kind k h e = go (ltb k 79) refl
+  where
+    go : (b : Bool) → ltb k 79 ≡ b → k < 79
+    go true q = ltb-true k 79 q
+    go false q = absurd (scalar-most k (ltb-false k 79 q) h e)
 
-pub row-step : (w : Follows) → Plain w → (C : Citing) (entity : ℕ) (m : Membership) (v : ℕ) (fs : Fields) → stepBy C entity m w v fs ≡ goes fs entity (kept (rowBy w v .keep) 0 m) (kept (rowBy w v .keep) 1 m)
-unfolding rowBy stepBy
-row-step Nothing p C entity m v fs = refl
-row-step Counted p C entity m v fs = refl
-row-step OneScalar p C entity m v fs = refl
-row-step TwoScalars p C entity m v fs = refl
-row-step Scalars p C entity m v fs = refl
-row-step Patterns p C entity m v fs = refl
-row-step Periods p C entity m v fs = refl
-row-step OneJudgment p C entity m v fs = refl
-row-step Judgments p C entity m v fs = refl
-row-step Choice p C entity m v fs = refl
-row-step Aggregate p C entity m v fs = absurd p
-row-step OnlyRelated p C entity m v fs = absurd p
-row-step Slots p C entity m v fs = absurd p
-row-step Atom p C entity m v fs = refl
-row-step Exists p C entity m v fs = refl
+judgment-least : (k : ℕ) → k < 96 → entryOf k .sort ≡ judgment → ⊥
+unfolding entryOf table
+judgment-least k h e = let z = in-range (λ (k : ℕ). eqb (entryOf k .sort) judgment) false 0 96 refl k (omega arith) h in no (sym z ∙ eq-eqb _ _ e)
 
--- the sorts of a row are scalar or judgment
-pub row-small : (w : Follows) (v : ℕ) → (rowBy w v .first ≤ 1) × (rowBy w v .other ≤ 1)
-unfolding rowBy
-row-small Nothing v = (omega arith, omega arith)
-row-small Counted v = (omega arith, omega arith)
-row-small OneScalar v = (omega arith, omega arith)
-row-small TwoScalars v = (omega arith, omega arith)
-row-small Scalars v = (omega arith, omega arith)
-row-small Patterns v = (omega arith, omega arith)
-row-small Periods v = (omega arith, omega arith)
-row-small OneJudgment v = (omega arith, omega arith)
-row-small Judgments v = (omega arith, omega arith)
-row-small Choice v = (omega arith, omega arith)
-row-small Aggregate v = (omega arith, omega arith)
-row-small OnlyRelated v = (omega arith, omega arith)
-row-small Slots v = (omega arith, omega arith)
-row-small Atom v = (omega arith, omega arith)
-row-small Exists v = (omega arith, omega arith)
-
-pub small-row : {row : Row} (w : Follows) (v : ℕ) → row ≡ rowBy w v → (row .first ≤ 1) × (row .other ≤ 1)
-small-row w v e = (omega (arith, ap (λ (r : Row). r .first) e, row-small w v .0), omega (arith, ap (λ (r : Row). r .other) e, row-small w v .1))
-
--- a child keeps the membership, or loses it
-pub kept-yes : (keep i : ℕ) (m : Membership) → i < keep → m ≡ kept keep i m
-kept-yes keep i m h = ap (λ (b : Bool). pick b m none) (sym (lt-ltb i keep h))
-
-pub kept-no : (keep i : ℕ) (m : Membership) → keep ≤ i → none ≡ kept keep i m
-kept-no keep i m h = ap (λ (b : Bool). pick b m none) (sym (le-ltb i keep h))
+pub judgment-kind : (k : ℕ) → entryOf k .sort ≡ judgment → 96 ≤ k
+judgment-kind k e = go (ltb k 96) refl
+  where
+    go : (b : Bool) → ltb k 96 ≡ b → 96 ≤ k
+    go true q = absurd (judgment-least k (ltb-true k 96 q) e)
+    go false q = ltb-false k 96 q

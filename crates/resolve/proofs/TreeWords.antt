@@ -37,7 +37,7 @@ mutual
   pub size-is : (t : Tree) → length (treeWords t) ≡ size t
   size-is (node k v fs f) = omega (arith, length-append (fieldWords fs) (forestWords f), fields-length fs, sizes-are f)
 
-  sizes-are : (f : Forest) → length (forestWords f) ≡ sizes f
+  pub sizes-are : (f : Forest) → length (forestWords f) ≡ sizes f
   sizes-are trees.none = refl
   sizes-are (more t f) = length-append (treeWords t) (forestWords f) ∙ omega (arith, size-is t, sizes-are f)
 

@@ -1,23 +1,27 @@
 -- What the walkers ask of each other, and what their promises come to.
 use Prim.Native.Nat.{ℕ, zero, suc, _+_, _-_, _<_, _≤_}
+use native.Mathlib.Numerals.{sub-one}
 use native.Mathlib.Omega.{arith}
-use mathlib.Core.Path.{_≡_, refl, ap, sym, subst}
+use mathlib.Core.Path.{_≡_, refl, ap, sym, _∙_, subst}
 use mathlib.Core.List.{List, _∷_, _++_}
-use mathlib.Core.Option.{none}
-use lib.ListN.{length, getD, replicate}
-use Rattle.pack.specs.Table.{kindOf, judgment}
+use mathlib.Core.Logic.{_⊎_, inl, inr, ⊎-elim}
+use lib.ListN.{length, getD, replicate, length-replicate}
+use lib.Seq.{getD-drop}
+use Rattle.pack.specs.Table.{kindOf, valueOf, entryOf, scalar, judgment}
 use Rattle.pack.specs.Form.{Fine}
 use Rattle.pack.specs.Tree.{Tree, node, tree}
-use Rattle.resolve.specs.declared.rows.Row.{Row}
 use Rattle.resolve.specs.declared.leaves.Cited.{Cited}
 use Rattle.resolve.specs.declared.direction.Membership as direction
 use Rattle.resolve.specs.Direction.{Membership}
 use Rattle.resolve.specs.Words.{membershipOf}
-use Rattle.resolve.specs.Turning.{treeWords}
-use Rattle.resolve.specs.Rows.{whereRow, sorts, kept}
-use Rattle.resolve.specs.Walk.{citingIn, TreeAsked, NodeAsked, RowAsked, TreeTurned, RowTurned, MemberWalked, OnlyWalked, AggregateWalked}
+use Rattle.resolve.specs.Turning.{Outcome, done, refused, Citing, treeWords, size, sizes, resolveTree}
+use Rattle.resolve.specs.Rows.{joined, headWords}
+use Rattle.resolve.specs.Walk.{citingIn, Came, TreeAsked, NodeAsked, RowAsked, TreeTurned, RowTurned, MemberWalked, OnlyWalked}
 use Rattle.resolve.proofs.KeepsForm.{no-level}
-use Rattle.resolve.proofs.ChildrenLaws.{part, back, sorts-more, sorts-same, RowGoing, going-begin, going-end, going-inside, going-asked, going-next, going-refused}
+use Rattle.resolve.proofs.NodeLaws.{headed}
+use Rattle.resolve.proofs.JoinLaws.{Joining, sort-of}
+use Rattle.resolve.proofs.RowLaws.{scalar-kind, scalar-joins, scalar-word, judgment-joins, judgment-kind}
+use Rattle.resolve.proofs.ChildrenLaws.{part, back, part-drop, Going, going-end, going-inside, going-asked, going-next, going-refused, going-root, going-joins, rowCases, row-going, row-shown}
 
 word-of : (t : Tree) (after : List ℕ) → 0 < length (treeWords t ++ after)
 unfolding treeWords
@@ -60,83 +64,140 @@ module _ {ws records marks taken : List ℕ} {blocks count origin levels sort en
   pub only-turned : OnlyWalked ws records marks taken blocks count origin entity place work code left → TreeTurned ws records marks taken blocks count origin levels sort entity m place work code left
   only-turned w = record { each = λ name. w .each name m levels sort }
 
-  pub aggregate-turned : AggregateWalked ws records marks taken blocks count origin levels sort entity place work code left → TreeTurned ws records marks taken blocks count origin levels sort entity m place work code left
-  aggregate-turned w = record { each = λ name. w .each name m }
-
   pub turned-as : {other : ℕ} → sort ≡ other → TreeTurned ws records marks taken blocks count origin levels other entity m place work code left → TreeTurned ws records marks taken blocks count origin levels sort entity m place work code left
   turned-as e w = subst (λ (s : ℕ). TreeTurned ws records marks taken blocks count origin levels s entity m place work code left) (sym e) w
 
 pub asked-as : {records : List ℕ} {levels sort other : ℕ} {work : List ℕ} {place entity blocks count : ℕ} → sort ≡ other → TreeAsked records levels sort work place entity blocks count → TreeAsked records levels other work place entity blocks count
 asked-as {records} {levels} {work = work} {place} {entity} {blocks} {count} e a = subst (λ (s : ℕ). TreeAsked records levels s work place entity blocks count) e a
 
--- a row's memberships, as they are called in the code
-pub row-as : {ws records marks taken : List ℕ} {blocks count origin levels : ℕ} {all : List ℕ} {entity : ℕ} {first first′ rest rest′ : Membership} {place from : ℕ} {work : List ℕ} {code : ℕ} {left : List ℕ}
-    → first ≡ first′ → rest ≡ rest′ → RowTurned ws records marks taken blocks count origin levels all entity first rest place from work code left
-    → RowTurned ws records marks taken blocks count origin levels all entity first′ rest′ place from work code left
-row-as p q w = rw (← p, ← q) w
-
--- a where tree, by its row
-module _ {records work : List ℕ} {levels place entity blocks count flag : ℕ} {row : Row} (e : row ≡ whereRow flag) where
-  pub where-asked : RowAsked records levels (sorts judgment judgment flag) 5 work place entity blocks count → RowAsked records levels (sorts (row .first) (row .other) (row .count)) (row .from) work place entity blocks count
-  where-asked a = subst (λ (r : Row). RowAsked records levels (sorts (r .first) (r .other) (r .count)) (r .from) work place entity blocks count) (sym e) a
-
-  pub where-turned : {ws marks taken : List ℕ} {origin : ℕ} {code : ℕ} {left : List ℕ}
-      → RowTurned ws records marks taken blocks count origin levels (sorts (row .first) (row .other) (row .count)) entity (kept (row .keep) 0 none) (kept (row .keep) 1 none) place (row .from) work code left
-      → RowTurned ws records marks taken blocks count origin levels (sorts judgment judgment flag) entity none none place 5 work code left
-  where-turned {ws} {marks} {taken} {origin} {code} {left} w =
-      subst (λ (r : Row). RowTurned ws records marks taken blocks count origin levels (sorts (r .first) (r .other) (r .count)) entity (kept (r .keep) 0 none) (kept (r .keep) 1 none) place (r .from) work code left) e w
-
-pub where-small : {flag : ℕ} {row : Row} → row ≡ whereRow flag → (row .first ≤ 1) × (row .other ≤ 1)
-where-small e = (omega (arith, ap (λ (r : Row). r .first) e), omega (arith, ap (λ (r : Row). r .other) e))
-
 -- ---- the loop over a row
 
-module _ (pack records marks taken : List ℕ) (cited : Cited) (work₀ : List ℕ) (row : Row) (place entity left : ℕ) (rest next₀ : direction.Membership) where
-  abbrev all : List ℕ
-  all = sorts (row .first) (row .other) (row .count)
+-- so many trees of one sort
+first-one : (sort k : ℕ) → 0 < k → replicate k sort ≡ sort ∷ replicate (k - 1) sort
+first-one sort zero h = absurd (omega arith)
+first-one sort (suc k) h = ap (λ (x : ℕ). sort ∷ replicate x sort) (sym (sub-one (suc k)))
 
-  abbrev On : ℕ → List ℕ → Membership → List ℕ → Type 0
-  On at to-come x work =
-      RowGoing pack records marks taken (cited .blocks) (cited .count) (cited .origin) left all entity (membershipOf next₀) (membershipOf rest) place (row .from) work₀ at to-come x work
+and-more : (sort j k : ℕ) → replicate j sort ++ replicate k sort ≡ replicate (j + k) sort
+and-more sort zero k = ap (λ (n : ℕ). replicate n sort) (let e : k ≡ 0 + k = omega arith in e)
+and-more sort (suc j) k = ap (λ (l : List ℕ). sort ∷ l) (and-more sort j k) ∙ ap (λ (n : ℕ). replicate n sort) (let e : suc (j + k) ≡ suc j + k = omega arith in e)
 
-  -- at a word, with so many children to come, the first of that sort and membership
-  pub record Going (work : List ℕ) (next : direction.Membership) (sort at k : ℕ) : Type 0 where
-    pub on : On at (sorts sort (row .other) k) (membershipOf next) work
-    pub sorted : sort ≤ 1
+-- the word of a part
+part-word : (at : ℕ) (work : List ℕ) → getD (part at work) 0 0 ≡ getD work at 0
+part-word at work = ap (λ (l : List ℕ). getD l 0 0) (part-drop at work) ∙ getD-drop at work 0 0 ∙ ap (λ (n : ℕ). getD work n 0) (let e : at + 0 ≡ at = omega arith in e)
 
-  pub row-begins : row .first ≤ 1 → Going work₀ next₀ (row .first) (row .from) (row .count)
-  row-begins h =
-      record {
-        on = going-begin pack records marks taken (cited .blocks) (cited .count) (cited .origin) left all entity (membershipOf next₀) (membershipOf rest) place (row .from) work₀;
-        sorted = h;
-      }
+module _ (pack records marks taken : List ℕ) (cited : Cited) (work₀ : List ℕ) (place entity : ℕ) (m : direction.Membership) (count left sort : ℕ) where
+  abbrev On : List ℕ → ℕ → List ℕ → Type 0
+  On sorts at work =
+      Going pack records marks taken (cited .blocks) (cited .count) (cited .origin) left entity place work₀
+      (rowCases pack records marks taken (cited .blocks) (cited .count) (cited .origin) left sort count entity (membershipOf m) place work₀) sorts (membershipOf m) (membershipOf m) at work
 
-  module _ {work : List ℕ} {next : direction.Membership} {sort at k : ℕ} (g : Going work next sort at k) where
-    pub row-ends : k ≤ 0 → RowTurned pack records marks taken (cited .blocks) (cited .count) (cited .origin) left all entity (membershipOf next₀) (membershipOf rest) place (row .from) work₀ at work
+  -- at a word, with so many trees to come
+  pub record Row (work : List ℕ) (at k : ℕ) : Type 0 where
+    pub on : On (replicate k sort) at work
+
+  pub row-begins : Row work₀ 0 count
+  row-begins = record { on = row-going pack records marks taken (cited .blocks) (cited .count) (cited .origin) left sort count entity (membershipOf m) place work₀ }
+
+  abbrev Turned : ℕ → List ℕ → Type 0
+  Turned code work = RowTurned pack records marks taken (cited .blocks) (cited .count) (cited .origin) left sort count entity (membershipOf m) place work₀ code work
+
+  module _ {work : List ℕ} {at k : ℕ} (g : Row work at k) where
+    pub row-ends : k ≤ 0 → Turned at work
     row-ends h =
-        going-end pack records marks taken (cited .blocks) (cited .count) (cited .origin) left all entity (membershipOf next₀) (membershipOf rest) place (row .from) work₀
-        (let none : k ≡ 0 = omega arith in subst (λ (n : ℕ). On at (sorts sort (row .other) n) (membershipOf next) work) none (g .on))
+        let none : k ≡ 0 = omega arith in
+        row-shown pack records marks taken (cited .blocks) (cited .count) (cited .origin) left sort count entity (membershipOf m) place work₀
+        (going-end pack records marks taken (cited .blocks) (cited .count) (cited .origin) left entity place work₀ _ (subst (λ (n : ℕ). On (replicate n sort) at work) none (g .on)))
+
+    module _ (a : RowAsked records left sort count work₀ place entity (cited .blocks) (cited .count)) where
+      pub row-inside : at + k ≤ length work
+      row-inside = let h = going-inside pack records marks taken (cited .blocks) (cited .count) (cited .origin) left entity place work₀ _ (g .on) (a .row) in omega (arith, length-replicate k sort)
 
     module _ (some-left : 0 < k) where
-      on-next : On at (sort ∷ replicate (k - 1) (row .other)) (membershipOf next) work
-      on-next = subst (λ (l : List ℕ). On at l (membershipOf next) work) (sorts-more sort (row .other) k some-left) (g .on)
+      on-next : On (sort ∷ replicate (k - 1) sort) at work
+      on-next = subst (λ (l : List ℕ). On l at work) (first-one sort k some-left) (g .on)
 
-      module _ (a : RowAsked records left all (row .from) work₀ place entity (cited .blocks) (cited .count)) where
-        pub row-inside : at ≤ length work
-        row-inside = going-inside pack records marks taken (cited .blocks) (cited .count) (cited .origin) left all entity (membershipOf next₀) (membershipOf rest) place (row .from) work₀ on-next a
+      -- the word there is of a tree of the sort
+      row-sort : RowAsked records left sort count work₀ place entity (cited .blocks) (cited .count) → entryOf (kindOf (getD work at 0)) .sort ≡ sort
+      row-sort a = going-root pack records marks taken (cited .blocks) (cited .count) (cited .origin) left entity place work₀ _ on-next (a .row)
 
-        pub row-child : TreeAsked records left sort (part at work) (place + at) entity (cited .blocks) (cited .count)
-        row-child = going-asked pack records marks taken (cited .blocks) (cited .count) (cited .origin) left all entity (membershipOf next₀) (membershipOf rest) place (row .from) work₀ on-next a
+      -- whose children join the row
+      pub row-joins : Joining sort (kindOf (getD work at 0)) → {next more : ℕ} → next ≡ headWords (entryOf (kindOf (getD work at 0)) .follows) → more ≡ joined (entryOf (kindOf (getD work at 0)) .follows) (valueOf (getD work at 0))
+          → Row work (at + next) (k - 1 + more)
+      row-joins j {next} {more} e f =
+          let q = going-joins pack records marks taken (cited .blocks) (cited .count) (cited .origin) left entity place work₀ _ on-next j in
+          let many = and-more sort (joined (entryOf (kindOf (getD work at 0)) .follows) (valueOf (getD work at 0))) (k - 1)
+          ∙ ap (λ (n : ℕ). replicate n sort) (let x : joined (entryOf (kindOf (getD work at 0)) .follows) (valueOf (getD work at 0)) + (k - 1) ≡ k - 1 + more = omega arith in x) in
+          record { on = subst (λ (l : List ℕ). On l (at + next) work) many (subst (λ (x : ℕ). On (replicate (joined (entryOf (kindOf (getD work at 0)) .follows) (valueOf (getD work at 0))) sort ++ replicate (k - 1) sort) (at + x) work) (sym e) q) }
 
-      module _ {code : ℕ} {l : List ℕ} (w : TreeTurned pack records marks taken (cited .blocks) (cited .count) (cited .origin) left sort entity (membershipOf next) (place + at) (part at work) code l) where
-        pub row-goes : code < 16777216 → length l ≡ length (part at work) → row .other ≤ 1 → Going (back at work l) rest (row .other) (at + code) (k - 1)
-        row-goes small same h =
-            record {
-              on = subst (λ (y : List ℕ). On (at + code) y (membershipOf rest) (back at work l)) (sorts-same (row .other) (k - 1))
-                  (going-next pack records marks taken (cited .blocks) (cited .count) (cited .origin) left all entity (membershipOf next₀) (membershipOf rest) place (row .from) work₀ on-next w small same);
-              sorted = h;
-            }
+      -- or which is walked by itself
+      pub row-asked : RowAsked records left sort count work₀ place entity (cited .blocks) (cited .count) → TreeAsked records left sort (part at work) (place + at) entity (cited .blocks) (cited .count)
+      row-asked a = going-asked pack records marks taken (cited .blocks) (cited .count) (cited .origin) left entity place work₀ _ on-next (a .row) (a .standing)
 
-        pub row-stops : 16777216 ≤ code → length work < 16777216
-            → RowTurned pack records marks taken (cited .blocks) (cited .count) (cited .origin) left all entity (membershipOf next₀) (membershipOf rest) place (row .from) work₀ code (back at work l)
-        row-stops big short = going-refused pack records marks taken (cited .blocks) (cited .count) (cited .origin) left all entity (membershipOf next₀) (membershipOf rest) place (row .from) work₀ on-next w big short
+      pub row-kind : {kind : ℕ} → kind ≡ kindOf (getD work at 0) → kind ≡ kindOf (getD (part at work) 0 0)
+      row-kind e = e ∙ ap (λ (x : ℕ). kindOf x) (sym (part-word at work))
+
+      module _ {code : ℕ} {l : List ℕ} (w : TreeTurned pack records marks taken (cited .blocks) (cited .count) (cited .origin) left sort entity (membershipOf m) (place + at) (part at work) code l) where
+        pub row-goes : code < 16777216 → length l ≡ length (part at work) → Row (back at work l) (at + code) (k - 1)
+        row-goes small same = record { on = going-next pack records marks taken (cited .blocks) (cited .count) (cited .origin) left entity place work₀ _ on-next w small same }
+
+        pub row-stops : 16777216 ≤ code → length work < 16777216 → Turned code (back at work l)
+        row-stops big short =
+            row-shown pack records marks taken (cited .blocks) (cited .count) (cited .origin) left sort count entity (membershipOf m) place work₀
+            (going-refused pack records marks taken (cited .blocks) (cited .count) (cited .origin) left entity place work₀ _ on-next w big short)
+
+-- a tree that is done has words
+module _ {records : List ℕ} {levels sort : ℕ} {work : List ℕ} {place entity blocks count : ℕ} (a : TreeAsked records levels sort work place entity blocks count) where
+  some-words : (C : Citing) (m : Membership) (t : Tree) (after : List ℕ) (code : ℕ) (left : List ℕ) → Came after (size t) (resolveTree C entity m place t) code left → 0 < code
+  unfolding size
+  some-words C m (node k v fs f) after code left c = go (resolveTree C entity m place (node k v fs f)) c
+    where
+      go : (o : Outcome Tree) → Came after (1 + length fs + sizes f) o code left → 0 < code
+      go (done t) h = omega (arith, h .0)
+      go (refused r) h = omega arith
+
+  pub turned-some : {ws marks taken : List ℕ} {origin : ℕ} {m : Membership} {code : ℕ} {left : List ℕ} → TreeTurned ws records marks taken blocks count origin levels sort entity m place work code left → 0 < code
+  turned-some {m = m} {code} {left} w = some-words _ m (a .root) (a .after) code left (w .each 0 .each (a .names) (a .most) (a .root) (a .after) (a .fine) (a .stands))
+
+  -- and its word is of its sort
+  sorted : (n l : ℕ) (t : Tree) (after : List ℕ) → Fine (tree n l sort) t → work ≡ treeWords t ++ after → entryOf (kindOf (getD work 0 0)) .sort ≡ sort
+  sorted n l (node k v fs f) after h s = ap (λ (x : ℕ). entryOf x .sort) (headed n l sort k v fs f after work h s .kind) ∙ sort-of n l sort k v fs f h
+
+  tree-sort : entryOf (kindOf (getD work 0 0)) .sort ≡ sort
+  tree-sort = sorted (a .names) levels (a .root) (a .after) (a .fine) (a .stands)
+
+  -- 71 to 73, of the scalars from 71 on
+  pub parted-kind : {kind : ℕ} → kind ≡ kindOf (getD work 0 0) → kind < 256 → sort ≡ scalar → (kind ≡ 78 → ⊥) → (kind < 74) ⊎ (78 ≤ kind) → kindOf (getD work 0 0) ≤ 73
+  parted-kind e small is other (inl h) = omega arith
+  parted-kind e small is other (inr h) = let most = scalar-kind (kindOf (getD work 0 0)) (omega arith) (tree-sort ∙ is) in absurd (omega arith)
+
+pub third : (kind : ℕ) {k : ℕ} → k ≡ kind → 71 ≤ kind → kind ≤ 73 → (k ≡ 71 → ⊥) → (k ≡ 72 → ⊥) → kind ≡ 73
+third kind e lo hi a b = omega arith
+
+pub is-compared : {kind k : ℕ} → k ≡ kind → (kind ≡ 96) ⊎ (kind ≡ 101) → (k ≡ 101 → ⊥) → kind ≡ 96
+is-compared e (inl h) other = h
+is-compared e (inr h) other = absurd (other (e ∙ h))
+
+-- ---- leaves and plain nodes of a row
+
+module _ (pack records marks taken : List ℕ) (cited : Cited) (work₀ : List ℕ) (place entity : ℕ) (m : direction.Membership) (count left : ℕ) {work : List ℕ} {at k kind : ℕ} where
+  pub scalars-join : Row pack records marks taken cited work₀ place entity m count left scalar work at k → 0 < k → RowAsked records left scalar count work₀ place entity (cited .blocks) (cited .count)
+      → kind ≡ kindOf (getD work at 0) → kind ≤ 70 → {more : ℕ} → more ≡ joined (entryOf (kindOf (getD work at 0)) .follows) (valueOf (getD work at 0))
+      → Row pack records marks taken cited work₀ place entity m count left scalar work (at + 1) (k - 1 + more)
+  scalars-join g h a e low f =
+      let low′ : kindOf (getD work at 0) ≤ 70 = omega arith in
+      row-joins pack records marks taken cited work₀ place entity m count left scalar g h (scalar-joins (kindOf (getD work at 0)) (row-sort pack records marks taken cited work₀ place entity m count left scalar g h a) low′)
+      (scalar-word (kindOf (getD work at 0)) low′) f
+
+  module _ (g : Row pack records marks taken cited work₀ place entity m count left judgment work at k) (h : 0 < k) (a : RowAsked records left judgment count work₀ place entity (cited .blocks) (cited .count))
+      (e : kind ≡ kindOf (getD work at 0)) (apart : (kind ≡ 96) ⊎ (kind ≡ 101) → ⊥) where
+    pub judgments-plain : (97 ≤ kindOf (getD work at 0)) × (kindOf (getD work at 0) ≡ 101 → ⊥)
+    judgments-plain =
+        let least = judgment-kind (kindOf (getD work at 0)) (row-sort pack records marks taken cited work₀ place entity m count left judgment g h a) in
+        let other : kindOf (getD work at 0) ≡ 96 → ⊥ = λ q. apart (inl (e ∙ q)) in
+        (omega arith, λ q. apart (inr (e ∙ q)))
+
+    pub judgments-join : kind < 256 → {next more : ℕ} → next ≡ headWords (entryOf (kindOf (getD work at 0)) .follows) → more ≡ joined (entryOf (kindOf (getD work at 0)) .follows) (valueOf (getD work at 0))
+        → Row pack records marks taken cited work₀ place entity m count left judgment work (at + next) (k - 1 + more)
+    judgments-join small n f =
+        row-joins pack records marks taken cited work₀ place entity m count left judgment g h
+        (judgment-joins (kindOf (getD work at 0)) (row-sort pack records marks taken cited work₀ place entity m count left judgment g h a) (omega arith) (⊎-elim (λ q. apart (inl (e ∙ q))) (λ q. apart (inr (e ∙ q))))) n f

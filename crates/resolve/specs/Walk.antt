@@ -3,7 +3,7 @@ use Prim.Native.Nat.{ℕ, zero, suc, _+_, _*_, _<_, _≤_}
 use mathlib.Core.Path.{_≡_}
 use mathlib.Core.List.{List, [], _∷_, _++_}
 use mathlib.Core.Option.{Option, none, some}
-use lib.ListN.{length, getD}
+use lib.ListN.{length, getD, replicate}
 use lib.Dec.{eqb}
 use Rattle.pack.specs.declared.table.Follows.the-variants.{OnlyRelated, Slots}
 use Rattle.pack.specs.Table.{pick, kindOf, valueOf, wordOf}
@@ -159,18 +159,27 @@ Came after words (refused r) code left = code ≡ refusalCode (r .number) (r .pl
 pub record Walked (C : Citing) (levels sort entity : ℕ) (m : Membership) (place : ℕ) (work : List ℕ) (code : ℕ) (left : List ℕ) : Type 0 where
   pub each : (n : ℕ) → n ≤ 4096 → (t : Tree) (after : List ℕ) → Fine (tree n levels sort) t → work ≡ treeWords t ++ after → Came after (size t) (resolveTree C entity m place t) code left
 
--- and of the children of a node, after the words in front of them
-abbrev pub CameRow : List ℕ → List ℕ → ℕ → Outcome Forest → ℕ → List ℕ → Type 0
-CameRow front after words (done f) code left = (code ≡ words) × (left ≡ front ++ (forestWords f ++ after))
-CameRow front after words (refused r) code left = code ≡ refusalCode (r .number) (r .place) (r .other)
+-- and of trees in a row
+abbrev pub CameRow : List ℕ → ℕ → Outcome Forest → ℕ → List ℕ → Type 0
+CameRow after words (done f) code left = (code ≡ words) × (left ≡ forestWords f ++ after)
+CameRow after words (refused r) code left = code ≡ refusalCode (r .number) (r .place) (r .other)
 
--- children that keep to their sorts
+-- trees that keep to their sorts
 abbrev pub RowFine : ℕ → ℕ → List ℕ → Forest → Type 0
 RowFine n levels sorts f = FineEach (λ sort t. Fine (tree n levels sort) t) sorts (ofForest f)
 
-pub record RowWalked (C : Citing) (levels : ℕ) (sorts : List ℕ) (entity : ℕ) (first rest : Membership) (place from : ℕ) (work : List ℕ) (code : ℕ) (left : List ℕ) : Type 0 where
-  pub each : (n : ℕ) → n ≤ 4096 → (f : Forest) (front after : List ℕ) → length front ≡ from → RowFine n levels sorts f → work ≡ front ++ (forestWords f ++ after)
-      → CameRow front after (from + sizes f) (resolveForest C entity first rest (place + from) f) code left
+-- a row of so many trees of a sort at the front of a slice
+pub record RowThere (levels sort many : ℕ) (work : List ℕ) : Type 0 where
+  pub names : ℕ
+  pub most : names ≤ 4096
+  pub trees : Forest
+  pub after : List ℕ
+  pub fine : RowFine names levels (replicate many sort) trees
+  pub stands : work ≡ forestWords trees ++ after
+
+-- each of them with that entity and membership
+pub record RowWalked (C : Citing) (levels sort many entity : ℕ) (m : Membership) (place : ℕ) (work : List ℕ) (code : ℕ) (left : List ℕ) : Type 0 where
+  pub each : (r : RowThere levels sort many work) → CameRow (r .after) (sizes (r .trees)) (resolveForest C entity m m place (r .trees)) code left
 
 -- what all walkers ask for: places, blocks and the records are within bounds
 pub record Standing (records work : List ℕ) (place entity blocks count : ℕ) : Type 0 where
@@ -204,31 +213,21 @@ pub record NodeAsked (records : List ℕ) (kind : ℕ) (work : List ℕ) (place 
   pub stands : work ≡ treeWords root ++ after
   pub kinded : kindOf (getD work 0 0) ≡ kind
 
--- children of these sorts stand from a word on
-pub record RowAsked (records : List ℕ) (levels : ℕ) (sorts : List ℕ) (from : ℕ) (work : List ℕ) (place entity blocks count : ℕ) : Type 0 where
+-- a row of trees stands there
+pub record RowAsked (records : List ℕ) (levels sort many : ℕ) (work : List ℕ) (place entity blocks count : ℕ) : Type 0 where
   pub standing : Standing records work place entity blocks count
-  pub names : ℕ
-  pub most : names ≤ 4096
-  pub trees : Forest
-  pub front : List ℕ
-  pub after : List ℕ
-  pub passed : length front ≡ from
-  pub fine : RowFine names levels sorts trees
-  pub stands : work ≡ front ++ (forestWords trees ++ after)
+  pub row : RowThere levels sort many work
 
 -- what a walker answers and leaves, whatever the name of the citing rule or relation
 pub record TreeTurned (ws records marks taken : List ℕ) (blocks count origin levels sort entity : ℕ) (m : Membership) (place : ℕ) (work : List ℕ) (code : ℕ) (left : List ℕ) : Type 0 where
   pub each : (name : ℕ) → Walked (citingIn ws records marks taken blocks count name origin) levels sort entity m place work code left
 
-pub record RowTurned (ws records marks taken : List ℕ) (blocks count origin levels : ℕ) (sorts : List ℕ) (entity : ℕ) (first rest : Membership) (place from : ℕ) (work : List ℕ) (code : ℕ) (left : List ℕ) : Type 0 where
-  pub each : (name : ℕ) → RowWalked (citingIn ws records marks taken blocks count name origin) levels sorts entity first rest place from work code left
+pub record RowTurned (ws records marks taken : List ℕ) (blocks count origin levels sort many entity : ℕ) (m : Membership) (place : ℕ) (work : List ℕ) (code : ℕ) (left : List ℕ) : Type 0 where
+  pub each : (name : ℕ) → RowWalked (citingIn ws records marks taken blocks count name origin) levels sort many entity m place work code left
 
--- nodes with slots: a test of membership, whatever the tables say of marks and entities; OnlyRelated and an aggregate, whatever the membership
+-- nodes with slots and without children: a test of membership, whatever the tables say of marks and entities; OnlyRelated, whatever the membership
 pub record MemberWalked (ws records : List ℕ) (entity : ℕ) (m : Membership) (place : ℕ) (work : List ℕ) (code : ℕ) (left : List ℕ) : Type 0 where
   pub each : (C : Citing) (marks taken : List ℕ) → C .tables ≡ tablesIn ws records marks taken → (levels sort : ℕ) → Walked C levels sort entity m place work code left
 
 pub record OnlyWalked (ws records marks taken : List ℕ) (blocks count origin entity place : ℕ) (work : List ℕ) (code : ℕ) (left : List ℕ) : Type 0 where
   pub each : (name : ℕ) (m : Membership) (levels sort : ℕ) → Walked (citingIn ws records marks taken blocks count name origin) levels sort entity m place work code left
-
-pub record AggregateWalked (ws records marks taken : List ℕ) (blocks count origin levels sort entity place : ℕ) (work : List ℕ) (code : ℕ) (left : List ℕ) : Type 0 where
-  pub each : (name : ℕ) (m : Membership) → Walked (citingIn ws records marks taken blocks count name origin) levels sort entity m place work code left
