@@ -126,7 +126,7 @@ front-length lent count h = let whole : count - 0 ≡ count = omega arith in rw 
 done-same : {A : Type 0} {a b : A} → _≡_ {A = Outcome A} (done a) (done b) → a ≡ b
 done-same e = cc
 
-module _ {ws starts marks work : List ℕ} {steps : ℕ} (a : FinishAsked ws starts marks work steps) where
+module _ {ws starts marks work order : List ℕ} {steps : ℕ} (a : FinishAsked ws starts marks work order steps) where
   abbrev p : Pack
   p = a .tabled .checked .pack
 

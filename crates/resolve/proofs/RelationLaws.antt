@@ -1,10 +1,11 @@
 -- A relation that is resolved where it stands.
-use Prim.Native.Nat.{ℕ, _+_, _-_, _<_, _≤_}
+use Prim.Native.Nat.{ℕ, suc, _+_, _-_, _<_, _≤_}
 use native.Mathlib.Omega.{arith}
 use mathlib.Core.Path.{_≡_, refl, ap, sym, _∙_, subst}
 use mathlib.Core.List.{List, [], _∷_, _++_, append-assoc, append-nil}
 use mathlib.Core.Option.{Option, none, some}
-use lib.ListN.{length, getD, length-append, length-map}
+use lib.ListN.{length, getD, take, set, length-append, length-map, length-set}
+use lib.Seq.{take-all, take-suc, take-suc-set}
 use Rattle.pack.specs.declared.answer.Answer.{Answer}
 use Rattle.pack.specs.declared.answer.Answer.the-variants.{Given, Refused}
 use Rattle.pack.specs.declared.answer.Refusal.{Refusal}
@@ -25,7 +26,8 @@ use Rattle.resolve.specs.Resolving.{cites, predicatePlace, withPredicate
 use Rattle.resolve.specs.Words.{slotKindsIn}
 use Rattle.chains.specs.Record.{valueAt, kindCount, flagAt, slotsPlace, predicateAt}
 use Rattle.resolve.specs.Walk.{citingIn, TreeAsked, TreeTurned}
-use Rattle.resolve.specs.Passes.{RefusedAs, CameAt, CameFrom, wordsOf, runBy, Many, Ready, Bodily, RelationKeeps, KindsReady, RelationAsked, RelationCame, RelationsAsked, RelationsCame}
+use Rattle.resolve.specs.Writing.{placesFrom}
+use Rattle.resolve.specs.Passes.{RefusedAs, CameAt, CameFrom, AskedFrom, wordsOf, runBy, Many, Ready, Bodily, RelationKeeps, KindsReady, RelationAsked, RelationCame, RelationsAsked, RelationsCame}
 use Rattle.resolve.proofs.KeepsForm.{Good, tree-good}
 use Rattle.resolve.proofs.SlotLaws.{tables-fit-in}
 use Rattle.resolve.proofs.RefusalBounds.{MemberSmall}
@@ -378,6 +380,21 @@ relation-long p w at a b keeps e = go (a .derivation) refl (tail-derivation (p .
         ap (λ (r : Relation). length (relationWords (p .names) r)) (sym same ∙ it)
     go (some d) q f e = let g = predicate-kept (p .names) (some d) d refl f in more d q g (resolvePredicate p at a d) refl e (predicate-sized p w at a d g)
 
+-- ---- their places
+
+pub places-many : (n at : ℕ) (l : List Relation) → length (placesFrom n at l) ≡ length l
+unfolding placesFrom
+places-many n at [] = refl
+places-many n at (r ∷ l) = ap suc (places-many n (at + length (relationWords n r)) l)
+
+place-at : (n at : ℕ) (gone rest : List Relation) (i : ℕ) → length gone ≡ i → 0 < length rest → getD (placesFrom n at (gone ++ rest)) i 0 ≡ at + length (wordsOf (relationWords n) gone)
+unfolding placesFrom
+place-at n at [] [] i e h = absurd (omega arith)
+place-at n at [] (r ∷ rest) i e h = ap (λ (j : ℕ). getD (at ∷ placesFrom n (at + length (relationWords n r)) rest) j 0) (sym e) ∙ omega arith
+place-at n at (g ∷ gone) rest i e h =
+    ap (λ (j : ℕ). getD (placesFrom n at ((g ∷ gone) ++ rest)) j 0) (sym e) ∙ place-at n (at + length (relationWords n g)) gone rest (length gone) refl h
+    ∙ omega (arith, length-append (relationWords n g) (wordsOf (relationWords n) gone))
+
 module _ {ws records marks taken : List ℕ} {blocks count many first : ℕ} {work₀ : List ℕ} (a : RelationsAsked ws records marks taken blocks count many first work₀) where
   abbrev p : Pack
   p = a .ready .pack
@@ -388,11 +405,20 @@ module _ {ws records marks taken : List ℕ} {blocks count many first : ℕ} {wo
   abbrev longs : (at : ℕ) (x y : Relation) → RelationKeeps p x → by at x ≡ done y → length (relationWords (p .names) y) ≡ length (relationWords (p .names) x)
   longs = relation-long p (words-read ws p (a .ready .checked) .fine)
 
-  pub record RelationsGoing (at k : ℕ) (work : List ℕ) : Type 0 where
-    pub going : RunGoing (relationWords (p .names)) by (RelationKeeps p) longs many first work₀ at k work
+  abbrev Asked : Type 0
+  Asked = AskedFrom (wordsOf (relationWords (p .names))) (Many (RelationKeeps p) many) first work₀
 
-  pub relations-begin : RelationsGoing first many work₀
-  relations-begin = record { going = run-begin (relationWords (p .names)) by (RelationKeeps p) longs many first work₀ }
+  -- with the places of those that are done noted
+  pub record RelationsGoing (at k : ℕ) (work order : List ℕ) : Type 0 where
+    pub going : RunGoing (relationWords (p .names)) by (RelationKeeps p) longs many first work₀ at k work
+    pub room : length order ≡ many
+    pub left : k ≤ many
+    pub noted : (x : Asked) → take (many - k) order ≡ take (many - k) (placesFrom (p .names) first (x .it))
+
+  pub relations-begin : {order : List ℕ} → length order ≡ many → RelationsGoing first many work₀ order
+  relations-begin e =
+      let z : many - many ≡ 0 = omega arith in
+      record { going = run-begin (relationWords (p .names)) by (RelationKeeps p) longs many first work₀; room = e; left = omega arith; noted = λ x. rw z refl }
 
   pub relations-inside : first ≤ length work₀
   relations-inside =
@@ -400,13 +426,39 @@ module _ {ws records marks taken : List ℕ} {blocks count many first : ℕ} {wo
       omega (arith, a .asked .passed)
 
   -- of whichever pack the words are
-  of-pack : {answer : Answer} {left : List ℕ} → CameFrom (wordsOf (relationWords (p .names))) (runBy (relationWords (p .names)) by) (Many (RelationKeeps p) many) first work₀ answer left → RelationsCame ws many first work₀ answer left
-  of-pack {answer} {left} c =
-      record { each = λ q h. subst (λ (x : Pack). CameFrom (wordsOf (relationWords (x .names))) (runBy (relationWords (x .names)) (λ at r. resolveRelation x at r)) (Many (RelationKeeps x) many) first work₀ answer left) (same-pack ws (a .ready .checked) h) c }
+  of-pack : {answer : Answer} {left order : List ℕ} → CameFrom (wordsOf (relationWords (p .names))) (runBy (relationWords (p .names)) by) (Many (RelationKeeps p) many) first work₀ answer left
+      → ((next x : ℕ) → answer ≡ Given next x → (y : Asked) → order ≡ placesFrom (p .names) first (y .it)) → RelationsCame ws many first work₀ answer left order
+  of-pack {answer} {left} {order} c o =
+      record {
+        each = λ q h. subst (λ (x : Pack). CameFrom (wordsOf (relationWords (x .names))) (runBy (relationWords (x .names)) (λ at r. resolveRelation x at r)) (Many (RelationKeeps x) many) first work₀ answer left) (same-pack ws (a .ready .checked) h) c;
+        places = λ q h y next x e.
+            subst (λ (t : Pack). (y : AskedFrom (wordsOf (relationWords (t .names))) (Many (RelationKeeps t) many) first work₀) → order ≡ placesFrom (t .names) first (y .it)) (same-pack ws (a .ready .checked) h) (λ y. o next x e y) y;
+      }
 
-  module _ {at k : ℕ} {work : List ℕ} (g : RelationsGoing at k work) where
-    pub relations-end : k ≤ 0 → RelationsCame ws many first work₀ (Given at 0) work
-    relations-end h = of-pack (run-end (relationWords (p .names)) by (RelationKeeps p) longs many first work₀ (g .going) h)
+  module _ {at k : ℕ} {work order : List ℕ} (g : RelationsGoing at k work order) where
+    all-noted : k ≤ 0 → (x : Asked) → order ≡ placesFrom (p .names) first (x .it)
+    all-noted h x =
+        let whole : many - k ≡ many = omega arith in
+        let size : length (placesFrom (p .names) first (x .it)) ≡ many = places-many (p .names) first (x .it) ∙ x .keeps .many in
+        sym (take-all many order (omega (arith, g .room))) ∙ rw whole at (g .noted x) ∙ take-all many (placesFrom (p .names) first (x .it)) (omega arith)
+
+    pub relations-end : k ≤ 0 → RelationsCame ws many first work₀ (Given at 0) work order
+    relations-end h = of-pack (run-end (relationWords (p .names)) by (RelationKeeps p) longs many first work₀ (g .going) h) (λ next x e y. all-noted h y)
+
+    -- the next place
+    pub relations-note : 0 < k → length (set order (many - k) at) ≡ many
+    relations-note h = length-set order (many - k) at ∙ g .room
+
+    note-next : 0 < k → (x : Asked) → take (many - (k - 1)) (set order (many - k) at) ≡ take (many - (k - 1)) (placesFrom (p .names) first (x .it))
+    note-next h x =
+        let i : ℕ = many - k in
+        let l : List ℕ = placesFrom (p .names) first (x .it) in
+        let r = g .going .each (x .it) (x .front) (x .after) (x .passed) (x .keeps) (x .stands) in
+        let size : length l ≡ many = places-many (p .names) first (x .it) ∙ x .keeps .many in
+        let one : many - (k - 1) ≡ suc i = (let b = g .left in omega arith) in
+        let many-gone : length (r .gone) ≡ i = omega (arith, ap length (r .parted), length-append (r .gone) (r .rest), r .many, x .keeps .many) in
+        let there : getD l i 0 ≡ at = ap (λ (y : List Relation). getD (placesFrom (p .names) first y) i 0) (r .parted) ∙ place-at (p .names) first (r .gone) (r .rest) i many-gone (omega (arith, r .many)) ∙ sym (r .here) in
+        rw one (take-suc-set order i at (let b = g .left in omega (arith, g .room)) ∙ rw (g .noted x, ← there) (sym (take-suc l i 0 (let b = g .left in omega arith))))
 
     pub relations-asked : 0 < k → RelationAsked ws records marks taken blocks count at work
     relations-asked h =
@@ -426,11 +478,19 @@ module _ {ws records marks taken : List ℕ} {blocks count many first : ℕ} {wo
         }
 
     module _ (h : 0 < k) {answer : Answer} {left : List ℕ} (c : RelationCame ws at work answer left) where
-      pub relations-next : {next x : ℕ} → answer ≡ Given next x → length left ≡ length work → RelationsGoing next (k - 1) left
-      relations-next e q = record { going = run-next (relationWords (p .names)) by (RelationKeeps p) longs many first work₀ (g .going) h (c .each p (a .ready .checked)) e q }
+      pub relations-next : {next x : ℕ} → answer ≡ Given next x → length left ≡ length work → RelationsGoing next (k - 1) left (set order (many - k) at)
+      relations-next e q =
+          record {
+            going = run-next (relationWords (p .names)) by (RelationKeeps p) longs many first work₀ (g .going) h (c .each p (a .ready .checked)) e q;
+            room = relations-note h;
+            left = let b = g .left in omega arith;
+            noted = note-next h;
+          }
 
-      pub relations-stop : {r : Refusal} → answer ≡ Refused r → RelationsCame ws many first work₀ answer left
-      relations-stop e = of-pack (run-stop (relationWords (p .names)) by (RelationKeeps p) longs many first work₀ (g .going) h (c .each p (a .ready .checked)) e)
+      pub relations-stop : {r : Refusal} → answer ≡ Refused r → (noted : List ℕ) → RelationsCame ws many first work₀ answer left noted
+      relations-stop e noted =
+          of-pack (run-stop (relationWords (p .names)) by (RelationKeeps p) longs many first work₀ (g .going) h (c .each p (a .ready .checked)) e)
+          (λ next x f y. (let z : _≡_ {A = ℕ} 0 1 = cc in absurd (omega arith)))
 
 -- the code's numbers from what its calls answer
 pub reads-of : (ws marks work : List ℕ) (at : ℕ) {name origin list slots related entity : ℕ} {m : Membership} {place : ℕ} → name ≡ valueAt work at → origin ≡ valueAt work (at + 1) → list ≡ getD marks name 0 - 2 → slots ≡ slotsPlace work at

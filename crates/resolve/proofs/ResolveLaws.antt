@@ -19,8 +19,8 @@ use Rattle.pack.proofs.OperationLaws.{turned-away}
 use Rattle.pack.proofs.PackLaws.{words-read}
 use Rattle.chains.specs.Kinds.{find, kindsOf, allKinds}
 use Rattle.chains.specs.Operations.{firstRelation, startOf, tableFrom, Answered}
-use Rattle.chains.specs.AllKinds.{IsPack}
-use Rattle.chains.proofs.CheckedLaws.{same-pack, short-checked}
+use Rattle.chains.specs.AllKinds.{IsPack, Counted}
+use Rattle.chains.proofs.CheckedLaws.{same-pack, short-checked, few-counted}
 use Rattle.chains.proofs.FillLaws.{Filling}
 use Rattle.chains.proofs.PackIndex.{parts, find-name, find-kept}
 use Rattle.resolve.specs.Tables.{Tables, derivedAt, tables}
@@ -76,7 +76,7 @@ pub declared-of : (k : Option (List ℕ)) (o : Option Relation) → equalKinds (
 declared-of k none e = let z : _≡_ {A = ℕ} 0 1 = cc in absurd (omega arith)
 declared-of k (some r) e = (r, refl)
 
-module _ {ws starts marks taken work : List ℕ} (a : TreesAsked ws starts marks taken work) where
+module _ {ws starts marks taken work order : List ℕ} (a : TreesAsked ws starts marks taken work order) where
   abbrev p : Pack
   p = a .tabled .checked .pack
 
@@ -131,13 +131,13 @@ module _ {ws starts marks taken work : List ℕ} (a : TreesAsked ws starts marks
     unfolding unstamped
     whole-some m e = ap (λ (o : Option ℕ). elim o [ some n ↦ refused (equalRefusal p n) | none ↦ turned p ]) e
 
-    of-pack : {answer : Answer} {left : List ℕ} → CameWhole (unstamped p) answer left → PackCame ws answer left
-    of-pack {answer} {left} c = record { each = λ q e. subst (λ (x : Pack). CameWhole (unstamped x) answer left) (same-pack ws h e) c }
+    of-pack : (answer : Answer) (left : List ℕ) → CameWhole (unstamped p) answer left → (q : Pack) → read ws ≡ yes q → CameWhole (unstamped q) answer left
+    of-pack answer left c q e = subst (λ (x : Pack). CameWhole (unstamped x) answer left) (same-pack ws h e) c
 
-    pub pack-turned : name ≡ table.none → {answer : Answer} {left : List ℕ} → TreesCame ws answer left → PackCame ws answer left
+    pub pack-turned : name ≡ table.none → {answer : Answer} {left places : List ℕ} → TreesCame ws answer left places → PackCame ws answer left places
     pack-turned z {answer} {left} t =
         let e = none-equal (defaultedEqual T (p .defaulted)) refl (sym name-is ∙ z) in
-        of-pack (subst (λ (o : Outcome Pack). CameWhole o answer left) (sym (whole-none e)) (t .each p h))
+        record { each = of-pack answer left (subst (λ (o : Outcome Pack). CameWhole o answer left) (sym (whole-none e)) (t .each p h)); places = t .places }
 
     -- one of them
     module _ (not-none : name ≡ table.none → ⊥) where
@@ -154,10 +154,13 @@ module _ {ws starts marks taken work : List ℕ} (a : TreesAsked ws starts marks
       start-is : getD starts name 0 ≡ startOf (p .names) name (firstRelation p) (p .relations)
       start-is = let r = its-relation name it-is in declared-at ws starts marks taken (a .tabled .declares) (a .steps) p h (a .tabled .scanned) (a .tabled .marked) (a .tabled .knows) name (r .0) (r .1)
 
-      pub pack-equal : (left : List ℕ) → PackCame ws (Refused (record { number = 9; place = getD starts name 0; name = name; other = 0 })) left
-      pack-equal left =
-          of-pack (subst (λ (o : Outcome Pack). CameWhole o (Refused (record { number = 9; place = getD starts name 0; name = name; other = 0 })) left) (sym (whole-some name it-is))
-          (ap (λ (x : ℕ). Refused (record { number = 9; place = x; name = name; other = 0 })) start-is))
+      pub pack-equal : (left places : List ℕ) → PackCame ws (Refused (record { number = 9; place = getD starts name 0; name = name; other = 0 })) left places
+      pack-equal left places =
+          record {
+            each = of-pack (Refused (record { number = 9; place = getD starts name 0; name = name; other = 0 })) left (subst (λ (o : Outcome Pack). CameWhole o (Refused (record { number = 9; place = getD starts name 0; name = name; other = 0 })) left) (sym (whole-some name it-is))
+                (ap (λ (x : ℕ). Refused (record { number = 9; place = x; name = name; other = 0 })) start-is));
+            places = λ q e next x given. absurd (given-not-refused (sym given));
+          }
 
 -- ---- the answers
 
@@ -174,7 +177,7 @@ module _ {ws : List ℕ} (c : IsPack ws) (lent : List ℕ) where
   buffer-is = rw (c .reads) (ap (writtenOut lent) (resolved-is q))
 
   -- refused
-  pub resolve-stopped : {answer : Answer} {left : List ℕ} {r : Refusal} → PackCame ws answer left → answer ≡ Refused r → Answered resolveAnswer resolveBuffer ws lent answer lent
+  pub resolve-stopped : {answer : Answer} {left order : List ℕ} {r : Refusal} → PackCame ws answer left order → answer ≡ Refused r → Answered resolveAnswer resolveBuffer ws lent answer lent
   resolve-stopped {answer} {left} {r} t e = go (unstamped q) refl (t .each q (c .reads))
     where
       go : (o : Outcome Pack) → unstamped q ≡ o → CameWhole o answer left → Answered resolveAnswer resolveBuffer ws lent answer lent
@@ -200,7 +203,7 @@ module _ {ws : List ℕ} (c : IsPack ws) (lent : List ℕ) where
     pub resolves : turned q ≡ done whole
     pub stands : left ≡ words whole
 
-  pub whole-done : {answer : Answer} {left : List ℕ} {n x : ℕ} → PackCame ws answer left → answer ≡ Given n x → WholeDone left
+  pub whole-done : {answer : Answer} {left order : List ℕ} {n x : ℕ} → PackCame ws answer left order → answer ≡ Given n x → WholeDone left
   whole-done {answer} {left} t e = go (unstamped q) refl (t .each q (c .reads))
     where
       go : (o : Outcome Pack) → unstamped q ≡ o → CameWhole o answer left → WholeDone left
@@ -238,11 +241,15 @@ copied ws work₀ {work} {i} e f h =
 
 -- ---- for the code
 
-pub finish-of : {ws starts marks taken : List ℕ} {steps : ℕ} (t : Tabled ws starts marks taken steps) {answer : Answer} {left : List ℕ} {n x : ℕ} → PackCame ws answer left → answer ≡ Given n x → FinishAsked ws starts marks left steps
-finish-of {taken = taken} t c e = let d = whole-done (t .checked) [] c e in record { taken = taken; tabled = t; whole = d .whole; resolves = d .resolves; stands = d .stands }
+pub finish-of : {ws starts marks taken : List ℕ} {steps : ℕ} (t : Tabled ws starts marks taken steps) {answer : Answer} {left order : List ℕ} {n x : ℕ} → PackCame ws answer left order → answer ≡ Given n x → FinishAsked ws starts marks left order steps
+finish-of {taken = taken} t {n = n} {x = x} c e = let d = whole-done (t .checked) [] c e in record { taken = taken; tabled = t; whole = d .whole; resolves = d .resolves; stands = d .stands; places = c .places (t .checked .pack) (t .checked .reads) n x e }
 
-pub asked-of : {ws starts marks taken work : List ℕ} {steps : ℕ} → Tabled ws starts marks taken steps → work ≡ ws → TreesAsked ws starts marks taken work
-asked-of {steps = steps} t e = record { steps = steps; tabled = t; copied = e }
+-- a word for each relation
+pub asked-of : {ws starts marks taken work : List ℕ} {steps : ℕ} → Tabled ws starts marks taken steps → work ≡ ws → {count : ℕ} → Counted ws count → TreesAsked ws starts marks taken work (midOf 0 (count - 0) (replicate 512 0))
+asked-of {ws} {steps = steps} t e {count} k =
+    let whole : count - 0 ≡ count = omega arith in
+    let long : length {A = ℕ} (midOf 0 (count - 0) (replicate 512 0)) ≡ count = rw whole (length-take-le {A = ℕ} count (replicate 512 0) (omega (arith, few-counted ws (t .checked) k, length-replicate {A = ℕ} 512 0))) in
+    record { steps = steps; tabled = t; copied = e; room = λ p h. long ∙ k .relations p h }
 
 front-room : (ws : List ℕ) → length ws ≤ 8192 → length {A = ℕ} (midOf 0 (length ws - 0) (replicate 8192 0)) ≡ length ws
 front-room ws few = let whole : length ws - 0 ≡ length ws = omega arith in rw whole (length-take-le {A = ℕ} (length ws) (replicate 8192 0) (omega (arith, length-replicate {A = ℕ} 8192 0)))

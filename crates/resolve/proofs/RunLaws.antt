@@ -17,9 +17,16 @@ given-refused : {n x : ℕ} {r : Refusal} → Given n x ≡ Refused r → ⊥
 given-refused e = let z : _≡_ {A = ℕ} 0 1 = cc in omega arith
 
 module _ {A : Type 0} (W : A → List ℕ) (resolve : ℕ → A → Outcome A) (Keeps : A → Type 0) (long : (at : ℕ) (a b : A) → Keeps a → resolve at a ≡ done b → length (W b) ≡ length (W a)) where
-  -- at a place, with so many records to come: the words before them, and what is to be shown of them for what is to be shown of all
-  pub record RunLeft (at k : ℕ) (after work : List ℕ) (Goal : Answer → List ℕ → Type 0) : Type 0 where
+  words-more : (l : List A) (a : A) → length (wordsOf W (l ++ (a ∷ []))) ≡ length (wordsOf W l) + length (W a)
+  words-more [] a = length-append (W a) [] ∙ omega arith
+  words-more (b ∷ l) a = length-append (W b) (wordsOf W (l ++ (a ∷ []))) ∙ omega (arith, words-more l a, length-append (W b) (wordsOf W l))
+
+  -- at a place, with so many records to come: those before them, the words before them, and what is to be shown of them for what is to be shown of all
+  pub record RunLeft (from : ℕ) (all : List A) (at k : ℕ) (after work : List ℕ) (Goal : Answer → List ℕ → Type 0) : Type 0 where
+    pub gone : List A
     pub rest : List A
+    pub parted : all ≡ gone ++ rest
+    pub here : at ≡ from + length (wordsOf W gone)
     pub many : length rest ≡ k
     pub before : List ℕ
     pub passed : length before ≡ at
@@ -93,13 +100,13 @@ module _ {A : Type 0} (W : A → List ℕ) (resolve : ℕ → A → Outcome A) (
     Goal l front after answer left = CameAt (wordsOf W) front after (from + length (wordsOf W l)) (runBy W resolve from l) answer left
 
     pub record RunGoing (at k : ℕ) (work : List ℕ) : Type 0 where
-      pub each : (l : List A) (front after : List ℕ) → length front ≡ from → Many Keeps count l → work₀ ≡ front ++ (wordsOf W l ++ after) → RunLeft at k after work (Goal l front after)
+      pub each : (l : List A) (front after : List ℕ) → length front ≡ from → Many Keeps count l → work₀ ≡ front ++ (wordsOf W l ++ after) → RunLeft from l at k after work (Goal l front after)
       pub same : length work ≡ length work₀
 
     pub run-begin : RunGoing from count work₀
     run-begin =
         record {
-          each = λ l front after p m s. record { rest = l; many = m .many; before = front; passed = p; keeps = m .all; stands = s; finish = λ answer left c. c };
+          each = λ l front after p m s. record { gone = []; rest = l; parted = refl; here = omega arith; many = m .many; before = front; passed = p; keeps = m .all; stands = s; finish = λ answer left c. c };
           same = refl;
         }
 
@@ -131,35 +138,38 @@ module _ {A : Type 0} (W : A → List ℕ) (resolve : ℕ → A → Outcome A) (
 
           -- it is done
           module _ {next x : ℕ} (given : answer ≡ Given next x) where
-            done-here : (Aim : Answer → List ℕ → Type 0) (a : A) (l : List A) (before after : List ℕ) → length (a ∷ l) ≡ k → length before ≡ at → Keeps a → All Keeps l
+            done-here : (Aim : Answer → List ℕ → Type 0) (all gone : List A) (a : A) (l : List A) (before after : List ℕ) → all ≡ gone ++ (a ∷ l) → at ≡ from + length (wordsOf W gone) → length (a ∷ l) ≡ k → length before ≡ at → Keeps a → All Keeps l
                 → ((y : Answer) (z : List ℕ) → CameAt (wordsOf W) before after (at + length (wordsOf W (a ∷ l))) (runBy W resolve at (a ∷ l)) y z → Aim y z)
-                → (o : Outcome A) → resolve at a ≡ o → CameAt W before (wordsOf W l ++ after) (at + length (W a)) o answer left → RunLeft next (k - 1) after left Aim
-            done-here Aim a l before after many p keeps all finish (refused r) e h = absurd (given-refused (sym given ∙ h))
-            done-here Aim a l before after many p keeps all finish (done b) e h =
+                → (o : Outcome A) → resolve at a ≡ o → CameAt W before (wordsOf W l ++ after) (at + length (W a)) o answer left → RunLeft from all next (k - 1) after left Aim
+            done-here Aim all gone a l before after parted here many p keeps each finish (refused r) e h = absurd (given-refused (sym given ∙ h))
+            done-here Aim all gone a l before after parted here many p keeps each finish (done b) e h =
                 let n : next ≡ at + length (W a) = given-words (sym given ∙ h .0) in
                 let size = length-append before (W b) in
                 record {
+                  gone = gone ++ (a ∷ []);
                   rest = l;
+                  parted = parted ∙ sym (append-assoc gone (a ∷ []) l);
+                  here = omega (arith, words-more gone a);
                   many = omega arith;
                   before = before ++ W b;
                   passed = omega (arith, long at a b keeps e);
-                  keeps = all;
+                  keeps = each;
                   stands = h .1 ∙ sym (append-assoc before (W b) (wordsOf W l ++ after));
                   finish = λ y z q. finish y z (went at a l before after b e y z
                       (subst (λ (t : ℕ). CameAt (wordsOf W) (before ++ W b) after (t + length (wordsOf W l)) (runBy W resolve t l) y z) n q));
                 }
 
-            next-left : (Aim : Answer → List ℕ → Type 0) (l : List A) (before after : List ℕ) → length l ≡ k → length before ≡ at → All Keeps l → work ≡ before ++ (wordsOf W l ++ after)
-                → ((y : Answer) (z : List ℕ) → CameAt (wordsOf W) before after (at + length (wordsOf W l)) (runBy W resolve at l) y z → Aim y z) → RunLeft next (k - 1) after left Aim
-            next-left Aim [] before after e p h s finish = absurd (omega arith)
-            next-left Aim (a ∷ l) before after e p h s finish = done-here Aim a l before after e p (h .0) (h .1) finish (resolve at a) refl (came a l before after p (h .0) s)
+            next-left : (Aim : Answer → List ℕ → Type 0) (all gone l : List A) (before after : List ℕ) → all ≡ gone ++ l → at ≡ from + length (wordsOf W gone) → length l ≡ k → length before ≡ at → All Keeps l → work ≡ before ++ (wordsOf W l ++ after)
+                → ((y : Answer) (z : List ℕ) → CameAt (wordsOf W) before after (at + length (wordsOf W l)) (runBy W resolve at l) y z → Aim y z) → RunLeft from all next (k - 1) after left Aim
+            next-left Aim all gone [] before after t u e p h s finish = absurd (omega arith)
+            next-left Aim all gone (a ∷ l) before after t u e p h s finish = done-here Aim all gone a l before after t u e p (h .0) (h .1) finish (resolve at a) refl (came a l before after p (h .0) s)
 
             pub run-next : length left ≡ length work → RunGoing next (k - 1) left
             run-next q =
                 record {
                   each = λ l front after p m s.
                       let r = g .each l front after p m s in
-                      next-left (Goal l front after) (r .rest) (r .before) after (r .many) (r .passed) (r .keeps) (r .stands) (r .finish);
+                      next-left (Goal l front after) l (r .gone) (r .rest) (r .before) after (r .parted) (r .here) (r .many) (r .passed) (r .keeps) (r .stands) (r .finish);
                   same = q ∙ g .same;
                 }
 

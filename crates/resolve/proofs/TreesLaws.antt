@@ -26,7 +26,8 @@ use Rattle.resolve.specs.Words.{recordAfter}
 use Rattle.chains.specs.Record.{valueAt}
 use Rattle.resolve.specs.Blocks.{placeOfKind}
 use Rattle.resolve.specs.Walk.{citingIn}
-use Rattle.resolve.specs.Passes.{CameAt, wordsOf, runBy, Many, Ready, KindsReady, RelationKeeps, RulesAsked, RulesCame, RelationsAsked, RelationsCame, withRecords, turned, CameWhole, TreesCame, Tabled}
+use Rattle.resolve.specs.Passes.{CameAt, AskedFrom, wordsOf, runBy, Many, Ready, KindsReady, RelationKeeps, RulesAsked, RulesCame, RelationsAsked, RelationsCame, withRecords, turned, CameWhole, placesIn, TreesCame, Tabled}
+use Rattle.resolve.specs.Writing.{placesFrom}
 use Rattle.resolve.proofs.CheckedTables.{its-records}
 use Rattle.resolve.proofs.StepWords.{citing-is}
 use Rattle.chains.proofs.RecordLaws.{value-there}
@@ -174,9 +175,12 @@ module _ {ws records marks taken : List ℕ} {steps : ℕ} (a : Tabled ws record
         rules-stopped r why (done l) e q = absurd (given-not-refused (sym (q .0) ∙ why))
         rules-stopped r why (refused s) e q = rw e q
 
-        pub trees-stopped : {r : Refusal} → answer ≡ Refused r → TreesCame ws answer left
-        trees-stopped {r} why =
-            record { each = λ q e. subst (λ (x : Pack). CameWhole (turned x) answer left) (same-pack ws h e) (rules-stopped r why (resolveRules p (firstRule p) (p .rules)) refl its) }
+        pub trees-stopped : {r : Refusal} → answer ≡ Refused r → (order : List ℕ) → TreesCame ws answer left order
+        trees-stopped {r} why order =
+            record {
+              each = λ q e. subst (λ (x : Pack). CameWhole (turned x) answer left) (same-pack ws h e) (rules-stopped r why (resolveRules p (firstRule p) (p .rules)) refl its);
+              places = λ q e next x given. absurd (given-not-refused (sym given ∙ why));
+            }
 
         -- or done
         module _ {next x : ℕ} (given : answer ≡ Given next x) (left-short : length left ≤ 8192) where
@@ -208,11 +212,17 @@ module _ {ws records marks taken : List ℕ} {steps : ℕ} (a : Tabled ws record
             relations-there : Many (RelationKeeps p) count (p .relations)
             relations-there = subst (λ (k : ℕ). Many (RelationKeeps p) k (p .relations)) (sym (relations-many d-is count-is)) (relations-keep p w)
 
+            asked-relations : AskedFrom R (Many (RelationKeeps p) count) (d + 4) left
+            asked-relations = record { it = p .relations; front = front p; after = after; passed = relations-here; keeps = relations-there; stands = stands-relations }
+
             pub trees-relations : RelationsAsked ws records marks taken (b + 1) c count (d + 4) left
             unfolding is-ready
-            trees-relations = record { ready = is-ready place value left-short; settled = settled; asked = record { it = p .relations; front = front p; after = after; passed = relations-here; keeps = relations-there; stands = stands-relations } }
+            trees-relations = record { ready = is-ready place value left-short; settled = settled; asked = asked-relations }
 
-            module _ {answer′ : Answer} {left′ : List ℕ} (came′ : RelationsCame ws count (d + 4) left answer′ left′) where
+            pub trees-room : (order : List ℕ) → ((q : Pack) → read ws ≡ yes q → length order ≡ length (q .relations)) → length order ≡ count
+            trees-room order r = r p h ∙ sym (relations-many d-is count-is)
+
+            module _ {answer′ : Answer} {left′ order : List ℕ} (came′ : RelationsCame ws count (d + 4) left answer′ left′ order) where
               its′ : CameAt R (front p) after (d + 4 + length (R (p .relations))) (resolveRelations p (firstRelation p) (p .relations)) answer′ left′
               its′ =
                   subst (λ (o : Outcome (List Relation)). CameAt R (front p) after (d + 4 + length (R (p .relations))) o answer′ left′) (sym (relations-run p (firstRelation p) (p .relations)))
@@ -237,9 +247,14 @@ module _ {ws records marks taken : List ℕ} {steps : ℕ} (a : Tabled ws record
               unfolding turned
               turned-is = ap (λ (o : Outcome (List Rule)). andThen o (λ rules. mapDone (λ relations. withRecords p relations rules) (resolveRelations p (firstRelation p) (p .relations)))) (rules-done .resolves)
 
-              pub trees-came : TreesCame ws answer′ left′
+              noted : {next x : ℕ} → answer′ ≡ Given next x → order ≡ placesIn p
+              unfolding asked-relations
+              noted {next} {x} given′ = came′ .places p h asked-relations next x given′ ∙ ap (λ (y : ℕ). placesFrom n y (p .relations)) (relations-at d-is count-is)
+
+              pub trees-came : TreesCame ws answer′ left′ order
               trees-came =
                   record {
+                    places = λ q e next x given′. noted given′ ∙ ap placesIn (same-pack ws h e);
                     each = λ q e. subst (λ (y : Pack). CameWhole (turned y) answer′ left′) (same-pack ws h e)
                         (subst (λ (o : Outcome Pack). CameWhole o answer′ left′) (sym turned-is) (whole (resolveRelations p (firstRelation p) (p .relations)) refl its′));
                   }

@@ -19,7 +19,7 @@ use Rattle.resolve.specs.Turning.{Outcome, done, refused, andThen, mapDo
 use Rattle.resolve.specs.Tables.{tables}
 use Rattle.resolve.specs.Resolving.{defaultedEqual, equalRefusal, cites, resolveBody, ruleWords, resolveRule, resolveRules, resolveRelation, resolveRelations, stamp, firstRule}
 use Rattle.resolve.specs.Operations.{givenOut, writtenOut}
-use Rattle.resolve.specs.Writing.{withRelations}
+use Rattle.resolve.specs.Writing.{placesFrom, withRelations}
 use Rattle.resolve.specs.Words.{recordAfter}
 use Rattle.chains.specs.Record.{Recorded}
 use Rattle.resolve.specs.Walk.{citingIn, refusalCode}
@@ -147,9 +147,11 @@ pub record RelationsAsked (ws records marks taken : List ℕ) (blocks count many
   pub settled : KindsReady ws marks
   pub asked : AskedFrom (wordsOf (relationWords (ready .pack .names))) (Many (RelationKeeps (ready .pack)) many) at work
 
-pub record RelationsCame (ws : List ℕ) (many at : ℕ) (work : List ℕ) (answer : Answer) (left : List ℕ) : Type 0 where
+-- their places are noted
+pub record RelationsCame (ws : List ℕ) (many at : ℕ) (work : List ℕ) (answer : Answer) (left order : List ℕ) : Type 0 where
   pub each : (p : Pack) → read ws ≡ yes p
       → CameFrom (wordsOf (relationWords (p .names))) (runBy (relationWords (p .names)) (λ at r. resolveRelation p at r)) (Many (RelationKeeps p) many) at work answer left
+  pub places : (p : Pack) → read ws ≡ yes p → (a : AskedFrom (wordsOf (relationWords (p .names))) (Many (RelationKeeps p) many) at work) → (next x : ℕ) → answer ≡ Given next x → order ≡ placesFrom (p .names) at (a .it)
 
 -- ---- all trees of a pack
 
@@ -165,8 +167,13 @@ abbrev pub CameWhole : Outcome Pack → Answer → List ℕ → Type 0
 CameWhole (done q) answer left = ((next : ℕ) × (answer ≡ Given next 0)) × (left ≡ words q)
 CameWhole (refused r) answer left = answer ≡ Refused r
 
-pub record TreesCame (ws : List ℕ) (answer : Answer) (left : List ℕ) : Type 0 where
+-- where all relations of a pack start
+abbrev pub placesIn : Pack → List ℕ
+placesIn p = placesFrom (p .names) (firstRelation p) (p .relations)
+
+pub record TreesCame (ws : List ℕ) (answer : Answer) (left order : List ℕ) : Type 0 where
   pub each : (p : Pack) → read ws ≡ yes p → CameWhole (turned p) answer left
+  pub places : (p : Pack) → read ws ≡ yes p → (next x : ℕ) → answer ≡ Given next x → order ≡ placesIn p
 
 -- the tables of a checked pack: where the records of relations start, the marks of their names, and what entities take
 pub record Tabled (ws records marks taken : List ℕ) (steps : ℕ) : Type 0 where
@@ -176,11 +183,12 @@ pub record Tabled (ws records marks taken : List ℕ) (steps : ℕ) : Type 0 whe
   pub marked : KindsMarked ws steps declares marks
   pub knows : Known ws taken
 
--- with a copy of the words
-pub record TreesAsked (ws records marks taken : List ℕ) (work : List ℕ) : Type 0 where
+-- with a copy of the words, and a word for each relation
+pub record TreesAsked (ws records marks taken : List ℕ) (work order : List ℕ) : Type 0 where
   pub steps : ℕ
   pub tabled : Tabled ws records marks taken steps
   pub copied : work ≡ ws
+  pub room : (p : Pack) → read ws ≡ yes p → length order ≡ length (p .relations)
 
 -- ---- the result
 
@@ -188,13 +196,14 @@ pub record TreesAsked (ws records marks taken : List ℕ) (work : List ℕ) : Ty
 abbrev pub stampAll : Pack → Pack → Pack
 stampAll p q = withRelations q (map (stamp p) (q .relations))
 
--- the words of a pack whose trees are resolved
-pub record FinishAsked (ws records marks work : List ℕ) (steps : ℕ) : Type 0 where
+-- the words of a pack whose trees are resolved, and where its relations start
+pub record FinishAsked (ws records marks work order : List ℕ) (steps : ℕ) : Type 0 where
   pub taken : List ℕ
   pub tabled : Tabled ws records marks taken steps
   pub whole : Pack
   pub resolves : turned (tabled .checked .pack) ≡ done whole
   pub stands : work ≡ words whole
+  pub places : order ≡ placesIn (tabled .checked .pack)
 
 -- what is answered and left of them
 pub record FinishCame (ws lent : List ℕ) (answer : Answer) (left : List ℕ) : Type 0 where
@@ -206,8 +215,9 @@ pub record FinishCame (ws lent : List ℕ) (answer : Answer) (left : List ℕ) :
 unfoldable pub unstamped : Pack → Outcome Pack
 unstamped p = elim (defaultedEqual (tables (p .names) (p .relations)) (p .defaulted)) [ some n ↦ refused (equalRefusal p n) | none ↦ turned p ]
 
-pub record PackCame (ws : List ℕ) (answer : Answer) (left : List ℕ) : Type 0 where
+pub record PackCame (ws : List ℕ) (answer : Answer) (left order : List ℕ) : Type 0 where
   pub each : (p : Pack) → read ws ≡ yes p → CameWhole (unstamped p) answer left
+  pub places : (p : Pack) → read ws ≡ yes p → (next x : ℕ) → answer ≡ Given next x → order ≡ placesIn p
 
 -- a slice for as many words as a checked pack has
 pub record ResolveAsked (ws work : List ℕ) : Type 0 where

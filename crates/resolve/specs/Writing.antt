@@ -9,7 +9,7 @@ use lib.ListN.{length, getD, drop}
 use lib.Dec.{eqb}
 use Rattle.pack.specs.Table.{pick, kindOf, wordOf}
 use Rattle.pack.specs.Pack.{Relation, Pack}
-use Rattle.chains.specs.Operations.{namesAt}
+use Rattle.chains.specs.Operations.{relationWords, namesAt}
 use Rattle.resolve.specs.Stamping.{StampedBy}
 
 -- the list in force after a word: a relation's name (6) puts its own in force, the count of rules (22) none
@@ -53,6 +53,11 @@ pub record Puts (ws : List ℕ) (list w count : ℕ) : Type 0 where
   pub fits : w + count < 4294967296
   pub few : count < 16777216
   pub within : count ≤ length ws - suc list
+
+-- where relations start, one after the other from a place on
+unfoldable pub placesFrom : ℕ → ℕ → List Relation → List ℕ
+placesFrom n at [] = []
+placesFrom n at (r ∷ rs) = at ∷ placesFrom n (at + length (relationWords n r)) rs
 
 -- the relations of a pack, and in the same order as they come out with the lists of their names stamped
 pub data Stamped (ws lists : List ℕ) : List Relation → List Relation → Type 0 where

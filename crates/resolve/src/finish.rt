@@ -15,10 +15,11 @@ pub fn finish(
     starts: &[u32; 4096],
     marks: &[u32; 4096],
     work: &[u32],
+    order: &[u32],
     steps: u32,
     out: &mut [u32],
 ) -> Answer
-    requires { ⌜ FinishAsked (now pack) (now starts) (now marks) (now work) steps ⌝ }
+    requires { ⌜ FinishAsked (now pack) (now starts) (now marks) (now work) (now order) steps ⌝ }
     ensures { λ r. ⌜ FinishCame (now (pack .entry)) (now (out .entry)) r (now (out .exit)) ⌝ }
 {
     let mut named = [0u8; 4096];

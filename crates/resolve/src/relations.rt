@@ -13,6 +13,7 @@ use chains::taking::place_of;
 use pack::answer::Answer;
 use pack::kinds::Pack;
 ghost use mathlib.Core.Path.{_≡_};
+ghost use lib.ListN.{length};
 ghost use Rattle.chains.specs.Record.{flagAt};
 ghost use Rattle.resolve.specs.Passes.{RelationAsked, RelationCame, RelationsAsked, RelationsCame};
 
@@ -81,7 +82,7 @@ fn relation(
     Answer::Given((at + 5 + kind_count(work, at)) as u32, 0)
 }
 
-// So many relations from a place on.
+// So many relations from a place on; their places are noted.
 pub fn relations(
     pack: &[u32],
     records: &[u32; 4096],
@@ -92,13 +93,15 @@ pub fn relations(
     work: &mut [u32],
     first: usize,
     many: u32,
+    order: &mut [u32],
 ) -> Answer
-    requires { ⌜ RelationsAsked (now pack) (now records) (now marks) (now taken) blocks count many first (now work) ⌝ }
-    ensures { λ r. ⌜ RelationsCame (now (pack .entry)) many first (now (work .entry)) r (now (work .exit)) ⌝ }
+    requires { ⌜ RelationsAsked (now pack) (now records) (now marks) (now taken) blocks count many first (now work) × (length (now order) ≡ many) ⌝ }
+    ensures { λ r. ⌜ RelationsCame (now (pack .entry)) many first (now (work .entry)) r (now (work .exit)) (now (order .exit)) ⌝ }
 {
     let mut at = first as u32;
     let mut k = many;
     while 0 < k {
+        order[(many - k) as usize] = at;
         let a = relation(
             pack,
             records,

@@ -3,6 +3,7 @@ use crate::equal::first_equal;
 use crate::finish::finish;
 use crate::trees::fill_tables;
 use crate::trees::trees;
+use chains::header::relation_count;
 use pack::answer::Answer;
 use pack::answer::Refusal;
 use pack::check::check;
@@ -33,13 +34,14 @@ fn turn_pack(
     marks: &[u32; 4096],
     taken: &[u32; 4096],
     work: &mut [u32],
+    order: &mut [u32],
 ) -> Answer
-    requires { ⌜ TreesAsked (now pack) (now starts) (now marks) (now taken) (now work) ⌝ }
-    ensures { λ r. ⌜ PackCame (now (pack .entry)) r (now (work .exit)) ⌝ }
+    requires { ⌜ TreesAsked (now pack) (now starts) (now marks) (now taken) (now work) (now order) ⌝ }
+    ensures { λ r. ⌜ PackCame (now (pack .entry)) r (now (work .exit)) (now (order .exit)) ⌝ }
 {
     let name = first_equal(pack, starts, marks);
     if name == Pack::NONE {
-        return trees(pack, starts, marks, taken, work);
+        return trees(pack, starts, marks, taken, work, order);
     }
     Answer::Refused(Refusal {
         number: 9,
@@ -59,11 +61,13 @@ fn resolve_in(pack: &[u32], work: &mut [u32], out: &mut [u32]) -> Answer
     let mut taken = [0u32; 4096];
     let steps = fill_tables(pack, &mut starts, &mut marks, &mut taken);
     copy(pack, work);
-    let a = turn_pack(pack, &starts, &marks, &taken, work);
+    let mut places = [0u32; 512];
+    let order = &mut places[0..relation_count(pack)];
+    let a = turn_pack(pack, &starts, &marks, &taken, work, order);
     let Answer::Given(_, _) = a else {
         return a;
     };
-    finish(pack, &starts, &marks, work, steps, out)
+    finish(pack, &starts, &marks, work, order, steps, out)
 }
 
 // The whole pack in record order, with slots and lists as resolving leaves them; the answer is its number of words and

@@ -34,16 +34,17 @@ pub fn fill_tables(
     steps
 }
 
-// All trees, in a copy of the words.
+// All trees, in a copy of the words; the places of relations are noted.
 pub fn trees(
     pack: &[u32],
     starts: &[u32; 4096],
     marks: &[u32; 4096],
     taken: &[u32; 4096],
     work: &mut [u32],
+    order: &mut [u32],
 ) -> Answer
-    requires { ⌜ TreesAsked (now pack) (now starts) (now marks) (now taken) (now work) ⌝ }
-    ensures { λ r. ⌜ TreesCame (now (pack .entry)) r (now (work .exit)) ⌝ }
+    requires { ⌜ TreesAsked (now pack) (now starts) (now marks) (now taken) (now work) (now order) ⌝ }
+    ensures { λ r. ⌜ TreesCame (now (pack .entry)) r (now (work .exit)) (now (order .exit)) ⌝ }
 {
     let blocks = place_of_blocks(pack);
     let count = value_at(pack, blocks) as usize;
@@ -73,5 +74,6 @@ pub fn trees(
         work,
         defaulted + 4,
         value_at(pack, defaulted + 3),
+        order,
     )
 }

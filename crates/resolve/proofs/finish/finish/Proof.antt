@@ -5,7 +5,7 @@ use Rattle.resolve.proofs.finish.finish.Statement.{statement}
 use Rattle.resolve.proofs.finish.finish.Tie as tie
 
 name-count-requires : tie.Need-name-count-requires
-name-count-requires c κs = ((c .before .before .before .pre) .tabled .checked)
+name-count-requires c κs = ((c .before .before .before .before .pre) .tabled .checked)
 
 cast-names : tie.Need-cast-names
 cast-names c = search needs
@@ -14,22 +14,22 @@ atoms-requires : tie.Need-atoms-requires
 atoms-requires c κs = search needs
 
 lists-requires : tie.Need-lists-requires
-lists-requires c κs = (finish-recorded (c .before .before .before .before .before .before .before .before .pre), finish-names (c .before .before .before .before .before .before .before .before .pre) ((c .before .before .before .before .name-count) .ensures), refl)
+lists-requires c κs = (finish-recorded (c .before .before .before .before .before .before .before .before .before .pre), finish-names (c .before .before .before .before .before .before .before .before .before .pre) ((c .before .before .before .before .name-count) .ensures), refl)
 
 written-length-requires : tie.Need-written-length-requires
-written-length-requires c κs = whole-short (c .before .before .before .before .before .before .before .before .before .before .pre)
+written-length-requires c κs = whole-short (c .before .before .before .before .before .before .before .before .before .before .before .pre)
 
 refuse-requires : tie.Need-refuse-requires
 refuse-requires c κs = search needs
 
 returns : tie.Need-returns
-returns c = too-long (c .before .before .before .before .before .before .before .before .before .before .before .before .before .pre) ((c .before .before .before .before .before .before .before .before .before .name-count) .ensures) _ _ refl ((c .before .before .before .before .before .before .before .atoms) .ensures) ((c .before .before .before .before .lists) .ensures) ((c .before .before .written-length) .ensures) _ ((c .before .if1) .taken) ((c .refuse) .ensures)
+returns c = too-long (c .before .before .before .before .before .before .before .before .before .before .before .before .before .before .pre) ((c .before .before .before .before .before .before .before .before .before .name-count) .ensures) _ _ refl ((c .before .before .before .before .before .before .before .atoms) .ensures) ((c .before .before .before .before .lists) .ensures) ((c .before .before .written-length) .ensures) _ ((c .before .if1) .taken) ((c .refuse) .ensures)
 
 refuse-requires-2 : tie.Need-refuse-requires-2
 refuse-requires-2 c κs = search needs
 
 returns-2 : tie.Need-returns-2
-returns-2 c = too-short (c .before .before .before .before .before .before .before .before .before .before .before .before .before .before .pre) ((c .before .before .before .before .before .before .before .before .before .before .name-count) .ensures) _ _ refl ((c .before .before .before .before .before .before .before .before .atoms) .ensures) ((c .before .before .before .before .before .lists) .ensures) ((c .before .before .before .written-length) .ensures) _ ((c .before .if2) .taken) ((c .refuse2) .ensures)
+returns-2 c = too-short (c .before .before .before .before .before .before .before .before .before .before .before .before .before .before .before .pre) ((c .before .before .before .before .before .before .before .before .before .before .name-count) .ensures) _ _ refl ((c .before .before .before .before .before .before .before .before .atoms) .ensures) ((c .before .before .before .before .before .lists) .ensures) ((c .before .before .before .written-length) .ensures) _ ((c .before .if2) .taken) ((c .refuse2) .ensures)
 
 sub-write : tie.Need-sub-write
 sub-write c = search needs
@@ -41,16 +41,16 @@ part-write-end : tie.Need-part-write-end
 part-write-end c = search needs
 
 write-requires : tie.Need-write-requires
-write-requires c κs = finish-asked (c .before .before .before .before .before .before .before .before .before .before .before .before .before .before .before .pre) ((c .before .before .before .before .before .before .before .before .before .before .before .name-count) .ensures) _ _ refl ((c .before .before .before .before .before .before .before .before .before .atoms) .ensures) ((c .before .before .before .before .before .before .lists) .ensures) ((c .before .before .before .before .written-length) .ensures) _ ((c .before .before .before .if1) .left) ((c .before .before .if2) .left)
+write-requires c κs = finish-asked (c .before .before .before .before .before .before .before .before .before .before .before .before .before .before .before .before .pre) ((c .before .before .before .before .before .before .before .before .before .before .before .name-count) .ensures) _ _ refl ((c .before .before .before .before .before .before .before .before .before .atoms) .ensures) ((c .before .before .before .before .before .before .lists) .ensures) ((c .before .before .before .before .written-length) .ensures) _ ((c .before .before .before .if1) .left) ((c .before .before .if2) .left)
 
-cast-t11 : tie.Need-cast-t11
-cast-t11 c = search needs
+cast-t12 : tie.Need-cast-t12
+cast-t12 c = search needs
 
 same-length : tie.Need-same-length
 same-length c = search needs
 
 returns-3 : tie.Need-returns-3
-returns-3 c = finish-done (c .before .before .before .before .before .before .before .before .before .before .before .before .before .before .before .before .before .before .pre) ((c .before .before .before .before .before .before .before .before .before .before .before .before .before .before .name-count) .ensures) _ _ refl ((c .before .before .before .before .before .before .before .before .before .before .before .before .atoms) .ensures) ((c .before .before .before .before .before .before .before .before .before .lists) .ensures) ((c .before .before .before .before .before .before .before .written-length) .ensures) _ ((c .before .before .before .before .before .before .if1) .left) ((c .before .before .before .before .before .if2) .left) ((c .before .before .write) .ensures)
+returns-3 c = finish-done (c .before .before .before .before .before .before .before .before .before .before .before .before .before .before .before .before .before .before .before .pre) ((c .before .before .before .before .before .before .before .before .before .before .before .before .before .before .name-count) .ensures) _ _ refl ((c .before .before .before .before .before .before .before .before .before .before .before .before .atoms) .ensures) ((c .before .before .before .before .before .before .before .before .before .lists) .ensures) ((c .before .before .before .before .before .before .before .written-length) .ensures) _ ((c .before .before .before .before .before .before .if1) .left) ((c .before .before .before .before .before .if2) .left) ((c .before .before .write) .ensures)
 
 pub finish-spec : {M : Type 1} → statement M
 finish-spec =
@@ -69,6 +69,6 @@ finish-spec =
     part-write-start
     part-write-end
     write-requires
-    cast-t11
+    cast-t12
     same-length
     returns-3)

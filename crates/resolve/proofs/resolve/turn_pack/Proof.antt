@@ -5,7 +5,7 @@ use Rattle.resolve.proofs.resolve.turn_pack.Statement.{statement}
 use Rattle.resolve.proofs.resolve.turn_pack.Tie as tie
 
 first-equal-requires : tie.Need-first-equal-requires
-first-equal-requires c κs = (default-recorded (c .before .before .pre), default-fit (c .before .before .pre))
+first-equal-requires c κs = (default-recorded (c .before .before .before .pre), default-fit (c .before .before .before .pre))
 
 trees-requires : tie.Need-trees-requires
 trees-requires c κs = search needs
@@ -13,23 +13,26 @@ trees-requires c κs = search needs
 same-length : tie.Need-same-length
 same-length c = search needs
 
+same-length-2 : tie.Need-same-length-2
+same-length-2 c = search needs
+
 returns : tie.Need-returns
-returns c = pack-turned (c .before .before .before .before .before .before .before .before .pre) ((c .before .before .before .before .before .first-equal) .ensures) ((c .before .before .before .before .if1) .taken) ((c .before .before .trees) .ensures)
+returns c = pack-turned (c .before .before .before .before .before .before .before .before .before .before .before .before .pre) ((c .before .before .before .before .before .before .before .before .first-equal) .ensures) ((c .before .before .before .before .before .before .before .if1) .taken) ((c .before .before .before .before .trees) .ensures)
 
-cast-t10 : tie.Need-cast-t10
-cast-t10 c = search needs
+cast-t13 : tie.Need-cast-t13
+cast-t13 c = search needs
 
-mul-t11 : tie.Need-mul-t11
-mul-t11 c = search needs
+mul-t14 : tie.Need-mul-t14
+mul-t14 c = search needs
 
-element-copy-out-t14 : tie.Need-element-copy-out-t14
-element-copy-out-t14 c = omega (arith, default-name (c .before .before .before .before .pre) ((c .before .first-equal) .ensures) ((c .if1) .left))
+element-copy-out-t17 : tie.Need-element-copy-out-t17
+element-copy-out-t17 c = omega (arith, default-name (c .before .before .before .before .before .pre) ((c .before .first-equal) .ensures) ((c .if1) .left))
 
-cast-t15 : tie.Need-cast-t15
-cast-t15 c = omega (arith, start-small (c .before .before .before .before .before .pre) ((c .before .before .first-equal) .result))
+cast-t18 : tie.Need-cast-t18
+cast-t18 c = omega (arith, start-small (c .before .before .before .before .before .before .pre) ((c .before .before .first-equal) .result))
 
 returns-2 : tie.Need-returns-2
-returns-2 c = pack-equal (c .before .before .before .before .before .pre) ((c .before .before .first-equal) .ensures) ((c .before .if1) .left) _
+returns-2 c = pack-equal (c .before .before .before .before .before .before .pre) ((c .before .before .first-equal) .ensures) ((c .before .if1) .left) _ _
 
 pub turn-pack-spec : {M : Type 1} → statement M
 turn-pack-spec =
@@ -38,9 +41,10 @@ turn-pack-spec =
     first-equal-requires
     trees-requires
     same-length
+    same-length-2
     returns
-    cast-t10
-    mul-t11
-    element-copy-out-t14
-    cast-t15
+    cast-t13
+    mul-t14
+    element-copy-out-t17
+    cast-t18
     returns-2)
