@@ -12,10 +12,9 @@ use Rattle.pack.specs.declared.answer.Refusal.{Refusal}
 use Rattle.pack.specs.declared.cursor.Cursor.{Cursor}
 use Rattle.pack.specs.declared.cursor.Step.{Step}
 use Rattle.pack.specs.declared.cursor.Step.the-variants.{On, Refused}
-use Rattle.pack.specs.declared.table.Entry.{Entry}
 use Rattle.pack.specs.declared.table.Rule.the-variants.{Any, AtMost}
 use Rattle.pack.specs.declared.table.Follows.the-variants.{Aggregate}
-use Rattle.pack.specs.Table.{pick, kindOf, valueOf, allowed, entryOf, howMany, fieldsOf, childrenOf, judgment}
+use Rattle.pack.specs.Table.{pick, kindOf, valueOf, entryOf, howMany, fieldsOf, childrenOf, judgment}
 use Rattle.pack.specs.Packed.{UpTo}
 use Rattle.pack.specs.Form.{Read, got, refused, because, bind, mapRead, allowedHere, readWord, among, only, Form, field, word, empty, each, _▹_, via, wordsBy, Fine, readBy}
 use Rattle.pack.specs.Tree.{Tree, heads, lastField, fields, follow, tree}
@@ -132,11 +131,7 @@ module _ (turned : ℕ → ℕ) (n : ℕ) (ws : List ℕ) (at : ℕ) {x : ℕ} (
 pub small-next : {words at : ℕ} → words ≤ 8192 → at ≤ words → at + 1 < 65536
 small-next m l = omega arith
 
--- what the code's tests say of an entry's rule
-pub allow-by : (n kind v : ℕ) {x : Entry} {b d : Bool} → x ≡ entryOf kind → b ≡ allowed (x .rule) n v → b ≡ d → allowedHere n kind v ≡ d
-unfolding allowedHere
-allow-by n kind v q e t = rw (← q) (sym e ∙ t)
-
+-- what the code's tests say of values up to a most
 pub up-within : (n kind most w : ℕ) → UpTo kind most → kindOf w ≡ kind → valueOf w ≤ most → allowedHere n (kindOf w) (valueOf w) ≡ true
 unfolding UpTo
 up-within n kind most w u k h = rw k (u n (valueOf w) (omega arith) ∙ le-leb (valueOf w) most h)

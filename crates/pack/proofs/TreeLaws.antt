@@ -11,7 +11,6 @@ use Rattle.pack.specs.declared.answer.Refusal.{Refusal}
 use Rattle.pack.specs.declared.cursor.Cursor.{Cursor}
 use Rattle.pack.specs.declared.cursor.Step.{Step}
 use Rattle.pack.specs.declared.cursor.Step.the-variants.{On, Refused}
-use Rattle.pack.specs.declared.table.Entry.{Entry}
 use Rattle.pack.specs.declared.table.Follows.{Follows}
 use Rattle.pack.specs.declared.table.Follows.the-variants.{Aggregate}
 use Rattle.pack.specs.Table.{pick, kindOf, valueOf, wordOf, entryOf, table, scalar, judgment, howMany, fieldsOf, childrenOf}
@@ -22,20 +21,20 @@ use Rattle.pack.proofs.Listed.{listed, agree, in-range}
 use Rattle.pack.proofs.StepLaws.{went, by-via, then-stop, by-kept, none-then, then-none}
 
 -- a head of another sort, one where no level is left, and one that goes on
-pub heads-other : (sort left kind : ℕ) {e : Entry} → e ≡ entryOf kind → (e .sort ≡ sort → ⊥) → heads sort left kind ≡ 2
+pub heads-other : (sort left kind : ℕ) {x : ℕ} → x ≡ entryOf kind .sort → (x ≡ sort → ⊥) → heads sort left kind ≡ 2
 unfolding heads
-heads-other sort zero kind q z = simp (ne-eqb (entryOf kind .sort) sort (λ h. z (ap (λ (x : Entry). x .sort) q ∙ h)))
-heads-other sort (suc d) kind q z = simp (ne-eqb (entryOf kind .sort) sort (λ h. z (ap (λ (x : Entry). x .sort) q ∙ h)))
+heads-other sort zero kind q z = simp (ne-eqb (entryOf kind .sort) sort (λ h. z (q ∙ h)))
+heads-other sort (suc d) kind q z = simp (ne-eqb (entryOf kind .sort) sort (λ h. z (q ∙ h)))
 
-pub heads-deep : (sort left kind : ℕ) {e : Entry} → e ≡ entryOf kind → e .sort ≡ sort → left ≡ 0 → heads sort left kind ≡ 5
+pub heads-deep : (sort left kind : ℕ) {x : ℕ} → x ≡ entryOf kind .sort → x ≡ sort → left ≡ 0 → heads sort left kind ≡ 5
 unfolding heads
-heads-deep sort zero kind q s z = simp (eq-eqb (entryOf kind .sort) sort (sym (ap (λ (x : Entry). x .sort) q) ∙ s))
+heads-deep sort zero kind q s z = simp (eq-eqb (entryOf kind .sort) sort (sym q ∙ s))
 heads-deep sort (suc d) kind q s z = absurd (omega arith)
 
-pub heads-in : (sort left kind : ℕ) {e : Entry} → e ≡ entryOf kind → e .sort ≡ sort → (left ≡ 0 → ⊥) → heads sort left kind ≡ 0
+pub heads-in : (sort left kind : ℕ) {x : ℕ} → x ≡ entryOf kind .sort → x ≡ sort → (left ≡ 0 → ⊥) → heads sort left kind ≡ 0
 unfolding heads
 heads-in sort zero kind q s z = absurd (z refl)
-heads-in sort (suc d) kind q s z = simp (eq-eqb (entryOf kind .sort) sort (sym (ap (λ (x : Entry). x .sort) q) ∙ s))
+heads-in sort (suc d) kind q s z = simp (eq-eqb (entryOf kind .sort) sort (sym q ∙ s))
 
 pub whole-word : (w : ℕ) → wordOf (kindOf w) (valueOf w) ≡ w
 whole-word w = omega arith
@@ -140,6 +139,15 @@ child-two k v e = rw e refl
 pub child-many : (k v : ℕ) → 66 ≤ k → k ≤ 70 → (k ≡ 66 → ⊥) → (k ≡ 67 → ⊥) → v ≡ howMany (entryOf k .follows) v
 unfolding entryOf table
 child-many k v lo hi y z = agree (λ k. v) (λ k. howMany (entryOf k .follows) v) 68 3 refl k (omega arith) (omega arith)
+
+-- the judgments of the kinds 97 to 100
+pub joined-one : (k v : ℕ) → k ≡ 100 → 1 ≡ howMany (entryOf k .follows) v
+unfolding entryOf table
+joined-one k v e = rw e refl
+
+pub joined-many : (k v : ℕ) → 97 ≤ k → k ≤ 100 → (k ≡ 100 → ⊥) → v ≡ howMany (entryOf k .follows) v
+unfolding entryOf table
+joined-many k v lo hi z = agree (λ k. v) (λ k. howMany (entryOf k .follows) v) 97 3 refl k lo (omega arith)
 
 pub compared : (k v : ℕ) → k ≡ 96 → 2 ≡ howMany (entryOf k .follows) v
 unfolding entryOf table

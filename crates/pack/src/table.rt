@@ -3,6 +3,7 @@ use crate::kinds::Pack;
 ghost use mathlib.Core.Path.{_≡_};
 ghost use Prim.Native.Nat.{_<_};
 ghost use Rattle.pack.specs.Table.{allowed, howMany, entryOf};
+ghost use Rattle.pack.specs.Form.{allowedHere};
 ghost use Rattle.pack.specs.Packed.{ruleFrom, followsFrom, Tabled};
 
 // What a word's value may be.
@@ -433,6 +434,30 @@ pub fn entry_of(t: &[u32; 256], kind: u32) -> Entry
         rule: rule_from(x),
         follows: follows_from(x),
     }
+}
+
+// The sort of tree that begins with a word of this kind, or NO_TREE.
+pub fn sort_of(t: &[u32; 256], kind: u32) -> u32
+    requires { ⌜ (kind < 256) × Tabled (now t) ⌝ }
+    ensures { λ r. ⌜ r ≡ entryOf kind .sort ⌝ }
+{
+    t[kind as usize] / SORT % 4
+}
+
+// Whether a word of this kind, with which a tree begins, may have the value v: any, a name, or one up to a most.
+pub fn allows_head(t: &[u32; 256], kind: u32, n: u32, v: u32) -> bool
+    requires { ⌜ (kind < 256) × Tabled (now t) × (entryOf kind .sort < 2) ⌝ }
+    ensures { λ r. ⌜ r ≡ allowedHere n kind v ⌝ }
+{
+    let x = t[kind as usize];
+    let rule = x % LIMIT;
+    if rule == ANY {
+        return true;
+    }
+    if rule == NAME {
+        return v < n;
+    }
+    v <= x / LIMIT % 8192
 }
 
 // Whether a rule allows a value, which is held to n: the total to the number of words, a name to N.

@@ -5,17 +5,18 @@ use crate::cursor::Step;
 use crate::cursor::stop;
 use crate::kinds::Pack;
 use crate::table::Rule;
-use crate::table::allows;
+use crate::table::allows_head;
 use crate::table::entry_of;
 use crate::table::how_many;
+use crate::table::sort_of;
 ghost use mathlib.Core.Path.{_≡_};
-ghost use Prim.Native.Nat.{ℕ, _≤_};
+ghost use Prim.Native.Nat.{ℕ, _≤_, _<_};
 ghost use mathlib.Core.List.{[], _∷_};
 ghost use lib.ListN.{length, replicate};
 ghost use Rattle.pack.specs.declared.cursor.Step.the-variants.{Refused};
 ghost use Rattle.pack.specs.declared.table.Follows.the-variants.{Aggregate, OnlyRelated, Slots, Atom, Exists};
 ghost use Rattle.pack.specs.Table.{scalar, judgment, kindOf, valueOf, entryOf, howMany, fieldsOf};
-ghost use Rattle.pack.specs.Packed.{Lent, UpTo};
+ghost use Rattle.pack.specs.Packed.{Lent, Tabled, UpTo};
 ghost use Rattle.pack.specs.Form.{word, only, each};
 ghost use Rattle.pack.specs.Tree.{heads, fields, follow, tree};
 ghost use Rattle.pack.specs.Steps.{walk, coded, fault, decoded};
@@ -30,23 +31,22 @@ fn refused(number: u32, at: usize) -> usize
 
 // The word that begins a tree of the sort, where so many levels are left: 0, or a refusal's code.
 fn head(s: &[u32], t: &[u32; 256], at: usize, n: u32, sort: u32, left: u32) -> usize
-    requires { ⌜ Lent (now s) (now t) × (at ≤ length (now s)) ⌝ }
+    requires { ⌜ Lent (now s) (now t) × (at ≤ length (now s)) × (sort < 2) ⌝ }
     ensures { λ r. ⌜ r ≡ fault (walk (word (heads sort left) n) (now (s .entry)) at) ⌝ }
 {
     if s.len() <= at {
         return refused(3, at);
     }
     let w = s[at];
-    let e = entry_of(t, w / Pack::VALUES);
-    let found = e.sort;
-    let rule = e.rule;
+    let kind = w / Pack::VALUES;
+    let found = sort_of(t, kind);
     if found != sort {
         return refused(2, at);
     }
     if left == 0 {
         return refused(5, at);
     }
-    if allows(rule, n, w % Pack::VALUES) {
+    if allows_head(t, kind, n, w % Pack::VALUES) {
         0
     } else {
         refused(4, at)
@@ -128,6 +128,24 @@ fn children(kind: u32, v: u32) -> u32
         return 1;
     }
     if kind == Pack::TWO_CHILDREN { 2 } else { v }
+}
+
+// How many judgments follow an And up to a Not.
+fn joined(kind: u32, v: u32) -> u32
+    requires { ⌜ (97 ≤ kind) × (kind ≤ 100) ⌝ }
+    ensures { λ r. ⌜ r ≡ howMany (entryOf kind .follows) v ⌝ }
+{
+    if kind == Pack::NOT { 1 } else { v }
+}
+
+// How many follow a word, by the table.
+fn by_table(t: &[u32; 256], kind: u32, v: u32) -> u32
+    requires { ⌜ (kind < 256) × Tabled (now t) × (v < 16777216) ⌝ }
+    ensures { λ r. ⌜ r ≡ howMany (entryOf kind .follows) v ⌝ }
+{
+    let e = entry_of(t, kind);
+    let follows = e.follows;
+    how_many(follows, v)
 }
 
 // A row of scalars. The last one's own row, where it has one, takes the place of the row that ends with it.
@@ -241,19 +259,12 @@ fn after_scalar(s: &[u32], t: &[u32; 256], at: usize, n: u32, w: u32, left: u32)
     ensures { λ r. ⌜ r ≡ coded (walk (follow n (tree n left) (entryOf (kindOf w) .follows) (valueOf w)) (now (s .entry)) at) ⌝ }
 {
     let kind = w / Pack::VALUES;
-    let e = entry_of(t, kind);
-    let follows = e.follows;
+    let v = w % Pack::VALUES;
     match kind {
-        Pack::ONE_CHILD..=Pack::MAX | Pack::NO_MATCH..=Pack::OVER_PERIODS => scalars(
-            s,
-            t,
-            at,
-            n,
-            how_many(follows, w % Pack::VALUES),
-            left,
-        ),
-        Pack::IF => choice(s, t, at, n, left),
         Pack::COUNT..=Pack::SINGLE => aggregate(s, t, at, n, left),
+        Pack::ONE_CHILD..=Pack::MAX => scalars(s, t, at, n, children(kind, v), left),
+        Pack::NO_MATCH..=Pack::OVER_PERIODS => scalars(s, t, at, n, by_table(t, kind, v), left),
+        Pack::IF => choice(s, t, at, n, left),
         Pack::ONLY_RELATED => only_related(s, at, n),
         _ => at,
     }
@@ -265,11 +276,9 @@ fn after_judgment(s: &[u32], t: &[u32; 256], at: usize, n: u32, w: u32, left: u3
     ensures { λ r. ⌜ r ≡ coded (walk (follow n (tree n left) (entryOf (kindOf w) .follows) (valueOf w)) (now (s .entry)) at) ⌝ }
 {
     let kind = w / Pack::VALUES;
-    let e = entry_of(t, kind);
-    let follows = e.follows;
     match kind {
         Pack::COMPARISON => scalars(s, t, at, n, 2, left),
-        Pack::AND..=Pack::NOT => judgments(s, t, at, n, how_many(follows, w % Pack::VALUES), left),
+        Pack::AND..=Pack::NOT => judgments(s, t, at, n, joined(kind, w % Pack::VALUES), left),
         Pack::RELATION_MEMBER => slots(s, at),
         Pack::RELATION_ATOM => atom(s, at),
         Pack::EXISTS => exists(s, t, at, n, left),

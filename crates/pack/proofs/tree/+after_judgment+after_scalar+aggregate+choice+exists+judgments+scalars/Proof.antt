@@ -5,9 +5,8 @@ use mathlib.Core.Path.{refl, ap, sym, _∙_}
 use lib.ListN.{length, getD, replicate}
 use borrow.Author.Needs.{needs}
 use borrow.Author.Tests.{leb-true}
-use Rattle.pack.specs.declared.table.Entry.{Entry}
 use Rattle.pack.specs.declared.table.Follows.the-variants.{Choice, Aggregate, OnlyRelated, Slots, Atom, Exists}
-use Rattle.pack.specs.Table.{kindOf, valueOf, entryOf, table, howMany, fieldsOf, childrenOf}
+use Rattle.pack.specs.Table.{kindOf, valueOf, entryOf, table, fieldsOf, childrenOf}
 use Rattle.pack.specs.Table.{scalar as scalar-sort, judgment as judgment-sort}
 use Rattle.pack.specs.Form.{each}
 use Rattle.pack.specs.Tree.{fields, follow, tree}
@@ -37,11 +36,11 @@ use Rattle.pack.proofs.tree.+after_judgment+after_scalar+aggregate+choi
 use Rattle.pack.proofs.tree.scalars.Reads as scalars
 use Rattle.pack.proofs.tree.scalars.Kinds as scalars-kinds
 use Rattle.pack.proofs.tree.+after_judgment+after_scalar+aggregate+choice+exists+judgments+scalars.Lts-scalars as scalars-lts
-use Rattle.pack.proofs.table.entry_of.Reads as entry-of-reads
-use Rattle.pack.proofs.table.how_many.Reads as how-many-reads
 use Rattle.pack.proofs.tree.atom.Reads as atom-reads
+use Rattle.pack.proofs.tree.by_table.Reads as by-table-reads
 use Rattle.pack.proofs.tree.children.Reads as children-reads
 use Rattle.pack.proofs.tree.head.Reads as head-reads
+use Rattle.pack.proofs.tree.joined.Reads as joined-reads
 use Rattle.pack.proofs.tree.only_related.Reads as only-related-reads
 use Rattle.pack.proofs.tree.slots.Reads as slots-reads
 use Rattle.pack.proofs.tree.up_to.Reads as up-to-reads
@@ -134,10 +133,10 @@ abbrev scalars-below : ℕ → In 2 scalars-kinds.ps
 scalars-below t = and 2 scalars-kinds.ps (falls 2 scalars-kinds.ps _<_ μ-scalars t) scalars.Pre
 
 abbrev after-judgment-calls : ℕ → after-judgment-lts.Claims
-after-judgment-calls t = (entry-of-reads.Asked, entry-of-reads.Learnt, scalars-below t, scalars.Post, slots-reads.Asked, slots-reads.Learnt, atom-reads.Asked, atom-reads.Learnt, exists-below t, exists.Post, how-many-reads.Asked, how-many-reads.Learnt, judgments-below t, judgments.Post)
+after-judgment-calls t = (scalars-below t, scalars.Post, slots-reads.Asked, slots-reads.Learnt, atom-reads.Asked, atom-reads.Learnt, exists-below t, exists.Post, joined-reads.Asked, joined-reads.Learnt, judgments-below t, judgments.Post)
 
 abbrev after-scalar-calls : ℕ → after-scalar-lts.Claims
-after-scalar-calls t = (entry-of-reads.Asked, entry-of-reads.Learnt, choice-below t, choice.Post, only-related-reads.Asked, only-related-reads.Learnt, how-many-reads.Asked, how-many-reads.Learnt, scalars-below t, scalars.Post, aggregate-below t, aggregate.Post)
+after-scalar-calls t = (choice-below t, choice.Post, only-related-reads.Asked, only-related-reads.Learnt, children-reads.Asked, children-reads.Learnt, scalars-below t, scalars.Post, by-table-reads.Asked, by-table-reads.Learnt, aggregate-below t, aggregate.Post)
 
 abbrev aggregate-calls : ℕ → aggregate-lts.Claims
 aggregate-calls t = (up-to-reads.Asked, up-to-reads.Learnt, judgments-below t, judgments.Post)
@@ -154,89 +153,92 @@ judgments-calls t = (head-reads.Asked, head-reads.Learnt, after-judgment-below t
 abbrev scalars-calls : ℕ → scalars-lts.Claims
 scalars-calls t = (head-reads.Asked, head-reads.Learnt, children-reads.Asked, children-reads.Learnt, after-scalar-below t, after-scalar.Post)
 
-after-judgment-entry-of-requires : (t : ℕ) → after-judgment-lts.Need-entry-of-requires (after-judgment-calls t) (after-judgment-at t) after-judgment.Post
-after-judgment-entry-of-requires t c κs = (omega arith, (c .before .pre .1 .0 .tabled))
-
 after-judgment-scalars-requires : (t : ℕ) → after-judgment-lts.Need-scalars-requires (after-judgment-calls t) (after-judgment-at t) after-judgment.Post
-after-judgment-scalars-requires t c κs = (omega arith, ((c .before .before .before .pre .1 .0), (c .before .before .before .pre .1 .1)))
+after-judgment-scalars-requires t c κs = (omega arith, ((c .before .before .pre .1 .0), (c .before .before .pre .1 .1)))
 
 after-judgment-slots-requires : (t : ℕ) → after-judgment-lts.Need-slots-requires (after-judgment-calls t) (after-judgment-at t) after-judgment.Post
-after-judgment-slots-requires t c κs = ((c .before .before .before .pre .1 .0 .most), (c .before .before .before .pre .1 .1))
+after-judgment-slots-requires t c κs = ((c .before .before .pre .1 .0 .most), (c .before .before .pre .1 .1))
 
 after-judgment-atom-requires : (t : ℕ) → after-judgment-lts.Need-atom-requires (after-judgment-calls t) (after-judgment-at t) after-judgment.Post
-after-judgment-atom-requires t c κs = ((c .before .before .before .pre .1 .0 .most), (c .before .before .before .pre .1 .1))
+after-judgment-atom-requires t c κs = ((c .before .before .pre .1 .0 .most), (c .before .before .pre .1 .1))
 
 after-judgment-exists-requires : (t : ℕ) → after-judgment-lts.Need-exists-requires (after-judgment-calls t) (after-judgment-at t) after-judgment.Post
-after-judgment-exists-requires t c κs = (omega arith, ((c .before .before .before .pre .1 .0), (c .before .before .before .pre .1 .1)))
+after-judgment-exists-requires t c κs = (omega arith, ((c .before .before .pre .1 .0), (c .before .before .pre .1 .1)))
 
-after-judgment-how-many-requires : (t : ℕ) → after-judgment-lts.Need-how-many-requires (after-judgment-calls t) (after-judgment-at t) after-judgment.Post
-after-judgment-how-many-requires t c κs = search needs
+after-judgment-joined-requires : (t : ℕ) → after-judgment-lts.Need-joined-requires (after-judgment-calls t) (after-judgment-at t) after-judgment.Post
+after-judgment-joined-requires t c κs = (above 96 (kindOf (c .before .before .before .before .args .w)) (c .before .if1 .left) (c .before .before .match .rest .0 .0 .0 .1), omega (arith, c .if2 .taken))
 
 after-judgment-judgments-requires : (t : ℕ) → after-judgment-lts.Need-judgments-requires (after-judgment-calls t) (after-judgment-at t) after-judgment.Post
-after-judgment-judgments-requires t c κs = (omega arith, ((c .before .before .before .before .before .before .pre .1 .0), (c .before .before .before .before .before .before .pre .1 .1)))
+after-judgment-judgments-requires t c κs = (omega arith, ((c .before .before .before .before .before .pre .1 .0), (c .before .before .before .before .before .pre .1 .1)))
 
 after-judgment-returns : (t : ℕ) → after-judgment-lts.Need-returns (after-judgment-calls t) (after-judgment-at t) after-judgment.Post
-after-judgment-returns t c = code-as (c .scalars .ensures) (by-row _ _ (valueOf (c .before .before .before .before .args .w)) _ _ (kindOf (c .before .before .before .before .args .w)) _ (comparison-row (valueOf (c .before .before .before .before .args .w)) (kindOf (c .before .before .before .before .args .w)) (c .before .match .keys1)) (compared (kindOf (c .before .before .before .before .args .w)) (valueOf (c .before .before .before .before .args .w)) (c .before .match .keys1)) refl)
+after-judgment-returns t c = code-as (c .scalars .ensures) (by-row _ _ (valueOf (c .before .before .before .args .w)) _ _ (kindOf (c .before .before .before .args .w)) _ (comparison-row (valueOf (c .before .before .before .args .w)) (kindOf (c .before .before .before .args .w)) (c .before .match .keys1)) (compared (kindOf (c .before .before .before .args .w)) (valueOf (c .before .before .before .args .w)) (c .before .match .keys1)) refl)
 
 after-judgment-returns-2 : (t : ℕ) → after-judgment-lts.Need-returns-2 (after-judgment-calls t) (after-judgment-at t) after-judgment.Post
 unfolding entryOf table fieldsOf childrenOf
-after-judgment-returns-2 t c = code-as ((c .slots .ensures) _) (followed _ _ (valueOf (c .before .before .before .before .args .w)) _ _ (kindOf (c .before .before .before .before .args .w)) Slots (ap (λ (k : ℕ). entryOf k .follows) (c .before .match .keys2)) (only-fields _ _ (valueOf (c .before .before .before .before .args .w)) _ _ Slots (λ last. refl) refl))
+after-judgment-returns-2 t c = code-as ((c .slots .ensures) _) (followed _ _ (valueOf (c .before .before .before .args .w)) _ _ (kindOf (c .before .before .before .args .w)) Slots (ap (λ (k : ℕ). entryOf k .follows) (c .before .match .keys2)) (only-fields _ _ (valueOf (c .before .before .before .args .w)) _ _ Slots (λ last. refl) refl))
 
 after-judgment-returns-3 : (t : ℕ) → after-judgment-lts.Need-returns-3 (after-judgment-calls t) (after-judgment-at t) after-judgment.Post
 unfolding entryOf table fieldsOf childrenOf
-after-judgment-returns-3 t c = code-as ((c .atom .ensures) _) (followed _ _ (valueOf (c .before .before .before .before .args .w)) _ _ (kindOf (c .before .before .before .before .args .w)) Atom (ap (λ (k : ℕ). entryOf k .follows) (c .before .match .keys3)) (only-fields _ _ (valueOf (c .before .before .before .before .args .w)) _ _ Atom (λ last. refl) refl))
+after-judgment-returns-3 t c = code-as ((c .atom .ensures) _) (followed _ _ (valueOf (c .before .before .before .args .w)) _ _ (kindOf (c .before .before .before .args .w)) Atom (ap (λ (k : ℕ). entryOf k .follows) (c .before .match .keys3)) (only-fields _ _ (valueOf (c .before .before .before .args .w)) _ _ Atom (λ last. refl) refl))
 
 after-judgment-returns-4 : (t : ℕ) → after-judgment-lts.Need-returns-4 (after-judgment-calls t) (after-judgment-at t) after-judgment.Post
 unfolding entryOf table fieldsOf childrenOf follow
-after-judgment-returns-4 t c = code-as (c .exists .ensures) (followed _ _ (valueOf (c .before .before .before .before .args .w)) _ _ (kindOf (c .before .before .before .before .args .w)) Exists (ap (λ (k : ℕ). entryOf k .follows) (c .before .match .keys4)) refl)
+after-judgment-returns-4 t c = code-as (c .exists .ensures) (followed _ _ (valueOf (c .before .before .before .args .w)) _ _ (kindOf (c .before .before .before .args .w)) Exists (ap (λ (k : ℕ). entryOf k .follows) (c .before .match .keys4)) refl)
 
 after-judgment-returns-5 : (t : ℕ) → after-judgment-lts.Need-returns-5 (after-judgment-calls t) (after-judgment-at t) after-judgment.Post
-after-judgment-returns-5 t c = code-as (c .judgments .ensures) (by-row _ _ (valueOf (c .before .before .before .before .before .before .before .args .w)) _ _ (kindOf (c .before .before .before .before .before .before .before .args .w)) _ (judgment-row (valueOf (c .before .before .before .before .before .before .before .args .w)) (kindOf (c .before .before .before .before .before .before .before .args .w)) (above 96 (kindOf (c .before .before .before .before .before .before .before .args .w)) (c .before .before .before .if1 .left) (c .before .before .before .before .match .rest .0 .0 .0 .1)) (c .before .before .if2 .taken)) ((c .before .how-many .ensures) ∙ ap (λ (e : Entry). howMany (e .follows) (valueOf (c .before .before .before .before .before .before .before .args .w))) (c .before .before .before .before .before .entry-of .ensures)) refl)
+after-judgment-returns-5 t c = code-as (c .judgments .ensures) (by-row _ _ (valueOf (c .before .before .before .before .before .before .args .w)) _ _ (kindOf (c .before .before .before .before .before .before .args .w)) _ (judgment-row (valueOf (c .before .before .before .before .before .before .args .w)) (kindOf (c .before .before .before .before .before .before .args .w)) (above 96 (kindOf (c .before .before .before .before .before .before .args .w)) (c .before .before .before .if1 .left) (c .before .before .before .before .match .rest .0 .0 .0 .1)) (c .before .before .if2 .taken)) (c .before .joined .ensures) refl)
 
 after-judgment-returns-6 : (t : ℕ) → after-judgment-lts.Need-returns-6 (after-judgment-calls t) (after-judgment-at t) after-judgment.Post
-after-judgment-returns-6 t c = absurd (omega (arith, (c .if1 .taken), (c .before .before .before .before .pre .1 .2)))
+after-judgment-returns-6 t c = absurd (omega (arith, (c .if1 .taken), (c .before .before .before .pre .1 .2)))
 
 after-judgment-returns-7 : (t : ℕ) → after-judgment-lts.Need-returns-7 (after-judgment-calls t) (after-judgment-at t) after-judgment.Post
-after-judgment-returns-7 t c = none-code _ _ (valueOf (c .before .before .before .before .before .args .w)) _ _ (kindOf (c .before .before .before .before .before .args .w)) (leaf-high (valueOf (c .before .before .before .before .before .args .w)) (kindOf (c .before .before .before .before .before .args .w)) (c .if2 .left) (c .before .before .match .rest .0 .0 .1) (c .before .before .match .rest .0 .1) (c .before .before .match .rest .1) (omega arith))
-
-after-scalar-entry-of-requires : (t : ℕ) → after-scalar-lts.Need-entry-of-requires (after-scalar-calls t) (after-scalar-at t) after-scalar.Post
-after-scalar-entry-of-requires t c κs = (omega arith, (c .before .pre .1 .0 .tabled))
+after-judgment-returns-7 t c = none-code _ _ (valueOf (c .before .before .before .before .args .w)) _ _ (kindOf (c .before .before .before .before .args .w)) (leaf-high (valueOf (c .before .before .before .before .args .w)) (kindOf (c .before .before .before .before .args .w)) (c .if2 .left) (c .before .before .match .rest .0 .0 .1) (c .before .before .match .rest .0 .1) (c .before .before .match .rest .1) (omega arith))
 
 after-scalar-choice-requires : (t : ℕ) → after-scalar-lts.Need-choice-requires (after-scalar-calls t) (after-scalar-at t) after-scalar.Post
-after-scalar-choice-requires t c κs = (omega arith, ((c .before .before .before .pre .1 .0), (c .before .before .before .pre .1 .1)))
+after-scalar-choice-requires t c κs = (omega arith, ((c .before .before .pre .1 .0), (c .before .before .pre .1 .1)))
 
 after-scalar-only-related-requires : (t : ℕ) → after-scalar-lts.Need-only-related-requires (after-scalar-calls t) (after-scalar-at t) after-scalar.Post
-after-scalar-only-related-requires t c κs = ((c .before .before .before .pre .1 .0 .most), (c .before .before .before .pre .1 .1))
+after-scalar-only-related-requires t c κs = ((c .before .before .pre .1 .0 .most), (c .before .before .pre .1 .1))
 
-after-scalar-how-many-requires : (t : ℕ) → after-scalar-lts.Need-how-many-requires (after-scalar-calls t) (after-scalar-at t) after-scalar.Post
-after-scalar-how-many-requires t c κs = search needs
+after-scalar-children-requires : (t : ℕ) → after-scalar-lts.Need-children-requires (after-scalar-calls t) (after-scalar-at t) after-scalar.Post
+after-scalar-children-requires t c κs = (c .before .if1 .left, omega (arith, c .if2 .taken))
 
 after-scalar-scalars-requires : (t : ℕ) → after-scalar-lts.Need-scalars-requires (after-scalar-calls t) (after-scalar-at t) after-scalar.Post
-after-scalar-scalars-requires t c κs = (omega arith, ((c .before .before .before .before .before .before .pre .1 .0), (c .before .before .before .before .before .before .pre .1 .1)))
+after-scalar-scalars-requires t c κs = (omega arith, ((c .before .before .before .before .before .pre .1 .0), (c .before .before .before .before .before .pre .1 .1)))
+
+after-scalar-by-table-requires : (t : ℕ) → after-scalar-lts.Need-by-table-requires (after-scalar-calls t) (after-scalar-at t) after-scalar.Post
+after-scalar-by-table-requires t c κs = (omega arith, (c .before .before .before .before .before .pre .1 .0 .tabled), omega arith)
+
+after-scalar-scalars-requires-2 : (t : ℕ) → after-scalar-lts.Need-scalars-requires-2 (after-scalar-calls t) (after-scalar-at t) after-scalar.Post
+after-scalar-scalars-requires-2 t c κs = (omega arith, ((c .before .before .before .before .before .before .pre .1 .0), (c .before .before .before .before .before .before .pre .1 .1)))
 
 after-scalar-aggregate-requires : (t : ℕ) → after-scalar-lts.Need-aggregate-requires (after-scalar-calls t) (after-scalar-at t) after-scalar.Post
 after-scalar-aggregate-requires t c κs = (omega arith, ((c .before .before .before .before .before .before .pre .1 .0), (c .before .before .before .before .before .before .pre .1 .1)))
 
 after-scalar-returns : (t : ℕ) → after-scalar-lts.Need-returns (after-scalar-calls t) (after-scalar-at t) after-scalar.Post
 unfolding entryOf table fieldsOf childrenOf
-after-scalar-returns t c = code-as (c .choice .ensures) (followed _ _ (valueOf (c .before .before .before .before .args .w)) _ _ (kindOf (c .before .before .before .before .args .w)) Choice (ap (λ (k : ℕ). entryOf k .follows) (c .before .match .keys1)) (no-fields _ _ (valueOf (c .before .before .before .before .args .w)) _ _ Choice refl refl))
+after-scalar-returns t c = code-as (c .choice .ensures) (followed _ _ (valueOf (c .before .before .before .args .w)) _ _ (kindOf (c .before .before .before .args .w)) Choice (ap (λ (k : ℕ). entryOf k .follows) (c .before .match .keys1)) (no-fields _ _ (valueOf (c .before .before .before .args .w)) _ _ Choice refl refl))
 
 after-scalar-returns-2 : (t : ℕ) → after-scalar-lts.Need-returns-2 (after-scalar-calls t) (after-scalar-at t) after-scalar.Post
 unfolding entryOf table fieldsOf childrenOf
-after-scalar-returns-2 t c = code-as (c .only-related .ensures) (followed _ _ (valueOf (c .before .before .before .before .args .w)) _ _ (kindOf (c .before .before .before .before .args .w)) OnlyRelated (ap (λ (k : ℕ). entryOf k .follows) (c .before .match .keys2)) (only-fields _ _ (valueOf (c .before .before .before .before .args .w)) _ _ OnlyRelated (λ last. refl) refl))
+after-scalar-returns-2 t c = code-as (c .only-related .ensures) (followed _ _ (valueOf (c .before .before .before .args .w)) _ _ (kindOf (c .before .before .before .args .w)) OnlyRelated (ap (λ (k : ℕ). entryOf k .follows) (c .before .match .keys2)) (only-fields _ _ (valueOf (c .before .before .before .args .w)) _ _ OnlyRelated (λ last. refl) refl))
 
 after-scalar-returns-3 : (t : ℕ) → after-scalar-lts.Need-returns-3 (after-scalar-calls t) (after-scalar-at t) after-scalar.Post
-after-scalar-returns-3 t c = code-as (c .scalars .ensures) (by-row _ _ (valueOf (c .before .before .before .before .before .before .before .args .w)) _ _ (kindOf (c .before .before .before .before .before .before .before .args .w)) _ (scalar-row (valueOf (c .before .before .before .before .before .before .before .args .w)) (kindOf (c .before .before .before .before .before .before .before .args .w)) (c .before .before .before .if1 .left) (c .before .before .if2 .taken) (c .before .before .before .before .match .rest .0 .1)) ((c .before .how-many .ensures) ∙ ap (λ (e : Entry). howMany (e .follows) (valueOf (c .before .before .before .before .before .before .before .args .w))) (c .before .before .before .before .before .entry-of .ensures)) refl)
+after-scalar-returns-3 t c = code-as (c .scalars .ensures) (by-row _ _ (valueOf (c .before .before .before .before .before .before .args .w)) _ _ (kindOf (c .before .before .before .before .before .before .args .w)) _ (scalar-row (valueOf (c .before .before .before .before .before .before .args .w)) (kindOf (c .before .before .before .before .before .before .args .w)) (c .before .before .before .if1 .left) (omega (arith, c .before .before .if2 .taken)) (c .before .before .before .before .match .rest .0 .1)) (c .before .children .ensures) refl)
 
 after-scalar-returns-4 : (t : ℕ) → after-scalar-lts.Need-returns-4 (after-scalar-calls t) (after-scalar-at t) after-scalar.Post
-unfolding follow childrenOf
-after-scalar-returns-4 t c = code-as (c .aggregate .ensures) (followed _ _ (valueOf (c .before .before .before .before .before .before .before .args .w)) _ _ (kindOf (c .before .before .before .before .before .before .before .args .w)) Aggregate (aggregate-kind (kindOf (c .before .before .before .before .before .before .before .args .w)) (c .before .before .if2 .left) (c .before .if3 .taken)) refl)
+after-scalar-returns-4 t c = code-as (c .scalars2 .ensures) (by-row _ _ (valueOf (c .before .before .before .before .before .before .before .args .w)) _ _ (kindOf (c .before .before .before .before .before .before .before .args .w)) _ (scalar-row (valueOf (c .before .before .before .before .before .before .before .args .w)) (kindOf (c .before .before .before .before .before .before .before .args .w)) (c .before .before .before .before .if1 .left) (c .before .before .if3 .taken) (c .before .before .before .before .before .match .rest .0 .1)) (c .before .by-table .ensures) refl)
 
 after-scalar-returns-5 : (t : ℕ) → after-scalar-lts.Need-returns-5 (after-scalar-calls t) (after-scalar-at t) after-scalar.Post
-after-scalar-returns-5 t c = none-code _ _ (valueOf (c .before .before .before .before .args .w)) _ _ (kindOf (c .before .before .before .before .args .w)) (leaf-low (valueOf (c .before .before .before .before .args .w)) (kindOf (c .before .before .before .before .args .w)) (c .if1 .taken))
+unfolding follow childrenOf
+after-scalar-returns-5 t c = code-as (c .aggregate .ensures) (followed _ _ (valueOf (c .before .before .before .before .before .before .before .args .w)) _ _ (kindOf (c .before .before .before .before .before .before .before .args .w)) Aggregate (aggregate-kind (kindOf (c .before .before .before .before .before .before .before .args .w)) (c .before .before .if3 .left) (c .before .if4 .taken)) refl)
 
 after-scalar-returns-6 : (t : ℕ) → after-scalar-lts.Need-returns-6 (after-scalar-calls t) (after-scalar-at t) after-scalar.Post
-after-scalar-returns-6 t c = none-code _ _ (valueOf (c .before .before .before .before .before .before .args .w)) _ _ (kindOf (c .before .before .before .before .before .before .args .w)) (leaf-between (valueOf (c .before .before .before .before .before .before .args .w)) (kindOf (c .before .before .before .before .before .before .args .w)) (c .if3 .left) (c .before .before .before .match .rest .1) (omega (arith, (c .before .before .before .before .before .before .pre .1 .2))))
+after-scalar-returns-6 t c = none-code _ _ (valueOf (c .before .before .before .args .w)) _ _ (kindOf (c .before .before .before .args .w)) (leaf-low (valueOf (c .before .before .before .args .w)) (kindOf (c .before .before .before .args .w)) (c .if1 .taken))
+
+after-scalar-returns-7 : (t : ℕ) → after-scalar-lts.Need-returns-7 (after-scalar-calls t) (after-scalar-at t) after-scalar.Post
+after-scalar-returns-7 t c = none-code _ _ (valueOf (c .before .before .before .before .before .before .args .w)) _ _ (kindOf (c .before .before .before .before .before .before .args .w)) (leaf-between (valueOf (c .before .before .before .before .before .before .args .w)) (kindOf (c .before .before .before .before .before .before .args .w)) (c .if4 .left) (c .before .before .before .before .match .rest .1) (omega (arith, (c .before .before .before .before .before .before .pre .1 .2))))
 
 aggregate-up-to-requires : (t : ℕ) → aggregate-lts.Need-up-to-requires (aggregate-calls t) (aggregate-at t) aggregate.Post
 unfolding entryOf table
@@ -337,7 +339,7 @@ judgments-loop-holds : (t : ℕ) → judgments-lts.Need-loop-holds (judgments-ca
 judgments-loop-holds t c = record { there = (c .before .pre .1 .1); deep = omega arith; same = refl }
 
 judgments-head-requires : (t : ℕ) → judgments-lts.Need-head-requires (judgments-calls t) (judgments-at t) judgments.Post judgments-Inv-loop judgments-μ-loop
-judgments-head-requires t c κs = ((c .before .before .before .pre .1 .0), (c .before .loop .inv .there))
+judgments-head-requires t c κs = ((c .before .before .before .pre .1 .0), (c .before .loop .inv .there), omega arith)
 
 judgments-returns : (t : ℕ) → judgments-lts.Need-returns (judgments-calls t) (judgments-at t) judgments.Post judgments-Inv-loop judgments-μ-loop
 judgments-returns t c = code-as (row-stop _ _ _ _ _ (fault-code _ _ _ _ (c .before .head .ensures) (c .if1 .taken)) (c .before .before .before .before .before .pre .1 .0 .most) (c .before .before .before .loop .inv .there) (c .before .before .before .loop .k) (omega arith) (fault-large _ _ _ _ (c .before .head .ensures) (c .if1 .taken))) (sym (c .before .before .before .loop .inv .same))
@@ -388,7 +390,7 @@ scalars-loop-holds : (t : ℕ) → scalars-lts.Need-loop-holds (scalars-calls t)
 scalars-loop-holds t c = record { there = (c .before .pre .1 .1); deep = omega arith; same = refl }
 
 scalars-head-requires : (t : ℕ) → scalars-lts.Need-head-requires (scalars-calls t) (scalars-at t) scalars.Post scalars-Inv-loop scalars-μ-loop
-scalars-head-requires t c κs = ((c .before .before .before .pre .1 .0), (c .before .loop .inv .there))
+scalars-head-requires t c κs = ((c .before .before .before .pre .1 .0), (c .before .loop .inv .there), omega arith)
 
 scalars-returns : (t : ℕ) → scalars-lts.Need-returns (scalars-calls t) (scalars-at t) scalars.Post scalars-Inv-loop scalars-μ-loop
 scalars-returns t c = code-as (row-stop _ _ _ _ _ (fault-code _ _ _ _ (c .before .head .ensures) (c .if1 .taken)) (c .before .before .before .before .before .pre .1 .0 .most) (c .before .before .before .loop .inv .there) (c .before .before .before .loop .k) (omega arith) (fault-large _ _ _ _ (c .before .head .ensures) (c .if1 .taken))) (sym (c .before .before .before .loop .inv .same))
@@ -454,12 +456,11 @@ pub +after-judgment+after-scalar+aggregate+choice+exists+judgments+scalars-spec 
     μ-scalars
     (λ t. after-judgment-lts.spec (after-judgment-calls t) (after-judgment-at t)
     after-judgment.Post
-    (after-judgment-entry-of-requires t)
     (after-judgment-scalars-requires t)
     (after-judgment-slots-requires t)
     (after-judgment-atom-requires t)
     (after-judgment-exists-requires t)
-    (after-judgment-how-many-requires t)
+    (after-judgment-joined-requires t)
     (after-judgment-judgments-requires t)
     (after-judgment-returns t)
     (after-judgment-returns-2 t)
@@ -470,18 +471,20 @@ pub +after-judgment+after-scalar+aggregate+choice+exists+judgments+scalars-spec 
     (after-judgment-returns-7 t))
     (λ t. after-scalar-lts.spec (after-scalar-calls t) (after-scalar-at t)
     after-scalar.Post
-    (after-scalar-entry-of-requires t)
     (after-scalar-choice-requires t)
     (after-scalar-only-related-requires t)
-    (after-scalar-how-many-requires t)
+    (after-scalar-children-requires t)
     (after-scalar-scalars-requires t)
+    (after-scalar-by-table-requires t)
+    (after-scalar-scalars-requires-2 t)
     (after-scalar-aggregate-requires t)
     (after-scalar-returns t)
     (after-scalar-returns-2 t)
     (after-scalar-returns-3 t)
     (after-scalar-returns-4 t)
     (after-scalar-returns-5 t)
-    (after-scalar-returns-6 t))
+    (after-scalar-returns-6 t)
+    (after-scalar-returns-7 t))
     (λ t. aggregate-lts.spec (aggregate-calls t) (aggregate-at t)
     aggregate.Post
     (aggregate-up-to-requires t)
