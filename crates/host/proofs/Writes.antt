@@ -1,4 +1,5 @@
--- No words are refused by 1, as bytes that are no words are; and of the operations that write, what each writes fits its room and depends neither on what the slice held nor on room past the most that it writes.
+-- No words are refused by 1, as bytes that are no words are; and of the operations that write, what each writes fits its room and depends neither on what the slice held
+-- nor on room past 8,192 words. With any answer but 16, more room would change nothing.
 use Prim.Native.Nat.{ℕ, _≤_, min}
 use native.Mathlib.Omega.{arith}
 use mathlib.Core.Path.{_≡_, refl, sym, _∙_}
@@ -28,7 +29,7 @@ use Rattle.host.specs.declared.operations.Question.the-variants.{Check, 
 use Rattle.host.specs.declared.operations.Writing.{Writing}
 use Rattle.host.specs.declared.operations.Writing.the-variants.{Rewrite, AllKinds, Filtered, Resolve}
 use Rattle.host.specs.Bytes.{notWords, outAfter}
-use Rattle.host.specs.Operations.{answerTo, answerOf, bufferOf, mostOf}
+use Rattle.host.specs.Operations.{answerTo, answerOf, bufferOf}
 
 -- an answer that says no more words than so many
 abbrev pub Within : Answer → ℕ → Type 0
@@ -46,23 +47,57 @@ asks-none Check = none-refused _
 asks-none (KindsOf name) = none-refused _
 asks-none (Lean a b) = none-refused _
 
--- an operation that writes no more words than so many, however much room there is
-pub record Writes (answer : List ℕ → ℕ → Answer) (buffer : List ℕ → List ℕ → List ℕ) (most : ℕ) : Type 0 where
+-- an operation that writes no more than 8,192 words, however much room there is
+pub record Writes (answer : List ℕ → ℕ → Answer) (buffer : List ℕ → List ℕ → List ℕ) : Type 0 where
   pub none : (room : ℕ) → answer [] room ≡ notWords
   pub fits : (ws : List ℕ) (room : ℕ) → Within (answer ws room) room
-  pub enough : (ws : List ℕ) (room : ℕ) → answer ws (min room most) ≡ answer ws room
-  pub own : (ws lent other out : List ℕ) → length lent ≡ min (length other) most
-      → outAfter (answer ws (length other)) (buffer ws lent) out ≡ outAfter (answer ws (length other)) (buffer ws other) out
+  pub enough : (ws : List ℕ) (room : ℕ) → answer ws (min room 8192) ≡ answer ws room
+  pub more : (ws : List ℕ) (few room : ℕ) → few ≤ room → (answer ws few ≡ noRoom → ⊥) → answer ws few ≡ answer ws room
+  pub own : (ws lent other out : List ℕ) → length lent ≤ length other
+      → outAfter (answer ws (length lent)) (buffer ws lent) out ≡ outAfter (answer ws (length lent)) (buffer ws other) out
 
-leb-min : (n room most : ℕ) → n ≤ most → leb n (min room most) ≡ leb n room
-leb-min n room most h = go (leb n room) refl
+leb-min : (n room : ℕ) → n ≤ 8192 → leb n (min room 8192) ≡ leb n room
+leb-min n room h = go (leb n room) refl
   where
-    go : (b : Bool) → leb n room ≡ b → leb n (min room most) ≡ leb n room
-    go true e = let k = leb-true n room e in le-leb n (min room most) (omega arith) ∙ sym e
-    go false e = let k = leb-false n room e in lt-leb n (min room most) (omega arith) ∙ sym e
+    go : (b : Bool) → leb n room ≡ b → leb n (min room 8192) ≡ leb n room
+    go true e = let k = leb-true n room e in le-leb n (min room 8192) (omega arith) ∙ sym e
+    go false e = let k = leb-false n room e in lt-leb n (min room 8192) (omega arith) ∙ sym e
+
+leb-more : (n few room : ℕ) → few ≤ room → leb n few ≡ true → leb n room ≡ true
+leb-more n few room h e = le-leb n room (omega (arith, leb-true n few e))
+
+-- n words are written where the room passes a test, which more room passes too
+module _ (n steps : ℕ) (test : ℕ → Bool) (eases : (few room : ℕ) → few ≤ room → test few ≡ true → test room ≡ true) where
+  abbrev tested : ℕ → Answer
+  tested room = pick (test room) (Given n steps) noRoom
+
+  tested-more : (few room : ℕ) → few ≤ room → (tested few ≡ noRoom → ⊥) → tested few ≡ tested room
+  tested-more few room h other = go (test few) refl other
+    where
+      go : (b : Bool) → test few ≡ b → (pick b (Given n steps) noRoom ≡ noRoom → ⊥) → pick b (Given n steps) noRoom ≡ tested room
+      go true e other = rw (eases few room h e)
+      go false e other = absurd (other refl)
+
+  tested-own : (made lent other out : List ℕ) → length made ≡ n → length lent ≤ length other
+      → outAfter (tested (length lent)) (pick (test (length lent)) (made ++ drop n lent) lent) out ≡ outAfter (tested (length lent)) (pick (test (length other)) (made ++ drop n other) other) out
+  unfolding outAfter
+  tested-own made lent other out l h = go (test (length lent)) refl
+    where
+      front : (rest : List ℕ) → take n (made ++ rest) ≡ made
+      front rest = rw (← l) (take-append-seam made rest)
+
+      go : (b : Bool) → test (length lent) ≡ b
+          → outAfter (pick b (Given n steps) noRoom) (pick b (made ++ drop n lent) lent) out ≡ outAfter (pick b (Given n steps) noRoom) (pick (test (length other)) (made ++ drop n other) other) out
+      go true e = rw (eases (length lent) (length other) h e, front (drop n lent), front (drop n other))
+      go false e = refl
+
+-- a refusal leaves all as it is
+after-refusal : (r : Refusal) (lent other out : List ℕ) → outAfter (Refused r) lent out ≡ outAfter (Refused r) other out
+unfolding outAfter
+after-refusal r lent other out = refl
 
 -- an operation that makes words of a pack and writes them if there is room, with a number of steps
-module _ (make : Pack → List ℕ) (steps : Pack → ℕ) (most : ℕ) where
+module _ (make : Pack → List ℕ) (steps : Pack → ℕ) where
   abbrev made : ℕ → Pack → Answer
   made room p = writeAnswer (make p) (steps p) room
 
@@ -71,7 +106,7 @@ module _ (make : Pack → List ℕ) (steps : Pack → ℕ) (most : ℕ) where
 
   -- what is read makes no more words than that
   abbrev Short : Reading → Type 0
-  Short r = (p : Pack) → r ≡ yes p → length (make p) ≤ most
+  Short r = (p : Pack) → r ≡ yes p → length (make p) ≤ 8192
 
   made-fits : (r : Reading) (room : ℕ) → Within (answer r (made room)) room
   made-fits (yes p) room = go (leb (length (make p)) room) refl
@@ -81,57 +116,50 @@ module _ (make : Pack → List ℕ) (steps : Pack → ℕ) (most : ℕ) where
       go false e = tt
   made-fits (refuse r) room = tt
 
-  made-enough : (r : Reading) → Short r → (room : ℕ) → answer r (made (min room most)) ≡ answer r (made room)
-  made-enough (yes p) h room = rw (leb-min (length (make p)) room most (h p refl))
+  made-enough : (r : Reading) → Short r → (room : ℕ) → answer r (made (min room 8192)) ≡ answer r (made room)
+  made-enough (yes p) h room = rw (leb-min (length (make p)) room (h p refl))
   made-enough (refuse r) h room = refl
 
-  made-own : (r : Reading) → Short r → (lent other out : List ℕ) → length lent ≡ min (length other) most
-      → outAfter (answer r (made (length other))) (buffer r (after lent) lent) out ≡ outAfter (answer r (made (length other))) (buffer r (after other) other) out
-  unfolding outAfter
-  made-own (yes p) h lent other out e = rw (e, leb-min (length (make p)) (length other) most (h p refl)) (go (leb (length (make p)) (length other)))
-    where
-      go : (b : Bool)
-          → outAfter (pick b (Given (length (make p)) (steps p)) noRoom) (pick b (make p ++ drop (length (make p)) lent) lent) out
-          ≡ outAfter (pick b (Given (length (make p)) (steps p)) noRoom) (pick b (make p ++ drop (length (make p)) other) other) out
-      go true = rw (take-append-seam (make p) (drop (length (make p)) lent), take-append-seam (make p) (drop (length (make p)) other))
-      go false = refl
-  made-own (refuse r) h lent other out e = refl
+  made-more : (r : Reading) (few room : ℕ) → few ≤ room → (answer r (made few) ≡ noRoom → ⊥) → answer r (made few) ≡ answer r (made room)
+  made-more (yes p) few room h other = tested-more (length (make p)) (steps p) (leb (length (make p))) (leb-more (length (make p))) few room h other
+  made-more (refuse r) few room h other = refl
 
-  pub writes-made : ((ws : List ℕ) → Short (read ws)) → Writes (λ ws room. answer (read ws) (made room)) (λ ws lent. buffer (read ws) (after lent) lent) most
+  made-own : (r : Reading) (lent other out : List ℕ) → length lent ≤ length other
+      → outAfter (answer r (made (length lent))) (buffer r (after lent) lent) out ≡ outAfter (answer r (made (length lent))) (buffer r (after other) other) out
+  made-own (yes p) lent other out h = tested-own (length (make p)) (steps p) (leb (length (make p))) (leb-more (length (make p))) (make p) lent other out refl h
+  made-own (refuse r) lent other out h = after-refusal r lent other out
+
+  pub writes-made : ((ws : List ℕ) → Short (read ws)) → Writes (λ ws room. answer (read ws) (made room)) (λ ws lent. buffer (read ws) (after lent) lent)
   writes-made h =
       record {
         none = λ room. none-refused (made room);
         fits = λ ws. made-fits (read ws);
         enough = λ ws. made-enough (read ws) (h ws);
-        own = λ ws. made-own (read ws) (h ws);
+        more = λ ws. made-more (read ws);
+        own = λ ws. made-own (read ws);
       }
 
 pub few-words : (ws : List ℕ) (p : Pack) → read ws ≡ yes p → length (words p) ≤ 8192
 few-words ws p e = omega (arith, words-length p, words-read ws p e .fine .most)
 
-pub few-places : (ws : List ℕ) (p : Pack) → read ws ≡ yes p → length (allKindsWords p) ≤ 512
+pub few-places : (ws : List ℕ) (p : Pack) → read ws ≡ yes p → length (allKindsWords p) ≤ 8192
 unfolding allKindsWords
-few-places ws p e = simp length-map (parts p (words-read ws p e .fine) .few-relations)
+few-places ws p e = simp length-map (omega (arith, parts p (words-read ws p e .fine) .few-relations))
 
-pub few-names : (f : Filter) (ws : List ℕ) (p : Pack) → read ws ≡ yes p → length (filterWords f p) ≤ 4096
+pub few-names : (f : Filter) (ws : List ℕ) (p : Pack) → read ws ≡ yes p → length (filterWords f p) ≤ 8192
 few-names f ws p e = omega (arith, table-length (says f p) 0 (p .names), parts p (words-read ws p e .fine) .most)
 
-rewrite-writes : Writes rewriteAnswer rewriteBuffer 8192
+rewrite-writes : Writes rewriteAnswer rewriteBuffer
 unfolding rewriteAnswer rewriteBuffer
-rewrite-writes = writes-made words (λ p. 0) 8192 few-words
+rewrite-writes = writes-made words (λ p. 0) few-words
 
-all-kinds-writes : Writes allKindsAnswer allKindsBuffer 512
+all-kinds-writes : Writes allKindsAnswer allKindsBuffer
 unfolding allKindsAnswer allKindsBuffer
-all-kinds-writes = writes-made allKindsWords (λ p. allKinds (p .relations) .steps) 512 few-places
+all-kinds-writes = writes-made allKindsWords (λ p. allKinds (p .relations) .steps) few-places
 
-filtered-writes : (f : Filter) → Writes (filterAnswer f) (filterBuffer f) 4096
+filtered-writes : (f : Filter) → Writes (filterAnswer f) (filterBuffer f)
 unfolding filterAnswer filterBuffer
-filtered-writes f = writes-made (filterWords f) (λ p. 0) 4096 (few-names f)
-
--- a refusal leaves all as it is
-after-refusal : (r : Refusal) (lent other out : List ℕ) → outAfter (Refused r) lent out ≡ outAfter (Refused r) other out
-unfolding outAfter
-after-refusal r lent other out = refl
+filtered-writes f = writes-made (filterWords f) (λ p. 0) (few-names f)
 
 -- Resolve, by what resolving comes to: refused, or a pack, whose words are written if they are no more than 8,192
 module _ (steps : ℕ) where
@@ -149,39 +177,41 @@ module _ (steps : ℕ) where
   both-min n room = go (leb n 8192) refl
     where
       go : (b : Bool) → leb n 8192 ≡ b → (b && leb n (min room 8192)) ≡ (b && leb n room)
-      go true e = leb-min n room 8192 (leb-true n 8192 e)
+      go true e = leb-min n room (leb-true n 8192 e)
       go false e = refl
+
+  both-more : (n few room : ℕ) → few ≤ room → (leb n 8192 && leb n few) ≡ true → (leb n 8192 && leb n room) ≡ true
+  both-more n few room h = go (leb n 8192)
+    where
+      go : (b : Bool) → (b && leb n few) ≡ true → (b && leb n room) ≡ true
+      go true e = leb-more n few room h e
+      go false e = e
 
   outcome-enough : (o : Outcome Pack) (room : ℕ) → givenOut steps (min room 8192) o ≡ givenOut steps room o
   outcome-enough (refused r) room = refl
   outcome-enough (done q) room = rw (both-min (total q) room)
 
-  outcome-own : (o : Outcome Pack) (lent other out : List ℕ) → length lent ≡ min (length other) 8192
-      → outAfter (givenOut steps (length other) o) (writtenOut lent o) out ≡ outAfter (givenOut steps (length other) o) (writtenOut other o) out
-  unfolding outAfter
-  outcome-own (refused r) lent other out e = refl
-  outcome-own (done q) lent other out e = rw (e, both-min (total q) (length other)) (go (leb (total q) 8192 && leb (total q) (length other)))
-    where
-      front : (rest : List ℕ) → take (total q) (words q ++ rest) ≡ words q
-      front rest = rw (← words-length q) (take-append-seam (words q) rest)
+  outcome-more : (o : Outcome Pack) (few room : ℕ) → few ≤ room → (givenOut steps few o ≡ noRoom → ⊥) → givenOut steps few o ≡ givenOut steps room o
+  outcome-more (refused r) few room h other = refl
+  outcome-more (done q) few room h other = tested-more (total q) steps (λ room. leb (total q) 8192 && leb (total q) room) (both-more (total q)) few room h other
 
-      go : (b : Bool)
-          → outAfter (pick b (Given (total q) steps) noRoom) (pick b (words q ++ drop (total q) lent) lent) out
-          ≡ outAfter (pick b (Given (total q) steps) noRoom) (pick b (words q ++ drop (total q) other) other) out
-      go true = rw (front (drop (total q) lent), front (drop (total q) other))
-      go false = refl
+  outcome-own : (o : Outcome Pack) (lent other out : List ℕ) → length lent ≤ length other
+      → outAfter (givenOut steps (length lent) o) (writtenOut lent o) out ≡ outAfter (givenOut steps (length lent) o) (writtenOut other o) out
+  outcome-own (refused r) lent other out h = after-refusal r lent other out
+  outcome-own (done q) lent other out h = tested-own (total q) steps (λ room. leb (total q) 8192 && leb (total q) room) (both-more (total q)) (words q) lent other out (words-length q) h
 
 abbrev gives : ℕ → Pack → Answer
 gives room p = givenOut (allKinds (p .relations) .steps) room (resolved p)
 
-resolve-writes : Writes resolveAnswer resolveBuffer 8192
+resolve-writes : Writes resolveAnswer resolveBuffer
 unfolding resolveAnswer resolveBuffer
 resolve-writes =
     record {
       none = λ room. none-refused _;
-      fits = λ ws room. fits (read ws) room;
-      enough = λ ws room. enough (read ws) room;
-      own = λ ws lent other out e. own (read ws) lent other out e;
+      fits = λ ws. fits (read ws);
+      enough = λ ws. enough (read ws);
+      more = λ ws. more (read ws);
+      own = λ ws. own (read ws);
     }
   where
     fits : (r : Reading) (room : ℕ) → Within (answer r (gives room)) room
@@ -192,12 +222,16 @@ resolve-writes =
     enough (yes p) room = outcome-enough (allKinds (p .relations) .steps) (resolved p) room
     enough (refuse r) room = refl
 
-    own : (r : Reading) (lent other out : List ℕ) → length lent ≡ min (length other) 8192
-        → outAfter (answer r (gives (length other))) (buffer r (λ p. writtenOut lent (resolved p)) lent) out ≡ outAfter (answer r (gives (length other))) (buffer r (λ p. writtenOut other (resolved p)) other) out
-    own (yes p) lent other out e = outcome-own (allKinds (p .relations) .steps) (resolved p) lent other out e
-    own (refuse r) lent other out e = after-refusal r lent other out
+    more : (r : Reading) (few room : ℕ) → few ≤ room → (answer r (gives few) ≡ noRoom → ⊥) → answer r (gives few) ≡ answer r (gives room)
+    more (yes p) few room h other = outcome-more (allKinds (p .relations) .steps) (resolved p) few room h other
+    more (refuse r) few room h other = refl
 
-pub writes : (w : Writing) → Writes (answerOf w) (bufferOf w) (mostOf w)
+    own : (r : Reading) (lent other out : List ℕ) → length lent ≤ length other
+        → outAfter (answer r (gives (length lent))) (buffer r (λ p. writtenOut lent (resolved p)) lent) out ≡ outAfter (answer r (gives (length lent))) (buffer r (λ p. writtenOut other (resolved p)) other) out
+    own (yes p) lent other out h = outcome-own (allKinds (p .relations) .steps) (resolved p) lent other out h
+    own (refuse r) lent other out h = after-refusal r lent other out
+
+pub writes : (w : Writing) → Writes (answerOf w) (bufferOf w)
 writes Rewrite = rewrite-writes
 writes AllKinds = all-kinds-writes
 writes (Filtered f) = filtered-writes f

@@ -1,5 +1,5 @@
 -- The host's functions: packs and outputs as bytes, each answer as one number.
-use Prim.Native.Nat.{ℕ, _+_, _*_, _/_, _%_, _^_, _≤_}
+use Prim.Native.Nat.{ℕ, _+_, _*_, _/_, _%_, _^_, _≤_, min}
 use mathlib.Core.Path.{_≡_}
 use mathlib.Core.Bool.{Bool, _&&_}
 use mathlib.Core.List.{List, [], _∷_, _++_}
@@ -72,7 +72,16 @@ loadedOf bytes = pick (areWords (length bytes)) (wordsOf bytes) []
 -- they stand at the front of a slice
 pub record Loaded (bytes : List ℕ) (n : ℕ) (words : List ℕ) : Type 0 where
   pub front : take n words ≡ loadedOf bytes
-  pub fits : n ≤ 8192
+  pub fits : n ≤ length words
+
+-- a slice that has room for the words of so many bytes; more than 32,768 are none
+abbrev pub Holds : ℕ → ℕ → Type 0
+Holds bytes words = min bytes 32768 ≤ 4 * words
+
+-- an operation that writes into a slice of so many words, of which the output is then given those that it answers
+pub record Tried (answer : List ℕ → ℕ → Answer) (buffer : List ℕ → List ℕ → List ℕ) (bytes : List ℕ) (most : ℕ) (out : List ℕ) (r : ℕ) (after : List ℕ) : Type 0 where
+  pub answers : r ≡ encode (answer (loadedOf bytes) (min (length out / 4) most))
+  pub leaves : after ≡ outAfter (answer (loadedOf bytes) (min (length out / 4) most)) (buffer (loadedOf bytes) (wordsOf out)) out
 
 -- as many words as an answer says are there, and their bytes fit the output
 abbrev pub Fits : Answer → ℕ → ℕ → Type 0

@@ -18,7 +18,7 @@ answerTo Check ws = checkAnswer ws
 answerTo (KindsOf name) ws = kindsOfAnswer ws name
 answerTo (Lean a b) ws = leanAnswer ws a b
 
--- those that write: the answer, the slice afterwards, and the most words that are ever written
+-- those that write: the answer, and the slice afterwards
 abbrev pub answerOf : Writing → List ℕ → ℕ → Answer
 answerOf Rewrite ws room = rewriteAnswer ws room
 answerOf AllKinds ws room = allKindsAnswer ws room
@@ -30,12 +30,6 @@ bufferOf Rewrite ws lent = rewriteBuffer ws lent
 bufferOf AllKinds ws lent = allKindsBuffer ws lent
 bufferOf (Filtered f) ws lent = filterBuffer f ws lent
 bufferOf Resolve ws lent = resolveBuffer ws lent
-
-abbrev pub mostOf : Writing → ℕ
-mostOf Rewrite = 8192
-mostOf AllKinds = 512
-mostOf (Filtered f) = 4096
-mostOf Resolve = 8192
 
 pub record Ran (w : Writing) (ws lent : List ℕ) (a : Answer) (left : List ℕ) : Type 0 where
   pub answers : a ≡ answerOf w ws (length lent)

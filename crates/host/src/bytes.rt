@@ -4,7 +4,7 @@ ghost use mathlib.Core.Path.{_≡_};
 ghost use mathlib.Core.List.{_++_, [], _∷_};
 ghost use Prim.Native.Nat.{_+_, _*_, _/_, _≤_, min};
 ghost use lib.ListN.{length, take, drop};
-ghost use Rattle.host.specs.Bytes.{wordFrom, bytesOf, areWords, Loaded};
+ghost use Rattle.host.specs.Bytes.{wordFrom, bytesOf, areWords, Holds, Loaded};
 
 // Whether so many bytes are words, and not more than a pack may have.
 fn are_words(count: usize) -> bool
@@ -13,7 +13,7 @@ fn are_words(count: usize) -> bool
     count % 4 == 0 && count <= 4 * Pack::MOST_WORDS
 }
 
-// The words that an output of so many bytes has room for, but no more than the operation ever writes.
+// The words that an output of so many bytes has room for, but no more than so many.
 pub fn room(count: usize, most: usize) -> usize
     ensures { λ r. ⌜ r ≡ min (count / 4) most ⌝ }
 {
@@ -29,7 +29,7 @@ fn word_from(a: u8, b: u8, c: u8, d: u8) -> u32
 
 // The words of the bytes, at the front of the slice, and how many there are. Bytes that are no words give none, which every operation refuses by 1.
 pub fn load(bytes: &[u8], words: &mut [u32]) -> usize
-    requires { ⌜ length (now words) ≡ 8192 ⌝ }
+    requires { ⌜ Holds (length (now bytes)) (length (now words)) ⌝ }
     ensures { λ r. ⌜ Loaded (now (bytes .entry)) r (now (words .exit)) ⌝ }
 {
     if !are_words(bytes.len()) {

@@ -6,10 +6,8 @@ mod operations;
 use crate::operations::Question;
 use crate::operations::Writing;
 use crate::operations::ask;
-use crate::operations::table;
 use crate::operations::write;
 use chains::filtered::Filter;
-use pack::kinds::Pack;
 ghost use mathlib.Core.Path.{_≡_};
 ghost use Rattle.pack.specs.Operations.{checkAnswer, rewriteAnswer, rewriteBuffer};
 ghost use Rattle.chains.specs.Operations.{allKindsAnswer, allKindsBuffer, kindsOfAnswer, leanAnswer, filterAnswer, filterBuffer};
@@ -30,8 +28,7 @@ pub extern "C" fn cogunwa_check(pack: &[u8]) -> u64
 pub extern "C" fn cogunwa_rewrite(pack: &[u8], out: &mut [u8]) -> u64
     ensures { λ r. ⌜ Gives rewriteAnswer rewriteBuffer (now (pack .entry)) (now (out .entry)) r (now (out .exit)) ⌝ }
 {
-    let mut written = [0u32; Pack::MOST_WORDS];
-    write(Writing::Rewrite, pack, &mut written, out)
+    write(Writing::Rewrite, pack, out)
 }
 
 // All kinds.
@@ -39,8 +36,7 @@ pub extern "C" fn cogunwa_rewrite(pack: &[u8], out: &mut [u8]) -> u64
 pub extern "C" fn cogunwa_all_kinds(pack: &[u8], out: &mut [u8]) -> u64
     ensures { λ r. ⌜ Gives allKindsAnswer allKindsBuffer (now (pack .entry)) (now (out .entry)) r (now (out .exit)) ⌝ }
 {
-    let mut written = [0u32; Pack::MOST_RELATIONS as usize];
-    write(Writing::AllKinds, pack, &mut written, out)
+    write(Writing::AllKinds, pack, out)
 }
 
 // Resolve.
@@ -48,8 +44,7 @@ pub extern "C" fn cogunwa_all_kinds(pack: &[u8], out: &mut [u8]) -> u64
 pub extern "C" fn cogunwa_resolve(pack: &[u8], out: &mut [u8]) -> u64
     ensures { λ r. ⌜ Gives resolveAnswer resolveBuffer (now (pack .entry)) (now (out .entry)) r (now (out .exit)) ⌝ }
 {
-    let mut written = [0u32; Pack::MOST_WORDS];
-    write(Writing::Resolve, pack, &mut written, out)
+    write(Writing::Resolve, pack, out)
 }
 
 // Kinds of one name.
@@ -73,7 +68,7 @@ pub extern "C" fn cogunwa_lean(pack: &[u8], a: u32, b: u32) -> u64
 pub extern "C" fn cogunwa_direct(pack: &[u8], out: &mut [u8]) -> u64
     ensures { λ r. ⌜ Gives (filterAnswer Direct) (filterBuffer Direct) (now (pack .entry)) (now (out .entry)) r (now (out .exit)) ⌝ }
 {
-    table(Filter::Direct, pack, out)
+    write(Writing::Filtered(Filter::Direct), pack, out)
 }
 
 // Innermost.
@@ -81,7 +76,7 @@ pub extern "C" fn cogunwa_direct(pack: &[u8], out: &mut [u8]) -> u64
 pub extern "C" fn cogunwa_innermost(pack: &[u8], out: &mut [u8]) -> u64
     ensures { λ r. ⌜ Gives (filterAnswer Innermost) (filterBuffer Innermost) (now (pack .entry)) (now (out .entry)) r (now (out .exit)) ⌝ }
 {
-    table(Filter::Innermost, pack, out)
+    write(Writing::Filtered(Filter::Innermost), pack, out)
 }
 
 // Alias.
@@ -89,7 +84,7 @@ pub extern "C" fn cogunwa_innermost(pack: &[u8], out: &mut [u8]) -> u64
 pub extern "C" fn cogunwa_alias(pack: &[u8], out: &mut [u8]) -> u64
     ensures { λ r. ⌜ Gives (filterAnswer Alias) (filterBuffer Alias) (now (pack .entry)) (now (out .entry)) r (now (out .exit)) ⌝ }
 {
-    table(Filter::Alias, pack, out)
+    write(Writing::Filtered(Filter::Alias), pack, out)
 }
 
 // Unresolved.
@@ -97,5 +92,5 @@ pub extern "C" fn cogunwa_alias(pack: &[u8], out: &mut [u8]) -> u64
 pub extern "C" fn cogunwa_unresolved(pack: &[u8], out: &mut [u8]) -> u64
     ensures { λ r. ⌜ Gives (filterAnswer Unresolved) (filterBuffer Unresolved) (now (pack .entry)) (now (out .entry)) r (now (out .exit)) ⌝ }
 {
-    table(Filter::Unresolved, pack, out)
+    write(Writing::Filtered(Filter::Unresolved), pack, out)
 }

@@ -1,4 +1,5 @@
-// The operations over bytes: each loads the pack's words and answers by one number.
+// The operations over bytes: each loads the pack's words and answers by one number. Clearing large arrays would take longer
+// than the work on a small pack, of up to 256 words: it has small ones.
 use crate::answer::encode;
 use crate::answer::give;
 use crate::bytes::load;
@@ -15,9 +16,8 @@ use pack::rewrite::rewrite;
 use resolve::resolve::resolve;
 ghost use mathlib.Core.Path.{_≡_};
 ghost use lib.ListN.{length};
-ghost use Rattle.chains.specs.Operations.{filterAnswer, filterBuffer};
-ghost use Rattle.host.specs.Bytes.{encode, overBytes, Gives};
-ghost use Rattle.host.specs.Operations.{answerTo, answerOf, bufferOf, mostOf, Ran};
+ghost use Rattle.host.specs.Bytes.{encode, overBytes, Gives, Holds, Tried};
+ghost use Rattle.host.specs.Operations.{answerTo, answerOf, bufferOf, Ran};
 
 // The operations that only answer.
 pub enum Question {
@@ -44,12 +44,24 @@ fn answer_to(q: Question, words: &[u32]) -> Answer
     }
 }
 
+// With a slice for the words of the pack.
+fn ask_in(q: Question, pack: &[u8], words: &mut [u32]) -> u64
+    requires { ⌜ Holds (length (now pack)) (length (now words)) ⌝ }
+    ensures { λ r. ⌜ r ≡ encode (overBytes (answerTo q) (now (pack .entry))) ⌝ }
+{
+    let n = load(pack, words);
+    encode(answer_to(q, &words[..n]))
+}
+
 pub fn ask(q: Question, pack: &[u8]) -> u64
     ensures { λ r. ⌜ r ≡ encode (overBytes (answerTo q) (now (pack .entry))) ⌝ }
 {
+    if pack.len() <= 1024 {
+        let mut few = [0u32; 256];
+        return ask_in(q, pack, &mut few);
+    }
     let mut words = [0u32; Pack::MOST_WORDS];
-    let n = load(pack, &mut words);
-    encode(answer_to(q, &words[..n]))
+    ask_in(q, pack, &mut words)
 }
 
 fn run(w: Writing, words: &[u32], out: &mut [u32]) -> Answer
@@ -63,22 +75,31 @@ fn run(w: Writing, words: &[u32], out: &mut [u32]) -> Answer
     }
 }
 
-// The operation writes into a slice as long as the most words that it ever writes, of which the output is given as many as it answers.
-pub fn write(w: Writing, pack: &[u8], written: &mut [u32], out: &mut [u8]) -> u64
-    requires { ⌜ length (now written) ≡ mostOf w ⌝ }
-    ensures { λ r. ⌜ Gives (answerOf w) (bufferOf w) (now (pack .entry)) (now (out .entry)) r (now (out .exit)) ⌝ }
+// With slices for the words of the pack and for those that are written, of which the output is given as many as are answered.
+fn write_in(w: Writing, pack: &[u8], words: &mut [u32], written: &mut [u32], out: &mut [u8]) -> u64
+    requires { ⌜ Holds (length (now pack)) (length (now words)) ⌝ }
+    ensures { λ r. ⌜ Tried (answerOf w) (bufferOf w) (now (pack .entry)) (length (now (written .entry))) (now (out .entry)) r (now (out .exit)) ⌝ }
 {
-    let mut words = [0u32; Pack::MOST_WORDS];
-    let n = load(pack, &mut words);
+    let n = load(pack, words);
     let m = room(out.len(), written.len());
     let a = run(w, &words[..n], &mut written[..m]);
     give(a, written, out)
 }
 
-// A filtered table, with one word for each name.
-pub fn table(filter: Filter, pack: &[u8], out: &mut [u8]) -> u64
-    ensures { λ r. ⌜ Gives (filterAnswer filter) (filterBuffer filter) (now (pack .entry)) (now (out .entry)) r (now (out .exit)) ⌝ }
+// No operation writes more than 8,192 words. What a small pack gives most often fits 1,024: only where that is refused for
+// want of room, by 16, it is run again.
+pub fn write(w: Writing, pack: &[u8], out: &mut [u8]) -> u64
+    ensures { λ r. ⌜ Gives (answerOf w) (bufferOf w) (now (pack .entry)) (now (out .entry)) r (now (out .exit)) ⌝ }
 {
-    let mut written = [0u32; Pack::MOST_NAMES as usize];
-    write(Writing::Filtered(filter), pack, &mut written, out)
+    if pack.len() <= 1024 {
+        let mut few = [0u32; 256];
+        let mut short = [0u32; 1024];
+        let r = write_in(w, pack, &mut few, &mut short, out);
+        if r != 16 {
+            return r;
+        }
+    }
+    let mut words = [0u32; Pack::MOST_WORDS];
+    let mut written = [0u32; Pack::MOST_WORDS];
+    write_in(w, pack, &mut words, &mut written, out)
 }

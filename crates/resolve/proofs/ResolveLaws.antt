@@ -20,7 +20,7 @@ use Rattle.pack.proofs.PackLaws.{words-read}
 use Rattle.chains.specs.Kinds.{find, kindsOf, allKinds}
 use Rattle.chains.specs.Operations.{firstRelation, startOf, tableFrom, Answered}
 use Rattle.chains.specs.AllKinds.{IsPack, Counted}
-use Rattle.chains.proofs.CheckedLaws.{same-pack, short-checked, few-counted}
+use Rattle.chains.proofs.CheckedLaws.{same-pack, few-counted}
 use Rattle.chains.proofs.FillLaws.{Filling}
 use Rattle.chains.proofs.PackIndex.{parts, find-name, find-kept}
 use Rattle.resolve.specs.Tables.{Tables, derivedAt, tables}
@@ -251,8 +251,8 @@ asked-of {ws} {steps = steps} t e {count} k =
     let long : length {A = ℕ} (midOf 0 (count - 0) (replicate 512 0)) ≡ count = rw whole (length-take-le {A = ℕ} count (replicate 512 0) (omega (arith, few-counted ws (t .checked) k, length-replicate {A = ℕ} 512 0))) in
     record { steps = steps; tabled = t; copied = e; room = λ p h. long ∙ k .relations p h }
 
-front-room : (ws : List ℕ) → length ws ≤ 8192 → length {A = ℕ} (midOf 0 (length ws - 0) (replicate 8192 0)) ≡ length ws
-front-room ws few = let whole : length ws - 0 ≡ length ws = omega arith in rw whole (length-take-le {A = ℕ} (length ws) (replicate 8192 0) (omega (arith, length-replicate {A = ℕ} 8192 0)))
+front-room : (ws : List ℕ) (most : ℕ) → length ws ≤ most → length {A = ℕ} (midOf 0 (length ws - 0) (replicate most 0)) ≡ length ws
+front-room ws most few = let whole : length ws - 0 ≡ length ws = omega arith in rw whole (length-take-le {A = ℕ} (length ws) (replicate most 0) (omega (arith, length-replicate {A = ℕ} most 0)))
 
-pub in-asked : {ws : List ℕ} → IsPack ws → ResolveAsked ws (midOf 0 (length ws - 0) (replicate 8192 0))
-in-asked {ws} c = record { checked = c; room = front-room ws (short-checked c) }
+pub in-asked : {ws : List ℕ} (most : ℕ) → IsPack ws → length ws ≤ most → ResolveAsked ws (midOf 0 (length ws - 0) (replicate most 0))
+in-asked {ws} most c few = record { checked = c; room = front-room ws most few }

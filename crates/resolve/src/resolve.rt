@@ -79,6 +79,11 @@ pub fn resolve(pack: &[u32], out: &mut [u32]) -> Answer
     let Answer::Given(_, _) = a else {
         return a;
     };
+    // a small pack has a small copy, since clearing a large one would take longer than the work
+    if pack.len() <= 256 {
+        let mut few = [0u32; 256];
+        return resolve_in(pack, &mut few[0..pack.len()], out);
+    }
     let mut words = [0u32; 8192];
     resolve_in(pack, &mut words[0..pack.len()], out)
 }

@@ -13,7 +13,7 @@ use Rattle.host.proofs.bytes.load.Tie as tie
 
 record Loading (bytes before : List ℕ) (n : ℕ) (words : List ℕ) (i : ℕ) : Type 0 where
   within : i ≤ n
-  few : n ≤ 8192
+  few : n ≤ length before
   long : length words ≡ length before
   rest : take i words ++ wordsOf (drop (4 * i) bytes) ≡ wordsOf bytes
 
@@ -88,7 +88,8 @@ returns-2 : tie.Need-returns-2 Inv-loop μ-loop
 returns-2 c =
     let l = c .before .loop in
     let tested = c .before .before .before in
-    all-loaded _ _ (tested .are-words .ensures) (c .before .before .if1 .left) refl (sym (load-done _ (l .words) (l .i) (omega arith)) ∙ l .inv .rest)
+    let start = tested .before .before .before in
+    all-loaded (start .args .bytes .now) (l .words) (tested .are-words .ensures) (c .before .before .if1 .left) refl (rw (l .inv .long) (start .pre)) (sym (load-done _ (l .words) (l .i) (omega arith)) ∙ l .inv .rest)
 
 pub load-spec : {M : Type 1} → statement M
 load-spec =

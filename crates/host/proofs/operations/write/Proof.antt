@@ -1,70 +1,54 @@
--- `host::operations::write` meets its contract: the output is given what the operation writes.
+-- `host::operations::write` meets its contract: 16 in the short slice leaves the output as it was, and any other answer is the same with more room.
 use borrow.Author.Needs.{needs}
-use mathlib.Core.Path.{sym}
-use lib.Seq.{length-take-le}
+use mathlib.Core.Path.{refl, ap, _∙_}
+use mathlib.Core.Logic.{⊎-elim}
+use lib.ListN.{length}
 use Rattle.host.proofs.Writes.{writes}
-use Rattle.host.proofs.OverBytes.{fits-out, given}
+use Rattle.host.proofs.OverBytes.{given-short, given-long, kept-out}
 use Rattle.host.proofs.operations.write.Statement.{statement}
 use Rattle.host.proofs.operations.write.Tie as tie
 
-slice-aggregate-load : tie.Need-slice-aggregate-load
-slice-aggregate-load c = search needs
+slice-aggregate-write-in : tie.Need-slice-aggregate-write-in
+slice-aggregate-write-in c = search needs
 
-load-requires : tie.Need-load-requires
-load-requires c κs = search needs
+slice-aggregate-write-in-2 : tie.Need-slice-aggregate-write-in-2
+slice-aggregate-write-in-2 c = search needs
 
-room-requires : tie.Need-room-requires
-room-requires c κs = search needs
-
-array-share-prefix-words : tie.Need-array-share-prefix-words
-array-share-prefix-words c = search needs
-
-slice-aggregate-run : tie.Need-slice-aggregate-run
-slice-aggregate-run c = sym (length-take-le _ _ (array-share-prefix-words (c .before)))
-
-slice-relend-prefix-run : tie.Need-slice-relend-prefix-run
-slice-relend-prefix-run c = search needs
-
-slice-aggregate-run-2 : tie.Need-slice-aggregate-run-2
-slice-aggregate-run-2 c = sym (length-take-le _ _ (slice-relend-prefix-run (c .before)))
-
-run-requires : tie.Need-run-requires
-run-requires c κs = search needs
-
-give-requires : tie.Need-give-requires
-give-requires c κs =
-    let called = c .before .before .before .before in
-    let roomed = called .before .before .before in
-    let start = roomed .before .before .before .before .before .before .before in
-    fits-out (writes (start .args .w)) _ _ (called .run .last .1 .1 .0) _ _ (start .pre) (roomed .room .ensures) (called .run .ensures .answers) (called .run .kept .1 .1 .0)
+write-in-requires : tie.Need-write-in-requires
+write-in-requires c κs = search needs
 
 same-length : tie.Need-same-length
 same-length c = search needs
 
-same-length-2 : tie.Need-same-length-2
-same-length-2 c = search needs
-
 returns : tie.Need-returns
-returns c =
-    let gave = c .before .before in
-    let called = gave .before .before .before .before .before in
-    let roomed = called .before .before .before in
-    let start = roomed .before .before .before .before .before .before .before in
-    given (writes (start .args .w)) _ _ (roomed .before .before .load .ensures) (start .pre) (roomed .room .ensures) (called .run .ensures .answers) (called .run .ensures .leaves) (called .run .kept .1 .1 .0) (gave .give .ensures)
+returns c = given-short (writes (c .before .before .before .before .before .before .before .before .before .before .before .before .args .w)) (c .before .before .before .before .before .write-in .ensures) (c .if2 .taken)
+
+slice-aggregate-write-in-3 : tie.Need-slice-aggregate-write-in-3
+slice-aggregate-write-in-3 c = search needs
+
+slice-aggregate-write-in-4 : tie.Need-slice-aggregate-write-in-4
+slice-aggregate-write-in-4 c = search needs
+
+write-in-requires-2 : tie.Need-write-in-requires-2
+write-in-requires-2 c κs = search needs
+
+same-length-2 : tie.Need-same-length-2
+same-length-2 c = c .before .before .before .before .write-in2 .kept .1 .1 .1 .1 .0 ∙ ap length (⊎-elim (λ w. w .10 ∙ kept-out (writes (c .before .before .before .before .before .before .before .before .before .before .before .args .w)) (w .4 .ensures) (w .9 .left)) (λ w. w .1) (c .before .before .before .before .before .before .before .before .if1 .came))
+
+returns-2 : tie.Need-returns-2
+returns-2 c = given-long (writes (c .before .before .before .before .before .before .before .before .before .before .before .args .w)) (c .before .before .before .before .write-in2 .ensures) _ (⊎-elim (λ w. w .10 ∙ kept-out (writes (c .before .before .before .before .before .before .before .before .before .before .before .args .w)) (w .4 .ensures) (w .9 .left)) (λ w. w .1) (c .before .before .before .before .before .before .before .before .if1 .came)) refl
 
 pub write-spec : {M : Type 1} → statement M
 write-spec =
     tie.close
     (tie.spec
-    slice-aggregate-load
-    load-requires
-    room-requires
-    array-share-prefix-words
-    slice-aggregate-run
-    slice-relend-prefix-run
-    slice-aggregate-run-2
-    run-requires
-    give-requires
+    slice-aggregate-write-in
+    slice-aggregate-write-in-2
+    write-in-requires
     same-length
+    returns
+    slice-aggregate-write-in-3
+    slice-aggregate-write-in-4
+    write-in-requires-2
     same-length-2
-    returns)
+    returns-2)
