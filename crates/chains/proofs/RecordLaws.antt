@@ -196,13 +196,13 @@ module _ (ws : List ℕ) (start n : ℕ) (r : Relation) (i : InWords ws start n 
     abbrev es : List ℕ
     es = d .slotEntities
 
-    abbrev four : List ℕ
+    abbrev pub four : List ℕ
     four = wordOf 17 (d .current) ∷ wordOf 18 (d .related) ∷ wordOf 19 (d .entity) ∷ wordOf 20 (d .member) ∷ []
 
     four-open : ws ≡ (before-slots ++ four) ++ (wordOf 21 (length es) ∷ ((nameWords es ++ late n d) ++ i .after))
     four-open = slots-open ∙ sym (append-assoc before-slots four (wordOf 21 (length es) ∷ ((nameWords es ++ late n d) ++ i .after)))
 
-    four-length : length (before-slots ++ four) ≡ slotsPlace ws start + 4
+    pub four-length : length (before-slots ++ four) ≡ slotsPlace ws start + 4
     four-length = length-append before-slots four ∙ omega (arith, before-length)
 
     pub entities-there : entityCount ws start ≡ length es

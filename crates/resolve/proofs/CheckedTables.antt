@@ -13,11 +13,10 @@ use Rattle.pack.specs.Table as table
 use Rattle.pack.specs.Form.{among, allowedHere, items, Fine}
 use Rattle.pack.specs.Pack.{Derivation, Relation, Pack, WellFormed, yes, read, words, derivation, member, optionalDerivation, relationTail}
 use Rattle.pack.proofs.PackLaws.{words-read}
-use Rattle.chains.specs.Kinds.{find, declared, kindsOf}
+use Rattle.chains.specs.Kinds.{find, declared, kindsOf, ownAnswer}
 use Rattle.chains.specs.Filtered.{takenFrom, taken, single, direct}
 use Rattle.chains.specs.Filtered as filtered
 use Rattle.chains.specs.Operations.{relationWords, startOf, firstRelation, placeOf, namesAt}
-use Rattle.chains.specs.Kinds.{ownAnswer}
 use Rattle.chains.specs.Scan.{scanTable}
 use Rattle.chains.specs.AllKinds.{KindsMarked}
 use Rattle.chains.specs.Taking.{Known}

@@ -1,47 +1,44 @@
 -- The result: a pack whose trees are resolved, with its relations stamped, written out if there is room for it.
-use Prim.Native.Nat.{ℕ, _+_, _-_, _<_, _≤_}
+use Prim.Native.Nat.{ℕ, zero, suc, _+_, _-_, _<_, _≤_}
 use native.Mathlib.Omega.{arith}
 use mathlib.Core.Path.{_≡_, refl, ap, sym, _∙_, subst}
-use mathlib.Core.List.{List, [], _++_, map}
+use mathlib.Core.List.{List, [], _∷_, _++_, map}
 use mathlib.Core.Bool.{Bool, true, false, _&&_}
-use lib.ListN.{length, getD, drop}
+use lib.ListN.{length, getD, drop, replicate, length-append, length-replicate}
 use lib.Seq.{length-take-le}
 use lib.Dec.{leb}
 use borrow.Author.Tests.{le-leb, lt-leb}
 use borrow.Rule.Slice.PartMut.{midOf, putMid}
 use Rattle.pack.specs.declared.answer.Answer.{Answer}
 use Rattle.pack.specs.declared.answer.Answer.the-variants.{Given}
-use Rattle.pack.specs.Table.{pick}
+use Rattle.pack.specs.Table.{pick, wordOf}
 use Rattle.pack.specs.Form.{count, items, says, wordsBy, Fine}
 use Rattle.pack.specs.Pack.{Relation, Rule, Pack, WellFormed, yes, read, words, total, toRow, relations, rules, blocks, records, inner, rule}
 use Rattle.pack.specs.Operations.{noRoom}
 use Rattle.pack.proofs.PackLaws.{words-read, words-length}
 use Rattle.chains.specs.Kinds.{allKinds}
-use Rattle.chains.specs.Operations.{relationWords, firstRelation, tableFrom}
-use Rattle.chains.specs.AllKinds.{Named}
-use Rattle.chains.proofs.FillLaws.{table-at}
+use Rattle.chains.specs.Operations.{relationWords, firstRelation}
 use Rattle.chains.proofs.RelationScan.{RelationsFine}
 use Rattle.chains.proofs.PackIndex.{parts, zeros}
 use Rattle.chains.proofs.CheckedLaws.{same-pack}
 use Rattle.resolve.specs.Turning.{Outcome, done, refused, andThen, mapDone}
 use Rattle.resolve.specs.Resolving.{stamp, ruleWords, resolveRule, resolveRules, resolveRelation, resolveRelations, firstRule}
 use Rattle.chains.specs.Record.{Recorded}
-use Rattle.resolve.specs.Stamping.{atomsIn, listIn}
-use Rattle.resolve.specs.Writing.{written, Stamped}
+use Rattle.resolve.specs.Stamping.{atomsIn, listsFor, addedBy, Listed}
+use Rattle.resolve.specs.Writing.{placesFrom, Stamped, WriteAsked, WriteCame}
 use Rattle.resolve.specs.Operations.{givenOut, writtenOut}
-use Rattle.resolve.specs.Passes.{wordsOf, runBy, RelationKeeps, withRecords, turned, Tabled, stampAll, FinishAsked, FinishCame}
+use Rattle.resolve.specs.Passes.{wordsOf, runBy, RelationKeeps, withRecords, turned, placesIn, Tabled, stampAll, FinishAsked, FinishCame}
 use Rattle.resolve.proofs.KeepsForm.{Good}
 use Rattle.resolve.proofs.ResolvedFine.{RulesFine, rules-good}
 use Rattle.resolve.proofs.ResolvedPack.{least-words, rules-fine}
-use Rattle.resolve.proofs.CheckedTables.{its-records, declared-at}
 use Rattle.resolve.proofs.AtomLaws.{atoms-named}
-use Rattle.resolve.proofs.RunLaws.{run-words, run-pairs}
+use Rattle.resolve.proofs.RunLaws.{RunPairs, run-words, run-pairs}
 use Rattle.resolve.proofs.RuleLaws.{run-length, rule-long}
-use Rattle.resolve.proofs.RelationLaws.{relation-long}
-use Rattle.resolve.proofs.TurnedPack.{front, front-long, again-words, total-same, rules-run, relations-run, rules-keep, relations-keep}
+use Rattle.resolve.proofs.RelationLaws.{relation-long, places-many}
+use Rattle.resolve.proofs.TurnedPack.{front, front-long, pack-words, rulesOn, again-words, total-same, rules-run, relations-run, rules-keep, relations-keep}
 use Rattle.resolve.proofs.TreesLaws.{settled}
-use Rattle.resolve.proofs.StampedPack.{starts-of, still-fine, all-stamped}
-use Rattle.resolve.proofs.WrittenPack.{written-pack}
+use Rattle.resolve.proofs.StampedPack.{still-fine, all-stamped, same-places}
+use Rattle.resolve.proofs.WrittenPack.{longer}
 
 -- ---- a pack whose trees are resolved
 
@@ -105,18 +102,37 @@ module _ (p : Pack) (w : WellFormed p) (rels : List Relation) (rls : List Rule) 
   well : WellFormed q
   well = record { least = least-words q; most = (let m = w .most in omega (arith, total-same p rels rls many rules-many long rules-long)); parts = whole-fine }
 
-  module _ {ws starts marks taken : List ℕ} {steps : ℕ} (a : Tabled ws starts marks taken steps) (h : read ws ≡ yes p) {atoms work : List ℕ} (lists : List ℕ) (marked : atoms ≡ atomsIn zeros ws)
-      (listed : (m : ℕ) → m < n → getD lists m 0 ≡ listIn ws work starts marks atoms m) (stands : work ≡ words q) where
+  module _ {ws starts marks taken : List ℕ} {steps : ℕ} (a : Tabled ws starts marks taken steps) (h : read ws ≡ yes p) {atoms work order lists : List ℕ} {added : ℕ} (marked : atoms ≡ atomsIn zeros ws)
+      (stands : work ≡ words q) (places : order ≡ placesIn p) (listed : Listed ws work marks atoms order lists added) where
+    pairs : RunPairs (relationWords n) (λ at r. resolveRelation p at r) (RelationKeeps p) (relation-long p w) (firstRelation p) (p .relations) rels
+    pairs = run-pairs (relationWords n) (λ at r. resolveRelation p at r) (RelationKeeps p) (relation-long p w) (firstRelation p) (p .relations) rels relations-ran
+
     stamps : Stamped ws lists rels (map (stamp p) rels)
     stamps =
-        all-stamped p w ws starts marks atoms lists work h (parts p w .most) (settled a) (λ m k. ap (λ (t : List ℕ). getD t m 0) marked ∙ atoms-named m k ws p h) listed (length (p .rules)) (parts p w .rule-count)
-        (wordsOf (ruleWords n) rls ++ wordsBy (blocks n) (p .blocks)) (firstRelation p) (p .relations) rels (front p) (front-long p) (omega arith) (relations-keep p w .all)
-        (starts-of n (λ v. getD starts v 0) [] (p .relations) (firstRelation p) (parts p w .relations-fine) (λ m r e f. declared-at ws starts marks taken (a .declares) steps p h (a .scanned) (a .marked) (a .knows) m r f))
-        (run-pairs (relationWords n) (λ at r. resolveRelation p at r) (RelationKeeps p) (relation-long p w) (firstRelation p) (p .relations) rels relations-ran)
-        (stands ∙ again-words p rels rls many rules-many long rules-long)
+        subst (λ (l : List ℕ). Stamped ws l rels (map (stamp p) rels)) (ap (listsFor ws work marks atoms) (sym places) ∙ sym (listed .each))
+        (all-stamped p w ws marks atoms work h (parts p w .most) (settled a) (λ m k. ap (λ (t : List ℕ). getD t m 0) marked ∙ atoms-named m k ws p h) (length (p .rules)) (parts p w .rule-count)
+        (wordsOf (ruleWords n) rls ++ wordsBy (blocks n) (p .blocks)) (firstRelation p) (p .relations) rels (front p) (front-long p) (relations-keep p w .all) pairs (stands ∙ again-words p rels rls many rules-many long rules-long))
 
-    pub its-words : written ws lists work ≡ words (stampAll p q)
-    its-words = ap (written ws lists) stands ∙ written-pack ws lists q well (map (stamp p) rels) stamps
+    placed : order ≡ placesIn q
+    placed = places ∙ same-places p w (firstRelation p) (p .relations) rels (relations-keep p w .all) pairs
+
+    its-length : length work + added ≡ length (words (stampAll p q))
+    its-length =
+        let q′ : Pack = stampAll p q in
+        let R : List ℕ = wordsOf (relationWords n) rels in
+        let R′ : List ℕ = wordsOf (relationWords n) (map (stamp p) rels) in
+        let after : List ℕ = wordOf 22 (length rls) ∷ rulesOn q in
+        let more : length R′ ≡ length R + added =
+        longer ws work n (parts p w .most) after (front q) [] fine-relations stamps (stands ∙ pack-words q)
+        ∙ ap (λ (x : ℕ). length R + addedBy ws work (placesFrom n x rels) lists) (front-long q) ∙ ap (λ (x : List ℕ). length R + addedBy ws work x lists) (sym placed) ∙ ap (λ (x : ℕ). length R + x) (sym (listed .adds)) in
+        omega (arith, ap length (stands ∙ pack-words q), length-append (front q) (R ++ after), length-append R after, ap length (pack-words q′), length-append (front q′) (R′ ++ after), length-append R′ after, front-long q, front-long q′)
+
+    its-asked : {room : ℕ} → room ≡ length work + added → room ≤ 8192 → WriteAsked ws order lists work room
+    its-asked e f = record { whole = q; fine = well; stands = stands; places = placed; stamped = map (stamp p) rels; stamps = stamps; size = e ∙ its-length; few = f }
+
+    its-words : {room : ℕ} → room ≡ length work + added → room ≤ 8192 → {left : List ℕ} → WriteCame ws order lists work room left → left ≡ words (stampAll p q)
+    unfolding its-asked
+    its-words e f c = c .each (its-asked e f)
 
 -- ---- for the code
 
@@ -126,7 +142,7 @@ front-length lent count h = let whole : count - 0 ≡ count = omega arith in rw 
 done-same : {A : Type 0} {a b : A} → _≡_ {A = Outcome A} (done a) (done b) → a ≡ b
 done-same e = cc
 
-module _ {ws starts marks work order : List ℕ} {steps : ℕ} (a : FinishAsked ws starts marks work order steps) where
+module _ {ws marks work order : List ℕ} {steps : ℕ} (a : FinishAsked ws marks work order steps) where
   abbrev p : Pack
   p = a .tabled .checked .pack
 
@@ -142,24 +158,41 @@ module _ {ws starts marks work order : List ℕ} {steps : ℕ} (a : FinishAsked 
   pub whole-short : length work ≤ 8192
   whole-short = let m = well p w (T .rels) (T .rls) (T .rules-are) (T .relations-are) .most in omega (arith, ap length (a .stands), words-length (a .whole), ap total (T .same))
 
-  pub finish-recorded : Recorded starts
-  finish-recorded = its-records ws starts marks (a .taken) (a .tabled .declares) steps p h (a .tabled .scanned) (a .tabled .marked) (a .tabled .knows)
+  places-inside : (n at : ℕ) (l : List Relation) (i : ℕ) → getD (placesFrom n at l) i 0 ≤ at + length (wordsOf (relationWords n) l)
+  unfolding placesFrom
+  places-inside n at [] i = omega arith
+  places-inside n at (r ∷ l) zero = omega arith
+  places-inside n at (r ∷ l) (suc i) = omega (arith, places-inside n (at + length (relationWords n r)) l i, length-append (relationWords n r) (wordsOf (relationWords n) l))
 
-  pub finish-names : {names : ℕ} → Named ws names → names ≤ 4096
-  finish-names count = omega (arith, count .names p h, parts p w .most)
+  finish-recorded : Recorded order
+  unfolding Recorded
+  finish-recorded i =
+      let R : List ℕ = wordsOf (relationWords (p .names)) (p .relations) in
+      let m = w .most in
+      let l = ap length (pack-words p) ∙ length-append (front p) (R ++ (wordOf 22 (length (p .rules)) ∷ rulesOn p)) in
+      let k = length-append R (wordOf 22 (length (p .rules)) ∷ rulesOn p) in
+      let e : getD order i 0 ≡ getD (placesIn p) i 0 = ap (λ (o : List ℕ). getD o i 0) (a .places) in
+      omega (arith, places-inside (p .names) (firstRelation p) (p .relations) i, words-length p, front-long p)
+
+  pub finish-few : length order ≤ 512
+  finish-few = omega (arith, ap length (a .places), places-many (p .names) (firstRelation p) (p .relations), parts p w .few-relations)
+
+  pub finish-lists : Recorded order × (length {A = ℕ} (midOf 0 (length order - 0) (replicate 512 0)) ≡ length order) × (length order ≤ 512)
+  finish-lists = (finish-recorded, front-length (replicate 512 0) (length order) (omega (arith, finish-few, length-replicate {A = ℕ} 512 0)), finish-few)
 
   -- the words written
-  module _ {names : ℕ} (count : Named ws names) {atoms₀ atoms : List ℕ} (lists₀ lists : List ℕ) (blank : atoms₀ ≡ zeros) (marked : atoms ≡ atomsIn atoms₀ ws) (listed : lists ≡ tableFrom (listIn ws work starts marks atoms) 0 names ++ drop names lists₀) where
-    pub finish-words : written ws lists work ≡ words (stampAll p (a .whole))
-    finish-words =
-        its-words p w (T .rels) (T .rls) (T .rules-are) (T .relations-are) (a .tabled) h lists (marked ∙ ap (λ (t : List ℕ). atomsIn t ws) blank)
-        (λ m k. ap (λ (t : List ℕ). getD t m 0) listed ∙ table-at (listIn ws work starts marks atoms) 0 names m (drop names lists₀) (omega (arith, count .names p h)) ∙ ap (listIn ws work starts marks atoms) (omega arith))
-        (a .stands ∙ ap words (sym (T .same)))
-        ∙ ap (λ (q : Pack). words (stampAll p q)) (T .same)
+  module _ {atoms₀ atoms lists : List ℕ} {added : ℕ} (blank : atoms₀ ≡ zeros) (marked : atoms ≡ atomsIn atoms₀ ws) (listed : Listed ws work marks atoms order lists added) where
+    marked-all : atoms ≡ atomsIn zeros ws
+    marked-all = marked ∙ ap (λ (t : List ℕ). atomsIn t ws) blank
 
-    module _ {len : ℕ} (size : len ≡ length (written ws lists work)) (lent : List ℕ) where
+    stands-so : work ≡ words (withRecords p (T .rels) (T .rls))
+    stands-so = a .stands ∙ ap words (sym (T .same))
+
+    module _ {len : ℕ} (size : len ≡ length work + added) (lent : List ℕ) where
       total-is : total (stampAll p (a .whole)) ≡ len
-      total-is = sym (words-length (stampAll p (a .whole))) ∙ sym (ap length finish-words) ∙ sym size
+      total-is =
+          sym (words-length (stampAll p (a .whole))) ∙ sym (ap (λ (q : Pack). length (words (stampAll p q))) (T .same))
+          ∙ sym (its-length p w (T .rels) (T .rls) (T .rules-are) (T .relations-are) (a .tabled) h marked-all stands-so (a .places) listed) ∙ sym size
 
       -- of whichever pack the words are
       of-pack : {answer : Answer} {left : List ℕ} → answer ≡ givenOut (allKinds (p .relations) .steps) (length lent) (done (stampAll p (a .whole))) → left ≡ writtenOut lent (done (stampAll p (a .whole))) → FinishCame ws lent answer left
@@ -191,17 +224,22 @@ module _ {ws starts marks work order : List ℕ} {steps : ℕ} (a : FinishAsked 
       too-short k s = no-room (either-no (leb len 8192) (lt-leb len (length lent) k)) s
 
       module _ (few : len ≤ 8192) (room : len ≤ length lent) where
-        pub finish-asked : (length (midOf 0 (len - 0) lent) ≡ length (written ws lists work)) × (length (midOf 0 (len - 0) lent) ≤ 8192)
-        finish-asked = (front-length lent len room ∙ size, omega (arith, front-length lent len room))
+        lent-long : length (midOf 0 (len - 0) lent) ≡ len
+        lent-long = front-length lent len room
+
+        pub finish-asked : WriteAsked ws order lists work (length (midOf 0 (len - 0) lent))
+        finish-asked = its-asked p w (T .rels) (T .rls) (T .rules-are) (T .relations-are) (a .tabled) h marked-all stands-so (a .places) listed (lent-long ∙ size) (omega (arith, lent-long))
 
         fits : (leb len 8192 && leb len (length lent)) ≡ true
         fits = rw (le-leb len 8192 few, le-leb len (length lent) room) refl
 
-        pub finish-done : {out : List ℕ} → out ≡ written ws lists work → FinishCame ws lent (Given len steps) (putMid 0 (len - 0) lent out)
-        finish-done {out} e =
+        pub finish-done : {out : List ℕ} → WriteCame ws order lists work (length (midOf 0 (len - 0) lent)) out → FinishCame ws lent (Given len steps) (putMid 0 (len - 0) lent out)
+        finish-done {out} c =
             let whole : len - 0 ≡ len = omega arith in
             let s : steps ≡ allKinds (p .relations) .steps = a .tabled .marked .counts p h in
+            let e : out ≡ words (stampAll p (a .whole)) =
+            its-words p w (T .rels) (T .rls) (T .rules-are) (T .relations-are) (a .tabled) h marked-all stands-so (a .places) listed (lent-long ∙ size) (omega (arith, lent-long)) c ∙ ap (λ (q : Pack). words (stampAll p q)) (T .same) in
             of-pack
             (ap (Given len) s ∙ sym (ap (λ (t : ℕ). pick (leb t 8192 && leb t (length lent)) (Given t (allKinds (p .relations) .steps)) noRoom) total-is ∙ ap (λ (b : Bool). pick b (Given len (allKinds (p .relations) .steps)) noRoom) fits))
-            (ap (λ (t : ℕ). putMid 0 t lent out) whole ∙ ap (λ (x : List ℕ). x ++ drop len lent) (e ∙ finish-words)
+            (ap (λ (t : ℕ). putMid 0 t lent out) whole ∙ ap (λ (x : List ℕ). x ++ drop len lent) e
             ∙ sym (ap (λ (t : ℕ). pick (leb t 8192 && leb t (length lent)) (words (stampAll p (a .whole)) ++ drop t lent) lent) total-is ∙ ap (λ (b : Bool). pick b (words (stampAll p (a .whole)) ++ drop len lent) lent) fits))

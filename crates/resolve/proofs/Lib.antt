@@ -41,11 +41,9 @@ pub mod AtomLaws
 pub mod RoleLaws
 pub mod ListForLaws
 pub mod WriteLaws
-pub mod WriteWorked
 pub mod StampLaws
 pub mod ThereLaws
 pub mod QuietForms
-pub mod WriteQuiet
 pub mod WrittenPack
 pub mod RelationLaws
 pub mod WordsBefore

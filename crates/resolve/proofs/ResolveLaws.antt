@@ -1,12 +1,12 @@
 -- What Resolve answers and leaves, from its steps.
-use Prim.Native.Nat.{ℕ, suc, _+_, _-_, _<_, _≤_}
+use Prim.Native.Nat.{ℕ, _+_, _-_, _<_, _≤_}
 use native.Mathlib.Omega.{arith}
 use mathlib.Core.Path.{_≡_, refl, ap, sym, _∙_, subst}
-use mathlib.Core.List.{List, [], _∷_, _++_, map, append-nil, append-assoc}
+use mathlib.Core.List.{List, [], _∷_, map}
 use mathlib.Core.Bool.{Bool, true, false}
 use mathlib.Core.Option.{Option, none, some}
-use lib.ListN.{length, getD, drop, length-append, replicate, length-replicate, drop-of-length-le}
-use lib.Seq.{getD-at, length-take-le}
+use lib.ListN.{length, getD, replicate, length-replicate}
+use lib.Seq.{length-take-le}
 use borrow.Rule.Slice.PartMut.{midOf}
 use Rattle.pack.specs.declared.answer.Answer.{Answer}
 use Rattle.pack.specs.declared.answer.Answer.the-variants.{Given, Refused}
@@ -18,10 +18,9 @@ use Rattle.pack.specs.Operations.{answer, checkAnswer}
 use Rattle.pack.proofs.OperationLaws.{turned-away}
 use Rattle.pack.proofs.PackLaws.{words-read}
 use Rattle.chains.specs.Kinds.{find, kindsOf, allKinds}
-use Rattle.chains.specs.Operations.{firstRelation, startOf, tableFrom, Answered}
+use Rattle.chains.specs.Operations.{firstRelation, startOf, Answered}
 use Rattle.chains.specs.AllKinds.{IsPack, Counted}
-use Rattle.chains.proofs.CheckedLaws.{same-pack, few-counted}
-use Rattle.chains.proofs.FillLaws.{Filling}
+use Rattle.chains.proofs.CheckedLaws.{same-pack, short-checked, few-counted}
 use Rattle.chains.proofs.PackIndex.{parts, find-name, find-kept}
 use Rattle.resolve.specs.Tables.{Tables, derivedAt, tables}
 use Rattle.resolve.specs.Turning.{Outcome, done, refused, andThen, mapDone}
@@ -223,26 +222,10 @@ unfolding resolveAnswer resolveBuffer
 resolve-refused ws lent e o =
     let t = turned-away ws lent e o (λ p. givenOut (allKinds (p .relations) .steps) (length lent) (resolved p)) (λ p. writtenOut lent (resolved p)) in record { answers = t .0; leaves = t .1 }
 
--- ---- a copy of words
-
-copied-from : (pre ws : List ℕ) (at : ℕ) → length pre ≡ at → tableFrom (λ j. getD (pre ++ ws) j 0) at (length ws) ≡ ws
-copied-from pre [] at e = refl
-copied-from pre (w ∷ ws) at e =
-    let one : List ℕ = w ∷ [] in
-    let rest = copied-from (pre ++ one) ws (suc at) (length-append pre one ∙ omega arith) in
-    ap (λ (x : ℕ). x ∷ tableFrom (λ j. getD (pre ++ (w ∷ ws)) j 0) (suc at) (length ws)) (getD-at pre w ws 0 at e)
-    ∙ ap (λ (x : List ℕ). w ∷ x) (ap (λ (l : List ℕ). tableFrom (λ j. getD l j 0) (suc at) (length ws)) (sym (append-assoc pre one ws)) ∙ rest)
-
-pub copied : (ws work₀ : List ℕ) {work : List ℕ} {i : ℕ} → length work₀ ≡ length ws → Filling (λ j. getD ws j 0) work₀ work i → length ws ≤ i → work ≡ ws
-copied ws work₀ {work} {i} e f h =
-    let all : i ≡ length ws = let k = f .within in omega arith in
-    let none-left : drop i work₀ ≡ [] = drop-of-length-le work₀ {i = i} (omega arith) in
-    f .holds ∙ ap (λ (x : List ℕ). tableFrom (λ j. getD ws j 0) 0 i ++ x) none-left ∙ append-nil (tableFrom (λ j. getD ws j 0) 0 i) ∙ ap (tableFrom (λ j. getD ws j 0) 0) all ∙ copied-from [] ws 0 refl
-
 -- ---- for the code
 
-pub finish-of : {ws starts marks taken : List ℕ} {steps : ℕ} (t : Tabled ws starts marks taken steps) {answer : Answer} {left order : List ℕ} {n x : ℕ} → PackCame ws answer left order → answer ≡ Given n x → FinishAsked ws starts marks left order steps
-finish-of {taken = taken} t {n = n} {x = x} c e = let d = whole-done (t .checked) [] c e in record { taken = taken; tabled = t; whole = d .whole; resolves = d .resolves; stands = d .stands; places = c .places (t .checked .pack) (t .checked .reads) n x e }
+pub finish-of : {ws starts marks taken : List ℕ} {steps : ℕ} (t : Tabled ws starts marks taken steps) {answer : Answer} {left order : List ℕ} {n x : ℕ} → PackCame ws answer left order → answer ≡ Given n x → FinishAsked ws marks left order steps
+finish-of {starts = starts} {taken = taken} t {n = n} {x = x} c e = let d = whole-done (t .checked) [] c e in record { records = starts; taken = taken; tabled = t; whole = d .whole; resolves = d .resolves; stands = d .stands; places = c .places (t .checked .pack) (t .checked .reads) n x e }
 
 -- a word for each relation
 pub asked-of : {ws starts marks taken work : List ℕ} {steps : ℕ} → Tabled ws starts marks taken steps → work ≡ ws → {count : ℕ} → Counted ws count → TreesAsked ws starts marks taken work (midOf 0 (count - 0) (replicate 512 0))

@@ -1,5 +1,5 @@
 -- The list that the code finds for a relation is the one that stamping puts there.
-use Prim.Native.Nat.{ℕ, zero, suc, _+_, _-_, _<_, _≤_}
+use Prim.Native.Nat.{ℕ, zero, suc, _+_, _-_, _%_, _<_, _≤_}
 use native.Mathlib.Omega.{arith}
 use mathlib.Core.Path.{_≡_, refl, ap, _∙_}
 use mathlib.Core.List.{List, [], _∷_, _++_}
@@ -8,18 +8,21 @@ use mathlib.Core.Option.{Option, none, some}
 use lib.ListN.{length, getD}
 use lib.Dec.{eqb}
 use borrow.Author.Tests.{ne-eqb}
-use Rattle.pack.specs.Table.{pick, judgment}
-use Rattle.pack.specs.Pack.{Derivation, Relation, Pack, derivation}
+use Rattle.pack.specs.Table.{pick, wordOf, judgment}
+use Rattle.pack.specs.Form.{wordsBy, Fine}
+use Rattle.pack.specs.Tree.{tree, root}
+use Rattle.pack.specs.Pack.{Derivation, Relation, Pack, newName, relation, derivation, member, relationTail}
 use Rattle.chains.specs.Kinds.{kindsOf}
 use Rattle.chains.specs.Filtered.{kindAt}
 use Rattle.chains.specs.Operations.{namesAt}
+use Rattle.chains.proofs.RelationScan.{kept}
 use Rattle.chains.proofs.ListAt.{InWords}
 use Rattle.resolve.specs.Turning.{treeWords}
 use Rattle.resolve.specs.Resolving.{holds, roleJudgment, atomNames, empty, unlike, stampedWith, stampBy, stampDerived, stamp}
-use Rattle.chains.specs.Record.{predicateAt}
-use Rattle.resolve.specs.Stamping.{StampedBy, as-it-is, with-kinds, roleIn, unstamped, passedIn, unlikeIn, listFor}
+use Rattle.chains.specs.Record.{slotsPlace, entityCount, predicateAt}
+use Rattle.resolve.specs.Stamping.{StampedBy, as-it-is, with-kinds, roleIn, unstamped, passedIn, unlikeIn, nameAt, listFor}
 use Rattle.chains.proofs.RecordLaws as record-laws
-use Rattle.chains.proofs.RecordLaws.{counted, no-flag, a-flag, current-there, related-there, entities-there, its-fine, before-predicate, predicate-there}
+use Rattle.chains.proofs.RecordLaws.{value-there, counted, no-flag, a-flag, current-there, related-there, entities-there, its-fine, before-predicate, predicate-there}
 use Rattle.resolve.proofs.TreeWords.{tree-words}
 use Rattle.resolve.proofs.RoleLaws.{Ends, role-read}
 
@@ -76,8 +79,12 @@ module _ (ws : List ℕ) (list : ℕ) (r : Relation) (d : Derivation) (e : r .de
 
   -- by whether list 9 and list 21 are empty, and whether the relation is named or its predicate holds a judgment of roles
   decided : (none-9 none-21 spoken : Bool) (kinds : Option (List ℕ)) → namesAt ws list ≡ kinds → (none-21 ≡ true → d .slotEntities ≡ [])
-      → StampedBy ws (pick none-21 (pick (none-9 && spoken) 0 (pick (differ kinds) list 0)) 0) r (pick ((none-9 && none-21) && spoken) r (stampedBy none-21 kinds))
-  decided true true true kinds q z = as-it-is refl
+      → StampedBy ws (pick none-21 (pick (differ kinds) (pick (none-9 && spoken) 0 list) 0) 0) r (pick ((none-9 && none-21) && spoken) r (stampedBy none-21 kinds))
+  decided true true true kinds q z = go (differ kinds)
+    where
+      go : (b : Bool) → StampedBy ws (pick b 0 0) r r
+      go true = as-it-is refl
+      go false = as-it-is refl
   decided true true false kinds q z = kinds-decide kinds q (z refl)
   decided false true spoken kinds q z = kinds-decide kinds q (z refl)
   decided true false spoken none q z = as-it-is refl
@@ -86,7 +93,7 @@ module _ (ws : List ℕ) (list : ℕ) (r : Relation) (d : Derivation) (e : r .de
   decided false false spoken (some ks) q z = as-it-is refl
 
 -- a relation of the words in which trees may have been resolved comes out as stamping says, from the list that the code finds for it
-module _ (ws work marks atoms : List ℕ) (p : Pack) (start : ℕ) (r : Relation) (i : InWords work start (p .names) r) (most : p .names ≤ 4096) (later : 0 < start) (ends : Ends (i .after))
+module _ (ws work marks atoms : List ℕ) (p : Pack) (start : ℕ) (r : Relation) (i : InWords work start (p .names) r) (most : p .names ≤ 4096) (ends : Ends (i .after))
     (kinds : namesAt ws (getD marks (r .name) 0 - 2) ≡ kindsOf (p .relations) (r .name)) (named : getD atoms (r .name) 0 ≡ pick (atomNames p (r .name)) 1 0) where
   abbrev list : ℕ
   list = getD marks (r .name) 0 - 2
@@ -94,24 +101,30 @@ module _ (ws work marks atoms : List ℕ) (p : Pack) (start : ℕ) (r : Relation
   abbrev K : Option (List ℕ)
   K = kindsOf (p .relations) (r .name)
 
-  not-derived : r .derivation ≡ none → listFor ws work marks atoms (r .name) start ≡ 0
+  named-there : nameAt work start ≡ r .name
+  unfolding nameAt relation newName wordsBy
+  named-there =
+      let b = kept (p .names) (i .used) r (i .fine) .below in
+      ap (λ (v : ℕ). v % 4096) (value-there work (i .before) _ 6 (r .name) start (i .same-words) (i .long) (omega arith)) ∙ omega arith
+
+  not-derived : r .derivation ≡ none → listFor ws work marks atoms start ≡ 0
   unfolding listFor unstamped
-  not-derived e = rw (ne-eqb start 0 (λ z. omega arith), no-flag work start (p .names) r i most e) refl
+  not-derived e = rw (no-flag work start (p .names) r i most e) refl
 
   list-read : (d : Derivation) → r .derivation ≡ some d
-      → listFor ws work marks atoms (r .name) start
-      ≡ pick (empty (d .slotEntities)) (pick (empty (r .slotKinds) && (atomNames p (r .name) || holds roleJudgment (d .predicate))) 0 (pick (unlike (kindAt K (d .current)) (kindAt K (d .related))) list 0)) 0
+      → listFor ws work marks atoms start
+      ≡ pick (empty (d .slotEntities)) (pick (unlike (kindAt K (d .current)) (kindAt K (d .related))) (pick (empty (r .slotKinds) && (atomNames p (r .name) || holds roleJudgment (d .predicate))) 0 list) 0) 0
   unfolding listFor unstamped passedIn unlikeIn
   list-read d e =
-      rw (ne-eqb start 0 (λ z. omega arith), a-flag work start (p .names) r i most d e, entities-there work start (p .names) r i most d e, counted work start (p .names) r i most)
+      rw (named-there, a-flag work start (p .names) r i most d e, entities-there work start (p .names) r i most d e, counted work start (p .names) r i most)
       (rw (current-there work start (p .names) r i most d e, related-there work start (p .names) r i most d e, kinds, named, role-there work start (p .names) r i most d e ends)
       (rw (one-if (atomNames p (r .name)), no-names (d .slotEntities), no-names (r .slotKinds)) refl))
 
-  pub stamped-by : StampedBy ws (listFor ws work marks atoms (r .name) start) r (stamp p r)
+  pub stamped-by : StampedBy ws (listFor ws work marks atoms start) r (stamp p r)
   unfolding stamp
   stamped-by = go (r .derivation) refl
     where
-      go : (o : Option Derivation) → r .derivation ≡ o → StampedBy ws (listFor ws work marks atoms (r .name) start) r (stampDerived p r o)
+      go : (o : Option Derivation) → r .derivation ≡ o → StampedBy ws (listFor ws work marks atoms start) r (stampDerived p r o)
       go none e = as-it-is (not-derived e)
       go (some d) e =
           let spoken : Bool = atomNames p (r .name) || holds roleJudgment (d .predicate) in

@@ -33,10 +33,10 @@ rules-words n [] = refl
 rules-words n (r ∷ rs) = ap (λ (l : List ℕ). ruleWords n r ++ l) (rules-words n rs)
 
 -- those before the relations, without the total, and those after them
-abbrev opened : Pack → List ℕ
+abbrev pub opened : Pack → List ℕ
 opened p = wordOf 2 (p .names) ∷ (wordsBy (defaulted (p .names)) (p .defaulted) ++ (wordOf 5 (length (p .relations)) ∷ []))
 
-abbrev rulesOn : Pack → List ℕ
+abbrev pub rulesOn : Pack → List ℕ
 rulesOn p = wordsOf (ruleWords (p .names)) (p .rules) ++ wordsBy (blocks (p .names)) (p .blocks)
 
 inner-words : (p : Pack) → wordsBy (inner (p .edition)) (toRow p) ≡ opened p ++ (wordsOf (relationWords (p .names)) (p .relations) ++ (wordOf 22 (length (p .rules)) ∷ rulesOn p))

@@ -1,236 +1,225 @@
--- Laws of writing: what one word does, and what the loops that count and write hold.
-use Prim.Native.Nat.{ℕ, zero, suc, _+_, _-_, _*_, _%_, _<_, _≤_, min}
+-- Laws of writing: what is put, and what is left to write.
+use Prim.Native.Nat.{ℕ, zero, suc, _+_, _-_, _≤_}
 use native.Mathlib.Omega.{arith}
-use native.Mathlib.Numerals.{add-one}
 use mathlib.Core.Path.{_≡_, refl, ap, sym, _∙_}
 use mathlib.Core.List.{List, [], _∷_, _++_, map, append-assoc, append-nil}
-use mathlib.Core.Bool.{Bool, true, false, _||_}
-use mathlib.Core.Option.{none, some}
-use mathlib.Core.Logic.{_⊎_, inl, inr}
-use lib.ListN.{length, getD, take, drop, set, length-append, length-map, length-take, length-drop, length-set, drop-of-length-le}
-use lib.Seq.{drop-cons, take-suc-set, take-all, length-take-le}
-use lib.Dec.{eqb, ltb}
-use borrow.Author.Tests.{ne-eqb, ltb-true, ltb-false}
-use Rattle.pack.specs.Table.{pick, kindOf, valueOf, wordOf}
-use Rattle.chains.specs.Operations.{namesAt}
-use Rattle.chains.specs.Record.{valueAt}
-use Rattle.resolve.specs.Writing.{listAfter, namesOr, namesPut, wordWritten, writtenFrom, written, Lists, Puts}
+use lib.ListN.{length, getD, take, drop, set, length-append, length-map, length-drop, length-set, drop-of-length-le}
+use lib.Seq.{drop-cons, take-at, take-suc-set, drop-append-le, length-take-le}
+use borrow.Rule.Slice.PartMut.{midOf, putMid, postOf, same-len-mid, mid-len}
+use borrow.Author.Tests.{ne-eqb}
+use Rattle.pack.specs.Table.{valueOf, wordOf}
+use Rattle.chains.specs.Operations.{namesAt, tableFrom}
+use Rattle.chains.proofs.FillLaws.{Filling, done}
+use Rattle.chains.specs.Record.{valueAt, kindCount}
+use Rattle.resolve.specs.Stamping.{namesOr, Lists}
+use Rattle.resolve.specs.Writing.{fromTo, listWords, putFor, Put, Room}
+use Rattle.resolve.proofs.ListForLaws.{names-there}
 
--- ---- the list in force after a word
+-- ---- the names of a list
 
-module _ (lists : List ℕ) (list w : ℕ) where
-  pub list-of-relation : kindOf w ≡ 6 → getD lists (w % 4096) 0 ≡ listAfter lists list w
-  unfolding listAfter
-  list-of-relation e = rw e refl
+-- the word for each
+abbrev pub nameFrom : List ℕ → ℕ → ℕ → ℕ
+nameFrom ws list j = wordOf 10 (valueAt ws (list + 1 + j))
 
-  pub list-of-rules : kindOf w ≡ 22 → 0 ≡ listAfter lists list w
-  unfolding listAfter
-  list-of-rules e = rw e refl
+take-again : (n : ℕ) (l : List ℕ) → take (length (take n l)) l ≡ take n l
+take-again zero l = refl
+take-again (suc n) [] = refl
+take-again (suc n) (x ∷ l) = ap (λ (m : List ℕ). x ∷ m) (take-again n l)
 
-  pub list-before : (kindOf w ≡ 6 → ⊥) → (kindOf w ≡ 22 → ⊥) → list ≡ listAfter lists list w
-  unfolding listAfter
-  list-before a b = rw (ne-eqb (kindOf w) 6 a, ne-eqb (kindOf w) 22 b) refl
-
--- ---- the names that are put after a word
-
--- so many of the names that stand from a place on
-abbrev pub standing : List ℕ → ℕ → ℕ → List ℕ
-standing ws next left = map valueOf (take left (drop next ws))
+from-table : (ws : List ℕ) (list j count : ℕ) → count ≤ length ws - (list + 1 + j) → tableFrom (nameFrom ws list) j count ≡ map (wordOf 10) (map valueOf (take count (drop (list + 1 + j) ws)))
+unfolding valueAt
+from-table ws list j zero h = refl
+from-table ws list j (suc count) h =
+    let one : list + 1 + suc j ≡ suc (list + 1 + j) = omega arith in
+    rw (drop-cons ws (list + 1 + j) 0 (omega arith)) (ap (λ (l : List ℕ). wordOf 10 (valueOf (getD ws (list + 1 + j) 0)) ∷ l) (from-table ws list (suc j) count (omega arith) ∙ rw one refl))
 
 module _ (ws : List ℕ) (list : ℕ) where
-  names-there : (list ≡ 0 → ⊥) → namesOr (namesAt ws list) ≡ standing ws (suc list) (valueOf (getD ws list 0))
+  no-names : (list ≡ 0) → namesOr (namesAt ws list) ≡ []
   unfolding namesAt
-  names-there z = rw (ne-eqb list 0 z) refl
+  no-names e = rw e refl
 
-  names-long : (list ≡ 0 → ⊥) → length (namesOr (namesAt ws list)) ≡ min (valueOf (getD ws list 0)) (length ws - suc list)
-  names-long z =
-      ap length (names-there z) ∙ length-map (take (valueOf (getD ws list 0)) (drop (suc list) ws)) valueOf ∙ simp (length-take, length-drop)
-
-  pub no-list : list ≡ 0 → Lists ws list 0
-  unfolding namesAt
-  no-list e = record { counts = rw e refl; few = omega arith; within = omega arith }
-
-  pub past-list : (list ≡ 0 → ⊥) → length ws ≤ list → Lists ws list 0
-  past-list z h = record { counts = omega (arith, names-long z); few = omega arith; within = omega arith }
-
-  pub cut-list : (list ≡ 0 → ⊥) → {after : ℕ} → after ≡ length ws - list - 1 → after < valueOf (getD ws list 0) → Lists ws list after
-  cut-list z e h = record { counts = omega (arith, names-long z); few = omega arith; within = omega arith }
-
-  pub whole-list : (list ≡ 0 → ⊥) → valueOf (getD ws list 0) ≤ length ws - list - 1 → Lists ws list (valueOf (getD ws list 0))
-  whole-list z h = record { counts = omega (arith, names-long z); few = omega arith; within = omega arith }
-
-  pub puts-list : {w : ℕ} → (w ≡ 150994944) ⊎ (w ≡ 352321536) → {count : ℕ} → Lists ws list count → Puts ws list w count
-  unfolding namesPut
-  puts-list (inl e) l = rw e (record { counts = l .counts; fits = omega (arith, l .few); few = l .few; within = l .within })
-  puts-list (inr e) l = rw e (record { counts = l .counts; fits = omega (arith, l .few); few = l .few; within = l .within })
-
-  pub puts-none : (w : ℕ) → w < 4294967296 → (w ≡ 150994944 → ⊥) → (w ≡ 352321536 → ⊥) → Puts ws list w 0
-  unfolding namesPut
-  puts-none w h a b = record { counts = rw (ne-eqb w 150994944 a, ne-eqb w 352321536 b) refl; fits = omega arith; few = omega arith; within = omega arith }
-
-  take-again : (n : ℕ) (l : List ℕ) → take (length (take n l)) l ≡ take n l
-  take-again zero l = refl
-  take-again (suc n) [] = refl
-  take-again (suc n) (x ∷ l) = ap (λ (m : List ℕ). x ∷ m) (take-again n l)
-
-  -- the names put are those that stand after the count word
-  put-standing : (w count : ℕ) → count ≡ length (namesPut ws list w) → namesPut ws list w ≡ standing ws (suc list) count
-  unfolding namesPut namesAt
-  put-standing w count e = go (eqb w 150994944 || eqb w 352321536) (eqb list 0) count e
+  its-names : {count : ℕ} → Lists ws list count → tableFrom (nameFrom ws list) 0 count ≡ map (wordOf 10) (namesOr (namesAt ws list))
+  its-names {count} l = go list refl
     where
-      counted : ℕ
-      counted = valueOf (getD ws list 0)
+      go : (x : ℕ) → list ≡ x → tableFrom (nameFrom ws list) 0 count ≡ map (wordOf 10) (namesOr (namesAt ws list))
+      go zero e = let n = no-names e in let z : count ≡ 0 = l .counts ∙ ap length n in rw (z, n) refl
+      go (suc x) e =
+          let there = names-there ws list (λ z. omega arith) in
+          let c : ℕ = valueOf (getD ws list 0) in
+          let k : count ≡ length (take c (drop (suc list) ws)) = l .counts ∙ ap length there ∙ length-map (take c (drop (suc list) ws)) valueOf in
+          let at : list + 1 + 0 ≡ suc list = omega arith in
+          from-table ws list 0 count (let b = l .within in omega arith) ∙ ap (λ (y : ℕ). map (wordOf 10) (map valueOf (take count (drop y ws)))) at
+          ∙ ap (λ (y : ℕ). map (wordOf 10) (map valueOf (take y (drop (suc list) ws)))) k ∙ ap (λ (v : List ℕ). map (wordOf 10) (map valueOf v)) (take-again c (drop (suc list) ws)) ∙ ap (map (wordOf 10)) (sym there)
 
-      all : List ℕ
-      all = standing ws (suc list) counted
+  pub names-put : {out₀ out : List ℕ} {j : ℕ} → Lists ws list (length out₀) → Filling (nameFrom ws list) out₀ out j → length out₀ ≤ j → out ≡ map (wordOf 10) (namesOr (namesAt ws list))
+  names-put {out₀} l f h = done (nameFrom ws list) out₀ f h ∙ its-names l
 
-      go : (b z : Bool) (count : ℕ) → count ≡ length (pick b (namesOr (pick z none (some all))) []) → pick b (namesOr (pick z none (some all))) [] ≡ standing ws (suc list) count
-      go false z count e = rw e refl
-      go true true count e = rw e refl
-      go true false count e = rw (e, length-map (take counted (drop (suc list) ws)) valueOf, take-again counted (drop (suc list) ws)) refl
+pub name-word : (ws : List ℕ) (list j : ℕ) {v : ℕ} → v ≡ valueAt ws (list + 1 + j) → wordOf 10 v ≡ nameFrom ws list j
+name-word ws list j e = ap (wordOf 10) e
 
--- ---- one word
+-- ---- words put at a place
 
-module _ (ws lists work : List ℕ) where
-  -- the words from a place on
-  abbrev pub rest : ℕ → ℕ → List ℕ
-  rest list i = writtenFrom ws lists list (drop i work)
+put-part : (a e : ℕ) (xs ys : List ℕ) → a ≤ e → e ≤ length xs → length ys ≡ e - a → take e (putMid a (e - a) xs ys) ≡ take a xs ++ ys
+put-part a e xs ys h k l =
+    let b = length-take-le a xs (omega arith) in
+    ap (take e) (sym (append-assoc (take a xs) ys (postOf a (e - a) xs))) ∙ take-at (take a xs ++ ys) (postOf a (e - a) xs) e (length-append (take a xs) ys ∙ omega arith)
 
-  module _ (list i : ℕ) where
-    rest-next : i < length work → {list′ : ℕ} → list′ ≡ listAfter lists list (getD work i 0) → rest list i ≡ wordWritten ws list′ (getD work i 0) ++ rest list′ (i + 1)
-    unfolding writtenFrom
-    rest-next h e = rw (drop-cons work i 0 h, ← e, add-one) refl
+put-then : {out left last : List ℕ} {to next end : ℕ} {a b : List ℕ} → Put out to a left next → Put left next b last end → Put out to (a ++ b) last end
+put-then {out} {to = to} {a = a} {b} p q =
+    record {
+      after = q .after ∙ omega (arith, p .after, length-append a b);
+      holds = q .holds ∙ ap (λ (l : List ℕ). l ++ b) (p .holds) ∙ append-assoc (take to out) a b;
+    }
 
-    rest-done : length work ≤ i → rest list i ≡ []
-    unfolding writtenFrom
-    rest-done h = rw (drop-of-length-le work h) refl
+module _ (ws : List ℕ) (list kind : ℕ) (work : List ℕ) (from place : ℕ) (out : List ℕ) (to : ℕ) (ordered : from ≤ place) (inside : place ≤ length work) (room : Room out to (fromTo from place work ++ listWords kind (namesOr (namesAt ws list)))) where
+  abbrev ks : List ℕ
+  ks = namesOr (namesAt ws list)
 
-  word-length : {list w count : ℕ} → Puts ws list w count → length (wordWritten ws list w) ≡ 1 + count
-  unfolding wordWritten
-  word-length {list} {w} p = ap suc (length-map (namesPut ws list w) (wordOf 10)) ∙ omega (arith, p .counts)
+  part-long : length (fromTo from place work) ≡ place - from
+  part-long = length-take-le (place - from) (drop from work) (omega (arith, length-drop from work))
 
-  -- ---- counting
+  pub put-room : to + (place - from) + 1 + length ks ≤ length out
+  put-room = omega (arith, room .fits, length-append (fromTo from place work) (listWords kind ks), part-long, length-map ks (wordOf 10))
 
-  pub record Counted (n list i : ℕ) : Type 0 where
-    pub small : n ≤ i * 16777216
-    pub least : 1 ≤ i
-    pub todo : length (written ws lists work) ≡ n + length (rest list i)
+  module _ {at names next : ℕ} (at-is : at ≡ to + (place - from)) (l : Lists ws list names) (next-is : next ≡ at + 1 + names) where
+    pub inside-out : next ≤ length out
+    inside-out = omega (arith, put-room, l .counts)
 
-  pub counted-begin : Counted 1 0 1
-  unfolding written
-  counted-begin = record { small = omega arith; least = omega arith; todo = omega arith }
+    copy-long : length (midOf to (at - to) out) ≡ length (midOf from (place - from) work)
+    copy-long = mid-len to at out (omega (arith, inside-out)) ∙ omega (arith, part-long)
 
-  pub counted-next : {n list i : ℕ} → Counted n list i → i < length work → {list′ count : ℕ} → list′ ≡ listAfter lists list (getD work i 0) → Puts ws list′ (getD work i 0) count → Counted (n + (1 + count)) list′ (i + 1)
-  counted-next {n} {list} {i} s h {list′} {count} e p =
-      let l : length (rest list i) ≡ 1 + count + length (rest list′ (i + 1)) =
-      ap length (rest-next list i h e) ∙ length-append (wordWritten ws list′ (getD work i 0)) (rest list′ (i + 1)) ∙ ap (λ (m : ℕ). m + length (rest list′ (i + 1))) (word-length p) in
-      record { small = omega (arith, s .small, p .few); least = omega arith; todo = omega (arith, s .todo, l) }
+    module _ {copied : List ℕ} (c : copied ≡ midOf from (place - from) work) where
+      abbrev first : List ℕ
+      first = putMid to (at - to) out copied
 
-  pub counted-all : {n list i : ℕ} → Counted n list i → length work ≤ i → n ≡ length (written ws lists work)
-  counted-all {n} {list} {i} s h = let l : length (rest list i) ≡ 0 = ap length (rest-done list i h) in omega (arith, s .todo, l)
+      pub first-long : length first ≡ length out
+      first-long = same-len-mid to (at - to) out copied (ap length c ∙ sym copy-long)
 
-  -- ---- writing
+      abbrev second : List ℕ
+      second = set first at (wordOf kind names)
 
-  value-here : (at v : ℕ) → v ≡ valueAt ws at → v ≡ valueOf (getD ws at 0)
-  unfolding valueAt
-  value-here at v e = e
+      pub second-long : length second ≡ length out
+      second-long = length-set first at (wordOf kind names) ∙ first-long
 
-  put-word : (list w count : ℕ) → Puts ws list w count → (more : List ℕ) → wordWritten ws list w ++ more ≡ (w + count) ∷ (map (wordOf 10) (standing ws (suc list) count) ++ more)
-  unfolding wordWritten
-  put-word list w count p more = rw (← p .counts, put-standing ws list w count (p .counts)) refl
+      last-long : {last : List ℕ} → last ≡ map (wordOf 10) ks → length last ≡ next - (at + 1)
+      last-long e = ap length e ∙ length-map ks (wordOf 10) ∙ omega (arith, l .counts)
 
-  no-length : (l : List ℕ) → length l ≡ 0 → l ≡ []
-  no-length [] e = refl
-  no-length (x ∷ l) e = absurd (omega arith)
+      pub put-long : {last : List ℕ} → last ≡ map (wordOf 10) ks → length (putMid (at + 1) (next - (at + 1)) second last) ≡ length out
+      put-long {last} e = same-len-mid (at + 1) (next - (at + 1)) second last (last-long e ∙ sym (mid-len (at + 1) next second (omega (arith, inside-out, second-long)))) ∙ second-long
 
-  -- the names that are left to put
-  abbrev pub left-to-put : ℕ → ℕ → List ℕ
-  left-to-put next left = map (wordOf 10) (standing ws next left)
+      pub put-done : {last : List ℕ} → last ≡ map (wordOf 10) ks → Put out to (fromTo from place work ++ listWords kind ks) (putMid (at + 1) (next - (at + 1)) second last) next
+      put-done {last} e =
+          let one : at + 1 ≡ suc at = omega arith in
+          let a : take at first ≡ take to out ++ fromTo from place work = put-part to at out copied (omega arith) (omega (arith, inside-out)) (ap length c ∙ part-long ∙ omega arith) ∙ ap (λ (v : List ℕ). take to out ++ v) c in
+          let b : take (at + 1) second ≡ take at first ++ (wordOf kind names ∷ []) = rw one (take-suc-set first at (wordOf kind names) (omega (arith, first-long, inside-out))) in
+          record {
+            after = omega (arith, length-append (fromTo from place work) (listWords kind ks), part-long, length-map ks (wordOf 10), l .counts);
+            holds = put-part (at + 1) next second last (omega arith) (omega (arith, second-long, inside-out)) (last-long e) ∙ ap (λ (v : List ℕ). v ++ last) b ∙ ap (λ (v : List ℕ). (v ++ (wordOf kind names ∷ [])) ++ last) a
+                ∙ append-assoc (take to out ++ fromTo from place work) (wordOf kind names ∷ []) last ∙ append-assoc (take to out) (fromTo from place work) (wordOf kind names ∷ last)
+                ∙ rw (e, l .counts) refl;
+          }
 
-  -- `at` words are written; then come the names that are left to put, and the words from `i` on
-  pub record Writing (out : List ℕ) (list next left i at : ℕ) : Type 0 where
-    pub long : length out ≡ length (written ws lists work)
-    pub room : at ≤ length out
-    pub few : left < 16777216
-    pub within : left ≤ length ws - next
-    pub todo : take at out ++ (left-to-put next left ++ rest list i) ≡ written ws lists work
+-- ---- both lists of a relation
 
-  pub not-empty : {l : ℕ} → l ≡ length (written ws lists work) → 0 < l
-  unfolding written
-  not-empty e = omega arith
+room-first : {out : List ℕ} {to : ℕ} (a b : List ℕ) → Room out to (a ++ b) → Room out to a
+room-first a b r = record { fits = omega (arith, r .fits, length-append a b); few = r .few }
 
-  pub writing-begin : (out : List ℕ) → length out ≡ length (written ws lists work) → Writing (set out 0 (wordOf 1 (length out))) 0 0 0 1 1
-  unfolding written
-  writing-begin out l =
-      record {
-        long = length-set out 0 (wordOf 1 (length out)) ∙ l;
-        room = simp length-set (omega arith);
-        few = omega arith;
-        within = omega arith;
-        todo = rw (take-suc-set out 0 (wordOf 1 (length out)) (omega arith), l) refl;
-      }
+room-then : {out left : List ℕ} {to next : ℕ} (a b : List ℕ) → Room out to (a ++ b) → Put out to a left next → length left ≡ length out → Room left next b
+room-then a b r p l = record { fits = omega (arith, r .fits, p .after, length-append a b); few = omega (arith, r .few) }
 
-  module _ {out : List ℕ} {list next left i at : ℕ} (s : Writing out list next left i at) (h : at < length out) where
-    written-more : (v : ℕ) (more : List ℕ) → take at out ++ (v ∷ more) ≡ written ws lists work → take (at + 1) (set out at v) ++ more ≡ written ws lists work
-    written-more v more e = rw (add-one, take-suc-set out at v h, append-assoc (take at out) (v ∷ []) more) e
+module _ (ks work : List ℕ) (from start place : ℕ) {count : ℕ} (e : count ≡ kindCount work start) where
+  module _ (z : count ≡ 0 → ⊥) where
+    one-is : putFor ks work from start place ≡ fromTo from place work ++ listWords 21 ks
+    one-is = rw (← e, ne-eqb count 0 z) refl
 
-    long-again : (v : ℕ) → length (set out at v) ≡ length (written ws lists work)
-    long-again v = length-set out at v ∙ s .long
+    pub one-room : {out : List ℕ} {to : ℕ} → Room out to (putFor ks work from start place) → Room out to (fromTo from place work ++ listWords 21 ks)
+    one-room r = rw one-is at r
 
-    room-again : (v : ℕ) → at + 1 ≤ length (set out at v)
-    room-again v = rw (length-set out at v) (omega arith)
+    pub one-put : {out left : List ℕ} {to next : ℕ} → Put out to (fromTo from place work ++ listWords 21 ks) left next → Put out to (putFor ks work from start place) left next
+    one-put p = rw one-is p
 
-    pub a-name : 0 < left → {v : ℕ} → v ≡ valueAt ws next → Writing (set out at (wordOf 10 v)) list (next + 1) (left - 1) i (at + 1)
-    a-name k {v} e =
+  module _ (z : count ≡ 0) where
+    abbrev a : List ℕ
+    a = fromTo from (start + 3) work ++ listWords 9 ks
+
+    abbrev b : List ℕ
+    b = fromTo (start + 4) place work ++ listWords 21 ks
+
+    both-are : putFor ks work from start place ≡ a ++ b
+    both-are = rw (← e, z) (sym (append-assoc (fromTo from (start + 3) work) (listWords 9 ks) b))
+
+    module _ {out : List ℕ} {to : ℕ} (r : Room out to (putFor ks work from start place)) where
+      pub first-room : Room out to a
+      first-room = room-first a b (rw both-are at r)
+
+      pub then-room : {left : List ℕ} {next : ℕ} → Put out to a left next → length left ≡ length out → Room left next b
+      then-room p l = room-then a b (rw both-are at r) p l
+
+    pub both-put : {out left last : List ℕ} {to next end : ℕ} → Put out to a left next → Put left next b last end → Put out to (putFor ks work from start place) last end
+    both-put p q = rw both-are (put-then p q)
+
+-- ---- what is left to write
+
+module _ (work whole : List ℕ) where
+  -- `B` of the words are passed, of which those up to `from` are written, up to `to`; `T` are to come and become `T′`
+  pub record At (B T T′ : List ℕ) (from to : ℕ) (out : List ℕ) : Type 0 where
+    pub stands : work ≡ B ++ T
+    pub behind : from ≤ length B
+    pub room : to ≤ length out
+    pub size : length out ≡ length whole
+    pub todo : take to out ++ (drop from B ++ T′) ≡ whole
+
+  module _ (B X T T′ : List ℕ) {from to : ℕ} {out : List ℕ} where
+    -- words that stay
+    pub at-on : At B (X ++ T) (X ++ T′) from to out → At (B ++ X) T T′ from to out
+    at-on s =
         record {
-          long = long-again (wordOf 10 v);
-          room = room-again (wordOf 10 v);
-          few = omega (arith, s .few);
-          within = omega (arith, s .within);
-          todo = written-more (wordOf 10 v) (left-to-put (next + 1) (left - 1) ++ rest list i) (ap (λ (l : List ℕ). take at out ++ (l ++ rest list i)) (sym first-name) ∙ s .todo);
-        }
-      where
-        one-less : (n : ℕ) (l : List ℕ) (x : ℕ) → 0 < n → take n (x ∷ l) ≡ x ∷ take (n - 1) l
-        one-less zero l x h = absurd (omega arith)
-        one-less (suc n) l x h = let m : suc n - 1 ≡ n = omega arith in rw m refl
-
-        first-name : left-to-put next left ≡ wordOf 10 v ∷ left-to-put (next + 1) (left - 1)
-        first-name =
-            let n : next < length ws = omega (arith, s .within) in
-            let m : take left (drop next ws) ≡ getD ws next 0 ∷ take (left - 1) (drop (next + 1) ws) =
-            rw (drop-cons ws next 0 n, add-one) (one-less left (drop (suc next) ws) (getD ws next 0) k) in
-            let x : wordOf 10 (valueOf (getD ws next 0)) ≡ wordOf 10 v = ap (wordOf 10) (sym (value-here next v e)) in
-            ap (λ (l : List ℕ). map (wordOf 10) (map valueOf l)) m ∙ ap (λ (y : ℕ). y ∷ left-to-put (next + 1) (left - 1)) x
-
-    -- words are left while no names are
-    pub more-words : left ≡ 0 → i < length work
-    more-words k = go (ltb i (length work)) refl
-      where
-        go : (b : Bool) → ltb i (length work) ≡ b → i < length work
-        go true q = ltb-true i (length work) q
-        go false q =
-            let d : rest list i ≡ [] = rest-done list i (ltb-false i (length work) q) in
-            let e : take at out ++ [] ≡ written ws lists work = rw (k, d) at (s .todo) in
-            let l = length-take-le at out (s .room) in
-            let m : length (take at out ++ []) ≡ length (take at out) = ap length (append-nil (take at out)) in
-            absurd (omega (arith, s .long, l, m, ap length e))
-
-    pub a-word : left ≡ 0 → {list′ count : ℕ} → list′ ≡ listAfter lists list (getD work i 0) → Puts ws list′ (getD work i 0) count → Writing (set out at (getD work i 0 + count)) list′ (list′ + 1) count (i + 1) (at + 1)
-    a-word k {list′} {count} e p =
-        let w : ℕ = getD work i 0 in
-        let n : list′ + 1 ≡ suc list′ = omega arith in
-        record {
-          long = long-again (w + count);
-          room = room-again (w + count);
-          few = p .few;
-          within = rw n (p .within);
-          todo = rw n (written-more (w + count) (left-to-put (suc list′) count ++ rest list′ (i + 1)) (
-              ap (λ (l : List ℕ). take at out ++ l) (sym (put-word list′ w count p (rest list′ (i + 1))) ∙ sym (rest-next list i (more-words k) e)) ∙ rw k at (s .todo)));
+          stands = s .stands ∙ sym (append-assoc B X T);
+          behind = omega (arith, s .behind, length-append B X);
+          room = s .room;
+          size = s .size;
+          todo = ap (λ (l : List ℕ). take to out ++ (l ++ T′)) (drop-append-le from B X (s .behind)) ∙ ap (λ (l : List ℕ). take to out ++ l) (append-assoc (drop from B) X T′) ∙ s .todo;
         }
 
-  pub writing-all : {out : List ℕ} {list next left i at : ℕ} → Writing out list next left i at → length out ≤ at → out ≡ written ws lists work
-  writing-all {out} {list} {next} {left} {i} {at} s h =
-      let tail : List ℕ = left-to-put next left ++ rest list i in
-      let e : out ++ tail ≡ written ws lists work = rw (take-all at out h) at (s .todo) in
-      let l : length tail ≡ 0 = omega (arith, s .long, length-append out tail, ap length e) in
-      sym (append-nil out) ∙ ap (λ (l : List ℕ). out ++ l) (sym (no-length tail l)) ∙ e
+  -- words in place of others
+  module _ (B X X′ T T′ : List ℕ) {more : List ℕ} {from to : ℕ} {out : List ℕ} (s : At B (X ++ T) (X′ ++ T′) from to out) (e : drop from B ++ X′ ≡ more) where
+    whole-is : (take to out ++ more) ++ T′ ≡ whole
+    whole-is = append-assoc (take to out) more T′ ∙ ap (λ (l : List ℕ). take to out ++ (l ++ T′)) (sym e) ∙ ap (λ (l : List ℕ). take to out ++ l) (append-assoc (drop from B) X′ T′) ∙ s .todo
+
+    fits : to + length more ≤ length out
+    fits = omega (arith, s .size, ap length whole-is, length-append (take to out ++ more) T′, length-append (take to out) more, length-take-le to out (s .room))
+
+    pub at-room : length whole ≤ 8192 → Room out to more
+    at-room few = record { fits = fits; few = omega (arith, s .size) }
+
+    pub at-put : {next after : ℕ} {left : List ℕ} → Put out to more left next → length left ≡ length out → length (B ++ X) ≡ after → At (B ++ X) T T′ after next left
+    at-put {next} {after} {left} p l h =
+        record {
+          stands = s .stands ∙ sym (append-assoc B X T);
+          behind = omega arith;
+          room = omega (arith, p .after, fits);
+          size = l ∙ s .size;
+          todo = ap (λ (v : List ℕ). take next left ++ (v ++ T′)) (drop-of-length-le (B ++ X) {i = after} (omega arith)) ∙ ap (λ (v : List ℕ). v ++ T′) (p .holds) ∙ whole-is;
+        }
+
+  -- the rest in one go
+  module _ {B T : List ℕ} {from to : ℕ} {out : List ℕ} (s : At B T T from to out) where
+    rest-is : drop from work ≡ drop from B ++ T
+    rest-is = ap (drop from) (s .stands) ∙ drop-append-le from B T (s .behind)
+
+    pub at-rest : length out - to ≡ length work - from
+    at-rest = omega (arith, s .size, ap length (s .todo), length-append (take to out) (drop from B ++ T), length-take-le to out (s .room), ap length rest-is, length-drop from work)
+
+    pub at-within : from ≤ length work
+    at-within = omega (arith, s .behind, ap length (s .stands), length-append B T)
+
+    rest-all : midOf from (length work - from) work ≡ drop from work
+    rest-all = let e = length-drop from work in sym (append-nil (midOf from (length work - from) work)) ∙ go (drop from work) (length work - from) e
+      where
+        go : (l : List ℕ) (k : ℕ) → length l ≡ k → take k l ++ [] ≡ l
+        go l k e = ap (λ (v : List ℕ). take k v ++ []) (sym (append-nil l)) ∙ ap (λ (v : List ℕ). v ++ []) (take-at l [] k e) ∙ append-nil l
+
+    pub at-end : {copied : List ℕ} → copied ≡ midOf from (length work - from) work → putMid to (length out - to) out copied ≡ whole
+    at-end {copied} c =
+        let none-left : postOf to (length out - to) out ≡ [] = drop-of-length-le (drop to out) {i = length out - to} (omega (arith, length-drop to out)) in
+        ap (λ (l : List ℕ). take to out ++ (copied ++ l)) none-left ∙ ap (λ (l : List ℕ). take to out ++ l) (append-nil copied ∙ c ∙ rest-all ∙ rest-is) ∙ s .todo

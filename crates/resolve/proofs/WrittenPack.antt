@@ -1,223 +1,404 @@
 -- What is written of a pack's words are the words of the pack with its relations stamped.
-use Prim.Native.Nat.{ℕ, suc, _+_, _<_, _≤_}
+use Prim.Native.Nat.{ℕ, suc, _+_, _-_, _*_, _<_, _≤_}
 use native.Mathlib.Omega.{arith}
-use mathlib.Core.Path.{_≡_, refl, ap, sym, _∙_}
-use mathlib.Core.List.{List, [], _∷_, _++_, append-assoc, append-nil}
-use mathlib.Core.Bool.{Bool, true, false, _||_}
-use mathlib.Core.Logic.{_⊎_, inl, inr}
-use mathlib.Core.Option.{Option, none, some}
-use lib.ListN.{length, getD}
+use native.Mathlib.Numerals.{add-one}
+use mathlib.Core.Path.{_≡_, refl, ap, sym, _∙_, subst}
+use mathlib.Core.List.{List, [], _∷_, _++_, append-assoc}
+use mathlib.Core.Bool.{Bool}
+use mathlib.Core.Option.{some}
+use lib.ListN.{length, getD, take, drop, set, length-append, length-map, length-drop, length-set, drop-of-length-le}
+use lib.Seq.{drop-cons, take-at, drop-at, drop-append-le, take-suc-set}
 use lib.Dec.{eqb}
 use borrow.Author.Tests.{ne-eqb}
-use Rattle.pack.specs.Table.{pick, kindOf, wordOf}
-use Rattle.pack.specs.Form.{among, count, items, wordsAll, wordsBy, Fine}
-use Rattle.pack.specs.Pack.{Derivation, Relation, Rule, Block, Pack, WellFormed, toRow, newName, nameList, chain, member, derivation, optionalDerivation, relationTail, relation, relations, rule, rules, blocks, defaulted, records, inner, layout, total, words}
+use borrow.Rule.Slice.PartMut.{midOf, putMid}
+use Rattle.pack.specs.Table.{pick, wordOf}
+use Rattle.pack.specs.Form.{among, count, items, wordsBy, Fine}
+use Rattle.pack.specs.Pack.{Derivation, Relation, Pack, newName, nameList, relationTail, relation, defaulted, total, words}
 use Rattle.pack.proofs.PackLaws.{words-length}
 use Rattle.chains.specs.Operations.{namesAt, relationWords}
-use Rattle.chains.proofs.Hushed.{Quiet, quiet-append, quiet-word, kind-word, all-hushed}
-use Rattle.chains.proofs.ListAt.{nameWords, list-words, early, late, option-words, derived-fine}
-use Rattle.chains.proofs.RelationScan.{relationsWords, RelationsFine, kept}
+use Rattle.chains.proofs.ListAt.{nameWords, list-words, early, late, option-words, InWords}
+use Rattle.chains.proofs.RelationScan.{RelationsFine}
 use Rattle.chains.proofs.PackIndex.{parts}
 use Rattle.resolve.specs.Resolving.{orKinds, withEntities, stampedWith}
-use Rattle.resolve.specs.Stamping.{StampedBy, as-it-is, with-kinds}
-use Rattle.resolve.specs.Writing.{namesPut, wordWritten, writtenFrom, written, Stamped, no-more, one-more, withRelations}
-use Rattle.resolve.proofs.BlocksStand.{first-kind}
-use Rattle.resolve.proofs.WriteLaws.{list-before}
-use Rattle.resolve.proofs.WriteQuiet.{loud, defaulted-hushed, names-quiet, early-quiet, late-quiet, rule-hushed, blocks-hushed, Turns, turns-then, turns-word, turns-rules, turns-name, turns-quiet, alone}
+use Rattle.chains.specs.Record.{kindCount, slotsPlace}
+use Rattle.resolve.specs.Stamping.{StampedBy, as-it-is, with-kinds, namesOr, addedFor, addedBy}
+use Rattle.resolve.specs.Writing.{placesFrom, Stamped, no-more, one-more, withRelations, fromTo, listWords, putFor, Put, Room, WriteAsked}
+use Rattle.resolve.specs.Passes.{wordsOf}
+use Rattle.chains.proofs.RecordLaws.{counted, before-slots, four, four-length}
+use Rattle.resolve.proofs.WriteLaws.{At, at-on, at-room, at-put, at-rest, at-within, at-end}
+use Rattle.resolve.proofs.TurnedPack.{front, front-long, pack-words, opened, rulesOn}
 
--- ---- a list of names
+-- ---- a derived relation: the words up to list 21, by its list 9
 
-abbrev listWords : ℕ → List ℕ → List ℕ
-listWords kind ks = wordOf kind (length ks) ∷ nameWords ks
+abbrev three : Relation → List ℕ
+three r = wordOf 6 (r .name) ∷ wordOf 7 (r .origin) ∷ wordOf 8 (r .arity) ∷ []
 
-abbrev OfList : ℕ → Type 0
-OfList kind = (kind ≡ 9) ⊎ (kind ≡ 21)
+abbrev lead : ℕ → Relation → Derivation → List ℕ → List ℕ
+lead n r d ks = three r ++ (listWords 9 ks ++ (wordOf 11 1 ∷ early n d))
 
--- what becomes of the lists 9 and 21 while a list is in force
-record Changes (ws : List ℕ) (list : ℕ) (f : List ℕ → List ℕ) : Type 0 where
-  each : (kind : ℕ) → OfList kind → (ks : List ℕ) → length ks < 16777216 → wordWritten ws list (wordOf kind (length ks)) ++ nameWords ks ≡ listWords kind (f ks)
-
-none-in-force : (ws : List ℕ) (list w : ℕ) → list ≡ 0 → namesPut ws list w ≡ []
-unfolding namesPut namesAt
-none-in-force ws list w e = rw e (go (eqb w 150994944 || eqb w 352321536))
-  where
-    go : (b : Bool) → _≡_ {A = List ℕ} (pick b [] []) []
-    go true = refl
-    go false = refl
-
--- with none in force they stay
-stays : (ws : List ℕ) (list : ℕ) → list ≡ 0 → Changes ws list (λ ks. ks)
-stays ws list e = record { each = λ kind o ks h. rw (alone ws [] list (wordOf kind (length ks)) (none-in-force ws list (wordOf kind (length ks)) e)) refl }
-
--- else the empty ones become the list in force
-module _ (ws : List ℕ) (list : ℕ) (es : List ℕ) (e : namesAt ws list ≡ some es) where
-  put-empty : (kind : ℕ) → OfList kind → namesPut ws list (wordOf kind 0) ≡ es
-  unfolding namesPut
-  put-empty kind (inl k) = rw (k, e) refl
-  put-empty kind (inr k) = rw (k, e) refl
-
-  put-none : (kind v : ℕ) → OfList kind → suc v < 16777216 → namesPut ws list (wordOf kind (suc v)) ≡ []
-  unfolding namesPut
-  put-none kind v (inl k) h = rw (k, ne-eqb (wordOf 9 (suc v)) 150994944 (λ z. omega arith), ne-eqb (wordOf 9 (suc v)) 352321536 (λ z. omega arith)) refl
-  put-none kind v (inr k) h = rw (k, ne-eqb (wordOf 21 (suc v)) 150994944 (λ z. omega arith), ne-eqb (wordOf 21 (suc v)) 352321536 (λ z. omega arith)) refl
-
-  becomes : (kind : ℕ) → OfList kind → (ks : List ℕ) → length ks < 16777216 → wordWritten ws list (wordOf kind (length ks)) ++ nameWords ks ≡ listWords kind (orKinds ks es)
-  unfolding wordWritten
-  becomes kind o [] h = rw (put-empty kind o, append-nil (nameWords es)) (ap (λ (w : ℕ). w ∷ nameWords es) (omega arith))
-  becomes kind o (k ∷ ks) h = rw (put-none kind (length ks) o h) (ap (λ (w : ℕ). w ∷ nameWords (k ∷ ks)) (omega arith))
-
-  stamped : Changes ws list (λ ks. orKinds ks es)
-  stamped = record { each = becomes }
-
--- ---- a relation
-
-abbrev changedOption : (List ℕ → List ℕ) → Option Derivation → Option Derivation
-changedOption f none = none
-changedOption f (some d) = some (withEntities d (f (d .slotEntities)))
-
-abbrev changed : (List ℕ → List ℕ) → Relation → Relation
-changed f r = record { name = r .name; origin = r .origin; arity = r .arity; slotKinds = f (r .slotKinds); derivation = changedOption f (r .derivation) }
-
-relation-words : (n : ℕ) (r : Relation) → relationWords n r ≡ (wordOf 6 (r .name) ∷ []) ++ ((wordOf 7 (r .origin) ∷ wordOf 8 (r .arity) ∷ []) ++ (listWords 9 (r .slotKinds) ++ wordsBy (optionalDerivation n) (r .derivation)))
+derived-words : (n : ℕ) (r : Relation) (d : Derivation) → r .derivation ≡ some d → relationWords n r ≡ lead n r d (r .slotKinds) ++ (listWords 21 (d .slotEntities) ++ late n d)
 unfolding relation relationTail newName nameList wordsBy count items
-relation-words n r = rw (list-words n (r .slotKinds)) refl
+derived-words n r d e = rw (list-words n (r .slotKinds), option-words n (r .derivation) d e) (simp append-assoc)
 
-entities-fine : (n : ℕ) (d : Derivation) → Fine (derivation n) d → (length (d .slotEntities) < 16777216) × Quiet loud (nameWords (d .slotEntities))
-unfolding derivation chain member nameList Fine count items
-entities-fine n d f = (f .1 .1 .1 .0 .0 .0, names-quiet n (d .slotEntities) (f .1 .1 .1 .0 .2))
+-- ---- with a list stamped on it
 
-record Tail (n : ℕ) (r : Relation) : Type 0 where
-  two : Quiet loud (wordOf 7 (r .origin) ∷ wordOf 8 (r .arity) ∷ [])
-  kinds : Quiet loud (nameWords (r .slotKinds))
-  derived : Fine (optionalDerivation n) (r .derivation)
+-- the words from a place on up to another
+up-to : (work P Q : List ℕ) (from to : ℕ) → work ≡ P ++ Q → length P ≡ to → from ≤ to → fromTo from to work ≡ drop from P
+up-to work P Q from to e l h = ap (fromTo from to) e ∙ ap (take (to - from)) (drop-append-le from P Q (omega arith)) ∙ take-at (drop from P) Q (to - from) (length-drop from P ∙ omega arith)
 
-tail-fine : (n : ℕ) (r : Relation) → Fine (relationTail n) (r .origin, (r .arity, (r .slotKinds, r .derivation))) → Tail n r
-unfolding relationTail nameList Fine items
-tail-fine n r f =
-    record {
-      two = (quiet-word loud 7 (r .origin) (f .0 .0) refl .0, quiet-word loud 8 (r .arity) (f .1 .0 .0) refl);
-      kinds = names-quiet n (r .slotKinds) (f .1 .1 .0 .2);
-      derived = f .1 .1 .1;
-    }
+glue : (a b c d e : List ℕ) → a ++ ((b ++ (c ++ d)) ++ e) ≡ (a ++ b) ++ (c ++ (d ++ e))
+glue a b c d e = simp append-assoc
 
-unchanged : (r : Relation) → changed (λ ks. ks) r ≡ r
-unchanged r = λ j. record { name = r .name; origin = r .origin; arity = r .arity; slotKinds = r .slotKinds; derivation = go (r .derivation) j }
-  where
-    go : (o : Option Derivation) → changedOption (λ ks. ks) o ≡ o
-    go none = refl
-    go (some d) = refl
+module _ (work : List ℕ) (n : ℕ) (r : Relation) (B T : List ℕ) (stands : work ≡ B ++ (relationWords n r ++ T)) (used : ℕ → Bool) (fine : Fine (relation n used) r) (most : n ≤ 4096)
+    (d : Derivation) (e : r .derivation ≡ some d) (z : d .slotEntities ≡ []) (ks : List ℕ) where
+  i : InWords work (length B) n r
+  i = record { before = B; after = T; long = refl; same-words = stands; used = used; fine = fine }
 
-changed-so : (r : Relation) (d : Derivation) (ks : List ℕ) → r .derivation ≡ some d → d .slotEntities ≡ [] → changed (λ js. orKinds js ks) r ≡ stampedWith r d ks
-changed-so r d ks o z =
-    let e : changedOption (λ js. orKinds js ks) (r .derivation) ≡ some (withEntities d ks) = rw (o, z) refl in
-    λ j. record { name = r .name; origin = r .origin; arity = r .arity; slotKinds = orKinds (r .slotKinds) ks; derivation = e j }
+  abbrev L : List ℕ
+  L = lead n r d (r .slotKinds)
 
-module _ (ws lists : List ℕ) (n : ℕ) where
-  module _ (list : ℕ) (f : List ℕ → List ℕ) (c : Changes ws list f) where
-    turns-list : (kind : ℕ) → OfList kind → (ks : List ℕ) → length ks < 16777216 → Quiet loud (nameWords ks) → Turns ws lists list (listWords kind ks) list (listWords kind (f ks))
-    turns-list kind o ks h q =
-        let w : ℕ = wordOf kind (length ks) in
-        let k : kindOf w ≡ kind = kind-word kind (length ks) h in
-        rw (c .each kind o ks h) at (turns-then ws lists (turns-word ws lists list w (sym (list-before lists list w (λ e. other o (omega arith) (omega arith)) (λ e. other o (omega arith) (omega arith))))) (turns-quiet ws lists list (nameWords ks) q))
+  abbrev M : List ℕ
+  M = wordOf 21 0 ∷ late n d
+
+  its-words : relationWords n r ≡ L ++ M
+  its-words = derived-words n r d e ∙ ap (λ (l : List ℕ). L ++ (listWords 21 l ++ late n d)) z
+
+  its-stamped : relationWords n (stampedWith r d ks) ≡ lead n r d (orKinds (r .slotKinds) ks) ++ (listWords 21 ks ++ late n d)
+  its-stamped = derived-words n (stampedWith r d ks) (withEntities d ks) refl
+
+  lead-there : length (B ++ L) ≡ slotsPlace work (length B) + 4
+  unfolding i
+  lead-there = ap length same ∙ four-length work (length B) n r i most d e
+    where
+      same : B ++ L ≡ before-slots work (length B) n r i most d e ++ four work (length B) n r i most d e
+      same = sym (simp append-assoc)
+
+  lead-stands : work ≡ (B ++ L) ++ (M ++ T)
+  lead-stands = stands ∙ ap (λ (l : List ℕ). B ++ (l ++ T)) its-words ∙ ap (λ (l : List ℕ). B ++ l) (append-assoc L M T) ∙ sym (append-assoc B L (M ++ T))
+
+  module _ {from place : ℕ} (h : from ≤ length B) (p : place ≡ slotsPlace work (length B) + 4) where
+    put-whole : fromTo from place work ≡ drop from B ++ L
+    put-whole = up-to work (B ++ L) (M ++ T) from place lead-stands (omega (arith, lead-there)) (omega (arith, lead-there, length-append B L)) ∙ drop-append-le from B L h
+
+    kinds-are : kindCount work (length B) ≡ length (r .slotKinds)
+    kinds-are = counted work (length B) n r i most
+
+    put-both : r .slotKinds ≡ [] → drop from B ++ (lead n r d (orKinds (r .slotKinds) ks) ++ listWords 21 ks) ≡ putFor ks work from (length B) place
+    put-both k =
+        let nine : List ℕ = wordOf 9 0 ∷ [] in
+        let Y : List ℕ = wordOf 11 1 ∷ early n d in
+        let L-is : L ≡ three r ++ (nine ++ Y) = ap (lead n r d) k in
+        let count-is : kindCount work (length B) ≡ 0 = kinds-are ∙ ap length k in
+        let all : work ≡ (B ++ (three r ++ (nine ++ Y))) ++ (M ++ T) = lead-stands ∙ ap (λ (l : List ℕ). (B ++ l) ++ (M ++ T)) L-is in
+        let long : length (B ++ (three r ++ (nine ++ Y))) ≡ place = ap (λ (l : List ℕ). length (B ++ l)) (sym L-is) ∙ lead-there ∙ sym p in
+        let a : fromTo from (length B + 3) work ≡ drop from B ++ three r =
+        up-to work (B ++ three r) ((nine ++ Y) ++ (M ++ T)) from (length B + 3) (all ∙ simp append-assoc) (length-append B (three r) ∙ omega arith) (omega arith) ∙ drop-append-le from B (three r) h in
+        let front-is : B ++ (three r ++ (nine ++ Y)) ≡ (B ++ (three r ++ nine)) ++ Y = sym (simp append-assoc) in
+        let four-long : length (B ++ (three r ++ nine)) ≡ length B + 4 = length-append B (three r ++ nine) ∙ omega arith in
+        let b : fromTo (length B + 4) place work ≡ Y =
+        up-to work (B ++ (three r ++ (nine ++ Y))) (M ++ T) (length B + 4) place all long (omega (arith, long, length-append B (three r ++ (nine ++ Y)))) ∙ ap (drop (length B + 4)) front-is ∙ drop-at (B ++ (three r ++ nine)) Y (length B + 4) four-long in
+        rw (count-is, k, a, b) (glue (drop from B) (three r) (listWords 9 ks) Y (listWords 21 ks))
+
+    put-one : (length (r .slotKinds) ≡ 0 → ⊥) → orKinds (r .slotKinds) ks ≡ r .slotKinds → drop from B ++ (lead n r d (orKinds (r .slotKinds) ks) ++ listWords 21 ks) ≡ putFor ks work from (length B) place
+    put-one k s = rw (kinds-are, ne-eqb (length (r .slotKinds)) 0 k, put-whole, s) (sym (append-assoc (drop from B) L (listWords 21 ks)))
+
+    put-is : drop from B ++ (lead n r d (orKinds (r .slotKinds) ks) ++ listWords 21 ks) ≡ putFor ks work from (length B) place
+    put-is = go (r .slotKinds) refl
       where
-        other : {kind : ℕ} → OfList kind → (kind ≡ 9 → ⊥) → (kind ≡ 21 → ⊥) → ⊥
-        other (inl e) a b = a e
-        other (inr e) a b = b e
+        go : (l : List ℕ) → r .slotKinds ≡ l → drop from B ++ (lead n r d (orKinds (r .slotKinds) ks) ++ listWords 21 ks) ≡ putFor ks work from (length B) place
+        go [] k = put-both k
+        go (x ∷ l) k = put-one (λ q. omega (arith, ap length k)) (rw k refl)
 
-    option-turns : (o : Option Derivation) → Fine (optionalDerivation n) o → Turns ws lists list (wordsBy (optionalDerivation n) o) list (wordsBy (optionalDerivation n) (changedOption f o))
-    unfolding optionalDerivation wordsBy count items
-    option-turns none h = turns-quiet ws lists list (wordOf 11 0 ∷ []) (quiet-word loud 11 0 (omega arith) refl)
-    option-turns (some d) h =
-        let d′ : Derivation = withEntities d (f (d .slotEntities)) in
-        let g : Fine (derivation n) d = derived-fine n (some d) d refl h in
-        let l = entities-fine n d g in
-        rw (option-words n (some d) d refl, option-words n (some d′) d′ refl)
-        (turns-then ws lists (turns-quiet ws lists list (wordOf 11 1 ∷ early n d) (quiet-word loud 11 1 (omega arith) refl .0, early-quiet n d g))
-        (turns-then ws lists (turns-list 21 (inr refl) (d .slotEntities) (l .0) (l .1)) (turns-quiet ws lists list (late n d) (late-quiet n d g))))
+  -- how many words more
+  stamped-long : (list : ℕ) (ws : List ℕ) → namesAt ws list ≡ some ks → length (relationWords n (stampedWith r d ks)) ≡ length (relationWords n r) + addedFor ws work list (length B)
+  unfolding addedFor
+  stamped-long list ws q =
+      let a = ap length its-words ∙ length-append L M in
+      let b = ap length its-stamped ∙ length-append (lead n r d (orKinds (r .slotKinds) ks)) (listWords 21 ks ++ late n d) in
+      let c = length-append (listWords 21 ks) (late n d) in
+      let m = length-map ks (wordOf 10) in
+      rw q (go (r .slotKinds) refl a b c m)
+    where
+      size : (l : List ℕ) → length (lead n r d l) ≡ 5 + length l + length (early n d)
+      size l = omega (arith, length-append (nameWords l) (wordOf 11 1 ∷ early n d), length-map l (wordOf 10))
 
-  relation-turns : (before : ℕ) (r : Relation) (used : ℕ → Bool) → n ≤ 4096 → Fine (relation n used) r → (f : List ℕ → List ℕ) → Changes ws (getD lists (r .name) 0) f
-      → Turns ws lists before (relationWords n r) (getD lists (r .name) 0) (relationWords n (changed f r))
-  relation-turns before r used m h f c =
-      let list : ℕ = getD lists (r .name) 0 in
-      let k = kept n used r h in
-      let l = tail-fine n r (k .tail) in
-      rw (relation-words n r, relation-words n (changed f r))
-      (turns-then ws lists (turns-name ws lists before (r .name) (omega (arith, k .below)))
-      (turns-then ws lists (turns-quiet ws lists list (wordOf 7 (r .origin) ∷ wordOf 8 (r .arity) ∷ []) (l .two))
-      (turns-then ws lists (turns-list list f c 9 (inl refl) (r .slotKinds) (k .kinds) (l .kinds)) (option-turns list f c (r .derivation) (l .derived)))))
+      go : (l : List ℕ) → r .slotKinds ≡ l → length (relationWords n r) ≡ length L + length M → length (relationWords n (stampedWith r d ks)) ≡ length (lead n r d (orKinds (r .slotKinds) ks)) + length (listWords 21 ks ++ late n d)
+          → length (listWords 21 ks ++ late n d) ≡ length (listWords 21 ks) + length (late n d) → length (nameWords ks) ≡ length ks
+          → length (relationWords n (stampedWith r d ks)) ≡ length (relationWords n r) + length ks * pick (eqb (kindCount work (length B)) 0) 2 1
+      go [] k a b c m =
+          let x : length (lead n r d (orKinds (r .slotKinds) ks)) ≡ 5 + length ks + length (early n d) = ap (λ (l : List ℕ). length (lead n r d (orKinds l ks))) k ∙ size ks in
+          let y : length L ≡ 5 + 0 + length (early n d) = ap (λ (l : List ℕ). length (lead n r d l)) k ∙ size [] in
+          let count-is : kindCount work (length B) ≡ 0 = counted work (length B) n r i most ∙ ap length k in
+          rw count-is (omega arith)
+      go (j ∷ l) k a b c m =
+          let x : length (lead n r d (orKinds (r .slotKinds) ks)) ≡ length L = ap (λ (v : List ℕ). length (lead n r d (orKinds v ks))) k ∙ ap (λ (v : List ℕ). length (lead n r d v)) (sym k) in
+          let count-is : kindCount work (length B) ≡ length (j ∷ l) = counted work (length B) n r i most ∙ ap length k in
+          rw (count-is, ne-eqb (length (j ∷ l)) 0 (λ q. omega arith)) (omega arith)
 
-  stamped-turns : (before : ℕ) (r : Relation) (used : ℕ → Bool) → n ≤ 4096 → Fine (relation n used) r → {r′ : Relation} → StampedBy ws (getD lists (r .name) 0) r r′
-      → Turns ws lists before (relationWords n r) (getD lists (r .name) 0) (relationWords n r′)
-  stamped-turns before r used m h (as-it-is e) = rw (unchanged r) at (relation-turns before r used m h (λ ks. ks) (stays ws (getD lists (r .name) 0) e))
-  stamped-turns before r used m h (with-kinds d ks pos e o z) =
-      rw (changed-so r d ks o z) at (relation-turns before r used m h (λ js. orKinds js ks) (stamped ws (getD lists (r .name) 0) ks e))
+-- ---- by the list
 
-  -- ---- the relations
+unstamped-same : {ws : List ℕ} {list : ℕ} {r r′ : Relation} → StampedBy ws list r r′ → list ≡ 0 → r′ ≡ r
+unstamped-same (as-it-is e) z = refl
+unstamped-same (with-kinds d ks pos q o s) z = absurd (omega arith)
 
-  relations-turn : (tail : List ℕ) → ((list : ℕ) → writtenFrom ws lists list tail ≡ tail) → n ≤ 4096 → {rs rs′ : List Relation} → Stamped ws lists rs rs′ → (list : ℕ) (used used′ : List ℕ) → RelationsFine n used rs
-      → writtenFrom ws lists list (relationsWords n used rs ++ tail) ≡ relationsWords n used′ rs′ ++ tail
-  unfolding relation newName wordsBy
-  relations-turn tail t m no-more list used used′ h = t list
-  relations-turn tail t m {rs = r ∷ rs} {rs′ = r′ ∷ rs′} (one-more s more) list used used′ h =
-      let more-words : List ℕ = relationsWords n (r .name ∷ used) rs in
-      let more-words′ : List ℕ = relationsWords n (r′ .name ∷ used′) rs′ in
-      let a : List ℕ = relationWords n r in
-      let a′ : List ℕ = relationWords n r′ in
-      rw (append-assoc a more-words tail, append-assoc a′ more-words′ tail)
-      (stamped-turns list r (λ v. among v used) m (h .0) s .over (more-words ++ tail)
-      ∙ ap (λ (l : List ℕ). a′ ++ l) (relations-turn tail t m more (getD lists (r .name) 0) (r .name ∷ used) (r′ .name ∷ used′) (h .1)))
+record On (ws : List ℕ) (list : ℕ) (r r′ : Relation) : Type 0 where
+  d : Derivation
+  ks : List ℕ
+  names : namesAt ws list ≡ some ks
+  derived : r .derivation ≡ some d
+  none-21 : d .slotEntities ≡ []
+  same : r′ ≡ stampedWith r d ks
 
-  same-length : {rs rs′ : List Relation} → Stamped ws lists rs rs′ → length rs ≡ length rs′
-  same-length no-more = refl
-  same-length (one-more s more) = ap suc (same-length more)
+stamped-on : {ws : List ℕ} {list : ℕ} {r r′ : Relation} → StampedBy ws list r r′ → (list ≡ 0 → ⊥) → On ws list r r′
+stamped-on (as-it-is e) z = absurd (z e)
+stamped-on (with-kinds d ks pos q o s) z = record { d = d; ks = ks; names = q; derived = o; none-21 = s; same = refl }
 
-  -- ---- what comes after them
+-- ---- how many words more all relations have
 
-  rules-turn : (rs : List Rule) (bs : List Block) → Fine (rules n) rs → Fine (blocks n) bs → (list : ℕ) → writtenFrom ws lists list (wordsBy (rules n) rs ++ wordsBy (blocks n) bs) ≡ wordsBy (rules n) rs ++ wordsBy (blocks n) bs
-  unfolding rules writtenFrom Fine wordsBy count items
-  rules-turn rs bs f g list =
-      let each : List ℕ = wordsAll {S = Unit {0}} (λ s a. s) (λ s a. wordsBy (rule n) a) tt rs in
-      let rest : List ℕ = each ++ wordsBy (blocks n) bs in
-      let q : Quiet loud rest = quiet-append loud each (wordsBy (blocks n) bs) (all-hushed loud (λ s a. s) (λ s. rule n) (λ s. rule-hushed n) tt rs (f .2)) (blocks-hushed n bs g) in
-      turns-rules ws lists list (length rs) (f .0 .0) .over rest
-      ∙ ap (λ (l : List ℕ). wordOf 22 (length rs) ∷ l) (ap (λ (l : List ℕ). writtenFrom ws lists 0 l) (sym (append-nil rest)) ∙ turns-quiet ws lists 0 rest q .over [] ∙ append-nil rest)
+module _ (ws work : List ℕ) (n : ℕ) (most : n ≤ 4096) (after : List ℕ) where
+  one-longer : (B T : List ℕ) (r r′ : Relation) (used : ℕ → Bool) → Fine (relation n used) r → work ≡ B ++ (relationWords n r ++ T) → {list : ℕ} → StampedBy ws list r r′
+      → length (relationWords n r′) ≡ length (relationWords n r) + addedFor ws work list (length B)
+  unfolding addedFor namesAt
+  one-longer B T r r′ used fine stands (as-it-is e) = rw e (omega arith)
+  one-longer B T r r′ used fine stands {list} (with-kinds d ks pos q o z) = stamped-long work n r B T stands used fine most d o z ks list ws q
 
--- ---- the pack
+  pub longer : (B : List ℕ) (used : List ℕ) {lists : List ℕ} {rs rs′ : List Relation} → RelationsFine n used rs → Stamped ws lists rs rs′ → work ≡ B ++ (wordsOf (relationWords n) rs ++ after)
+      → length (wordsOf (relationWords n) rs′) ≡ length (wordsOf (relationWords n) rs) + addedBy ws work (placesFrom n (length B) rs) lists
+  unfolding addedBy placesFrom
+  longer B used f no-more stands = refl
+  longer B used {rs = r ∷ rs} {rs′ = r′ ∷ rs′} f (one-more {list = list} {lists = lists} s more) stands =
+      let opened : work ≡ B ++ (relationWords n r ++ (wordsOf (relationWords n) rs ++ after)) = stands ∙ ap (λ (x : List ℕ). B ++ x) (append-assoc (relationWords n r) (wordsOf (relationWords n) rs) after) in
+      let here = one-longer B (wordsOf (relationWords n) rs ++ after) r r′ (λ v. among v used) (f .0) opened s in
+      let long = length-append B (relationWords n r) in
+      let later : length (wordsOf (relationWords n) rs′) ≡ length (wordsOf (relationWords n) rs) + addedBy ws work (placesFrom n (length B + length (relationWords n r)) rs) lists =
+      longer (B ++ relationWords n r) (r .name ∷ used) (f .1) more (opened ∙ sym (append-assoc B (relationWords n r) (wordsOf (relationWords n) rs ++ after)))
+      ∙ ap (λ (x : ℕ). length (wordsOf (relationWords n) rs) + addedBy ws work (placesFrom n x rs) lists) long in
+      length-append (relationWords n r′) (wordsOf (relationWords n) rs′) ∙ omega (arith, here, later, length-append (relationWords n r) (wordsOf (relationWords n) rs))
 
-abbrev opening : Pack → List ℕ
-opening p = wordOf 2 (p .names) ∷ wordsBy (defaulted (p .names)) (p .defaulted)
+-- ---- all of them, for the code
 
-abbrev closing : Pack → List ℕ
-closing p = wordsBy (rules (p .names)) (p .rules) ++ wordsBy (blocks (p .names)) (p .blocks)
+module _ {ws order lists work : List ℕ} {room : ℕ} (a : WriteAsked ws order lists work room) where
+  abbrev q : Pack
+  q = a .whole
 
-inner-words : (p : Pack) → wordsBy (inner (p .edition)) (toRow p) ≡ opening p ++ ((wordOf 5 (length (p .relations)) ∷ []) ++ (relationsWords (p .names) [] (p .relations) ++ closing p))
-unfolding inner records relations wordsBy count items
-inner-words p = refl
+  abbrev n : ℕ
+  n = q .names
 
-opening-quiet : (p : Pack) → WellFormed p → Quiet loud (opening p)
-unfolding inner records Fine
-opening-quiet p w = let f = w .parts in (quiet-word loud 2 (p .names) (f .0 .0) refl .0, defaulted-hushed (p .names) (p .defaulted) (f .1 .0))
+  abbrev W : Relation → List ℕ
+  W r = relationWords n r
 
-closing-turns : (ws lists : List ℕ) (p : Pack) → WellFormed p → (list : ℕ) → writtenFrom ws lists list (closing p) ≡ closing p
-unfolding inner records Fine
-closing-turns ws lists p w = let f = w .parts in rules-turn ws lists (p .names) (p .rules) (p .blocks) (f .1 .1 .1 .0) (f .1 .1 .1 .1)
+  abbrev after : List ℕ
+  after = wordOf 22 (length (q .rules)) ∷ rulesOn q
 
-module _ (ws lists : List ℕ) (p : Pack) (w : WellFormed p) (rs : List Relation) (s : Stamped ws lists (p .relations) rs) where
-  inner-written : writtenFrom ws lists 0 (wordsBy (inner (p .edition)) (toRow p)) ≡ wordsBy (inner (p .edition)) (toRow (withRelations p rs))
-  inner-written =
-      let n : ℕ = p .names in
-      let h = parts p w in
-      let five : List ℕ = wordOf 5 (length (p .relations)) ∷ [] in
-      let turned = relations-turn ws lists n (closing p) (closing-turns ws lists p w) (h .most) s 0 [] [] (h .relations-fine) in
-      let more : List ℕ = relationsWords n [] (p .relations) ++ closing p in
-      rw (inner-words p, inner-words (withRelations p rs), ← same-length ws lists n s)
-      (turns-quiet ws lists 0 (opening p) (opening-quiet p w) .over (five ++ more)
-      ∙ ap (λ (l : List ℕ). opening p ++ l) (turns-quiet ws lists 0 five (quiet-word loud 5 (length (p .relations)) (h .relation-count) refl) .over more ∙ ap (λ (l : List ℕ). five ++ l) turned))
+  abbrev result : List ℕ
+  result = words (withRelations q (a .stamped))
 
-  -- what is written are the words of the pack with its relations stamped
-  pub written-pack : written ws lists (words p) ≡ words (withRelations p rs)
-  unfolding written words layout total wordsBy
-  written-pack = rw (first-kind (p .edition), inner-written) refl
+  most : n ≤ 4096
+  most = parts q (a .fine) .most
 
-  pub written-total : length (written ws lists (words p)) ≡ total (withRelations p rs)
-  written-total = ap length written-pack ∙ words-length (withRelations p rs)
+  -- so many relations are written or passed
+  pub record Writing (i from to : ℕ) (out : List ℕ) : Type 0 where
+    pub rest : List Relation
+    pub rest′ : List Relation
+    pub before : List ℕ
+    pub used : List ℕ
+    pub its : List ℕ
+    pub left : At work result before (wordsOf W rest ++ after) (wordsOf W rest′ ++ after) from to out
+    pub fine : RelationsFine n used rest
+    pub places : drop i order ≡ placesFrom n (length before) rest
+    pub listed : drop i lists ≡ its
+    pub stamps : Stamped ws its rest rest′
+
+  same-many : {ls : List ℕ} {rs rs′ : List Relation} → Stamped ws ls rs rs′ → length rs ≡ length rs′
+  same-many no-more = refl
+  same-many (one-more s more) = ap suc (same-many more)
+
+  pub not-empty : {l : ℕ} → l ≡ room → 0 < l
+  not-empty e = omega (arith, a .size, ap length (pack-words (withRelations q (a .stamped))), length-append (front (withRelations q (a .stamped))) (wordsOf W (a .stamped) ++ after))
+
+  pub writing-begin : (out : List ℕ) → length out ≡ room → Writing 0 1 1 (set out 0 (wordOf 1 (length out)))
+  writing-begin out l =
+      let v : ℕ = wordOf 1 (length out) in
+      let p′ : Pack = withRelations q (a .stamped) in
+      let total-is : length out ≡ total p′ = l ∙ a .size ∙ words-length p′ in
+      let five : List ℕ = drop 1 (front q) in
+      let same : drop 1 (front p′) ≡ five = ap (λ (k : ℕ). wordOf 2 n ∷ (wordsBy (defaulted n) (q .defaulted) ++ (wordOf 5 k ∷ []))) (sym (same-many (a .stamps))) in
+      let first : take 1 (set out 0 v) ≡ v ∷ [] = take-suc-set out 0 v (not-empty l) in
+      record {
+        rest = q .relations;
+        rest′ = a .stamped;
+        before = front q;
+        used = [];
+        its = lists;
+        left = record {
+          stands = a .stands ∙ pack-words q;
+          behind = omega arith;
+          room = simp length-set (not-empty l);
+          size = length-set out 0 v ∙ l ∙ a .size;
+          todo = ap (λ (x : List ℕ). x ++ (five ++ (wordsOf W (a .stamped) ++ after))) first ∙ ap (λ (x : ℕ). wordOf 1 x ∷ (five ++ (wordsOf W (a .stamped) ++ after))) total-is
+              ∙ ap (λ (x : List ℕ). wordOf 1 (total p′) ∷ (x ++ (wordsOf W (a .stamped) ++ after))) (sym same) ∙ sym (pack-words p′);
+        };
+        fine = parts q (a .fine) .relations-fine;
+        places = a .places ∙ ap (λ (x : ℕ). placesFrom n x (q .relations)) (sym (front-long q));
+        listed = refl;
+        stamps = a .stamps;
+      }
+
+  -- the next relation
+  record Facing (i from to : ℕ) (out : List ℕ) : Type 0 where
+    r : Relation
+    r′ : Relation
+    rs : List Relation
+    rs′ : List Relation
+    before : List ℕ
+    used : List ℕ
+    its : List ℕ
+    left : At work result before (W r ++ (wordsOf W rs ++ after)) (W r′ ++ (wordsOf W rs′ ++ after)) from to out
+    fine : RelationsFine n used (r ∷ rs)
+    start : getD order i 0 ≡ length before
+    places : drop (suc i) order ≡ placesFrom n (length before + length (W r)) rs
+    inside : i < length lists
+    by : StampedBy ws (getD lists i 0) r r′
+    listed : drop (suc i) lists ≡ its
+    stamps : Stamped ws its rs rs′
+
+  face : {i from to : ℕ} {out : List ℕ} → Writing i from to out → i < length order → Facing i from to out
+  unfolding placesFrom
+  face {i} {from} {to} {out} s h = go (s .stamps) (s .left) (s .fine) (s .places) (s .listed)
+    where
+      go : {its : List ℕ} {rest rest′ : List Relation} → Stamped ws its rest rest′ → At work result (s .before) (wordsOf W rest ++ after) (wordsOf W rest′ ++ after) from to out → RelationsFine n (s .used) rest
+          → drop i order ≡ placesFrom n (length (s .before)) rest → drop i lists ≡ its → Facing i from to out
+      go no-more t f p l = let x = drop-cons order i 0 h in let z : _≡_ {A = ℕ} 0 1 = cc in absurd (omega arith)
+      go {rest = r ∷ rs} {rest′ = r′ ∷ rs′} (one-more {list = list} {lists = ls} b more) t f p l =
+          let x = drop-cons order i 0 h in
+          let inside : i < length lists = omega (arith, ap length l, length-drop i lists) in
+          let y = drop-cons lists i 0 inside in
+          let list-is : list ≡ getD lists i 0 = cc in
+          record {
+            r = r;
+            r′ = r′;
+            rs = rs;
+            rs′ = rs′;
+            before = s .before;
+            used = s .used;
+            its = ls;
+            left = rw (append-assoc (W r) (wordsOf W rs) after, append-assoc (W r′) (wordsOf W rs′) after) at t;
+            fine = f;
+            start = cc;
+            places = cc;
+            inside = inside;
+            by = subst (λ (v : ℕ). StampedBy ws v r r′) list-is b;
+            listed = cc;
+            stamps = more;
+          }
+
+  module _ {i from to : ℕ} {out : List ℕ} (s : Writing i from to out) (h : i < length order) where
+    abbrev F : Facing i from to out
+    F = face s h
+
+    pub list-inside : i < length lists
+    list-inside = F .inside
+
+    on-from : {out′ : List ℕ} {from′ to′ : ℕ} → At work result (F .before ++ W (F .r)) (wordsOf W (F .rs) ++ after) (wordsOf W (F .rs′) ++ after) from′ to′ out′ → Writing (i + 1) from′ to′ out′
+    on-from t =
+        record {
+          rest = F .rs;
+          rest′ = F .rs′;
+          before = F .before ++ W (F .r);
+          used = F .r .name ∷ F .used;
+          its = F .its;
+          left = t;
+          fine = F .fine .1;
+          places = rw add-one (F .places ∙ ap (λ (x : ℕ). placesFrom n x (F .rs)) (sym (length-append (F .before) (W (F .r)))));
+          listed = rw add-one (F .listed);
+          stamps = F .stamps;
+        }
+
+    -- is passed
+    pub writing-pass : getD lists i 0 ≡ 0 → Writing (i + 1) from to out
+    writing-pass z =
+        on-from (at-on work result (F .before) (W (F .r)) (wordsOf W (F .rs) ++ after) (wordsOf W (F .rs′) ++ after)
+        (subst (λ (x : Relation). At work result (F .before) (W (F .r) ++ (wordsOf W (F .rs) ++ after)) (W x ++ (wordsOf W (F .rs′) ++ after)) from to out) (unstamped-same (F .by) z) (F .left)))
+
+    -- or stamped
+    module _ (list : getD lists i 0 ≡ 0 → ⊥) where
+      abbrev O : On ws (getD lists i 0) (F .r) (F .r′)
+      O = stamped-on (F .by) list
+
+      abbrev B : List ℕ
+      B = F .before
+
+      abbrev T : List ℕ
+      T = wordsOf W (F .rs) ++ after
+
+      abbrev T′ : List ℕ
+      T′ = wordsOf W (F .rs′) ++ after
+
+      abbrev X : List ℕ
+      X = lead n (F .r) (O .d) (F .r .slotKinds) ++ (wordOf 21 0 ∷ [])
+
+      abbrev X′ : List ℕ
+      X′ = lead n (F .r) (O .d) (orKinds (F .r .slotKinds) (O .ks)) ++ listWords 21 (O .ks)
+
+      words-are : W (F .r) ≡ X ++ late n (O .d)
+      words-are = its-words work n (F .r) B T (F .left .stands) (λ v. among v (F .used)) (F .fine .0) most (O .d) (O .derived) (O .none-21) (O .ks) ∙ sym (append-assoc (lead n (F .r) (O .d) (F .r .slotKinds)) (wordOf 21 0 ∷ []) (late n (O .d)))
+
+      words-become : W (F .r′) ≡ X′ ++ late n (O .d)
+      words-become =
+          ap W (O .same) ∙ its-stamped work n (F .r) B T (F .left .stands) (λ v. among v (F .used)) (F .fine .0) most (O .d) (O .derived) (O .none-21) (O .ks)
+          ∙ sym (append-assoc (lead n (F .r) (O .d) (orKinds (F .r .slotKinds) (O .ks))) (listWords 21 (O .ks)) (late n (O .d)))
+
+      opened-left : At work result B (X ++ (late n (O .d) ++ T)) (X′ ++ (late n (O .d) ++ T′)) from to out
+      opened-left =
+          rw (append-assoc X (late n (O .d)) T, append-assoc X′ (late n (O .d)) T′) at
+          (rw (words-are, words-become) at (F .left))
+
+      module _ {start place : ℕ} (st : start ≡ getD order i 0) (pl : place ≡ slotsPlace work start + 4) where
+        starts : start ≡ length B
+        starts = st ∙ F .start
+
+        placed : place ≡ slotsPlace work (length B) + 4
+        placed = pl ∙ ap (λ (x : ℕ). slotsPlace work x + 4) starts
+
+        more-is : drop from B ++ X′ ≡ putFor (namesOr (namesAt ws (getD lists i 0))) work from start place
+        more-is =
+            put-is work n (F .r) B T (F .left .stands) (λ v. among v (F .used)) (F .fine .0) most (O .d) (O .derived) (O .none-21) (O .ks) (F .left .behind) placed
+            ∙ rw (O .names, ← starts) refl
+
+        lead-long : length (B ++ lead n (F .r) (O .d) (F .r .slotKinds)) ≡ place
+        lead-long = lead-there work n (F .r) B T (F .left .stands) (λ v. among v (F .used)) (F .fine .0) most (O .d) (O .derived) (O .none-21) (O .ks) ∙ sym placed
+
+        result-few : length result ≤ 8192
+        result-few = omega (arith, a .size, a .few)
+
+        pub writing-asked : (start ≤ 65536) × (from ≤ start) × (start + 4 ≤ place) × (place ≤ length work) × Room out to (putFor (namesOr (namesAt ws (getD lists i 0))) work from start place)
+        writing-asked =
+            let L : List ℕ = lead n (F .r) (O .d) (F .r .slotKinds) in
+            let inside : length work ≡ length (B ++ L) + length ((wordOf 21 0 ∷ late n (O .d)) ++ T) =
+            ap length (lead-stands work n (F .r) B T (F .left .stands) (λ v. among v (F .used)) (F .fine .0) most (O .d) (O .derived) (O .none-21) (O .ks)) ∙ length-append (B ++ L) ((wordOf 21 0 ∷ late n (O .d)) ++ T) in
+            let low : start + 4 ≤ place = omega (arith, starts, lead-long, length-append B L) in
+            let high : place ≤ length work = omega (arith, inside, lead-long) in
+            let few : length work ≤ 8192 = (let m = a .fine .most in omega (arith, ap length (a .stands), words-length q)) in
+            (omega arith, omega (arith, starts, F .left .behind), low, high, at-room work result B X X′ (late n (O .d) ++ T) (late n (O .d) ++ T′) opened-left more-is result-few)
+
+        pub writing-put : {next : ℕ} {left : List ℕ} → Put out to (putFor (namesOr (namesAt ws (getD lists i 0))) work from start place) left next → length left ≡ length out → Writing (i + 1) (place + 1) next left
+        writing-put p l =
+            let long : length (B ++ X) ≡ place + 1 = ap length (sym (append-assoc B (lead n (F .r) (O .d) (F .r .slotKinds)) (wordOf 21 0 ∷ []))) ∙ length-append (B ++ lead n (F .r) (O .d) (F .r .slotKinds)) (wordOf 21 0 ∷ []) ∙ omega (arith, lead-long) in
+            let t = at-on work result (B ++ X) (late n (O .d)) T T′ (at-put work result B X X′ (late n (O .d) ++ T) (late n (O .d) ++ T′) opened-left more-is p l long) in
+            on-from (rw (append-assoc B X (late n (O .d)), ← words-are) at t)
+
+  -- then the rest
+  module _ {i from to : ℕ} {out : List ℕ} (s : Writing i from to out) (h : length order ≤ i) where
+    last : At work result (s .before) after after from to out
+    unfolding placesFrom
+    last = go (s .stamps) (s .left) (sym (drop-of-length-le order h) ∙ s .places)
+      where
+        go : {its : List ℕ} {rest rest′ : List Relation} → Stamped ws its rest rest′ → At work result (s .before) (wordsOf W rest ++ after) (wordsOf W rest′ ++ after) from to out → [] ≡ placesFrom n (length (s .before)) rest → At work result (s .before) after after from to out
+        go no-more t p = t
+        go (one-more b more) t p = let z : _≡_ {A = ℕ} 0 1 = cc in absurd (omega arith)
+
+    pub writing-rest : (from ≤ length work) × ((to ≤ length out) × ((length out ≤ 8192) × (length out - to ≡ length work - from)))
+    writing-rest = (at-within work result last, (last .room, (omega (arith, last .size, a .size, a .few), at-rest work result last)))
+
+    pub writing-end : {copied : List ℕ} → copied ≡ midOf from (length work - from) work → putMid to (length out - to) out copied ≡ result
+    writing-end c = at-end work result last c

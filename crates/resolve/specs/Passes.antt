@@ -197,7 +197,8 @@ abbrev pub stampAll : Pack → Pack → Pack
 stampAll p q = withRelations q (map (stamp p) (q .relations))
 
 -- the words of a pack whose trees are resolved, and where its relations start
-pub record FinishAsked (ws records marks work order : List ℕ) (steps : ℕ) : Type 0 where
+pub record FinishAsked (ws marks work order : List ℕ) (steps : ℕ) : Type 0 where
+  pub records : List ℕ
   pub taken : List ℕ
   pub tabled : Tabled ws records marks taken steps
   pub whole : Pack

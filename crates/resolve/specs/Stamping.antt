@@ -1,10 +1,10 @@
 -- Stamping, by the place of a list: what a relation comes out as when the list that stands at a place is stamped on it, 0 for none.
-use Prim.Native.Nat.{ℕ, _+_, _-_, _<_}
+use Prim.Native.Nat.{ℕ, suc, _+_, _-_, _*_, _%_, _<_, _≤_}
 use mathlib.Core.Path.{_≡_}
 use mathlib.Core.List.{List, [], _∷_}
 use mathlib.Core.Bool.{Bool, false, _||_, _&&_}
-use mathlib.Core.Option.{some}
-use lib.ListN.{getD, drop, set}
+use mathlib.Core.Option.{Option, none, some}
+use lib.ListN.{length, getD, drop, set}
 use lib.Dec.{eqb, ltb, leb}
 use Rattle.pack.specs.Table.{pick, kindOf, valueOf}
 use Rattle.pack.specs.Pack.{Derivation, Relation}
@@ -45,23 +45,54 @@ roleIn ws at = roleAmong (drop at ws)
 unfoldable pub unstamped : List ℕ → ℕ → Bool
 unstamped work start = eqb (flagAt work start) 1 && eqb (entityCount work start) 0
 
--- "pass over a relation with both lists empty that some atom or Exists names, or whose predicate holds kinds 102 to 104", list 21 being empty
-unfoldable pub passedIn : List ℕ → List ℕ → ℕ → ℕ → Bool
-passedIn work atoms name start = eqb (kindCount work start) 0 && (eqb (getD atoms name 0) 1 || roleIn work (predicateAt work start))
-
 -- "current slot in range and its kind unlike the related one", by the kinds of the list at a place
 unfoldable pub unlikeIn : List ℕ → List ℕ → ℕ → ℕ → Bool
 unlikeIn ws work list start = unlike (kindAt (namesAt ws list) (valueAt work (slotsPlace work start))) (kindAt (namesAt ws list) (valueAt work (slotsPlace work start + 1)))
 
--- the place of the list that settles its name, where the list is stamped, else 0; a name without a record has none
-unfoldable pub listFor : List ℕ → List ℕ → List ℕ → List ℕ → ℕ → ℕ → ℕ
-listFor ws work marks atoms name start =
-    pick (eqb start 0) 0
-    (pick (unstamped work start)
-    (pick (passedIn work atoms name start) 0
-    (pick (unlikeIn ws work (getD marks name 0 - 2) start) (getD marks name 0 - 2) 0))
-    0)
+-- "pass over a relation with both lists empty that some atom or Exists names, or whose predicate holds kinds 102 to 104", list 21 being empty
+unfoldable pub passedIn : List ℕ → List ℕ → ℕ → ℕ → Bool
+passedIn work atoms name start = eqb (kindCount work start) 0 && (eqb (getD atoms name 0) 1 || roleIn work (predicateAt work start))
 
--- the list for a name
-unfoldable pub listIn : List ℕ → List ℕ → List ℕ → List ℕ → List ℕ → ℕ → ℕ
-listIn ws work records marks atoms name = listFor ws work marks atoms name (getD records name 0)
+-- its name, which finds its place in the tables
+unfoldable pub nameAt : List ℕ → ℕ → ℕ
+nameAt work start = valueAt work start % 4096
+
+-- the place of the list that settles its name, where the list is stamped, else 0
+unfoldable pub listFor : List ℕ → List ℕ → List ℕ → List ℕ → ℕ → ℕ
+listFor ws work marks atoms start =
+    pick (unstamped work start)
+    (pick (unlikeIn ws work (getD marks (nameAt work start) 0 - 2) start)
+    (pick (passedIn work atoms (nameAt work start) start) 0 (getD marks (nameAt work start) 0 - 2))
+    0)
+    0
+
+-- the names of a list, none where there is no list
+abbrev pub namesOr : Option (List ℕ) → List ℕ
+namesOr none = []
+namesOr (some ks) = ks
+
+-- how many names the list at a place has; they stand in the pack
+pub record Lists (ws : List ℕ) (list count : ℕ) : Type 0 where
+  pub counts : count ≡ length (namesOr (namesAt ws list))
+  pub few : count < 16777216
+  pub within : count ≤ length ws - suc list
+
+-- how many words more the relation has with the list stamped on it: "list 21 becomes the kinds, and so does list 9 if empty"
+unfoldable pub addedFor : List ℕ → List ℕ → ℕ → ℕ → ℕ
+addedFor ws work list start = length (namesOr (namesAt ws list)) * pick (eqb (kindCount work start) 0) 2 1
+
+-- for relations that start at places, one after the other
+unfoldable pub listsFor : List ℕ → List ℕ → List ℕ → List ℕ → List ℕ → List ℕ
+listsFor ws work marks atoms [] = []
+listsFor ws work marks atoms (start ∷ order) = listFor ws work marks atoms start ∷ listsFor ws work marks atoms order
+
+unfoldable pub addedBy : List ℕ → List ℕ → List ℕ → List ℕ → ℕ
+addedBy ws work [] lists = 0
+addedBy ws work (start ∷ order) [] = 0
+addedBy ws work (start ∷ order) (list ∷ lists) = addedFor ws work list start + addedBy ws work order lists
+
+-- all lists, and how many words more there are with them
+pub record Listed (ws work marks atoms order lists : List ℕ) (added : ℕ) : Type 0 where
+  pub each : lists ≡ listsFor ws work marks atoms order
+  pub adds : added ≡ addedBy ws work order lists
+  pub few : added ≤ 17179869184

@@ -2,8 +2,6 @@
 use crate::stamping::atoms;
 use crate::stamping::lists;
 use crate::write::write;
-use crate::write::written_length;
-use chains::header::name_count;
 use pack::answer::Answer;
 use pack::check::refuse;
 use pack::kinds::Pack;
@@ -12,28 +10,26 @@ ghost use Rattle.resolve.specs.Passes.{FinishAsked, FinishCame};
 // From the words of a pack whose trees are resolved.
 pub fn finish(
     pack: &[u32],
-    starts: &[u32; 4096],
     marks: &[u32; 4096],
     work: &[u32],
     order: &[u32],
     steps: u32,
     out: &mut [u32],
 ) -> Answer
-    requires { ⌜ FinishAsked (now pack) (now starts) (now marks) (now work) (now order) steps ⌝ }
+    requires { ⌜ FinishAsked (now pack) (now marks) (now work) (now order) steps ⌝ }
     ensures { λ r. ⌜ FinishCame (now (pack .entry)) (now (out .entry)) r (now (out .exit)) ⌝ }
 {
     let mut named = [0u8; 4096];
-    let mut stamped = [0u32; 4096];
-    let names = name_count(pack) as usize;
+    let mut places = [0u32; 512];
+    let stamped = &mut places[0..order.len()];
     atoms(pack, &mut named);
-    lists(pack, work, starts, marks, &named, names, &mut stamped);
-    let len = written_length(pack, work, &stamped);
+    let len = work.len() + lists(pack, work, marks, &named, order, stamped);
     if Pack::MOST_WORDS < len {
         return refuse(16, 0);
     }
     if out.len() < len {
         return refuse(16, 0);
     }
-    write(pack, work, &stamped, &mut out[0..len]);
+    write(pack, work, order, stamped, &mut out[0..len]);
     Answer::Given(len as u32, steps)
 }

@@ -3,29 +3,17 @@ use crate::equal::first_equal;
 use crate::finish::finish;
 use crate::trees::fill_tables;
 use crate::trees::trees;
+use crate::words::copy;
 use chains::header::relation_count;
 use pack::answer::Answer;
 use pack::answer::Refusal;
 use pack::check::check;
 use pack::kinds::Pack;
 ghost use mathlib.Core.Path.{_≡_};
-ghost use lib.ListN.{length};
 ghost use Rattle.chains.specs.AllKinds.{IsPack};
 ghost use Rattle.chains.specs.Operations.{Answered};
 ghost use Rattle.resolve.specs.Operations.{resolveAnswer, resolveBuffer};
 ghost use Rattle.resolve.specs.Passes.{TreesAsked, PackCame, ResolveAsked};
-
-// The words of a slice in another of the same length.
-fn copy(pack: &[u32], work: &mut [u32])
-    requires { ⌜ length (now work) ≡ length (now pack) ⌝ }
-    ensures { λ r. ⌜ now (work .exit) ≡ now (pack .entry) ⌝ }
-{
-    let mut i: usize = 0;
-    while i < pack.len() {
-        work[i] = pack[i];
-        i += 1;
-    }
-}
 
 // Defaulted names with equal kinds are refused; then all trees are resolved, in a copy of the words.
 fn turn_pack(
@@ -67,7 +55,7 @@ fn resolve_in(pack: &[u32], work: &mut [u32], out: &mut [u32]) -> Answer
     let Answer::Given(_, _) = a else {
         return a;
     };
-    finish(pack, &starts, &marks, work, order, steps, out)
+    finish(pack, &marks, work, order, steps, out)
 }
 
 // The whole pack in record order, with slots and lists as resolving leaves them; the answer is its number of words and

@@ -1,5 +1,6 @@
 // Stamping: which list of kinds each relation takes, by the place of the list.
 use chains::record::flag_at;
+use chains::record::kind_count;
 use chains::record::predicate_place;
 use chains::record::slots_place;
 use chains::record::value_at;
@@ -8,14 +9,13 @@ use chains::taking::kind_at;
 use chains::taking::place_of;
 use pack::kinds::Pack;
 ghost use mathlib.Core.Path.{_≡_};
-ghost use mathlib.Core.List.{[], _∷_, _++_};
+ghost use mathlib.Core.List.{[], _∷_};
 ghost use Prim.Native.Nat.{_<_, _≤_};
-ghost use lib.ListN.{length, drop};
+ghost use lib.ListN.{length};
 ghost use Rattle.pack.specs.Table.{kindOf, valueOf};
-ghost use Rattle.chains.specs.Operations.{tableFrom};
 ghost use Rattle.resolve.specs.Resolving.{roleJudgment};
 ghost use Rattle.chains.specs.Record.{Recorded};
-ghost use Rattle.resolve.specs.Stamping.{atomAfter, atomsIn, NoAtoms, roleIn, unstamped, passedIn, unlikeIn, listFor, listIn};
+ghost use Rattle.resolve.specs.Stamping.{atomAfter, atomsIn, NoAtoms, roleIn, unstamped, passedIn, unlikeIn, listFor, Lists, addedFor, Listed};
 
 // One word: an atom or Exists marks the relation that it names.
 fn atom_word(table: &mut [u8; 4096], word: u32)
@@ -137,20 +137,6 @@ fn unstamped(work: &[u32], start: usize) -> bool
     value_at(work, slots_place(work, start) + 4) == 0
 }
 
-// Whether it is then passed over: without slot kinds, named by an atom or Exists, or with a judgment of roles.
-fn passed_over(work: &[u32], atoms: &[u8; 4096], name: usize, start: usize) -> bool
-    requires { ⌜ (start ≤ 65536) × (name < 4096) ⌝ }
-    ensures { λ r. ⌜ r ≡ passedIn (now (work .entry)) (now (atoms .entry)) name start ⌝ }
-{
-    if value_at(work, start + 3) != 0 {
-        return false;
-    }
-    if atoms[name] == 1 {
-        return true;
-    }
-    role(work, predicate_place(work, start))
-}
-
 // Whether a list has a kind at its current slot, and not the same at its related slot.
 fn unlike(pack: &[u32], work: &[u32], list: u32, start: usize) -> bool
     requires { ⌜ start ≤ 65536 ⌝ }
@@ -166,50 +152,96 @@ fn unlike(pack: &[u32], work: &[u32], list: u32, start: usize) -> bool
     c != r
 }
 
-// The place of the list that is stamped on the relation of a name, whose record starts at a place; 0 for none.
+// Whether it is passed over: without slot kinds, named by an atom or Exists, or with a judgment of roles.
+fn passed_over(work: &[u32], atoms: &[u8; 4096], name: usize, start: usize) -> bool
+    requires { ⌜ (start ≤ 65536) × (name < 4096) ⌝ }
+    ensures { λ r. ⌜ r ≡ passedIn (now (work .entry)) (now (atoms .entry)) name start ⌝ }
+{
+    if value_at(work, start + 3) != 0 {
+        return false;
+    }
+    if atoms[name] == 1 {
+        return true;
+    }
+    role(work, predicate_place(work, start))
+}
+
+// The place of the list that is stamped on the relation whose record starts at a place; 0 for none.
 fn list_for(
     pack: &[u32],
     work: &[u32],
     marks: &[u32; 4096],
     atoms: &[u8; 4096],
-    name: usize,
     start: usize,
 ) -> u32
-    requires { ⌜ (start ≤ 65536) × (name < 4096) ⌝ }
-    ensures { λ r. ⌜ r ≡ listFor (now (pack .entry)) (now (work .entry)) (now (marks .entry)) (now (atoms .entry)) name start ⌝ }
+    requires { ⌜ start ≤ 65536 ⌝ }
+    ensures { λ r. ⌜ r ≡ listFor (now (pack .entry)) (now (work .entry)) (now (marks .entry)) (now (atoms .entry)) start ⌝ }
 {
-    if start == 0 {
-        return 0;
-    }
     if !unstamped(work, start) {
         return 0;
     }
-    if passed_over(work, atoms, name, start) {
+    let name = (value_at(work, start) % Pack::MOST_NAMES) as usize;
+    let list = place_of(marks, name);
+    if !unlike(pack, work, list, start) {
         return 0;
     }
-    let list = place_of(marks, name);
-    if unlike(pack, work, list, start) {
+    if !passed_over(work, atoms, name, start) {
         return list;
     }
     0
 }
 
-// The lists for the first names.
+// How many names the list at a place has within the pack; at place 0 there are none.
+pub fn names_at(pack: &[u32], list: u32) -> u32
+    ensures { λ r. ⌜ Lists (now (pack .entry)) list r ⌝ }
+{
+    if list == 0 {
+        return 0;
+    }
+    let at = list as usize;
+    if pack.len() <= at {
+        return 0;
+    }
+    let count = pack[at] % Pack::VALUES;
+    let after = pack.len() - at - 1;
+    if after < count as usize {
+        return after as u32;
+    }
+    count
+}
+
+// How many words more the relation has with the list stamped on it.
+fn added(pack: &[u32], work: &[u32], list: u32, start: usize) -> usize
+    requires { ⌜ start ≤ 65536 ⌝ }
+    ensures { λ r. ⌜ (r ≡ addedFor (now (pack .entry)) (now (work .entry)) list start) × (r < 33554432) ⌝ }
+{
+    let names = names_at(pack, list) as usize;
+    if kind_count(work, start) == 0 {
+        return names * 2;
+    }
+    names
+}
+
+// The lists for relations that start at places. The answer is how many words more there are with them.
 pub fn lists(
     pack: &[u32],
     work: &[u32],
-    records: &[u32; 4096],
     marks: &[u32; 4096],
     atoms: &[u8; 4096],
-    names: usize,
-    table: &mut [u32; 4096],
-)
-    requires { ⌜ Recorded (now records) × (names ≤ 4096) × (length (now table) ≡ 4096) ⌝ }
-    ensures { λ r. ⌜ now (table .exit) ≡ tableFrom (listIn (now (pack .entry)) (now (work .entry)) (now (records .entry)) (now (marks .entry)) (now (atoms .entry))) 0 names ++ drop names (now (table .entry)) ⌝ }
+    order: &[u32],
+    table: &mut [u32],
+) -> usize
+    requires { ⌜ Recorded (now order) × (length (now table) ≡ length (now order)) × (length (now order) ≤ 512) ⌝ }
+    ensures { λ r. ⌜ Listed (now (pack .entry)) (now (work .entry)) (now (marks .entry)) (now (atoms .entry)) (now (order .entry)) (now (table .exit)) r ⌝ }
 {
-    let mut j: usize = 0;
-    while j < names {
-        table[j] = list_for(pack, work, marks, atoms, j, records[j] as usize);
-        j += 1;
+    let mut more: usize = 0;
+    let mut i: usize = 0;
+    while i < order.len() {
+        let start = order[i] as usize;
+        let list = list_for(pack, work, marks, atoms, start);
+        table[i] = list;
+        more += added(pack, work, list, start);
+        i += 1;
     }
+    more
 }

@@ -2,6 +2,7 @@
 use pack::kinds::Pack;
 ghost use mathlib.Core.Path.{_≡_};
 ghost use Prim.Native.Nat.{_<_};
+ghost use lib.ListN.{length};
 ghost use Rattle.pack.specs.Table.{kindOf};
 ghost use Rattle.chains.specs.AllKinds.{IsPack};
 ghost use Rattle.resolve.specs.Blocks.{placeOfKind};
@@ -25,6 +26,18 @@ pub fn place_of_kind(pack: &[u32], kind: u32) -> usize
         i += 1;
     }
     i
+}
+
+// The words of a slice in another of the same length.
+pub fn copy(pack: &[u32], work: &mut [u32])
+    requires { ⌜ length (now work) ≡ length (now pack) ⌝ }
+    ensures { λ r. ⌜ now (work .exit) ≡ now (pack .entry) ⌝ }
+{
+    let mut i: usize = 0;
+    while i < pack.len() {
+        work[i] = pack[i];
+        i += 1;
+    }
 }
 
 // The place of the count of a checked pack's blocks, its only word of that kind. The blocks stand last, and most packs

@@ -1,102 +1,104 @@
 // Writing the whole pack: the resolved words as they stand, but each stamped list in place of an empty one.
-// `pack` are the words in which the lists stand; `lists` has, by name, the place there of the list that is stamped on a
-// relation, 0 for none.
+// `pack` are the words in which the lists stand, `work` the resolved ones.
+use chains::record::kind_count;
+use chains::record::slots_place;
+use crate::stamping::names_at;
+use crate::words::copy;
 use chains::record::value_at;
 use pack::kinds::Pack;
 ghost use mathlib.Core.Path.{_≡_};
-ghost use Prim.Native.Nat.{_≤_};
+ghost use mathlib.Core.List.{_++_, map};
+ghost use Prim.Native.Nat.{_+_, _≤_};
 ghost use lib.ListN.{length};
-ghost use Rattle.resolve.specs.Writing.{listAfter, written, Lists, Puts};
+ghost use Rattle.pack.specs.Table.{wordOf};
+ghost use Rattle.chains.specs.Operations.{namesAt};
+ghost use Rattle.resolve.specs.Stamping.{namesOr, Lists};
+ghost use Rattle.resolve.specs.Writing.{fromTo, listWords, putFor, Put, Room, WriteAsked, WriteCame};
 
-// The words that count an empty list 9, and an empty list 21.
-const EMPTY_KINDS: u32 = Pack::SLOT_KINDS * Pack::VALUES;
-
-const EMPTY_ENTITIES: u32 = Pack::SLOT_ENTITIES * Pack::VALUES;
-
-// The list in force after a word.
-fn list_after(lists: &[u32; 4096], list: u32, word: u32) -> u32
-    ensures { λ r. ⌜ r ≡ listAfter (now (lists .entry)) list word ⌝ }
+// The names of a list, in a slice with as many words.
+fn put_names(pack: &[u32], list: u32, out: &mut [u32])
+    requires { ⌜ Lists (now pack) list (length (now out)) ⌝ }
+    ensures { λ r. ⌜ now (out .exit) ≡ map (wordOf 10) (namesOr (namesAt (now (pack .entry)) list)) ⌝ }
 {
-    match word / Pack::VALUES {
-        Pack::RELATION => lists[(word % Pack::MOST_NAMES) as usize],
-        Pack::RULE_COUNT => 0,
-        _ => list,
+    let mut j: usize = 0;
+    while j < out.len() {
+        out[j] = Pack::SLOT_KIND * Pack::VALUES + value_at(pack, list as usize + 1 + j);
+        j += 1;
     }
 }
 
-// How many names the list at a place has within the pack; at place 0 there are none.
-fn names_at(pack: &[u32], list: u32) -> u32
-    ensures { λ r. ⌜ Lists (now (pack .entry)) list r ⌝ }
+// The words from one place up to another, and then a list of a kind. The answer is the place after them.
+fn put_list(
+    pack: &[u32],
+    list: u32,
+    kind: u32,
+    work: &[u32],
+    from: usize,
+    place: usize,
+    out: &mut [u32],
+    to: usize,
+) -> usize
+    requires { ⌜ (from ≤ place) × (place ≤ length (now work)) × (kind ≤ 21) × Room (now out) to (fromTo from place (now work) ++ listWords kind (namesOr (namesAt (now pack) list))) ⌝ }
+    ensures { λ r. ⌜ Put (now (out .entry)) to (fromTo from place (now (work .entry)) ++ listWords kind (namesOr (namesAt (now (pack .entry)) list))) (now (out .exit)) r ⌝ }
 {
-    if list == 0 {
-        return 0;
-    }
-    let at = list as usize;
-    if pack.len() <= at {
-        return 0;
-    }
-    let count = pack[at] % Pack::VALUES;
-    let after = pack.len() - at - 1;
-    if after < count as usize {
-        return after as u32;
-    }
-    count
+    let at = to + (place - from);
+    copy(&work[from..place], &mut out[to..at]);
+    let names = names_at(pack, list);
+    out[at] = kind * Pack::VALUES + names;
+    let next = at + 1 + names as usize;
+    put_names(pack, list, &mut out[at + 1..next]);
+    next
 }
 
-// How many names are put after a word.
-fn names_put(pack: &[u32], list: u32, word: u32) -> u32
-    ensures { λ r. ⌜ Puts (now (pack .entry)) list word r ⌝ }
+// The words from a place up to the count word of a relation's list 21, with the list stamped on it.
+fn put_relation(
+    pack: &[u32],
+    list: u32,
+    work: &[u32],
+    from: usize,
+    start: usize,
+    place: usize,
+    out: &mut [u32],
+    to: usize,
+) -> usize
+    requires { ⌜ (start ≤ 65536) × (from ≤ start) × (start + 4 ≤ place) × (place ≤ length (now work)) × Room (now out) to (putFor (namesOr (namesAt (now pack) list)) (now work) from start place) ⌝ }
+    ensures { λ r. ⌜ Put (now (out .entry)) to (putFor (namesOr (namesAt (now (pack .entry)) list)) (now (work .entry)) from start place) (now (out .exit)) r ⌝ }
 {
-    match word {
-        EMPTY_KINDS | EMPTY_ENTITIES => names_at(pack, list),
-        _ => 0,
+    if kind_count(work, start) != 0 {
+        return put_list(pack, list, Pack::SLOT_ENTITIES, work, from, place, out, to);
     }
+    let next = put_list(pack, list, Pack::SLOT_KINDS, work, from, start + 3, out, to);
+    put_list(
+        pack,
+        list,
+        Pack::SLOT_ENTITIES,
+        work,
+        start + 4,
+        place,
+        out,
+        next,
+    )
 }
 
-// The number of words that are written.
-pub fn written_length(pack: &[u32], work: &[u32], lists: &[u32; 4096]) -> usize
-    requires { ⌜ length (now work) ≤ 8192 ⌝ }
-    ensures { λ r. ⌜ r ≡ length (written (now (pack .entry)) (now (lists .entry)) (now (work .entry))) ⌝ }
-{
-    let mut n: usize = 1;
-    let mut list: u32 = 0;
-    let mut i: usize = 1;
-    while i < work.len() {
-        let w = work[i];
-        list = list_after(lists, list, w);
-        let names = names_put(pack, list, w);
-        n += 1 + names as usize;
-        i += 1;
-    }
-    n
-}
-
-// The words written into the lent slice, which has as many: one word each turn, a name that is left to put or the next
-// of the words.
-pub fn write(pack: &[u32], work: &[u32], lists: &[u32; 4096], out: &mut [u32])
-    requires { ⌜ (length (now out) ≡ length (written (now pack) (now lists) (now work))) × (length (now out) ≤ 8192) ⌝ }
-    ensures { λ r. ⌜ now (out .exit) ≡ written (now (pack .entry)) (now (lists .entry)) (now (work .entry)) ⌝ }
+// All words, in a slice with as many: those before each stamped relation in one go, and those after the last.
+pub fn write(pack: &[u32], work: &[u32], order: &[u32], lists: &[u32], out: &mut [u32])
+    requires { ⌜ WriteAsked (now pack) (now order) (now lists) (now work) (length (now out)) ⌝ }
+    ensures { λ r. ⌜ WriteCame (now (pack .entry)) (now (order .entry)) (now (lists .entry)) (now (work .entry)) (length (now (out .entry))) (now (out .exit)) ⌝ }
 {
     out[0] = Pack::TOTAL * Pack::VALUES + out.len() as u32;
-    let mut list: u32 = 0;
-    let mut next: usize = 0;
-    let mut left: u32 = 0;
-    let mut i: usize = 1;
-    let mut at: usize = 1;
-    while at < out.len() {
-        if 0 < left {
-            out[at] = Pack::SLOT_KIND * Pack::VALUES + value_at(pack, next);
-            next += 1;
-            left -= 1;
-            at += 1;
+    let mut from: usize = 1;
+    let mut to: usize = 1;
+    let mut i: usize = 0;
+    while i < order.len() {
+        let list = lists[i];
+        let start = order[i] as usize;
+        i += 1;
+        if list == 0 {
             continue;
         }
-        let w = work[i];
-        list = list_after(lists, list, w);
-        left = names_put(pack, list, w);
-        next = list as usize + 1;
-        out[at] = w + left;
-        i += 1;
-        at += 1;
+        let place = slots_place(work, start) + 4;
+        to = put_relation(pack, list, work, from, start, place, out, to);
+        from = place + 1;
     }
+    copy(&work[from..], &mut out[to..]);
 }

@@ -40,7 +40,7 @@ returns : tie.Need-returns
 returns c = resolve-stopped ((c .before .before .before .before .before .before .before .before .before .before .before .before .before .before .before .before .before .before .before .fill-tables) .ensures .checked) _ ((c .before .before .before .before .before .before .before .turn-pack) .ensures) ((c .before .enum-told2) .given .1)
 
 finish-requires : tie.Need-finish-requires
-finish-requires c κs = finish-of ((c .before .before .before .before .before .before .before .before .before .before .before .before .before .before .before .before .before .before .before .before .before .before .before .fill-tables) .ensures) ((c .before .before .before .before .before .before .before .before .before .before .before .turn-pack) .ensures) ((c .before .before .before .before .before .enum-told) .given .1)
+finish-requires c κs = finish-of ((c .before .before .before .before .before .before .before .before .before .before .before .before .before .before .before .before .before .before .before .before .before .before .fill-tables) .ensures) ((c .before .before .before .before .before .before .before .before .before .before .turn-pack) .ensures) ((c .before .before .before .before .enum-told) .given .1)
 
 same-length-2 : tie.Need-same-length-2
 same-length-2 c = search needs
@@ -49,7 +49,7 @@ same-length-3 : tie.Need-same-length-3
 same-length-3 c = search needs
 
 returns-2 : tie.Need-returns-2
-returns-2 c = resolve-done ((c .before .before .before .before .before .before .before .before .before .before .before .before .before .before .before .before .before .before .before .before .before .before .before .before .before .before .before .fill-tables) .ensures .checked) _ (whole-done ((c .before .before .before .before .before .before .before .before .before .before .before .before .before .before .before .before .before .before .before .before .before .before .before .before .before .before .before .fill-tables) .ensures .checked) _ ((c .before .before .before .before .before .before .before .before .before .before .before .before .before .before .before .turn-pack) .ensures) ((c .before .before .before .before .before .before .before .before .before .enum-told) .given .1)) ((c .before .before .before .finish) .ensures)
+returns-2 c = resolve-done ((c .before .before .before .before .before .before .before .before .before .before .before .before .before .before .before .before .before .before .before .before .before .before .before .before .before .before .fill-tables) .ensures .checked) _ (whole-done ((c .before .before .before .before .before .before .before .before .before .before .before .before .before .before .before .before .before .before .before .before .before .before .before .before .before .before .fill-tables) .ensures .checked) _ ((c .before .before .before .before .before .before .before .before .before .before .before .before .before .before .turn-pack) .ensures) ((c .before .before .before .before .before .before .before .before .enum-told) .given .1)) ((c .before .before .before .finish) .ensures)
 
 pub resolve-in-spec : {M : Type 1} → statement M
 resolve-in-spec =

@@ -4,9 +4,9 @@ use mathlib.Core.Path.{refl}
 use lib.ListN.{length, getD}
 use borrow.Author.Needs.{needs}
 use Rattle.chains.proofs.FillLaws.{Filling, begin, next}
-use Rattle.resolve.proofs.ResolveLaws.{copied}
-use Rattle.resolve.proofs.resolve.copy.Statement.{statement}
-use Rattle.resolve.proofs.resolve.copy.Tie as tie
+use Rattle.resolve.proofs.WordLaws.{copied}
+use Rattle.resolve.proofs.words.copy.Statement.{statement}
+use Rattle.resolve.proofs.words.copy.Tie as tie
 
 abbrev Inv-loop : tie.InvT-loop
 Inv-loop pack work₀ i₀ work i = Filling (λ j. getD pack j 0) work₀ work i

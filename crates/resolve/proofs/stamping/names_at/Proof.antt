@@ -1,10 +1,10 @@
--- `resolve::write::names_at` meets its contract.
+-- `resolve::stamping::names_at` meets its contract.
 use mathlib.Core.Path.{refl}
 use native.Mathlib.Omega.{arith}
-use Rattle.resolve.proofs.WriteLaws.{no-list, past-list, cut-list, whole-list}
+use Rattle.resolve.proofs.ListForLaws.{no-list, past-list, cut-list, whole-list}
 use borrow.Author.Needs.{needs}
-use Rattle.resolve.proofs.write.names_at.Statement.{statement}
-use Rattle.resolve.proofs.write.names_at.Tie as tie
+use Rattle.resolve.proofs.stamping.names_at.Statement.{statement}
+use Rattle.resolve.proofs.stamping.names_at.Tie as tie
 
 returns : tie.Need-returns
 returns c = no-list _ _ (c .if1 .taken)
