@@ -111,7 +111,7 @@ module _ (p : Pack) (w : WellFormed p) (rels : List Relation) (rls : List Rule) 
     stamps =
         all-stamped p w ws starts marks atoms lists work h (parts p w .most) (settled a) (λ m k. ap (λ (t : List ℕ). getD t m 0) marked ∙ atoms-named m k ws p h) listed (length (p .rules)) (parts p w .rule-count)
         (wordsOf (ruleWords n) rls ++ wordsBy (blocks n) (p .blocks)) (firstRelation p) (p .relations) rels (front p) (front-long p) (omega arith) (relations-keep p w .all)
-        (starts-of n (λ v. getD starts v 0) [] (p .relations) (firstRelation p) (parts p w .relations-fine) (λ m r e f. declared-at ws starts marks taken (a .declares) steps p h (a .scanned) (a .marked) (a .knows) m r f))
+        (starts-of n (λ v. getD starts v 0) [] (p .relations) (firstRelation p) (parts p w .relations-fine) (λ m r e f. declared-at ws starts marks taken (a .declares) steps p h (a .noted) (a .marked) (a .knows) m r f))
         (run-pairs (relationWords n) (λ at r. resolveRelation p at r) (RelationKeeps p) (relation-long p w) (firstRelation p) (p .relations) rels relations-ran)
         (stands ∙ again-words p rels rls many rules-many long rules-long)
 
@@ -143,7 +143,7 @@ module _ {ws starts marks work : List ℕ} {steps : ℕ} (a : FinishAsked ws sta
   whole-short = let m = well p w (T .rels) (T .rls) (T .rules-are) (T .relations-are) .most in omega (arith, ap length (a .stands), words-length (a .whole), ap total (T .same))
 
   pub finish-recorded : Recorded starts
-  finish-recorded = its-records ws starts marks (a .taken) (a .tabled .declares) steps p h (a .tabled .scanned) (a .tabled .marked) (a .tabled .knows)
+  finish-recorded = its-records ws starts marks (a .taken) (a .tabled .declares) steps p h (a .tabled .noted) (a .tabled .marked) (a .tabled .knows)
 
   pub finish-names : {names : ℕ} → Named ws names → names ≤ 4096
   finish-names count = omega (arith, count .names p h, parts p w .most)
