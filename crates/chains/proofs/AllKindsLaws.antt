@@ -10,17 +10,15 @@ use lib.Dec.{ltb}
 use borrow.Author.Tests.{ltb-false}
 use Rattle.pack.specs.Table.{pick}
 use Rattle.pack.specs.Form.{among}
-use Rattle.pack.specs.Pack.{Relation, Pack, WellFormed, words}
+use Rattle.pack.specs.Pack.{Relation, Pack}
 use Rattle.chains.specs.Chain.{Settled, nothing, own, All, walkAll, same}
 use Rattle.chains.specs.Kinds.{declared, kindStep, allKinds, ownAnswer}
 use Rattle.chains.specs.Operations.{placeOf}
-use Rattle.chains.specs.Index.{entryAfter}
-use Rattle.chains.specs.Scan.{scanTable}
 use Rattle.chains.specs.Settle.{stepAt, settledIn, walkIn, walksIn, SettledAll}
 use Rattle.chains.proofs.MappedLaws.{AnswersMapped, answers-mapped}
 use Rattle.chains.proofs.KindLaws.{kinds-own}
 use Rattle.chains.proofs.PackIndex.{zeros, zero-at}
-use Rattle.chains.proofs.PlaceBounds.{indexes}
+use Rattle.chains.proofs.PlaceBounds.{Indexes}
 
 -- at first nothing is settled
 pub zeros-nothing : settledIn zeros ≡ nothing
@@ -41,19 +39,17 @@ pub record KindsFound (p : Pack) (marks : List ℕ) (steps : ℕ) : Type 0 where
   pub counts : steps ≡ allKinds (p .relations) .steps
   pub marked : (n : ℕ) → among n (declared (p .relations)) ≡ true → getD marks n 0 ≡ 2 + placeOf p (ownAnswer (p .relations) n)
 
-module _ (p : Pack) (w : WellFormed p) where
+-- over a table that says at each name what one declaration read there says
+module _ (p : Pack) (index : List ℕ) (indexed : Indexes p index) where
   abbrev rs : List Relation
   rs = p .relations
-
-  abbrev index : List ℕ
-  index = scanTable entryAfter zeros (words p)
 
   place-none : placeOf p none ≡ 0
   unfolding placeOf
   place-none = refl
 
   over-index : AnswersMapped (placeOf p) none same (kindStep rs) 0 same (stepAt index) (declared rs) (declared rs)
-  over-index = answers-mapped (placeOf p) none 0 place-none same same (λ r. refl) (kindStep rs) (stepAt index) (indexes p w .says) (declared rs) (declared rs)
+  over-index = answers-mapped (placeOf p) none 0 place-none same same (λ r. refl) (kindStep rs) (stepAt index) (indexed .says) (declared rs) (declared rs)
 
   -- one name's own walk
   pub own-found : (n : ℕ) → walkIn index (suc (length (declared rs))) (settledIn zeros) [] n .answer ≡ placeOf p (ownAnswer rs n)

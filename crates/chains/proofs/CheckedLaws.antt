@@ -4,9 +4,9 @@ use native.Mathlib.Omega.{arith}
 use native.Mathlib.Nat.{mul-le-mul-right}
 use native.Mathlib.Numerals.{add-one}
 use mathlib.Core.Path.{_≡_, refl, ap, sym, _∙_, subst}
-use mathlib.Core.List.{List, [], _∷_, _++_, map, append-nil}
+use mathlib.Core.List.{List, [], _∷_, _++_, map}
 use mathlib.Core.Bool.{true}
-use lib.ListN.{length, getD, drop, length-append, length-map, length-replicate, drop-of-length-le}
+use lib.ListN.{length, getD, length-append, length-map, length-replicate}
 use lib.Seq.{getD-at}
 use lib.Dec.{eqb}
 use borrow.Author.Tests.{eq-eqb}
@@ -16,16 +16,16 @@ use Rattle.pack.specs.Pack.{Relation, Pack, WellFormed, yes, read, words}
 use Rattle.pack.proofs.PackLaws.{words-read, words-length}
 use Rattle.chains.specs.Kinds.{declared, allKinds, ownAnswer}
 use Rattle.chains.specs.Operations.{placeOf, allKindsWords}
-use Rattle.chains.specs.Index.{entryAfter, startsIn}
-use Rattle.chains.specs.Scan.{scanTable}
+use Rattle.chains.specs.Record.{Recorded}
+use Rattle.chains.specs.Declaration.{declarations}
 use Rattle.chains.specs.Settle.{Leading, Marked, OnPath, Walkable, WalkedHere, Settleable, SettledAll, placesIn, Placeable}
-use Rattle.chains.specs.AllKinds.{IsPack, Counted, Named, OwnPlace, KindsAsked, KindsMarked, KindsLeft}
+use Rattle.chains.specs.AllKinds.{IsPack, Counted, Named, OwnPlace, Noted, KindsMarked, KindsLeft}
 use Rattle.chains.proofs.RelationScan.{RelationsFine, kept}
 use Rattle.chains.proofs.PackIndex.{zeros, zero-at, parts, split, opening, opening-length, relationsPart}
 use Rattle.chains.proofs.Names.{or-left, or-right}
 use Rattle.chains.proofs.KindLaws.{in-row, words-own}
-use Rattle.chains.proofs.StartLaws.{starts-pack}
-use Rattle.chains.proofs.PlaceBounds.{indexes}
+use Rattle.chains.proofs.DeclarationLaws.{recorded, declares-each}
+use Rattle.chains.proofs.PlaceBounds.{Indexes, indexes}
 use Rattle.chains.proofs.AllKindsLaws.{KindsFound, own-found, kinds-found}
 
 -- ---- the number of relations
@@ -114,63 +114,74 @@ settleable-zeros table starts fuel names leading h l =
     }
 
 -- and those from the relations of a pack
-settleable-pack : (p : Pack) → WellFormed p → Settleable (scanTable entryAfter zeros (words p)) zeros (declared (p .relations)) 0 (suc (length (declared (p .relations))))
-settleable-pack p w =
+settleable-pack : (p : Pack) → WellFormed p → (table : List ℕ) → Indexes p table → Settleable table zeros (declared (p .relations)) 0 (suc (length (declared (p .relations))))
+settleable-pack p w table says =
     let h = parts p w in
     let l : length (declared (p .relations)) ≡ length (p .relations) = length-map (p .relations) (λ (r : Relation). r .name) in
-    let b : length (declared (p .relations)) ≤ 512 = omega (arith, h .few-relations) in
-    settleable-zeros (scanTable entryAfter zeros (words p)) (declared (p .relations)) (suc (length (declared (p .relations)))) (names-below (p .names) (h .most) [] (p .relations) (h .relations-fine))
-    (indexes p w .leading) (omega arith) (omega arith)
+    settleable-zeros table (declared (p .relations)) (suc (length (declared (p .relations)))) (names-below (p .names) (h .most) [] (p .relations) (h .relations-fine))
+    (says .leading) (omega (arith, h .few-relations)) (omega (arith, h .few-relations))
 
 pub same-pack : (ws : List ℕ) {p q : Pack} → read ws ≡ yes p → read ws ≡ yes q → p ≡ q
 same-pack ws e f = cc
 
-module _ {ws out₀ : List ℕ} (asked : KindsAsked ws out₀) where
+-- the declarations of a checked pack, whose records start where a table says
+module _ {ws names starts : List ℕ} (c : IsPack ws) (noted : Noted ws names starts) where
   abbrev p : Pack
-  p = asked .checked .pack
+  p = c .pack
 
   abbrev rs : List Relation
   rs = p .relations
 
   fine : WellFormed p
-  fine = is-fine (asked .checked)
+  fine = is-fine c
 
-  same : words p ≡ ws
-  same = its-words (asked .checked)
+  abbrev table : List ℕ
+  table = declarations ws starts
 
-  starts-are : startsIn ws ≡ declared rs
-  starts-are = ap startsIn (sym same) ∙ starts-pack p fine
+  pub its-recorded : Recorded starts
+  its-recorded = recorded p fine starts (noted .placed p (c .reads))
 
-  one-each : length out₀ ≡ length (declared rs)
-  one-each = asked .fits .relations p (asked .checked .reads) ∙ sym (length-map rs (λ (r : Relation). r .name))
+  its-index : Indexes p table
+  its-index =
+      subst (λ (v : List ℕ). Indexes p (declarations v starts)) (its-words c)
+      (indexes p fine (declarations (words p) starts) (declares-each p fine starts (noted .placed p (c .reads))))
 
-  pub starts-fit : length (startsIn ws) ≤ length out₀
-  starts-fit = rw starts-are (omega (arith, one-each))
+  its-names : names ≡ declared rs
+  its-names = noted .named p (c .reads)
 
-  module _ {out₁ table : List ℕ} {count : ℕ} (indexed : table ≡ scanTable entryAfter zeros ws) (counted : count ≡ length (startsIn ws)) (started : out₁ ≡ startsIn ws ++ drop (length (startsIn ws)) out₀) where
-    names : out₁ ≡ declared rs
-    names =
-        let l : length out₀ ≤ length (startsIn ws) = rw starts-are (omega (arith, one-each)) in
-        started ∙ rw (drop-of-length-le out₀ l) (append-nil (startsIn ws) ∙ starts-are)
+  its-fuel : length names + 1 ≡ suc (length (declared rs))
+  its-fuel = add-one (length names) ∙ ap suc (ap length its-names)
 
-    fuel : count + 1 ≡ suc (length (declared rs))
-    fuel = add-one count ∙ ap suc (counted ∙ ap length starts-are)
+  pub few-names : length names ≤ 512
+  few-names = let l : length (declared rs) ≡ length rs = length-map rs (λ (r : Relation). r .name) in omega (arith, ap length its-names, parts p fine .few-relations)
 
-    pub count-small : count < 4096
-    count-small = let h = parts p fine .few-relations in let l : length (declared rs) ≡ length rs = length-map rs (λ (r : Relation). r .name) in omega (arith, fuel)
+  pub settleable : Settleable table zeros names 0 (length names + 1)
+  settleable = rw (its-fuel, its-names) (settleable-pack p fine table its-index)
 
-    pub settleable : Settleable table zeros out₁ 0 (count + 1)
-    settleable = rw (indexed, names, fuel) (subst (λ (v : List ℕ). Settleable (scanTable entryAfter zeros v) zeros (declared rs) 0 (suc (length (declared rs)))) same (settleable-pack p fine))
+  pub kinds-marked : {marks : List ℕ} {steps : ℕ} → SettledAll table zeros names 0 (length names + 1) marks steps → KindsMarked ws steps names marks
+  kinds-marked {marks} {steps} s =
+      let found : KindsFound p marks steps = kinds-found p table its-index marks steps (rw (← its-fuel, ← its-names) s) in
+      let it : (q : Pack) → read ws ≡ yes q → p ≡ q = λ q h. same-pack ws (c .reads) h in
+      record {
+        counts = λ q h. found .counts ∙ ap (λ (p : Pack). allKinds (p .relations) .steps) (it q h);
+        named = λ q h. its-names ∙ ap (λ (p : Pack). declared (p .relations)) (it q h);
+        marked = λ q h. subst (λ (p : Pack). (n : ℕ) → among n (declared (p .relations)) ≡ true → getD marks n 0 ≡ 2 + placeOf p (ownAnswer (p .relations) n)) (it q h) (found .marked);
+      }
 
-    pub kinds-marked : {marks : List ℕ} {steps : ℕ} → SettledAll table zeros out₁ 0 (count + 1) marks steps → KindsMarked ws steps out₁ marks
-    kinds-marked {marks} {steps} s =
-        let found : KindsFound p marks steps = kinds-found p fine marks steps (rw (same, ← indexed, ← fuel, ← names) s) in
-        let it : (q : Pack) → read ws ≡ yes q → p ≡ q = λ q h. same-pack ws (asked .checked .reads) h in
-        record {
-          counts = λ q h. found .counts ∙ ap (λ (p : Pack). allKinds (p .relations) .steps) (it q h);
-          named = λ q h. names ∙ ap (λ (p : Pack). declared (p .relations)) (it q h);
-          marked = λ q h. subst (λ (p : Pack). (n : ℕ) → among n (declared (p .relations)) ≡ true → getD marks n 0 ≡ 2 + placeOf p (ownAnswer (p .relations) n)) (it q h) (found .marked);
-        }
+  -- one name
+  each-counted : {count : ℕ} → Counted ws count → count ≡ length names
+  each-counted k = k .relations p (c .reads) ∙ sym (length-map rs (λ (r : Relation). r .name)) ∙ sym (ap length its-names)
+
+  pub walkable-own : {count : ℕ} → Counted ws count → {name : ℕ} → name < 4096 → Walkable table zeros 0 name (count + 1)
+  walkable-own k h =
+      let s = settleable-pack p fine table its-index in
+      record { name = h; leading = s .leading; marked = s .marked; long = s .long; room = omega (arith, few-names, each-counted k) }
+
+  pub own-place : {count : ℕ} → Counted ws count → {name r steps : ℕ} {marks : List ℕ} → WalkedHere table zeros 0 name (count + 1) r marks steps → OwnPlace ws name r
+  own-place {count} k {name} {r} w =
+      let e : r ≡ placeOf p (ownAnswer rs name) =
+      w .answers [] (settleable-pack p fine table its-index .idle) ∙ rw (each-counted k, its-fuel) (own-found p table its-index name) in
+      record { says = λ q h. e ∙ ap (λ (p : Pack). placeOf p (ownAnswer (p .relations) name)) (same-pack ws (c .reads) h) }
 
 -- ---- the places of marked names
 
@@ -190,7 +201,7 @@ module _ {ws names marks : List ℕ} {steps : ℕ} (c : IsPack ws) (m : KindsMar
       let p : Pack = c .pack in
       rw (m .named p (c .reads))
       (record {
-        names-below = settleable-pack p (is-fine c) .names;
+        names-below = names-below (p .names) (parts p (is-fine c) .most) [] (p .relations) (parts p (is-fine c) .relations-fine);
         settled = λ j h. (let e = m .marked p (c .reads) (getD (declared (p .relations)) j 0) (among-at (declared (p .relations)) j h) in omega arith);
       })
 
@@ -210,24 +221,3 @@ module _ {ws names marks : List ℕ} {steps : ℕ} (c : IsPack ws) (m : KindsMar
 
 pub few-counted : (ws : List ℕ) → IsPack ws → {count : ℕ} → Counted ws count → count ≤ 512
 few-counted ws c k = omega (arith, k .relations (c .pack) (c .reads), parts (c .pack) (words-read ws (c .pack) (c .reads) .fine) .few-relations)
-
--- ---- one name
-
-module _ {ws : List ℕ} (c : IsPack ws) where
-  module _ {table : List ℕ} {count : ℕ} (indexed : table ≡ scanTable entryAfter zeros ws) (k : Counted ws count) where
-    its-index : table ≡ scanTable entryAfter zeros (words (c .pack))
-    its-index = indexed ∙ ap (scanTable entryAfter zeros) (sym (its-words c))
-
-    its-fuel : count + 1 ≡ suc (length (declared ((c .pack) .relations)))
-    its-fuel = add-one count ∙ ap suc (k .relations (c .pack) (c .reads) ∙ sym (length-map ((c .pack) .relations) (λ (r : Relation). r .name)))
-
-    pub walkable-own : {name : ℕ} → name < 4096 → Walkable table zeros 0 name (count + 1)
-    walkable-own h =
-        let s = settleable-pack (c .pack) (is-fine c) in
-        record { name = h; leading = rw its-index (s .leading); marked = s .marked; long = s .long; room = omega (arith, few-counted ws c k) }
-
-    pub own-place : {name r steps : ℕ} {marks : List ℕ} → WalkedHere table zeros 0 name (count + 1) r marks steps → OwnPlace ws name r
-    own-place {name} {r} w =
-        let e : r ≡ placeOf (c .pack) (ownAnswer ((c .pack) .relations) name) =
-        w .answers [] (settleable-pack (c .pack) (is-fine c) .idle) ∙ rw (its-index, its-fuel) (own-found (c .pack) (is-fine c) name) in
-        record { says = λ q h. e ∙ ap (λ (p : Pack). placeOf p (ownAnswer (p .relations) name)) (same-pack ws (c .reads) h) }

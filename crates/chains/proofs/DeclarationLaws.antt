@@ -1,142 +1,219 @@
--- What the scan leaves for a relation is its declaration.
-use Prim.Native.Nat.{ℕ, _+_, _*_, _<_}
+-- What the code reads of a declaration at a relation's record is what the declaration says.
+use Prim.Native.Nat.{ℕ, _+_, _-_, _<_, _≤_}
 use native.Mathlib.Omega.{arith}
-use mathlib.Core.Path.{_≡_, refl, ap, _∙_}
+use mathlib.Core.Path.{_≡_, refl, ap, sym, _∙_, subst}
 use mathlib.Core.List.{List, [], _∷_}
 use mathlib.Core.Bool.{Bool, true, false}
 use mathlib.Core.Option.{Option, none, some}
-use lib.ListN.{length}
+use lib.ListN.{length, getD}
 use lib.Dec.{eqb, ltb}
-use borrow.Author.Tests.{ne-eqb, lt-ltb, le-ltb}
-use Rattle.pack.specs.Table.{pick, valueOf, wordOf}
+use borrow.Author.Tests.{eq-eqb, ne-eqb, ltb-true, ltb-false}
+use Rattle.pack.specs.Table.{pick}
+use Rattle.pack.specs.Table as table
 use Rattle.pack.specs.Form.{count, listOrNone}
-use Rattle.pack.specs.Pack.{Hop, Derivation, Relation}
+use Rattle.pack.specs.Pack.{Hop, Derivation, Relation, Pack, WellFormed, words}
 use Rattle.chains.specs.Chain.{end, next, mapped}
-use Rattle.chains.specs.Kinds.{list21, inherits, plain, derived, declares}
-use Rattle.chains.specs.Operations.{hops, countPlace}
-use Rattle.chains.specs.Index.{coded, entryAfter, placed, declarationAt}
-use Rattle.chains.proofs.Hushed.{kind-word}
-use Rattle.chains.proofs.ScanLaws.{afterOption, afterTail, afterRelation}
+use Rattle.chains.specs.Kinds.{list21, inherits, plain, derived, declares, find, readAt, kindStep}
+use Rattle.chains.specs.Operations.{startOf, firstRelation, countPlace, placeOf}
+use Rattle.chains.specs.Record.{valueAt, kindCount, flagAt, slotsPlace, entityCount, Recorded}
+use Rattle.chains.specs.Declaration.{coded, placed, declarationAt, inheritedIn, derivedIn, declarationIn, declarations}
+use Rattle.chains.specs.Settle.{ReadOne}
+use Rattle.chains.specs.AllKinds.{placeIn, recordOf}
+use Rattle.chains.proofs.FillLaws.{whole-at, whole-past}
+use Rattle.chains.proofs.RelationScan.{kept}
+use Rattle.chains.proofs.PackIndex.{parts, mapped-alike, find-name, find-kept, start-least, start-within, relations-room}
+use Rattle.chains.proofs.ListAt.{InWords, in-pack}
+use Rattle.chains.proofs.RecordLaws.{counted, no-flag, a-flag, path-count, source-there, place-of-slots, entities-there}
 
-pub value-word : (k v : ℕ) → v < 16777216 → valueOf (wordOf k v) ≡ v
-value-word k v h = omega arith
+-- ---- in each way out of the code
 
--- what each of the four kinds does
-module _ (x place v : ℕ) (fits : v < 16777216) where
-  after-9 : entryAfter x place (wordOf 9 v) ≡ pick (eqb v 0) x place
-  unfolding entryAfter
-  after-9 = simp (kind-word 9 v fits, value-word 9 v fits)
+module _ (ws : List ℕ) (start : ℕ) where
+  module _ {kinds steps : ℕ} (k : kinds ≡ kindCount ws start) (s : steps ≡ valueAt ws (start + 4 + kinds + 2)) where
+    pub over-a-path : (steps ≡ 16777215 → ⊥) → 0 ≡ inheritedIn ws start
+    unfolding inheritedIn
+    over-a-path z = sym (rw (← k, ← s, ne-eqb steps 16777215 z) refl)
 
-  after-21 : entryAfter x place (wordOf 21 v) ≡ pick (eqb v 0) x place
-  unfolding entryAfter
-  after-21 = simp (kind-word 21 v fits, value-word 21 v fits)
+    module _ (n : steps ≡ 16777215) {source : ℕ} (v : source ≡ valueAt ws (start + 4 + kinds + 1)) where
+      pub from-none : source ≡ 16777215 → 0 ≡ inheritedIn ws start
+      unfolding inheritedIn
+      from-none z = sym (rw (← k, ← s, ← v, n, z) refl)
 
-  after-12 : entryAfter x place (wordOf 12 v) ≡ pick (eqb x 0) (pick (eqb v 16777215) x (65536 + v)) x
-  unfolding entryAfter
-  after-12 = simp (kind-word 12 v fits, value-word 12 v fits)
+      pub leads-on : (source ≡ 16777215 → ⊥) → 65536 + source ≡ inheritedIn ws start
+      unfolding inheritedIn
+      leads-on z = sym (rw (← k, ← s, ← v, n, ne-eqb source 16777215 z) refl)
 
-  after-13 : entryAfter x place (wordOf 13 v) ≡ pick (eqb v 16777215) x (pick (ltb x 65536) x 0)
-  unfolding entryAfter
-  after-13 = simp (kind-word 13 v fits, value-word 13 v fits)
+  module _ {at entities kinds : ℕ} (p : at ≡ slotsPlace ws start) (e : entities ≡ valueAt ws (at + 4)) (k : kinds ≡ kindCount ws start) where
+    pub by-21 : (entities ≡ 0 → ⊥) → at + 4 ≡ derivedIn ws start
+    unfolding derivedIn entityCount
+    by-21 z = sym (rw (← p, ← e, ne-eqb entities 0 z) refl)
 
-  -- and the others that the scan meets
-  after-other : (k : ℕ) → eqb k 9 ≡ false → eqb k 21 ≡ false → eqb k 12 ≡ false → eqb k 13 ≡ false → entryAfter x place (wordOf k v) ≡ x
-  unfolding entryAfter
-  after-other k a b c d = simp (kind-word k v fits, a, b, c, d)
+    module _ (z : entities ≡ 0) where
+      pub by-9 : (kinds ≡ 0 → ⊥) → start + 3 ≡ derivedIn ws start
+      unfolding derivedIn entityCount
+      by-9 y = sym (rw (← p, ← e, eq-eqb entities 0 z, ← k, ne-eqb kinds 0 y) refl)
 
--- the entry after the source, and after the path
-abbrev at12 : ℕ → ℕ → ℕ
-at12 x s = pick (eqb x 0) (pick (eqb s 16777215) x (65536 + s)) x
+      pub by-source : kinds ≡ 0 → {x : ℕ} → x ≡ inheritedIn ws start → x ≡ derivedIn ws start
+      unfolding derivedIn entityCount
+      by-source y q = q ∙ sym (rw (← p, ← e, eq-eqb entities 0 z, ← k, eq-eqb kinds 0 y) refl)
 
-abbrev at13 : ℕ → ℕ → ℕ
-at13 x c = pick (eqb c 16777215) x (pick (ltb x 65536) x 0)
+  pub nowhere : start ≡ 0 → 0 ≡ declarationIn ws start
+  unfolding declarationIn
+  nowhere z = sym (rw (eq-eqb start 0 z) refl)
+
+  module _ (y : start ≡ 0 → ⊥) {flag : ℕ} (f : flag ≡ flagAt ws start) where
+    pub by-derivation : flag ≡ 1 → {x : ℕ} → x ≡ derivedIn ws start → x ≡ declarationIn ws start
+    unfolding declarationIn
+    by-derivation z q = q ∙ sym (rw (ne-eqb start 0 y, ← f, eq-eqb flag 1 z) refl)
+
+    module _ (z : flag ≡ 1 → ⊥) {kinds : ℕ} (k : kinds ≡ kindCount ws start) where
+      pub no-list : kinds ≡ 0 → 0 ≡ declarationIn ws start
+      unfolding declarationIn
+      no-list q = sym (rw (ne-eqb start 0 y, ← f, ne-eqb flag 1 z, ← k, eq-eqb kinds 0 q) refl)
+
+      pub own-list : (kinds ≡ 0 → ⊥) → start + 3 ≡ declarationIn ws start
+      unfolding declarationIn
+      own-list q = sym (rw (ne-eqb start 0 y, ← f, ne-eqb flag 1 z, ← k, ne-eqb kinds 0 q) refl)
+
+-- ---- a relation that stands at a place
 
 filled : {A : Type 0} (k : ℕ) (ks : List ℕ) (a b : A) → pick (eqb (length (k ∷ ks)) 0) a b ≡ b
 filled k ks a b = rw (ne-eqb (length (k ∷ ks)) 0 (λ e. omega arith)) refl
 
--- what a derivation's values keep to
-pub record Fitting (d : Derivation) : Type 0 where
-  pub source : d .source < 16777216
-  pub path : count listOrNone (d .path) < 16777216
-  pub steps : (l : List Hop) → d .path ≡ some l → length l < 16777215
-  pub current : d .current < 16777216
-  pub related : d .related < 16777216
-  pub entity : d .entity < 16777216
-  pub entities : length (d .slotEntities) < 16777216
+module _ (ws : List ℕ) (start n : ℕ) (r : Relation) (i : InWords ws start n r) (most : n ≤ 4096) (later : 0 < start) where
+  plainly : (ks : List ℕ) → pick (eqb (length ks) 0) 0 (start + 3) ≡ coded (mapped (placed start r) (plain (r .name) ks))
+  plainly [] = refl
+  plainly (k ∷ ks) = filled k ks 0 (start + 3)
 
--- a path that is none, and one that is not
-path-at : (p : Option (List Hop)) → ((l : List Hop) → p ≡ some l → length l < 16777215) → (x : ℕ)
-    → at13 x (count listOrNone p) ≡ elim p [ none ↦ x | some l ↦ pick (ltb x 65536) x 0 ]
-unfolding count
-path-at none h x = refl
-path-at (some l) h x = rw (ne-eqb (length l) 16777215 (λ e. omega (arith, h l refl))) refl
+  module _ (d : Derivation) (e : r .derivation ≡ some d) where
+    sourced : (s : ℕ) → pick (eqb s table.none) 0 (65536 + s) ≡ coded (mapped (placed start r) (inherits s none))
+    sourced s = go (eqb s table.none)
+      where
+        go : (b : Bool) → pick b 0 (65536 + s) ≡ coded (mapped (placed start r) (pick b (end none) (next s)))
+        go true = refl
+        go false = refl
 
--- the entry that inherits
-inherited : (s : ℕ) (p : Option (List Hop)) (start : ℕ) (r : Relation)
-    → elim p [ none ↦ pick (eqb s 16777215) 0 (65536 + s) | some l ↦ pick (ltb (pick (eqb s 16777215) 0 (65536 + s)) 65536) (pick (eqb s 16777215) 0 (65536 + s)) 0 ]
-    ≡ coded (mapped (placed start r) (inherits s p))
-inherited s none start r = go (eqb s 16777215)
-  where
-    go : (b : Bool) → pick b 0 (65536 + s) ≡ coded (mapped (placed start r) (pick b (end none) (next s)))
-    go true = refl
-    go false = refl
-inherited s (some l) start r = go (eqb s 16777215)
-  where
-    go : (b : Bool) → pick (ltb (pick b 0 (65536 + s)) 65536) (pick b 0 (65536 + s)) 0 ≡ 0
-    go true = refl
-    go false = rw (le-ltb (65536 + s) 65536 (omega arith)) refl
+    pathed : (p : Option (List Hop)) → ((l : List Hop) → p ≡ some l → length l < 16777215)
+        → pick (eqb (count listOrNone p) table.none) (pick (eqb (d .source) table.none) 0 (65536 + d .source)) 0 ≡ coded (mapped (placed start r) (inherits (d .source) p))
+    unfolding count
+    pathed none h = sourced (d .source)
+    pathed (some l) h = rw (ne-eqb (length l) table.none (λ e. omega (arith, h l refl))) refl
 
-module _ (start : ℕ) (r : Relation) (short : start + 3 < 65536) where
-  kept-12 : (s : ℕ) → at12 (start + 3) s ≡ start + 3
-  kept-12 s = rw (ne-eqb (start + 3) 0 (λ e. omega arith)) refl
+    led : inheritedIn ws start ≡ coded (mapped (placed start r) (inherits (d .source) (d .path)))
+    unfolding inheritedIn
+    led =
+        rw (path-count ws start n r i most d e, source-there ws start n r i most d e)
+        (pathed (d .path) (kept n (i .used) r (i .fine) .derived d e .steps))
 
-  kept-13 : (p : Option (List Hop)) → ((l : List Hop) → p ≡ some l → length l < 16777215) → at13 (start + 3) (count listOrNone p) ≡ start + 3
-  kept-13 p h = path-at p h (start + 3) ∙ go p
+    at-21 : slotsPlace ws start + 4 ≡ start + countPlace list21 r
+    at-21 = rw e (let p = place-of-slots ws start n r i most d e in let c = counted ws start n r i most in omega arith)
+
+    by-lists : (es ks : List ℕ) → pick (eqb (length es) 0) (pick (eqb (length ks) 0) (inheritedIn ws start) (start + 3)) (slotsPlace ws start + 4) ≡ coded (mapped (placed start r) (derived (r .name) d es ks))
+    by-lists (x ∷ es) ks = filled x es _ (slotsPlace ws start + 4) ∙ at-21
+    by-lists [] (x ∷ ks) = filled x ks (inheritedIn ws start) (start + 3)
+    by-lists [] [] = led
+
+    derived-read : derivedIn ws start ≡ coded (mapped (placed start r) (derived (r .name) d (d .slotEntities) (r .slotKinds)))
+    unfolding derivedIn
+    derived-read = rw (entities-there ws start n r i most d e, counted ws start n r i most) (by-lists (d .slotEntities) (r .slotKinds))
+
+  pub declaration-read : declarationIn ws start ≡ coded (declarationAt start r)
+  unfolding declarationIn declarationAt
+  declaration-read = rw (ne-eqb start 0 (λ z. omega arith)) (go (r .derivation) refl)
     where
-      go : (p : Option (List Hop)) → elim p [ none ↦ start + 3 | some l ↦ pick (ltb (start + 3) 65536) (start + 3) 0 ] ≡ start + 3
-      go none = refl
-      go (some l) = rw (lt-ltb (start + 3) 65536 short) refl
+      go : (o : Option Derivation) → r .derivation ≡ o
+          → pick (eqb (flagAt ws start) 1) (derivedIn ws start) (pick (eqb (kindCount ws start) 0) 0 (start + 3)) ≡ coded (mapped (placed start r) (declares (r .name) (r .slotKinds) o))
+      go none e = rw (no-flag ws start n r i most e, counted ws start n r i most) (plainly (r .slotKinds))
+      go (some d) e = rw (a-flag ws start n r i most d e) (derived-read d e)
 
-  -- a derivation, by its lists
-  by-lists : (d : Derivation) (ks es : List ℕ) (x9 p21 : ℕ) → Fitting d → x9 ≡ pick (eqb (length ks) 0) 0 (start + 3)
-      → p21 ≡ placed start r (some (record { owner = r .name; which = list21 }))
-      → pick (eqb (length es) 0) (at13 (at12 x9 (d .source)) (count listOrNone (d .path))) p21 ≡ coded (mapped (placed start r) (derived (r .name) d es ks))
-  by-lists d ks (e ∷ es) x9 p21 f h k = filled e es _ p21 ∙ k
-  by-lists d (a ∷ ks) [] x9 p21 f h k =
-      ap (λ (x : ℕ). at13 (at12 x (d .source)) (count listOrNone (d .path))) (h ∙ filled a ks 0 (start + 3))
-      ∙ ap (λ (x : ℕ). at13 x (count listOrNone (d .path))) (kept-12 (d .source)) ∙ kept-13 (d .path) (f .steps)
-  by-lists d [] [] x9 p21 f h k =
-      ap (λ (x : ℕ). at13 (at12 x (d .source)) (count listOrNone (d .path))) h ∙ path-at (d .path) (f .steps) (at12 0 (d .source)) ∙ inherited (d .source) (d .path) start r
+-- ---- every name
 
-  -- a relation's words leave its declaration
-  pub relation-declares : r .name < 16777216 → length (r .slotKinds) < 16777216 → ((d : Derivation) → r .derivation ≡ some d → Fitting d) → afterRelation entryAfter r start 0 ≡ coded (declarationAt start r)
-  unfolding declarationAt
-  relation-declares m l f = ap (λ (x : ℕ). afterTail entryAfter r (start + 1) x) (after-other 0 start (r .name) m 6 refl refl refl refl) ∙ go (r .derivation) refl
+pub record-low : (starts : List ℕ) → Recorded starts → (n : ℕ) → getD starts n 0 ≤ 65536
+unfolding Recorded
+record-low starts h n = h n
+
+module _ (ws starts : List ℕ) where
+  pub declared-below : (n : ℕ) → n < 4096 → getD (declarations ws starts) n 0 ≡ declarationIn ws (getD starts n 0)
+  unfolding declarations
+  declared-below n h = whole-at (λ m. declarationIn ws (getD starts m 0)) 4096 n h
+
+  -- one name read
+  pub read-one : {n steps : ℕ} → n < 4096 → {r : ℕ} → r ≡ declarationIn ws (getD starts n 0) → ReadOne (declarations ws starts) n steps r (steps + 1)
+  read-one {n} h e = record { says = e ∙ sym (declared-below n h); counts = refl }
+
+  declared-past : (n : ℕ) → 4096 ≤ n → getD (declarations ws starts) n 0 ≡ 0
+  unfolding declarations
+  declared-past n h = whole-past (λ m. declarationIn ws (getD starts m 0)) 4096 n h
+
+-- ---- a checked pack whose records start where a table says
+
+module _ (p : Pack) (w : WellFormed p) (starts : List ℕ) (placed-there : (m : ℕ) → getD starts m 0 ≡ recordOf p m) where
+  abbrev rs : List Relation
+  rs = p .relations
+
+  abbrev n : ℕ
+  n = p .names
+
+  abbrev startsAt : ℕ → ℕ
+  startsAt m = startOf n m (firstRelation p) rs
+
+  pub no-record : (m : ℕ) → find m rs ≡ none → getD starts m 0 ≡ 0
+  unfolding recordOf
+  no-record m e = placed-there m ∙ ap (placeIn (startsAt m)) e
+
+  pub a-record : (m : ℕ) (r : Relation) → find m rs ≡ some r → getD starts m 0 ≡ startsAt m
+  unfolding recordOf
+  a-record m r e = placed-there m ∙ ap (placeIn (startsAt m)) e
+
+  -- the relation of a name stands where its record starts
+  pub record Standing (m : ℕ) (r : Relation) : Type 0 where
+    pub is-name : m ≡ r .name
+    pub below : m < 4096
+    pub stands : InWords (words p) (getD starts m 0) n r
+    pub later : 0 < getD starts m 0
+
+  pub standing : (m : ℕ) (r : Relation) → find m rs ≡ some r → Standing m r
+  standing m r e =
+      let q : m ≡ r .name = find-name rs m r e in
+      let f : find (r .name) rs ≡ some r = ap (λ (v : ℕ). find v rs) (sym q) ∙ e in
+      let k = find-kept n m [] rs r (parts p w .relations-fine) e .1 in
+      let s : startsAt (r .name) ≡ getD starts m 0 = ap startsAt (sym q) ∙ sym (a-record m r e) in
+      record {
+        is-name = q;
+        below = omega (arith, k .below, parts p w .most);
+        stands = subst (λ (v : ℕ). InWords (words p) v n r) s (in-pack p w r f);
+        later = omega (arith, a-record m r e, start-least n m (firstRelation p) rs);
+      }
+
+  pub recorded : Recorded starts
+  unfolding Recorded
+  recorded m = go (find m rs) refl
     where
-      x9 : ℕ
-      x9 = entryAfter 0 (start + 1 + 2) (wordOf 9 (length (r .slotKinds)))
+      go : (o : Option Relation) → find m rs ≡ o → getD starts m 0 ≤ 65536
+      go none e = omega (arith, no-record m e)
+      go (some r) e = omega (arith, a-record m r e, start-within n m (firstRelation p) [] rs, relations-room p w)
 
-      nine : x9 ≡ pick (eqb (length (r .slotKinds)) 0) 0 (start + 3)
-      nine = after-9 0 (start + 1 + 2) (length (r .slotKinds)) l ∙ ap (λ (p : ℕ). pick (eqb (length (r .slotKinds)) 0) 0 p) (omega arith)
+  by-places : (m : ℕ) (r : Relation) → find m rs ≡ some r → coded (declarationAt (getD starts m 0) r) ≡ coded (mapped (placeOf p) (declares (r .name) (r .slotKinds) (r .derivation)))
+  unfolding declarationAt placeOf
+  by-places m r e =
+      let q : m ≡ r .name = find-name rs m r e in
+      let f : find (r .name) rs ≡ some r = ap (λ (v : ℕ). find v rs) (sym q) ∙ e in
+      let s : getD starts m 0 ≡ startsAt (r .name) = a-record m r e ∙ ap startsAt q in
+      ap coded (mapped-alike (placed (getD starts m 0) r) (placeOf p) (r .name) refl (λ c. rw (f, s) refl) (r .slotKinds) (r .derivation))
 
-      plainly : (ks : List ℕ) → pick (eqb (length ks) 0) 0 (start + 3) ≡ coded (mapped (placed start r) (plain (r .name) ks))
-      plainly [] = refl
-      plainly (k ∷ ks) = filled k ks 0 (start + 3)
+  -- at each name stands what one declaration read there says, with its list as the place of its count word
+  pub declares-each : (m : ℕ) → getD (declarations (words p) starts) m 0 ≡ coded (mapped (placeOf p) (kindStep rs m))
+  unfolding kindStep placeOf
+  declares-each m = go (find m rs) refl (ltb m 4096) refl
+    where
+      here : m < 4096 → getD (declarations (words p) starts) m 0 ≡ declarationIn (words p) (getD starts m 0)
+      here h = declared-below (words p) starts m h
 
-      place : (d : Derivation) → r .derivation ≡ some d → start + 1 + 4 + length (r .slotKinds) + 3 * hops (d .path) + 6 ≡ start + countPlace list21 r
-      place d e = rw e (steps (d .path))
-        where
-          steps : (p : Option (List Hop)) → start + 1 + 4 + length (r .slotKinds) + 3 * hops p + 6 ≡ start + (4 + length (r .slotKinds) + 3 + 3 * hops p + 4)
-          steps p = omega arith
+      none-at : (x : ℕ) → x ≡ 0 → declarationIn (words p) x ≡ 0
+      none-at x z = sym (nowhere (words p) x z)
 
-      go : (o : Option Derivation) → r .derivation ≡ o → afterOption entryAfter o (start + 1 + 4 + length (r .slotKinds)) x9 ≡ coded (mapped (placed start r) (declares (r .name) (r .slotKinds) o))
-      go none e = nine ∙ plainly (r .slotKinds)
-      go (some d) e =
-          let g = f d e in
-          let at : ℕ = start + 1 + 4 + length (r .slotKinds) in
-          let far : ℕ = at + 3 * hops (d .path) in
-          after-21 _ (far + 6) (length (d .slotEntities)) (g .entities)
-          ∙ ap (λ (x : ℕ). pick (eqb (length (d .slotEntities)) 0) x (far + 6))
-          (after-other _ (far + 4) (d .entity) (g .entity) 19 refl refl refl refl ∙ after-other _ (far + 3) (d .related) (g .related) 18 refl refl refl refl ∙ after-other _ (far + 2) (d .current) (g .current) 17 refl refl refl refl
-          ∙ after-13 _ (at + 1) (count listOrNone (d .path)) (g .path) ∙ ap (λ (x : ℕ). at13 x (count listOrNone (d .path))) (after-12 x9 at (d .source) (g .source)))
-          ∙ by-lists d (r .slotKinds) (d .slotEntities) x9 (far + 6) g nine (place d e)
+      go : (o : Option Relation) → find m rs ≡ o → (b : Bool) → ltb m 4096 ≡ b → getD (declarations (words p) starts) m 0 ≡ coded (mapped (placeOf p) (readAt o))
+      go none e true h = here (ltb-true m 4096 h) ∙ none-at (getD starts m 0) (no-record m e)
+      go none e false h = declared-past (words p) starts m (ltb-false m 4096 h)
+      go (some r) e b h =
+          let s = standing m r e in
+          here (s .below) ∙ declaration-read (words p) (getD starts m 0) n r (s .stands) (parts p w .most) (s .later) ∙ by-places m r e

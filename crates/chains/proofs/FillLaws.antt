@@ -29,6 +29,13 @@ module _ (f : ℕ → ℕ) where
   table-past n (suc k) zero more h = absurd (omega arith)
   table-past n (suc k) (suc m) more h = let e : m - k ≡ suc m - suc k = omega arith in table-past (suc n) k m more (omega arith) ∙ ap (λ (i : ℕ). getD more i 0) e
 
+  -- a table of the first names alone
+  pub whole-at : (k m : ℕ) → m < k → getD (tableFrom f 0 k) m 0 ≡ f m
+  whole-at k m h = ap (λ (l : List ℕ). getD l m 0) (sym (append-nil (tableFrom f 0 k))) ∙ table-at 0 k m [] h ∙ ap f (zero-add m)
+
+  pub whole-past : (k m : ℕ) → k ≤ m → getD (tableFrom f 0 k) m 0 ≡ 0
+  whole-past k m h = ap (λ (l : List ℕ). getD l m 0) (sym (append-nil (tableFrom f 0 k))) ∙ table-past 0 k m [] h
+
   module _ (out₀ : List ℕ) where
     pub record Filling (out : List ℕ) (j : ℕ) : Type 0 where
       pub within : j ≤ length out₀

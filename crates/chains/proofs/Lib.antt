@@ -7,15 +7,9 @@ pub mod MappedLaws
 pub mod KindLaws
 pub mod LeanLaws
 pub mod FilteredLaws
-pub mod IndexLaws
 pub mod Hushed
-pub mod Quiet
-pub mod ScanLaws
-pub mod DeclarationLaws
 pub mod RelationScan
-pub mod ByNameLaws
 pub mod PackIndex
-pub mod StartLaws
 pub mod SettleLaws
 pub mod PlaceLaws
 pub mod PlaceBounds
@@ -25,6 +19,8 @@ pub mod SourceLaws
 pub mod TakingLaws
 pub mod ListAt
 pub mod RecordLaws
+pub mod DeclarationLaws
+pub mod RecordsLaws
 pub mod TakenKnown
 pub mod FillLaws
 pub mod SaidLaws

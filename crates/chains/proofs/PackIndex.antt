@@ -1,35 +1,25 @@
--- The index of a checked pack: at each name, what one declaration read there says, with its list as a place.
+-- A checked pack's parts, and its relations by name.
 use Prim.Native.Nat.{ℕ, zero, suc, _+_, _<_, _≤_}
 use native.Mathlib.Omega.{arith}
-use mathlib.Core.Path.{_≡_, refl, ap, sym, _∙_}
+use mathlib.Core.Path.{_≡_, refl, ap, _∙_}
 use mathlib.Core.List.{List, [], _∷_, _++_}
-use mathlib.Core.Bool.{Bool, true, false, _&&_}
+use mathlib.Core.Bool.{Bool, true, false, _&&_, _||_}
 use mathlib.Core.Option.{Option, none, some}
-use lib.ListN.{length, getD, length-append, replicate, length-replicate}
+use lib.ListN.{length, getD, length-append, replicate}
 use lib.Dec.{eqb, leb}
-use borrow.Author.Tests.{eqb-true, leb-true}
+use borrow.Author.Tests.{eq-eqb, eqb-true, leb-true}
 use Rattle.pack.specs.Table.{pick, wordOf, entryOf, table}
 use Rattle.pack.specs.Table as table
 use Rattle.pack.specs.Form.{among, allowedHere, wordsAll, FineAll, count, items, wordsBy, Fine}
 use Rattle.pack.specs.Pack.{Hop, Derivation, Relation, Edition, undated, firstKind, above, newName, nextUsed, relation, rule, defaultedName, defaulted, relations, rules, blocks, records, inner, layout, Pack, total, words, WellFormed}
 use Rattle.chains.specs.Chain.{Step, end, next, mapped}
-use Rattle.chains.specs.Kinds.{Which, list9, list21, Answer, from, inherits, derived, declares, find, readAt, kindStep}
-use Rattle.chains.specs.Operations.{relationWords, startOf, firstRelation, placeOf}
-use Rattle.chains.specs.Scan.{scan, ByName, byName, scanTable}
-use Rattle.chains.specs.Index.{coded, entryAfter, placed, declarationAt}
+use Rattle.chains.specs.Kinds.{Which, list9, list21, Answer, from, inherits, derived, declares, find}
+use Rattle.chains.specs.Operations.{relationWords, startOf, firstRelation}
 use Rattle.pack.proofs.PackLaws.{words-length}
-use Rattle.chains.proofs.Hushed.{Quiet, quiet-word, kind-word}
-use Rattle.chains.proofs.Quiet.{loud, Passing, scan-quiet}
-use Rattle.chains.proofs.DeclarationLaws.{relation-declares}
-use Rattle.chains.proofs.RelationScan.{RelationsFine, relationsWords, Kept, kept, afterRelations, scan-relations}
-use Rattle.chains.proofs.ByNameLaws.{by-name-passes, left, by-name-at}
+use Rattle.chains.proofs.Names.{neither}
+use Rattle.chains.proofs.RelationScan.{RelationsFine, relationsWords, Kept, kept}
 
 -- ---- the words before the relations
-
-defaulted-quiet : (n : ℕ) (ds : List ℕ) (low : ℕ) → FineAll above (λ low v. Fine (defaultedName n low) v) low ds → Quiet loud (wordsAll above (λ low v. wordsBy (defaultedName n low) v) low ds)
-unfolding defaultedName Fine wordsBy
-defaulted-quiet n [] low f = tt
-defaulted-quiet n (d ∷ ds) low f = (quiet-word loud 4 d (f .0 .0 .0) refl .0, defaulted-quiet n ds (above low d) (f .1))
 
 defaulted-length : (n : ℕ) (ds : List ℕ) (low : ℕ) → length (wordsAll above (λ low v. wordsBy (defaultedName n low) v) low ds) ≡ length ds
 unfolding defaultedName wordsBy
@@ -106,22 +96,8 @@ zero-at zero v = refl
 zero-at (suc m) zero = refl
 zero-at (suc m) (suc v) = zero-at m v
 
-opening-quiet : (p : Pack) → total p ≤ 8192 → Parts p → Quiet loud (opening p)
-opening-quiet p m h = (
-  quiet-word loud 1 (total p) (omega arith) refl .0,
-  (
-    quiet-word loud 2 (p .names) (h .names) refl .0,
-    (quiet-word loud 3 (length (p .defaulted)) (h .defaulted-count) refl .0, defaulted-quiet (p .names) (p .defaulted) 0 (h .defaulted-fine)),
-  ),
-)
-
 pub opening-length : (p : Pack) → length (opening p) ≡ 3 + length (p .defaulted)
 opening-length p = let e = defaulted-length (p .names) (p .defaulted) 0 in omega arith
-
--- the count of rules ends the scan
-scan-rules : {S : Type 0} (step : S → ℕ → ℕ → S) (at : ℕ) (s : S) (v : ℕ) (vs : List ℕ) → v < 16777216 → scan step at s (wordOf 22 v ∷ vs) ≡ s
-unfolding scan
-scan-rules step at s v vs h = simp (kind-word 22 v h)
 
 -- the relations end before the pack does
 pub relations-room : (p : Pack) → WellFormed p → firstRelation p + length (relationsPart p) ≤ 8192
@@ -132,32 +108,6 @@ relations-room p w =
     let l : length (words p) ≡ length (opening p) + (1 + (length (relationsPart p) + (1 + length (s .more)))) =
     ap length (s .same) ∙ length-append (opening p) five ∙ ap (λ (m : ℕ). length (opening p) + m) (let e = length-append (relationsPart p) rest in omega arith) in
     omega (arith, l, opening-length p, words-length p, w .most)
-
--- the whole scan: what is held after the relations
-pub scan-pack : {S : Type 0} (step : S → ℕ → ℕ → S) → Passing step → (p : Pack) → WellFormed p → (s : S) → scan step 0 s (words p) ≡ afterRelations step (p .names) (firstRelation p) (p .relations) s
-scan-pack step P p w s =
-    let h = parts p w in
-    let d = split p in
-    let rest : List ℕ = wordOf 22 (length (p .rules)) ∷ d .more in
-    let five : List ℕ = wordOf 5 (length (p .relations)) ∷ (relationsPart p ++ rest) in
-    let o = opening-length p in
-    let at : 0 + length (opening p) + 1 ≡ firstRelation p = omega arith in
-    ap (λ (ws : List ℕ). scan step 0 s ws) (d .same)
-    ∙ scan-quiet P (opening p) five 0 s (opening-quiet p (w .most) h)
-    ∙ scan-quiet P (wordOf 5 (length (p .relations)) ∷ []) (relationsPart p ++ rest) (0 + length (opening p)) s (quiet-word loud 5 (length (p .relations)) (h .relation-count) refl)
-    ∙ ap (λ (a : ℕ). scan step a s (relationsPart p ++ rest)) at
-    ∙ scan-relations step P (p .names) (h .most) (p .relations) [] (firstRelation p) s rest (h .relations-fine)
-    ∙ scan-rules step _ _ (length (p .rules)) (d .more) (h .rule-count)
-
--- a table by name after it
-pub scan-table : (after : ℕ → ℕ → ℕ → ℕ) → Passing after → (p : Pack) → WellFormed p → (m : ℕ)
-    → getD (scanTable after zeros (words p)) m 0 ≡ left after 0 (startOf (p .names) m (firstRelation p) (p .relations)) (find m (p .relations))
-scan-table after P p w m =
-    let h = parts p w in
-    let s : ByName = record { name = 0; table = zeros } in
-    ap (λ (u : ByName). getD (u .table) m 0) (scan-pack (byName after) (by-name-passes after P) p w s)
-    ∙ by-name-at after (p .names) (h .most) (p .relations) [] (firstRelation p) m s (length-replicate {A = ℕ} 4096 0) (λ v e. zero-at 4096 v) (h .relations-fine)
-    ∙ ap (λ (x : ℕ). left after x (startOf (p .names) m (firstRelation p) (p .relations)) (find m (p .relations))) (zero-at 4096 m)
 
 -- ---- places
 
@@ -183,7 +133,7 @@ module _ (P : Step Answer → Type 0) (n : ℕ) (nowhere : P (end none)) (nine :
       go [] [] = pathed (d .path)
 
 -- a declaration's answers are those of its own relation
-mapped-alike : {S : Type 0} (g h : Answer → S) (n : ℕ) → g none ≡ h none → ((w : Which) → g (some (record { owner = n; which = w })) ≡ h (some (record { owner = n; which = w })))
+pub mapped-alike : {S : Type 0} (g h : Answer → S) (n : ℕ) → g none ≡ h none → ((w : Which) → g (some (record { owner = n; which = w })) ≡ h (some (record { owner = n; which = w })))
     → (ks : List ℕ) (o : Option Derivation) → mapped g (declares n ks o) ≡ mapped h (declares n ks o)
 mapped-alike g h n a b ks o = each-way (λ s. mapped g s ≡ mapped h s) n (ap end a) (ap end (b list9)) ks o (λ d e. ap end (b list21)) (λ d e f. refl)
 
@@ -213,9 +163,14 @@ start-within n name at used (r ∷ rs) = go (eqb name (r .name)) (start-within n
     go true h = omega arith
     go false h = omega (arith, both)
 
-entry-passes : Passing entryAfter
-unfolding entryAfter
-entry-passes = record { passes = λ x place w k. simp (k .not-9, k .not-21, k .not-12, k .not-13) }
+pub start-least : (n name at : ℕ) (rs : List Relation) → at ≤ startOf n name at rs
+unfolding startOf
+start-least n name at [] = omega arith
+start-least n name at (r ∷ rs) = go (eqb name (r .name)) (start-least n name (at + length (relationWords n r)) rs)
+  where
+    go : (b : Bool) → at + length (relationWords n r) ≤ startOf n name (at + length (relationWords n r)) rs → at ≤ pick b at (startOf n name (at + length (relationWords n r)) rs)
+    go true h = omega arith
+    go false h = omega arith
 
 -- the relation of a name keeps to its form
 pub find-kept : (n m : ℕ) (used : List ℕ) (rs : List Relation) (r : Relation) → RelationsFine n used rs → find m rs ≡ some r → (us : List ℕ) × Kept n (λ v. among v us) r
@@ -227,21 +182,21 @@ find-kept n m used (s ∷ rs) r f e = go (eqb m (s .name)) e (find-kept n m (s .
     go true e rest = let q : s ≡ r = cc in (used, rw (← q) (kept n (λ v. among v used) s (f .0)))
     go false e rest = rest e
 
--- at each name the index holds what one declaration read there says, with its list as the place of its count word
-pub index-declares : (p : Pack) → WellFormed p → (m : ℕ) → getD (scanTable entryAfter zeros (words p)) m 0 ≡ coded (mapped (placeOf p) (kindStep (p .relations) m))
-unfolding kindStep declarationAt placeOf
-index-declares p w m = scan-table entryAfter entry-passes p w m ∙ go (find m (p .relations)) refl
-  where
-    start : ℕ
-    start = startOf (p .names) m (firstRelation p) (p .relations)
+-- each relation of a list is the one that is found by its name
+abbrev pub EachFound : List Relation → List Relation → Type 0
+EachFound all [] = Unit {0}
+EachFound all (r ∷ rs) = (find (r .name) all ≡ some r) × EachFound all rs
 
-    go : (o : Option Relation) → find m (p .relations) ≡ o → left entryAfter 0 start o ≡ coded (mapped (placeOf p) (readAt o))
-    go none e = refl
-    go (some r) e =
-        let h = parts p w in
-        let k = find-kept (p .names) m [] (p .relations) r (h .relations-fine) e .1 in
-        let q : m ≡ r .name = find-name (p .relations) m r e in
-        let f : find (r .name) (p .relations) ≡ some r = ap (λ (v : ℕ). find v (p .relations)) (sym q) ∙ e in
-        let room = relations-room p w in
-        relation-declares start r (omega (arith, room, start-within (p .names) m (firstRelation p) [] (p .relations))) (omega (arith, k .below, h .most)) (k .kinds) (k .derived)
-        ∙ ap coded (mapped-alike (placed start r) (placeOf p) (r .name) refl (λ c. rw (q, f) refl) (r .slotKinds) (r .derivation))
+each-found : (n : ℕ) (all : List Relation) (used : List ℕ) (rs : List Relation) → RelationsFine n used rs → ((m : ℕ) → among m used ≡ false → find m all ≡ find m rs) → EachFound all rs
+unfolding find
+each-found n all used [] f h = tt
+each-found n all used (r ∷ rs) f h = (here, each-found n all (r .name ∷ used) rs (f .1) later)
+  where
+    here : find (r .name) all ≡ some r
+    here = h (r .name) (kept n (λ v. among v used) r (f .0) .fresh) ∙ rw (eq-eqb (r .name) (r .name) refl) refl
+
+    later : (m : ℕ) → (eqb m (r .name) || among m used) ≡ false → find m all ≡ find m rs
+    later m e = let o = neither (eqb m (r .name)) (among m used) e in h m (o .1) ∙ rw (o .0) refl
+
+pub all-found : (p : Pack) → WellFormed p → EachFound (p .relations) (p .relations)
+all-found p w = each-found (p .names) (p .relations) [] (p .relations) (parts p w .relations-fine) (λ m e. refl)

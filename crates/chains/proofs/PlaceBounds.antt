@@ -1,7 +1,7 @@
--- In a checked pack every place and every name that a declaration leads to is small: the index tells them apart.
+-- In a checked pack every place and every name that a declaration leads to is small: one number tells them apart.
 use Prim.Native.Nat.{ℕ, _+_, _-_, _*_, _<_, _≤_}
 use native.Mathlib.Omega.{arith}
-use mathlib.Core.Path.{_≡_, refl, ap, sym, _∙_}
+use mathlib.Core.Path.{_≡_, refl, ap, sym, _∙_, subst}
 use mathlib.Core.List.{List, [], _∷_}
 use mathlib.Core.Bool.{Bool, true, false, _||_}
 use mathlib.Core.Option.{Option, none, some}
@@ -11,16 +11,15 @@ use borrow.Author.Tests.{ne-eqb, leb-true, ltb-true, lt-ltb, le-ltb}
 use Rattle.pack.specs.Table.{pick, entryOf, table}
 use Rattle.pack.specs.Table as table
 use Rattle.pack.specs.Form.{among, allowedHere, says, count, items, Fine}
-use Rattle.pack.specs.Pack.{Hop, Derivation, Relation, Pack, WellFormed, nameList, path, chain, derivation, optionalDerivation, relationTail, relation, words}
+use Rattle.pack.specs.Pack.{Hop, Derivation, Relation, Pack, WellFormed, nameList, path, chain, derivation, optionalDerivation, relationTail, relation}
 use Rattle.chains.specs.Chain.{Step, end, next, mapped}
-use Rattle.chains.specs.Kinds.{Which, list9, list21, from, find, readAt, kindStep}
+use Rattle.chains.specs.Kinds.{Which, list9, list21, Answer, from, find, readAt, kindStep}
 use Rattle.chains.specs.Operations.{firstRelation, hops, countPlace, placeOf}
-use Rattle.chains.specs.Index.{coded, entryAfter}
-use Rattle.chains.specs.Scan.{scanTable}
+use Rattle.chains.specs.Declaration.{coded}
 use Rattle.chains.specs.Settle.{stepAt, Leading}
 use Rattle.chains.proofs.Names.{apart}
 use Rattle.chains.proofs.RelationScan.{RelationsFine, short-path}
-use Rattle.chains.proofs.PackIndex.{zeros, parts, index-declares, find-name, relations-room, each-way, start-within}
+use Rattle.chains.proofs.PackIndex.{parts, find-name, relations-room, each-way, start-within}
 
 -- ---- what the table allows
 
@@ -114,6 +113,9 @@ step-small p w m = go (find m (p .relations)) refl
         each-way (λ s. Decodes (mapped (placeOf p) s)) (r .name) (omega arith) (here list9) (r .slotKinds) (r .derivation) (λ d g. here list21)
         (λ d g z. omega (arith, s .leads d g z, h .most))
 
+pub end-small : (p : Pack) → WellFormed p → (m : ℕ) (a : Answer) → kindStep (p .relations) m ≡ end a → placeOf p a < 65536
+end-small p w m a e = subst (λ (s : Step Answer). Decodes (mapped (placeOf p) s)) e (step-small p w m)
+
 decoded : (table : List ℕ) (n : ℕ) (s : Step ℕ) → getD table n 0 ≡ coded s → Decodes s → (stepAt table n ≡ s) × (getD table n 0 < 69632)
 unfolding stepAt
 decoded table n (end x) e h = (rw (e, lt-ltb x 65536 h) refl, omega arith)
@@ -121,14 +123,13 @@ decoded table n (next m) e h =
     let k : 65536 + m - 65536 ≡ m = omega arith in
     (rw (e, le-ltb (65536 + m) 65536 (omega arith), k) refl, omega arith)
 
--- the index of a checked pack says at each name what one declaration read there says
+-- a table that says at each name what one declaration read there says
 pub record Indexes (p : Pack) (table : List ℕ) : Type 0 where
   pub says : (m : ℕ) → mapped (placeOf p) (kindStep (p .relations) m) ≡ stepAt table m
   pub leading : Leading table
 
-pub indexes : (p : Pack) → WellFormed p → Indexes p (scanTable entryAfter zeros (words p))
+pub indexes : (p : Pack) → WellFormed p → (t : List ℕ) → ((m : ℕ) → getD t m 0 ≡ coded (mapped (placeOf p) (kindStep (p .relations) m))) → Indexes p t
 unfolding Leading
-indexes p w =
-    let t : List ℕ = scanTable entryAfter zeros (words p) in
-    let d : (m : ℕ) → (stepAt t m ≡ mapped (placeOf p) (kindStep (p .relations) m)) × (getD t m 0 < 69632) = λ m. decoded t m (mapped (placeOf p) (kindStep (p .relations) m)) (index-declares p w m) (step-small p w m) in
+indexes p w t e =
+    let d : (m : ℕ) → (stepAt t m ≡ mapped (placeOf p) (kindStep (p .relations) m)) × (getD t m 0 < 69632) = λ m. decoded t m (mapped (placeOf p) (kindStep (p .relations) m)) (e m) (step-small p w m) in
     record { says = λ m. sym (d m .0); leading = λ m. d m .1 }

@@ -1,7 +1,7 @@
--- After the scan of a checked pack the table says of every entity what is known of it: whether a derivation names it, and the kinds that it takes.
-use Prim.Native.Nat.{ℕ, suc, _+_, _-_, _*_, _%_, _<_, _≤_}
+-- After all relations of a checked pack the table says of every entity what is known of it: whether a derivation names it, and the kinds that it takes.
+use Prim.Native.Nat.{ℕ, suc, _+_, _-_, _<_, _≤_}
 use native.Mathlib.Omega.{arith}
-use mathlib.Core.Path.{_≡_, refl, ap, sym, _∙_}
+use mathlib.Core.Path.{_≡_, refl, ap, sym, _∙_, subst}
 use mathlib.Core.List.{List, [], _∷_, _++_, map, append-nil, append-assoc}
 use mathlib.Core.Bool.{Bool, true, false, _||_, not, or-assoc}
 use mathlib.Core.Option.{Option, none, some}
@@ -9,26 +9,24 @@ use lib.ListN.{length, getD, take, drop, set, length-set, length-replicate, List
 use lib.Seq.{getD-set-same, getD-set-other}
 use lib.Dec.{eqb, ltb}
 use borrow.Author.Tests.{eq-eqb, ne-eqb, eqb-true, eqb-false, lt-ltb, le-ltb}
-use Rattle.pack.specs.Table.{pick, valueOf, wordOf}
-use Rattle.pack.specs.Form.{among, count, listOrNone}
+use Rattle.pack.specs.Table.{pick, valueOf}
+use Rattle.pack.specs.Form.{among}
 use Rattle.pack.specs.Pack.{Derivation, Relation, Pack, WellFormed, yes, read, words}
-use Rattle.chains.specs.Kinds.{declared, ownAnswer, kindsOf}
+use Rattle.chains.specs.Kinds.{find, declared, ownAnswer, kindsOf}
 use Rattle.chains.specs.Reach.{any}
 use Rattle.chains.specs.Filtered as filtered
 use Rattle.chains.specs.Filtered.{kindAt, listed, takenFrom, taken, namesEntity}
-use Rattle.chains.specs.Operations.{placeOf, namesAt, relationWords, firstRelation, hops}
-use Rattle.chains.specs.Scan.{scan, nameAfter}
-use Rattle.chains.specs.AllKinds.{KindsMarked}
-use Rattle.chains.specs.Taking.{several, known, namedAfter, takenAfter, takeAt, Taking, slotAfter, takenBy, takes, kindMarked, takenIn, Known}
+use Rattle.chains.specs.Operations.{placeOf, namesAt}
+use Rattle.chains.specs.Record.{valueAt, flagAt, slotsPlace}
+use Rattle.chains.specs.AllKinds.{IsPack, Noted, KindsMarked}
+use Rattle.chains.specs.Taking.{several, known, namedAfter, takenAfter, takeAt, takenBy, kindMarked, takenIn, Takeable, Filled}
 use Rattle.pack.proofs.PackLaws.{words-read}
 use Rattle.chains.proofs.Names.{or-left, or-right, or-false, or-true}
-use Rattle.chains.proofs.Hushed.{kind-word}
-use Rattle.chains.proofs.Quiet.{Passing}
-use Rattle.chains.proofs.ScanLaws.{afterOption, afterTail, afterRelation}
-use Rattle.chains.proofs.DeclarationLaws.{value-word, Fitting}
-use Rattle.chains.proofs.RelationScan.{RelationsFine, Kept, kept, afterRelations}
-use Rattle.chains.proofs.PackIndex.{zeros, zero-at, parts, scan-pack}
-use Rattle.chains.proofs.ListAt.{place-holds}
+use Rattle.chains.proofs.PackIndex.{zeros, zero-at, parts, EachFound, all-found}
+use Rattle.chains.proofs.ListAt.{InWords, place-holds}
+use Rattle.chains.proofs.RecordLaws.{no-flag, a-flag, current-there, entity-there}
+use Rattle.chains.proofs.DeclarationLaws.{standing}
+use Rattle.chains.proofs.CheckedLaws.{its-recorded, placeable}
 
 -- ---- what is known, after one more derivation
 
@@ -74,70 +72,18 @@ unfolding takenAfter
 more-known b ks none h = named-known b ks ∙ ap (known true) (sym (append-nil ks))
 more-known b ks (some k) h = ap (λ (x : ℕ). takenAfter x (some k)) (named-known b ks) ∙ kind-known ks k h
 
--- ---- a relation's words
+-- ---- the relations
 
 module _ (kind : ℕ → ℕ → Option ℕ) where
-  abbrev step : Taking → ℕ → ℕ → Taking
-  step = takes kind
-
-  take-passes : Passing step
-  unfolding nameAfter slotAfter takenBy
-  take-passes = record { passes = λ s place w k. simp (k .not-6, k .not-17, k .not-19) }
-
-  module _ (s : Taking) (place v : ℕ) (fits : v < 16777216) where
-    at-6 : v < 4096 → step s place (wordOf 6 v) ≡ record { name = v; slot = s .slot; table = s .table }
-    unfolding nameAfter slotAfter takenBy
-    at-6 h = let m : wordOf 6 v % 4096 ≡ v = omega arith in simp (kind-word 6 v fits, m)
-
-    at-17 : step s place (wordOf 17 v) ≡ record { name = s .name; slot = v; table = s .table }
-    unfolding nameAfter slotAfter takenBy
-    at-17 = simp (kind-word 17 v fits, value-word 17 v fits)
-
-    at-19 : step s place (wordOf 19 v) ≡ record { name = s .name; slot = s .slot; table = takeAt (s .table) v (kind (s .name) (s .slot)) }
-    unfolding nameAfter slotAfter takenBy
-    at-19 = simp (kind-word 19 v fits, value-word 19 v fits)
-
-    at-other : (k : ℕ) → eqb k 6 ≡ false → eqb k 17 ≡ false → eqb k 19 ≡ false → step s place (wordOf k v) ≡ s
-    unfolding nameAfter slotAfter takenBy
-    at-other k a b c = simp (kind-word k v fits, a, b, c)
-
   -- the table after a relation
   abbrev tableAfter : ℕ → Option Derivation → List ℕ → List ℕ
   tableAfter n none t = t
   tableAfter n (some d) t = takeAt t (d .entity) (kind n (d .current))
 
-  after-relation : (n : ℕ) (used : ℕ → Bool) (r : Relation) (at : ℕ) (s : Taking) → n ≤ 4096 → Kept n used r → afterRelation step r at s .table ≡ tableAfter (r .name) (r .derivation) (s .table)
-  after-relation n used r at s m k =
-      ap (λ (u : Taking). afterTail step r (at + 1) u .table) (at-6 s at (r .name) (omega (arith, k .below)) (omega (arith, k .below))) ∙ go (r .derivation) (k .derived)
-    where
-      here : Taking
-      here = record { name = r .name; slot = s .slot; table = s .table }
-
-      nine : step here (at + 1 + 2) (wordOf 9 (length (r .slotKinds))) ≡ here
-      nine = at-other here (at + 1 + 2) (length (r .slotKinds)) (k .kinds) 9 refl refl refl
-
-      go : (o : Option Derivation) → ((d : Derivation) → o ≡ some d → Fitting d)
-          → afterOption step o (at + 1 + 4 + length (r .slotKinds)) (step here (at + 1 + 2) (wordOf 9 (length (r .slotKinds)))) .table ≡ tableAfter (r .name) o (s .table)
-      go none f = ap (λ (u : Taking). u .table) nine
-      go (some d) f =
-          let g = f d refl in
-          let b : ℕ = at + 1 + 4 + length (r .slotKinds) in
-          let far : ℕ = b + 3 * hops (d .path) in
-          let slotted : Taking = record { name = r .name; slot = d .current; table = s .table } in
-          let done : Taking = record { name = r .name; slot = d .current; table = takeAt (s .table) (d .entity) (kind (r .name) (d .current)) } in
-          let last : Taking → List ℕ = λ u. step u (far + 6) (wordOf 21 (length (d .slotEntities))) .table in
-          let from19 : Taking → List ℕ = λ u. last (step u (far + 4) (wordOf 19 (d .entity))) in
-          let from18 : Taking → List ℕ = λ u. from19 (step u (far + 3) (wordOf 18 (d .related))) in
-          let from17 : Taking → List ℕ = λ u. from18 (step u (far + 2) (wordOf 17 (d .current))) in
-          let from13 : Taking → List ℕ = λ u. from17 (step u (b + 1) (wordOf 13 (count listOrNone (d .path)))) in
-          let from12 : Taking → List ℕ = λ u. from13 (step u b (wordOf 12 (d .source))) in
-          ap from12 nine
-          ∙ ap from13 (at-other here b (d .source) (g .source) 12 refl refl refl)
-          ∙ ap from17 (at-other here (b + 1) (count listOrNone (d .path)) (g .path) 13 refl refl refl)
-          ∙ ap from18 (at-17 here (far + 2) (d .current) (g .current))
-          ∙ ap from19 (at-other slotted (far + 3) (d .related) (g .related) 18 refl refl refl)
-          ∙ ap last (at-19 slotted (far + 4) (d .entity) (g .entity))
-          ∙ ap (λ (u : Taking). u .table) (at-other done (far + 6) (length (d .slotEntities)) (g .entities) 21 refl refl refl)
+  -- and after a list of relations
+  abbrev afterAll : List Relation → List ℕ → List ℕ
+  afterAll [] t = t
+  afterAll (r ∷ rs) t = afterAll rs (tableAfter (r .name) (r .derivation) t)
 
   -- ---- an entity
 
@@ -181,19 +127,13 @@ module _ (kind : ℕ → ℕ → Option ℕ) where
         go true = rw length-set l
         go false = l
 
-    relations-known : (n : ℕ) → n ≤ 4096 → (rs : List Relation) (used : List ℕ) (at : ℕ) (s : Taking) (b : Bool) (ks : List ℕ) → RelationsFine n used rs → length (s .table) ≡ 4096
-        → getD (s .table) e 0 ≡ known b ks
-        → getD (afterRelations step n at rs s .table) e 0 ≡ known (b || any (λ (r : Relation). namesEntity e (r .derivation)) rs) (ks ++ takenOf e rs)
-    unfolding afterRelations
-    relations-known n m [] used at s b ks f l h = h ∙ rw (append-nil ks, or-false b) refl
-    relations-known n m (r ∷ rs) used at s b ks f l h =
-        let k = kept n (λ v. among v used) r (f .0) in
-        let q = after-relation n (λ v. among v used) r at s m k in
+    relations-known : (l : List Relation) (t : List ℕ) (b : Bool) (ks : List ℕ) → length t ≡ 4096 → getD t e 0 ≡ known b ks
+        → getD (afterAll l t) e 0 ≡ known (b || any (λ (r : Relation). namesEntity e (r .derivation)) l) (ks ++ takenOf e l)
+    relations-known [] t b ks l h = h ∙ rw (append-nil ks, or-false b) refl
+    relations-known (r ∷ rs) t b ks l h =
         let c : Bool = namesEntity e (r .derivation) in
         let js : List ℕ = takesBy e (r .name) (r .derivation) in
-        relations-known n m rs (r .name ∷ used) (at + length (relationWords n r)) (afterRelation step r at s) (b || c) (ks ++ js) (f .1)
-        (ap length q ∙ take-long (s .table) (r .name) (r .derivation) l)
-        (ap (λ (t : List ℕ). getD t e 0) q ∙ take-known (s .table) (r .name) (r .derivation) b ks l h)
+        relations-known rs (tableAfter (r .name) (r .derivation) t) (b || c) (ks ++ js) (take-long t (r .name) (r .derivation) l) (take-known t (r .name) (r .derivation) b ks l h)
         ∙ rw (or-assoc b c (any (λ (r : Relation). namesEntity e (r .derivation)) rs), append-assoc ks js (takenOf e rs)) refl
 
 -- ---- a checked pack
@@ -233,16 +173,51 @@ kind-of {ws} {marks = marks} m p h same fine n i slot =
     let q : getD marks n 0 - 2 ≡ placeOf p (ownAnswer (p .relations) n) = (let k = m .marked p h n i in omega arith) in
     ap (λ (o : Option (List ℕ)). kindAt o slot) (ap (namesAt ws) q ∙ ap (λ (v : List ℕ). namesAt v (placeOf p (ownAnswer (p .relations) n))) (sym same) ∙ place-holds p fine n)
 
-pub all-known : {ws names marks t : List ℕ} {steps : ℕ} → KindsMarked ws steps names marks → t ≡ takenIn ws marks zeros → Known ws t
-unfolding takenIn taken
-all-known {ws} {names} {marks} {t} m e =
-    record {
-      holds = λ p h n i.
-          let same : words p ≡ ws = words-read ws p h .same in
-          let fine : WellFormed p = words-read ws p h .fine in
-          let s : Taking = record { name = 0; slot = 0; table = zeros } in
-          let kind : ℕ → ℕ → Option ℕ = kindMarked ws marks in
-          ap (λ (u : List ℕ). getD u n 0) (e ∙ ap (λ (v : List ℕ). scan (takes kind) 0 s v .table) (sym same) ∙ ap (λ (u : Taking). u .table) (scan-pack (takes kind) (take-passes kind) p fine s))
-          ∙ relations-known kind (marked-fits ws marks) n i (p .names) (parts p fine .most) (p .relations) [] (firstRelation p) s false [] (parts p fine .relations-fine) (length-replicate {A = ℕ} 4096 0) (zero-at 4096 n)
-          ∙ ap (known (any (λ (r : Relation). namesEntity n (r .derivation)) (p .relations))) (taken-alike kind (p .relations) n (p .relations) (kind-of m p h same fine));
-    }
+module _ {ws names records marks : List ℕ} {steps : ℕ} (noted : Noted ws names records) (m : KindsMarked ws steps names marks) (p : Pack) (h : read ws ≡ yes p) where
+  abbrev kind : ℕ → ℕ → Option ℕ
+  kind = kindMarked ws marks
+
+  same : words p ≡ ws
+  same = words-read ws p h .same
+
+  fine : WellFormed p
+  fine = words-read ws p h .fine
+
+  -- what the code reads at a relation's record
+  record-takes : (r : Relation) → find (r .name) (p .relations) ≡ some r → (t : List ℕ) → takenBy ws marks t (r .name) (getD records (r .name) 0) ≡ tableAfter kind (r .name) (r .derivation) t
+  unfolding takenBy
+  record-takes r e t = go (r .derivation) refl
+    where
+      start : ℕ
+      start = getD records (r .name) 0
+
+      i : InWords ws start (p .names) r
+      i = subst (λ (v : List ℕ). InWords v start (p .names) r) same (standing p fine records (noted .placed p h) (r .name) r e .stands)
+
+      most : p .names ≤ 4096
+      most = parts p fine .most
+
+      go : (o : Option Derivation) → r .derivation ≡ o
+          → pick (eqb (flagAt ws start) 1) (takeAt t (valueAt ws (slotsPlace ws start + 2)) (kind (r .name) (valueAt ws (slotsPlace ws start)))) t ≡ tableAfter kind (r .name) o t
+      go none q = rw (no-flag ws start (p .names) r i most q) refl
+      go (some d) q = rw (a-flag ws start (p .names) r i most d q, entity-there ws start (p .names) r i most d q, current-there ws start (p .names) r i most d q) refl
+
+  all-take : (l : List Relation) → EachFound (p .relations) l → (t : List ℕ) → takenIn ws records marks (declared l) t ≡ afterAll kind l t
+  unfolding takenIn
+  all-take [] f t = refl
+  all-take (r ∷ l) f t = ap (takenIn ws records marks (declared l)) (record-takes r (f .0) t) ∙ all-take l (f .1) (tableAfter kind (r .name) (r .derivation) t)
+
+  entity-known : {t : List ℕ} → t ≡ takenIn ws records marks names zeros → (e : ℕ) → e < 4096
+      → getD t e 0 ≡ known (any (λ r. namesEntity e (r .derivation)) (p .relations)) (taken (p .relations) e)
+  unfolding taken
+  entity-known q e i =
+      ap (λ (u : List ℕ). getD u e 0) (q ∙ ap (λ (l : List ℕ). takenIn ws records marks l zeros) (noted .named p h) ∙ all-take (p .relations) (all-found p fine) zeros)
+      ∙ relations-known kind (marked-fits ws marks) e i (p .relations) zeros false [] (length-replicate {A = ℕ} 4096 0) (zero-at 4096 e)
+      ∙ ap (known (any (λ (r : Relation). namesEntity e (r .derivation)) (p .relations))) (taken-alike kind (p .relations) e (p .relations) (kind-of m p h same fine))
+
+module _ {ws names records marks : List ℕ} {steps : ℕ} (c : IsPack ws) (noted : Noted ws names records) (m : KindsMarked ws steps names marks) where
+  pub takeable : Takeable names records
+  takeable = record { below = placeable c m .names-below; low = its-recorded c noted }
+
+  pub filled : {t : List ℕ} → t ≡ takenIn ws records marks names zeros → Filled ws names records marks t steps
+  filled q = record { noted = noted; marked = m; knows = record { holds = λ p h. entity-known noted m p h q } }

@@ -1,21 +1,21 @@
--- Laws of taking kinds: what one word does, and what the scan of a checked pack holds of every entity.
+-- Laws of taking kinds: what one relation does, and all relations in record order.
 use Prim.Native.Nat.{ℕ, suc, _+_, _-_, _<_, _≤_, min}
 use native.Mathlib.Omega.{arith}
+use native.Mathlib.Numerals.{add-one}
 use mathlib.Core.Path.{_≡_, refl, ap, sym, _∙_}
 use mathlib.Core.List.{List, map}
 use mathlib.Core.Option.{Option, none, some}
-use lib.ListN.{length, getD, take, drop, set, length-map, length-take, length-drop, List·getD-map}
-use lib.Seq.{getD-take, getD-drop}
+use lib.ListN.{length, getD, take, drop, set, length-map, length-take, length-drop, List·getD-map, drop-of-length-le}
+use lib.Seq.{getD-take, getD-drop, drop-cons}
 use lib.Dec.{ltb}
 use borrow.Author.Tests.{eq-eqb, ne-eqb, lt-ltb, le-ltb}
-use Rattle.pack.specs.Table.{pick, kindOf, valueOf}
+use Rattle.pack.specs.Table.{pick, valueOf}
 use Rattle.chains.specs.declared.taking.Kind.{Kind}
 use Rattle.chains.specs.declared.taking.Kind.the-variants.{Is, Unknown}
 use Rattle.chains.specs.Filtered.{kindAt}
 use Rattle.chains.specs.Operations.{namesAt}
-use Rattle.chains.specs.Scan.{scan, nameAfter}
-use Rattle.chains.specs.Taking.{kindIn, Small, KindFound, several, namedAfter, takenAfter, takeAt, Taking, slotAfter, takenBy, takes, kindMarked, takenIn}
-use Rattle.chains.proofs.IndexLaws.{scan-end, scan-next, scan-done}
+use Rattle.chains.specs.Record.{valueAt, flagAt, slotsPlace}
+use Rattle.chains.specs.Taking.{kindIn, Small, KindFound, several, namedAfter, takenAfter, takeAt, takenBy, kindMarked, takenIn, Takeable}
 
 -- ---- the kind at a slot
 
@@ -54,7 +54,7 @@ module _ (ws : List ℕ) (place slot : ℕ) where
       ∙ ap valueOf (getD-take (valueOf (getD ws place 0)) (drop (suc place) ws) slot 0 h ∙ getD-drop (suc place) ws slot 0 ∙ ap (λ (k : ℕ). getD ws k 0) m) in
       record { is = sym (listed z ∙ rw (lt-ltb slot (length names) (omega (arith, names-long)), e) refl); small = omega arith }
 
--- ---- one word
+-- ---- one entity
 
 pub not-named : (x : ℕ) → x ≡ 0 → 1 ≡ namedAfter x
 unfolding namedAfter
@@ -93,60 +93,37 @@ pub an-entity : (t : List ℕ) (e : ℕ) (kind : Option ℕ) → e < 4096 → {x
 unfolding takeAt
 an-entity t e kind h n k = sym (rw (lt-ltb e 4096 h, ← n, ← k) refl)
 
-pub slot-same : (slot w : ℕ) → (kindOf w ≡ 17 → ⊥) → slot ≡ slotAfter slot w
-unfolding slotAfter
-slot-same slot w k = sym (simp (ne-eqb (kindOf w) 17 k))
+-- ---- one relation
 
-pub slot-new : (slot w : ℕ) → kindOf w ≡ 17 → valueOf w ≡ slotAfter slot w
-unfolding slotAfter
-slot-new slot w k = sym (simp (eq-eqb (kindOf w) 17 k))
-
-module _ (ws marks t : List ℕ) (name slot w : ℕ) where
-  pub no-entity-word : (kindOf w ≡ 19 → ⊥) → t ≡ takenBy (kindMarked ws marks) t name slot w
+module _ (ws marks t : List ℕ) (name start : ℕ) {flag : ℕ} (f : flag ≡ flagAt ws start) where
+  pub none-takes : (flag ≡ 1 → ⊥) → t ≡ takenBy ws marks t name start
   unfolding takenBy
-  no-entity-word k = sym (simp (ne-eqb (kindOf w) 19 k))
+  none-takes z = sym (rw (← f, ne-eqb flag 1 z) refl)
 
-  pub entity-word : kindOf w ≡ 19 → {place : ℕ} {kind : Kind} {t′ : List ℕ} → place ≡ getD marks name 0 - 2 → KindFound ws place slot kind → t′ ≡ takeAt t (valueOf w) (kindIn kind)
-      → t′ ≡ takenBy (kindMarked ws marks) t name slot w
+  pub one-takes : flag ≡ 1 → {at place slot entity : ℕ} {kind : Kind} {t′ : List ℕ} → at ≡ slotsPlace ws start → place ≡ getD marks name 0 - 2 → slot ≡ valueAt ws at → KindFound ws place slot kind
+      → entity ≡ valueAt ws (at + 2) → t′ ≡ takeAt t entity (kindIn kind) → t′ ≡ takenBy ws marks t name start
   unfolding takenBy kindMarked
-  entity-word k e f h = h ∙ ap (takeAt t (valueOf w)) (f .is ∙ ap (λ (n : ℕ). kindAt (namesAt ws n) slot) e) ∙ sym (rw (eq-eqb (kindOf w) 19 k) refl)
+  one-takes z {at} {place} {slot} {entity} p q s k e h =
+      h ∙ ap (takeAt t entity) (k .is ∙ ap (λ (n : ℕ). kindAt (namesAt ws n) slot) q) ∙ sym (rw (← f, z, ← p, ← e, ← s) refl)
 
--- ---- the scan
+-- ---- all relations
 
-module _ (ws marks t₀ : List ℕ) where
-  abbrev step : Taking → ℕ → ℕ → Taking
-  step = takes (kindMarked ws marks)
+module _ (ws records marks names t₀ : List ℕ) where
+  -- what is left to take gives what the whole gives
+  pub record Taken (t : List ℕ) (j : ℕ) : Type 0 where
+    pub todo : takenIn ws records marks names t₀ ≡ takenIn ws records marks (drop j names) t
 
-  -- the scan from here on gives what the whole gives
-  pub record Taken (t : List ℕ) (name slot i : ℕ) : Type 0 where
-    pub within : i ≤ length ws
-    pub below : name < 4096
-    pub todo : takenIn ws marks t₀ ≡ scan step i (record { name = name; slot = slot; table = t }) (drop i ws) .table
+  pub begin : Taken t₀ 0
+  begin = record { todo = refl }
 
-  pub begin : Taken t₀ 0 0 0
-  unfolding takenIn
-  begin = record { within = omega arith; below = omega arith; todo = refl }
+  module _ {t : List ℕ} {j : ℕ} (s : Taken t j) where
+    pub taken-all : length names ≤ j → t ≡ takenIn ws records marks names t₀
+    unfolding takenIn
+    taken-all h = sym (s .todo ∙ rw (drop-of-length-le names h) refl)
 
-  module _ {t : List ℕ} {name slot i : ℕ} (s : Taken t name slot i) where
-    abbrev here : Taking
-    here = record { name = name; slot = slot; table = t }
+    pub taken-next : j < length names → {t′ : List ℕ} → t′ ≡ takenBy ws marks t (getD names j 0) (getD records (getD names j 0) 0) → Taken t′ (j + 1)
+    unfolding takenIn
+    taken-next h e = record { todo = s .todo ∙ rw (drop-cons names j 0 h, add-one j, e) refl }
 
-    pub taken-22 : i < length ws → kindOf (getD ws i 0) ≡ 22 → t ≡ takenIn ws marks t₀
-    taken-22 h k = sym (s .todo ∙ ap (λ (u : Taking). u .table) (scan-end step ws i here h k))
-
-    pub taken-all : length ws ≤ i → t ≡ takenIn ws marks t₀
-    taken-all h = sym (s .todo ∙ ap (λ (u : Taking). u .table) (scan-done step ws i here h))
-
-    pub taken-next : i < length ws → (kindOf (getD ws i 0) ≡ 22 → ⊥) → {name′ slot′ : ℕ} {t′ : List ℕ} → name′ ≡ nameAfter name (getD ws i 0) → name′ < 4096
-        → slot′ ≡ slotAfter slot (getD ws i 0) → t′ ≡ takenBy (kindMarked ws marks) t name′ slot′ (getD ws i 0) → Taken t′ name′ slot′ (i + 1)
-    taken-next h k {name′} {slot′} {t′} n b l e =
-        let w : ℕ = getD ws i 0 in
-        let same : step here i w ≡ record { name = name′; slot = slot′; table = t′ } =
-        λ j. record { name = sym n j; slot = sym l j; table = (ap (λ (m : ℕ). takenBy (kindMarked ws marks) t m (slotAfter slot w) w) (sym n) ∙ ap (λ (m : ℕ). takenBy (kindMarked ws marks) t name′ m w) (sym l) ∙ sym e) j } in
-        record {
-          within = omega arith;
-          below = b;
-          todo = s .todo
-              ∙ ap (λ (u : Taking). u .table) (scan-next step ws i here h k)
-              ∙ ap (λ (u : Taking). scan step (i + 1) u (drop (i + 1) ws) .table) same;
-        }
+pub name-low : (names records : List ℕ) → Takeable names records → (j : ℕ) → getD names j 0 < 4096
+name-low names records h j = h .below j

@@ -3,12 +3,13 @@ use Prim.Native.Nat.{ℕ, _+_}
 use mathlib.Core.Path.{_≡_}
 use mathlib.Core.List.{List}
 use mathlib.Core.Bool.{Bool, true}
+use mathlib.Core.Option.{Option, none, some}
 use lib.ListN.{length, getD}
 use Rattle.pack.specs.Form.{among}
-use Rattle.pack.specs.Pack.{Pack, yes, read}
-use Rattle.chains.specs.Kinds.{declared, allKinds, ownAnswer}
+use Rattle.pack.specs.Pack.{Relation, Pack, yes, read}
+use Rattle.chains.specs.Kinds.{find, declared, allKinds, ownAnswer}
 use Rattle.chains.specs.Reach.{leans}
-use Rattle.chains.specs.Operations.{placeOf, allKindsWords}
+use Rattle.chains.specs.Operations.{startOf, firstRelation, placeOf, allKindsWords}
 
 -- the words are those of a pack
 pub record IsPack (ws : List ℕ) : Type 0 where
@@ -35,6 +36,19 @@ pub record Leaning (ws : List ℕ) (a b : ℕ) (r : Bool) : Type 0 where
 pub record KindsAsked (ws out : List ℕ) : Type 0 where
   pub checked : IsPack ws
   pub fits : Counted ws (length out)
+
+-- the place where the record of a name starts, 0 for a name that no relation declares
+abbrev pub placeIn : ℕ → Option Relation → ℕ
+placeIn start none = 0
+placeIn start (some r) = start
+
+unfoldable pub recordOf : Pack → ℕ → ℕ
+recordOf p m = placeIn (startOf (p .names) m (firstRelation p) (p .relations)) (find m (p .relations))
+
+-- the relations' names in record order, and by name the places where their records start
+pub record Noted (ws names starts : List ℕ) : Type 0 where
+  pub named : (p : Pack) → read ws ≡ yes p → names ≡ declared (p .relations)
+  pub placed : (p : Pack) → read ws ≡ yes p → (m : ℕ) → getD starts m 0 ≡ recordOf p m
 
 -- the relations' names in record order, marks by name that are 2 and the place of the list that settles the name, and the number of declarations read
 pub record KindsMarked (ws : List ℕ) (steps : ℕ) (names marks : List ℕ) : Type 0 where

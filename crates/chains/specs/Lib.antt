@@ -4,9 +4,9 @@ pub mod Reach
 pub mod Filtered
 pub mod Operations
 pub mod Record
-pub mod Scan
-pub mod Index
+pub mod Declaration
 pub mod Settle
 pub mod AllKinds
+pub mod Sources
 pub mod Taking
 pub mod Said

@@ -1,8 +1,9 @@
 -- What the code reads of a relation from the words of a pack, at the place where its record starts.
-use Prim.Native.Nat.{ℕ, _+_, _*_, _≤_}
-use mathlib.Core.List.{List}
-use lib.ListN.{getD}
-use Rattle.pack.specs.Table.{valueOf}
+use Prim.Native.Nat.{ℕ, suc, _+_, _*_, _≤_}
+use mathlib.Core.List.{List, [], _∷_}
+use lib.ListN.{getD, drop}
+use lib.Dec.{eqb, leb}
+use Rattle.pack.specs.Table.{pick, kindOf, valueOf}
 use Rattle.pack.specs.Form.{repeats}
 
 unfoldable pub valueAt : List ℕ → ℕ → ℕ
@@ -24,6 +25,15 @@ entityCount ws start = valueAt ws (slotsPlace ws start + 4)
 
 unfoldable pub predicateAt : List ℕ → ℕ → ℕ
 predicateAt ws start = slotsPlace ws start + 5 + entityCount ws start
+
+-- how many words of nodes a list begins with: the words of a tree are of kinds of 64 and above, and what follows one is not
+unfoldable pub nodesIn : List ℕ → ℕ
+nodesIn [] = 0
+nodesIn (w ∷ ws) = pick (leb 64 (kindOf w)) (suc (nodesIn ws)) 0
+
+-- where the record ends: after its flag, or after its predicate
+unfoldable pub recordEnd : List ℕ → ℕ → ℕ
+recordEnd ws start = pick (eqb (flagAt ws start) 1) (predicateAt ws start + nodesIn (drop (predicateAt ws start) ws)) (start + 5 + kindCount ws start)
 
 -- every record starts within the words
 unfoldable pub Recorded : List ℕ → Type 0

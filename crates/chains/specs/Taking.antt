@@ -1,4 +1,4 @@
--- The kinds that entities take, by name, as one scan over the words of the relations.
+-- The kinds that entities take, by name, read at the records of relations.
 use Prim.Native.Nat.{ℕ, _+_, _-_, _<_}
 use mathlib.Core.Path.{_≡_}
 use mathlib.Core.List.{List, [], _∷_}
@@ -6,14 +6,15 @@ use mathlib.Core.Bool.{Bool, not}
 use mathlib.Core.Option.{Option, none, some}
 use lib.ListN.{getD, set}
 use lib.Dec.{ltb, eqb}
-use Rattle.pack.specs.Table.{pick, kindOf, valueOf}
+use Rattle.pack.specs.Table.{pick}
 use Rattle.pack.specs.Pack.{Pack, yes, read}
 use Rattle.chains.specs.declared.taking.Kind.{Kind}
 use Rattle.chains.specs.declared.taking.Kind.the-variants.{Is, Unknown}
 use Rattle.chains.specs.Reach.{any}
 use Rattle.chains.specs.Filtered.{kindAt, taken, namesEntity}
 use Rattle.chains.specs.Operations.{namesAt}
-use Rattle.chains.specs.Scan.{scan, nameAfter}
+use Rattle.chains.specs.Record.{valueAt, flagAt, slotsPlace, Recorded}
+use Rattle.chains.specs.AllKinds.{Noted, KindsMarked}
 
 -- the code's kind as an option
 abbrev pub kindIn : Kind → Option ℕ
@@ -49,33 +50,31 @@ takenAfter x (some k) = pick (ltb x 2) (2 + k) (pick (eqb x (2 + k)) x several)
 unfoldable pub takeAt : List ℕ → ℕ → Option ℕ → List ℕ
 takeAt t e kind = pick (ltb e 4096) (set t e (takenAfter (namedAfter (getD t e 0)) kind)) t
 
--- the scan holds the relation's name, its current slot (17) and the table, which its entity (19) changes
-pub record Taking : Type 0 where
-  pub name : ℕ
-  pub slot : ℕ
-  pub table : List ℕ
-
-unfoldable pub slotAfter : ℕ → ℕ → ℕ
-slotAfter slot w = pick (eqb (kindOf w) 17) (valueOf w) slot
-
-unfoldable pub takenBy : (ℕ → ℕ → Option ℕ) → List ℕ → ℕ → ℕ → ℕ → List ℕ
-takenBy kind t name slot w = pick (eqb (kindOf w) 19) (takeAt t (valueOf w) (kind name slot)) t
-
-abbrev pub takes : (ℕ → ℕ → Option ℕ) → Taking → ℕ → ℕ → Taking
-takes kind s place w =
-    record {
-      name = nameAfter (s .name) w;
-      slot = slotAfter (s .slot) w;
-      table = takenBy kind (s .table) (nameAfter (s .name) w) (slotAfter (s .slot) w) w;
-    }
-
 -- the kind at a slot of a name, from the marks of all names
 unfoldable pub kindMarked : List ℕ → List ℕ → ℕ → ℕ → Option ℕ
 kindMarked ws marks name slot = kindAt (namesAt ws (getD marks name 0 - 2)) slot
 
-unfoldable pub takenIn : List ℕ → List ℕ → List ℕ → List ℕ
-takenIn ws marks t = scan (takes (kindMarked ws marks)) 0 (record { name = 0; slot = 0; table = t }) ws .table
+-- after the relation of a name, whose record starts at a place: its entity (19) takes the kind at its current slot (17)
+unfoldable pub takenBy : List ℕ → List ℕ → List ℕ → ℕ → ℕ → List ℕ
+takenBy ws marks t name start =
+    pick (eqb (flagAt ws start) 1) (takeAt t (valueAt ws (slotsPlace ws start + 2)) (kindMarked ws marks name (valueAt ws (slotsPlace ws start)))) t
+
+-- after the relations of some names
+unfoldable pub takenIn : List ℕ → List ℕ → List ℕ → List ℕ → List ℕ → List ℕ
+takenIn ws records marks [] t = t
+takenIn ws records marks (n ∷ ns) t = takenIn ws records marks ns (takenBy ws marks t n (getD records n 0))
+
+-- they are names, and their records start within the words
+pub record Takeable (names records : List ℕ) : Type 0 where
+  pub below : (j : ℕ) → getD names j 0 < 4096
+  pub low : Recorded records
 
 -- what is known of every entity of a checked pack
 pub record Known (ws t : List ℕ) : Type 0 where
   pub holds : (p : Pack) → read ws ≡ yes p → (e : ℕ) → e < 4096 → getD t e 0 ≡ known (any (λ r. namesEntity e (r .derivation)) (p .relations)) (taken (p .relations) e)
+
+-- the tables of a checked pack: the relations' names in record order, the places where their records start, the marks of their kinds, and what is known of entities
+pub record Filled (ws names records marks taken : List ℕ) (steps : ℕ) : Type 0 where
+  pub noted : Noted ws names records
+  pub marked : KindsMarked ws steps names marks
+  pub knows : Known ws taken

@@ -1,6 +1,7 @@
 // All kinds: the effective kinds of every relation, as places, and how many declarations were read for them.
 use crate::header::relation_count;
 use crate::mark_kinds::mark_kinds;
+use crate::records::records;
 use crate::settle::places;
 use pack::answer::Answer;
 use pack::check::check;
@@ -13,8 +14,10 @@ fn settle_kinds(pack: &[u32], out: &mut [u32]) -> u32
     requires { ⌜ KindsAsked (now pack) (now out) ⌝ }
     ensures { λ r. ⌜ KindsLeft (now (pack .entry)) r (now (out .exit)) ⌝ }
 {
+    let mut starts = [0u32; 4096];
     let mut marks = [0u32; 4096];
-    let steps = mark_kinds(pack, out, &mut marks);
+    records(pack, out, &mut starts);
+    let steps = mark_kinds(pack, out, &starts, &mut marks);
     places(&marks, out);
     steps
 }

@@ -1,8 +1,8 @@
 // The filtered tables: what direct, innermost, alias and unresolved say of each name.
+use crate::declaration::Declaration;
 use crate::header::name_count;
-use crate::index::Declaration;
+use crate::inner::settle_all;
 use crate::settle::Mark;
-use crate::settle::settle_all;
 use crate::taking::Taken;
 use crate::taking::take_kinds;
 use pack::answer::Answer;

@@ -2,7 +2,7 @@
 use crate::header::name_count;
 use crate::header::relation_count;
 use crate::header::unknown_name;
-use crate::index::index;
+use crate::records::records;
 use crate::settle::walk;
 use pack::answer::Answer;
 use pack::check::check;
@@ -16,12 +16,20 @@ fn own_place(pack: &[u32], name: usize) -> u32
     requires { ⌜ IsPack (now pack) × (name < 4096) ⌝ }
     ensures { λ r. ⌜ OwnPlace (now (pack .entry)) name r ⌝ }
 {
-    let mut table = [0u32; 4096];
+    let mut names = [0u32; 512];
+    let mut starts = [0u32; 4096];
     let mut marks = [0u32; 4096];
     let mut steps: u32 = 0;
-    index(pack, &mut table);
     let count = relation_count(pack);
-    walk(&table, &mut marks, &mut steps, name, count as u32 + 1)
+    records(pack, &mut names[0..count], &mut starts);
+    walk(
+        pack,
+        &starts,
+        &mut marks,
+        &mut steps,
+        name,
+        count as u32 + 1,
+    )
 }
 
 // The place of the list that settles a name, 0 for none.

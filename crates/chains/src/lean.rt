@@ -2,8 +2,8 @@
 use crate::header::name_count;
 use crate::header::relation_count;
 use crate::header::unknown_name;
+use crate::records::records;
 use crate::sources::leads;
-use crate::sources::sources;
 use pack::answer::Answer;
 use pack::check::check;
 ghost use mathlib.Core.Path.{_≡_};
@@ -16,9 +16,11 @@ fn leaning(pack: &[u32], a: usize, b: usize) -> bool
     requires { ⌜ IsPack (now pack) × (a < 4096) ⌝ }
     ensures { λ r. ⌜ Leaning (now (pack .entry)) a b r ⌝ }
 {
-    let mut table = [0u32; 4096];
-    sources(pack, &mut table);
-    leads(&table, a, b, relation_count(pack))
+    let mut names = [0u32; 512];
+    let mut starts = [0u32; 4096];
+    let count = relation_count(pack);
+    records(pack, &mut names[0..count], &mut starts);
+    leads(pack, &starts, a, b, count)
 }
 
 // 1 if the first name leans on the second, 0 if not.

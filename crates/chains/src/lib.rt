@@ -1,16 +1,18 @@
 // The chain walks: what relations inherit from their sources.
 // Four operations: the kinds of all relations (all_kinds) and of one name (kinds_of), where sources lead (lean), and the
-// filtered tables (filtered). They share what a pack says of itself (header), the index of declarations by name (index),
-// the walk (settle, mark_kinds), the sources by name (sources) and the kinds that entities take (taking). The parts that are
-// public serve resolving.
+// filtered tables (filtered). They share what a pack says of itself (header), the relations from record to record (records)
+// and what a record says (record, declaration), the walk (settle, mark_kinds), the walk of innermost kinds (inner), where
+// sources lead (sources) and the kinds that entities take (taking). The parts that are public serve resolving.
 pub mod all_kinds;
+mod declaration;
 pub mod filtered;
 pub mod header;
-pub mod index;
+mod inner;
 pub mod kinds_of;
 pub mod lean;
-pub mod mark_kinds;
+mod mark_kinds;
 pub mod record;
+mod records;
 mod settle;
 mod sources;
 pub mod taking;

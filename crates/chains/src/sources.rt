@@ -1,62 +1,42 @@
-// The source (12) of each relation by name, from one scan over the words of the relations, and where sources lead.
-use crate::index::name_after;
+// The source (12) of a relation, read at its record, and where sources lead.
+use crate::record::flag_at;
+use crate::record::kind_count;
+use crate::record::value_at;
 use pack::kinds::Pack;
 ghost use mathlib.Core.Path.{_≡_};
-ghost use Prim.Native.Nat.{_<_};
-ghost use Rattle.chains.specs.Scan.{scanTable};
-ghost use Rattle.chains.specs.Index.{sourceAfter, anywhere, IndexedAnywhere, sourcesIn, Sourced};
+ghost use Prim.Native.Nat.{_<_, _≤_};
+ghost use Rattle.chains.specs.Record.{Recorded};
+ghost use Rattle.chains.specs.Sources.{sourceIn, sourcesIn, Sourced};
 ghost use Rattle.chains.specs.Reach.{leadsWithin};
 
-// A relation's source after one more of its words: the name and one, 0 for none.
-fn source_after(x: u32, word: u32) -> u32
-    ensures { λ r. ⌜ r ≡ sourceAfter x word ⌝ }
+// The source of the relation whose record starts at a place: the name and one, 0 for none. At 0 there is none.
+fn source_at(pack: &[u32], start: usize) -> u32
+    requires { ⌜ start ≤ 65536 ⌝ }
+    ensures { λ r. ⌜ r ≡ sourceIn (now (pack .entry)) start ⌝ }
 {
-    let v = word % Pack::VALUES;
-    if word / Pack::VALUES != Pack::SOURCE {
-        return x;
+    if start == 0 {
+        return 0;
     }
-    if v == Pack::NONE {
-        return x;
+    if flag_at(pack, start) != 1 {
+        return 0;
     }
-    v + 1
-}
-
-// One word: the source of the relation that it belongs to, and that relation's name.
-fn source_word(table: &mut [u32; 4096], name: usize, word: u32) -> usize
-    requires { ⌜ name < 4096 ⌝ }
-    ensures { λ r. ⌜ IndexedAnywhere sourceAfter (now (table .entry)) name word r (now (table .exit)) ⌝ }
-{
-    let here = name_after(name, word);
-    let x = table[here];
-    table[here] = source_after(x, word);
-    here
-}
-
-// Every relation's source, from the words of a checked pack; the table holds zeros before.
-pub fn sources(pack: &[u32], table: &mut [u32; 4096])
-    ensures { λ r. ⌜ now (table .exit) ≡ scanTable (anywhere sourceAfter) (now (table .entry)) (now (pack .entry)) ⌝ }
-{
-    let mut name: usize = 0;
-    let mut i: usize = 0;
-    while i < pack.len() {
-        let w = pack[i];
-        if w / Pack::VALUES == Pack::RULE_COUNT {
-            return;
-        }
-        name = source_word(table, name, w);
-        i += 1;
+    let at = start + 4 + kind_count(pack, start);
+    let source = value_at(pack, at + 1);
+    if source == Pack::NONE {
+        return 0;
     }
+    source + 1
 }
 
 // Whether one or more sources, and no more than so many, lead from a name to another.
-pub fn leads(table: &[u32; 4096], a: usize, b: usize, most: usize) -> bool
-    requires { ⌜ Sourced (now table) × (a < 4096) ⌝ }
-    ensures { λ r. ⌜ r ≡ leadsWithin (sourcesIn (now (table .entry))) most a b ⌝ }
+pub fn leads(pack: &[u32], records: &[u32; 4096], a: usize, b: usize, most: usize) -> bool
+    requires { ⌜ Recorded (now records) × Sourced (now pack) (now records) × (a < 4096) ⌝ }
+    ensures { λ r. ⌜ r ≡ leadsWithin (sourcesIn (now (pack .entry)) (now (records .entry))) most a b ⌝ }
 {
     let mut n = a;
     let mut left = most;
     while 0 < left {
-        let s = table[n];
+        let s = source_at(pack, records[n] as usize);
         if s == 0 {
             return false;
         }

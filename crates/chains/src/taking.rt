@@ -1,14 +1,17 @@
 // The kinds that entities take from the derivations that name them, by name.
 use crate::header::relation_count;
-use crate::index::name_after;
 use crate::mark_kinds::mark_kinds;
+use crate::record::flag_at;
+use crate::record::slots_place;
+use crate::record::value_at;
+use crate::records::records;
 use crate::settle::Mark;
 use pack::kinds::Pack;
 ghost use mathlib.Core.Path.{_≡_};
-ghost use Prim.Native.Nat.{_-_, _<_};
+ghost use Prim.Native.Nat.{_-_, _<_, _≤_};
 ghost use lib.ListN.{getD, replicate};
-ghost use Rattle.chains.specs.AllKinds.{IsPack};
-ghost use Rattle.chains.specs.Taking.{kindIn, Small, KindFound, namedAfter, takenAfter, takeAt, slotAfter, takenBy, kindMarked, takenIn, Known};
+ghost use Rattle.chains.specs.AllKinds.{IsPack, KindsAsked};
+ghost use Rattle.chains.specs.Taking.{kindIn, Small, KindFound, namedAfter, takenAfter, takeAt, takenBy, takenIn, Takeable, Known, Filled};
 
 // A relation's kind at a slot, where it is known.
 pub enum Kind {
@@ -100,53 +103,59 @@ fn take_at(table: &mut [u32; 4096], entity: u32, kind: Kind)
     table[e] = taken_after(x, kind);
 }
 
-// The current slot of the relation that the scan is in after a word.
-fn slot_after(slot: u32, word: u32) -> u32
-    ensures { λ r. ⌜ r ≡ slotAfter slot word ⌝ }
-{
-    if word / Pack::VALUES == Pack::CURRENT_SLOT {
-        word % Pack::VALUES
-    } else {
-        slot
-    }
-}
-
-// One word: an entity takes the kind at the current slot of the relation that the scan is in.
-fn take_word(
+// The relation of a name, whose record starts at a place: its entity takes the kind at its current slot.
+fn take_record(
     pack: &[u32],
     marks: &[u32; 4096],
     table: &mut [u32; 4096],
     name: usize,
-    slot: u32,
-    word: u32,
+    start: usize,
 )
-    requires { ⌜ name < 4096 ⌝ }
-    ensures { λ r. ⌜ now (table .exit) ≡ takenBy (kindMarked (now (pack .entry)) (now (marks .entry))) (now (table .entry)) name slot word ⌝ }
+    requires { ⌜ (name < 4096) × (start ≤ 65536) ⌝ }
+    ensures { λ r. ⌜ now (table .exit) ≡ takenBy (now (pack .entry)) (now (marks .entry)) (now (table .entry)) name start ⌝ }
 {
-    if word / Pack::VALUES != Pack::ENTITY {
+    if flag_at(pack, start) != 1 {
         return;
     }
-    let kind = kind_at(pack, place_of(marks, name), slot);
-    take_at(table, word % Pack::VALUES, kind);
+    let at = slots_place(pack, start);
+    let kind = kind_at(pack, place_of(marks, name), value_at(pack, at));
+    take_at(table, value_at(pack, at + 2), kind);
 }
 
-// What every derivation's entity takes, from the words of a checked pack and the marks of its relations.
-pub fn take_all(pack: &[u32], marks: &[u32; 4096], table: &mut [u32; 4096])
-    ensures { λ r. ⌜ now (table .exit) ≡ takenIn (now (pack .entry)) (now (marks .entry)) (now (table .entry)) ⌝ }
+// What every derivation's entity takes, from the names of the relations, the places of their records and their marks.
+fn take_all(
+    pack: &[u32],
+    names: &[u32],
+    records: &[u32; 4096],
+    marks: &[u32; 4096],
+    table: &mut [u32; 4096],
+)
+    requires { ⌜ Takeable (now names) (now records) ⌝ }
+    ensures { λ r. ⌜ now (table .exit) ≡ takenIn (now (pack .entry)) (now (records .entry)) (now (marks .entry)) (now (names .entry)) (now (table .entry)) ⌝ }
 {
-    let mut name: usize = 0;
-    let mut slot: u32 = 0;
-    let mut i: usize = 0;
-    while i < pack.len() {
-        let w = pack[i];
-        if w / Pack::VALUES == Pack::RULE_COUNT {
-            return;
-        }
-        name = name_after(name, w);
-        slot = slot_after(slot, w);
-        take_word(pack, marks, table, name, slot, w);
-        i += 1;
+    let mut j: usize = 0;
+    while j < names.len() {
+        let name = names[j] as usize;
+        take_record(pack, marks, table, name, records[name] as usize);
+        j += 1;
     }
+}
+
+// The tables of a checked pack, which hold zeros before; the answer is the number of declarations read.
+pub fn read_tables(
+    pack: &[u32],
+    names: &mut [u32],
+    starts: &mut [u32; 4096],
+    marks: &mut [u32; 4096],
+    taken: &mut [u32; 4096],
+) -> u32
+    requires { ⌜ KindsAsked (now pack) (now names) × (now starts ≡ replicate 4096 0) × (now marks ≡ replicate 4096 0) × (now taken ≡ replicate 4096 0) ⌝ }
+    ensures { λ r. ⌜ Filled (now (pack .entry)) (now (names .exit)) (now (starts .exit)) (now (marks .exit)) (now (taken .exit)) r ⌝ }
+{
+    records(pack, names, starts);
+    let steps = mark_kinds(pack, names, starts, marks);
+    take_all(pack, names, starts, marks, taken);
+    steps
 }
 
 // What is known of every entity of a checked pack; the table holds zeros before.
@@ -155,8 +164,8 @@ pub fn take_kinds(pack: &[u32], table: &mut [u32; 4096])
     ensures { λ r. ⌜ Known (now (pack .entry)) (now (table .exit)) ⌝ }
 {
     let mut names = [0u32; 512];
+    let mut starts = [0u32; 4096];
     let mut marks = [0u32; 4096];
     let count = relation_count(pack);
-    mark_kinds(pack, &mut names[0..count], &mut marks);
-    take_all(pack, &marks, table);
+    read_tables(pack, &mut names[0..count], &mut starts, &mut marks, table);
 }

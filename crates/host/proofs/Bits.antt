@@ -1,13 +1,13 @@
 -- No answer is too large for its bits: the number that a function of the host answers gives the operation's answer back.
 use Prim.Native.Nat.{ℕ, _-_, _^_, _<_, _≤_}
 use native.Mathlib.Omega.{arith}
-use mathlib.Core.Path.{_≡_, refl, ap, sym, _∙_}
+use mathlib.Core.Path.{_≡_, refl, sym, _∙_}
 use mathlib.Core.Bool.{Bool, true, false, _||_, _&&_}
 use mathlib.Core.List.{List, [], _∷_}
 use mathlib.Core.Option.{none}
-use lib.ListN.{length, getD, length-map}
+use lib.ListN.{length, length-map}
 use lib.Dec.{leb, ltb}
-use borrow.Author.Tests.{ltb-true, leb-true}
+use borrow.Author.Tests.{leb-true}
 use Rattle.pack.specs.declared.answer.Answer.{Answer}
 use Rattle.pack.specs.declared.answer.Answer.the-variants.{Given, Refused}
 use Rattle.pack.specs.Table.{pick}
@@ -16,18 +16,15 @@ use Rattle.pack.specs.Pack.{Relation, Pack, WellFormed, Reading, yes, refuse, r
 use Rattle.pack.specs.Operations.{answer, noRoom, checkAnswer, rewriteAnswer}
 use Rattle.pack.proofs.PackLaws.{words-read}
 use Rattle.pack.proofs.Refusals.{read-numbers}
-use Rattle.chains.specs.Chain.{Step, end, next, mapped, same, withNext, outside}
+use Rattle.chains.specs.Chain.{Step, end, next, same, withNext, outside}
 use Rattle.chains.specs.Kinds as kinds
 use Rattle.chains.specs.Kinds.{kindStep, declared, ownAnswer, allKinds}
 use Rattle.chains.specs.Operations.{placeOf, writeAnswer, allKindsWords, allKindsAnswer, unknown, kindsOfAnswer, yesNo, leanAnswer, filterWords, filterAnswer}
-use Rattle.chains.specs.Settle.{stepAt}
-use Rattle.chains.specs.Index.{entryAfter}
-use Rattle.chains.specs.Scan.{scanTable}
 use Rattle.chains.specs.Reach.{leans}
 use Rattle.chains.specs.declared.filtered.Filter.{Filter}
 use Rattle.chains.proofs.KindLaws.{kinds-steps, distinct-names}
-use Rattle.chains.proofs.PackIndex.{zeros, parts}
-use Rattle.chains.proofs.PlaceBounds.{indexes}
+use Rattle.chains.proofs.PackIndex.{parts}
+use Rattle.chains.proofs.PlaceBounds.{end-small}
 use Rattle.chains.proofs.ListAt.{own-holds}
 use Rattle.resolve.specs.Turning.{Outcome, done, refused}
 use Rattle.resolve.specs.Resolving.{resolved}
@@ -143,25 +140,14 @@ pub resolve-fits : (ws : List ℕ) (room : ℕ) → FitsBits (resolveAnswer ws r
 unfolding resolveAnswer
 resolve-fits ws room = reads ws _ (resolve-gives ws room)
 
--- a place is that of a step's end, and the index has those as small numbers
-coded-small : (x place : ℕ) → end place ≡ pick (ltb x 65536) (end x) (next (x - 65536)) → place < 65536
-coded-small x place e = go (ltb x 65536) refl e
-  where
-    go : (b : Bool) → ltb x 65536 ≡ b → end place ≡ pick b (end x) (next (x - 65536)) → place < 65536
-    go true h q = let k : place ≡ x = cc in omega (arith, ltb-true x 65536 h)
-    go false h q = let z : _≡_ {A = ℕ} 0 1 = cc in absurd (omega arith)
-
-step-places : (p : Pack) → WellFormed p → (n : ℕ) (a : kinds.Answer) → kindStep (p .relations) n ≡ end a → placeOf p a < 65536
-unfolding stepAt
-step-places p w n a e = coded-small (getD (scanTable entryAfter zeros (words p)) n 0) (placeOf p a) (ap (mapped (placeOf p)) (sym e) ∙ indexes p w .says n)
-
+-- a place is that of a step's end, and those are small
 no-place : (p : Pack) → placeOf p none < 65536
 unfolding placeOf
 no-place p = omega arith
 
 place-small : (p : Pack) → WellFormed p → (n : ℕ) → placeOf p (ownAnswer (p .relations) n) < 65536
 place-small p w n =
-    own-holds (λ a. placeOf p a < 65536) none (no-place p) same (λ a h. h) (kindStep (p .relations)) (step-places p w) (declared (p .relations)) n
+    own-holds (λ a. placeOf p a < 65536) none (no-place p) same (λ a h. h) (kindStep (p .relations)) (end-small p w) (declared (p .relations)) n
 
 unknown-fits : (name : ℕ) → name < 2 ^ 32 → FitsBits (unknown name)
 unknown-fits name h = (omega arith, omega arith, omega arith, h, omega arith)

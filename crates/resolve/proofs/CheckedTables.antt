@@ -1,14 +1,14 @@
 -- Of a checked pack, the tables that the code reads are those that resolving uses.
-use Prim.Native.Nat.{ℕ, _+_, _-_, _<_, _≤_}
+use Prim.Native.Nat.{ℕ, _-_, _<_, _≤_}
 use native.Mathlib.Omega.{arith}
 use mathlib.Core.Path.{_≡_, refl, ap, sym, _∙_, subst, fun-ext}
 use mathlib.Core.List.{List, [], _∷_}
 use mathlib.Core.Bool.{Bool, true, false, _||_}
 use mathlib.Core.Option.{Option, none, some}
-use lib.ListN.{length, getD}
+use lib.ListN.{getD}
 use lib.Dec.{eqb, ltb}
 use borrow.Author.Tests.{ne-eqb, eqb-true, ltb-true, ltb-false}
-use Rattle.pack.specs.Table.{pick, wordOf, table, entryOf}
+use Rattle.pack.specs.Table.{pick, table, entryOf}
 use Rattle.pack.specs.Table as table
 use Rattle.pack.specs.Form.{among, allowedHere, items, Fine}
 use Rattle.pack.specs.Pack.{Derivation, Relation, Pack, WellFormed, yes, read, words, derivation, member, optionalDerivation, relationTail}
@@ -16,69 +16,21 @@ use Rattle.pack.proofs.PackLaws.{words-read}
 use Rattle.chains.specs.Kinds.{find, declared, kindsOf, ownAnswer}
 use Rattle.chains.specs.Filtered.{takenFrom, taken, single, direct}
 use Rattle.chains.specs.Filtered as filtered
-use Rattle.chains.specs.Operations.{relationWords, startOf, firstRelation, placeOf, namesAt}
-use Rattle.chains.specs.Scan.{scanTable}
-use Rattle.chains.specs.AllKinds.{KindsMarked}
+use Rattle.chains.specs.Operations.{startOf, firstRelation, placeOf, namesAt}
+use Rattle.chains.specs.AllKinds.{Noted, KindsMarked}
 use Rattle.chains.specs.Taking.{Known}
 use Rattle.chains.specs.Said.{directIn}
-use Rattle.chains.proofs.Quiet.{Passing}
-use Rattle.chains.proofs.ScanLaws.{afterOption, afterRelation}
-use Rattle.chains.proofs.DeclarationLaws.{Fitting}
-use Rattle.chains.proofs.Hushed.{kind-word}
 use Rattle.chains.proofs.RelationScan.{RelationsFine, kept}
-use Rattle.chains.proofs.ByNameLaws.{left}
-use Rattle.chains.proofs.PackIndex.{zeros, parts, scan-table, find-kept, find-name, start-within, relations-room}
-use Rattle.chains.proofs.ListAt.{InWords, in-pack, place-holds}
+use Rattle.chains.proofs.PackIndex.{parts}
+use Rattle.chains.proofs.ListAt.{InWords, place-holds}
+use Rattle.chains.proofs.DeclarationLaws.{no-record, a-record, recorded, standing}
 use Rattle.chains.proofs.SaysLaws.{direct-in}
 use Rattle.resolve.specs.Tables.{derivedAt, typedAt, Tables, tables}
-use Rattle.resolve.specs.Words.{directBy, recordAfter, typedIn, derivedIn, tablesIn}
+use Rattle.resolve.specs.Words.{directBy, typedIn, derivedIn, tablesIn}
 use Rattle.chains.specs.Record.{Recorded}
 use Rattle.resolve.proofs.TablesLaws.{typed-read, derived-read}
 
--- ---- the places of records
-
-record-passes : Passing recordAfter
-unfolding recordAfter
-record-passes = record { passes = λ x place w k. simp (k .not-6) }
-
-module _ (x place v : ℕ) (fits : v < 16777216) where
-  at-6 : recordAfter x place (wordOf 6 v) ≡ place
-  unfolding recordAfter
-  at-6 = simp (kind-word 6 v fits)
-
-  at-other : (k : ℕ) → eqb k 6 ≡ false → recordAfter x place (wordOf k v) ≡ x
-  unfolding recordAfter
-  at-other k e = simp (kind-word k v fits, e)
-
-relation-starts : (r : Relation) (start : ℕ) → r .name < 16777216 → length (r .slotKinds) < 16777216 → ((d : Derivation) → r .derivation ≡ some d → Fitting d) → afterRelation recordAfter r start 0 ≡ start
-relation-starts r start m l f = go (r .derivation) f
-  where
-    x9 : ℕ
-    x9 = recordAfter (recordAfter 0 start (wordOf 6 (r .name))) (start + 1 + 2) (wordOf 9 (length (r .slotKinds)))
-
-    nine : x9 ≡ start
-    nine = at-other _ (start + 1 + 2) (length (r .slotKinds)) l 9 refl ∙ at-6 0 start (r .name) m
-
-    go : (o : Option Derivation) → ((d : Derivation) → o ≡ some d → Fitting d) → afterOption recordAfter o (start + 1 + 4 + length (r .slotKinds)) x9 ≡ start
-    go none f = nine
-    go (some d) f =
-        let g = f d refl in
-        at-other _ _ (length (d .slotEntities)) (g .entities) 21 refl
-        ∙ at-other _ _ (d .entity) (g .entity) 19 refl
-        ∙ at-other _ _ (d .related) (g .related) 18 refl
-        ∙ at-other _ _ (d .current) (g .current) 17 refl
-        ∙ at-other _ _ _ (g .path) 13 refl
-        ∙ at-other _ _ (d .source) (g .source) 12 refl
-        ∙ nine
-
-start-least : (n name at : ℕ) (rs : List Relation) → at ≤ startOf n name at rs
-unfolding startOf
-start-least n name at [] = omega arith
-start-least n name at (r ∷ rs) = go (eqb name (r .name)) (start-least n name (at + length (relationWords n r)) rs)
-  where
-    go : (b : Bool) → at + length (relationWords n r) ≤ startOf n name (at + length (relationWords n r)) rs → at ≤ pick b at (startOf n name (at + length (relationWords n r)) rs)
-    go true h = omega arith
-    go false h = omega arith
+-- ---- the names of records
 
 found-among : (m : ℕ) (rs : List Relation) (r : Relation) → find m rs ≡ some r → among m (declared rs) ≡ true
 unfolding find
@@ -118,7 +70,7 @@ none-taken n all e h u used (r ∷ l) f = rw (go (r .derivation) (tail-entity n 
 
 -- ---- the tables
 
-module _ (ws records marks taken₀ names : List ℕ) (steps : ℕ) (p : Pack) (h : read ws ≡ yes p) (scanned : records ≡ scanTable recordAfter zeros ws) (marked : KindsMarked ws steps names marks)
+module _ (ws records marks taken₀ names : List ℕ) (steps : ℕ) (p : Pack) (h : read ws ≡ yes p) (noted : Noted ws names records) (marked : KindsMarked ws steps names marks)
     (knows : Known ws taken₀) where
   abbrev rs : List Relation
   rs = p .relations
@@ -132,30 +84,23 @@ module _ (ws records marks taken₀ names : List ℕ) (steps : ℕ) (p : Pack) (
   same : words p ≡ ws
   same = words-read ws p h .same
 
-  record-at : (m : ℕ) → getD records m 0 ≡ left recordAfter 0 (startOf n m (firstRelation p) rs) (find m rs)
-  record-at m = ap (λ (t : List ℕ). getD t m 0) (scanned ∙ ap (scanTable recordAfter zeros) (sym same)) ∙ scan-table recordAfter record-passes p w m
-
   undeclared-at : (m : ℕ) → find m rs ≡ none → getD records m 0 ≡ 0
-  undeclared-at m e = record-at m ∙ ap (left recordAfter 0 (startOf n m (firstRelation p) rs)) e
+  undeclared-at = no-record p w records (noted .placed p h)
 
   pub declared-at : (m : ℕ) (r : Relation) → find m rs ≡ some r → getD records m 0 ≡ startOf n m (firstRelation p) rs
-  declared-at m r e =
-      let f = parts p w in
-      let k = find-kept n m [] rs r (f .relations-fine) e .1 in
-      record-at m ∙ ap (left recordAfter 0 (startOf n m (firstRelation p) rs)) e ∙ relation-starts r (startOf n m (firstRelation p) rs) (omega (arith, k .below, f .most)) (k .kinds) (k .derived)
-
-  record-some : (m : ℕ) (r : Relation) → find m rs ≡ some r → getD records m 0 ≡ 0 → ⊥
-  record-some m r e z = let q = declared-at m r e in let l = start-least n m (firstRelation p) rs in omega arith
+  declared-at = a-record p w records (noted .placed p h)
 
   pub its-records : Recorded records
-  unfolding Recorded
-  its-records m = go (find m rs) refl
-    where
-      go : (o : Option Relation) → find m rs ≡ o → getD records m 0 ≤ 65536
-      go none e = omega (arith, undeclared-at m e)
-      go (some r) e = omega (arith, declared-at m r e, start-within n m (firstRelation p) [] rs, relations-room p w)
+  its-records = recorded p w records (noted .placed p h)
 
   -- the relation of a name stands where its record starts
+  module _ (m : ℕ) (r : Relation) (e : find m rs ≡ some r) where
+    record-some : getD records m 0 ≡ 0 → ⊥
+    record-some z = omega (arith, standing p w records (noted .placed p h) m r e .later)
+
+    stands : InWords ws (getD records m 0) n r
+    stands = subst (λ (v : List ℕ). InWords v (getD records m 0) n r) same (standing p w records (noted .placed p h) m r e .stands)
+
   abbrev T : Tables
   T = tablesIn ws records marks taken₀
 
@@ -168,12 +113,7 @@ module _ (ws records marks taken₀ names : List ℕ) (steps : ℕ) (p : Pack) (
     where
       go : (o : Option Relation) → find m rs ≡ o → pick (eqb (getD records m 0) 0) none (typedIn ws (getD records m 0)) ≡ typedAt o
       go none e = rw (undeclared-at m e) refl
-      go (some r) e =
-          let q : m ≡ r .name = find-name rs m r e in
-          let f : find (r .name) rs ≡ some r = ap (λ (v : ℕ). find v rs) (sym q) ∙ e in
-          let i = subst (λ (v : List ℕ). InWords v (startOf n (r .name) (firstRelation p) rs) n r) same (in-pack p w r f) in
-          let s : getD records m 0 ≡ startOf n (r .name) (firstRelation p) rs = declared-at m r e ∙ ap (λ (v : ℕ). startOf n v (firstRelation p) rs) q in
-          rw (ne-eqb (getD records m 0) 0 (record-some m r e)) (ap (typedIn ws) s ∙ typed-read ws (startOf n (r .name) (firstRelation p) rs) n r i (parts p w .most))
+      go (some r) e = rw (ne-eqb (getD records m 0) 0 (record-some m r e)) (typed-read ws (getD records m 0) n r (stands m r e) (parts p w .most))
 
   pub derived-alike : (m : ℕ) → T .derived m ≡ U .derived m
   unfolding tablesIn tables
@@ -182,15 +122,11 @@ module _ (ws records marks taken₀ names : List ℕ) (steps : ℕ) (p : Pack) (
       go : (o : Option Relation) → find m rs ≡ o → pick (eqb (getD records m 0) 0) none (derivedIn ws (getD marks m 0 - 2) (getD records m 0)) ≡ derivedAt (kindsOf rs m) o
       go none e = rw (undeclared-at m e) refl
       go (some r) e =
-          let q : m ≡ r .name = find-name rs m r e in
-          let f : find (r .name) rs ≡ some r = ap (λ (v : ℕ). find v rs) (sym q) ∙ e in
-          let i = subst (λ (v : List ℕ). InWords v (startOf n (r .name) (firstRelation p) rs) n r) same (in-pack p w r f) in
-          let s : getD records m 0 ≡ startOf n (r .name) (firstRelation p) rs = declared-at m r e ∙ ap (λ (v : ℕ). startOf n v (firstRelation p) rs) q in
           let place : ℕ = getD marks m 0 - 2 in
           let at : place ≡ placeOf p (ownAnswer rs m) = (let k = marked .marked p h m (found-among m rs r e) in omega arith) in
           let kinds : namesAt ws place ≡ kindsOf rs m = ap (namesAt ws) at ∙ ap (λ (v : List ℕ). namesAt v (placeOf p (ownAnswer rs m))) (sym same) ∙ place-holds p w m in
           rw (ne-eqb (getD records m 0) 0 (record-some m r e))
-          (ap (derivedIn ws place) s ∙ derived-read ws (startOf n (r .name) (firstRelation p) rs) n r i (parts p w .most) place ∙ ap (λ k. derivedAt k (some r)) kinds)
+          (derived-read ws (getD records m 0) n r (stands m r e) (parts p w .most) place ∙ ap (λ k. derivedAt k (some r)) kinds)
 
   past-names : (e : ℕ) → n ≤ e → e < 4096 → direct rs e ≡ none
   unfolding direct taken

@@ -89,7 +89,7 @@ module _ {ws starts marks taken work order : List ℕ} (a : TreesAsked ws starts
   T = tables (p .names) (p .relations)
 
   pub default-recorded : Recorded starts
-  default-recorded = its-records ws starts marks taken (a .tabled .declares) (a .steps) p h (a .tabled .scanned) (a .tabled .marked) (a .tabled .knows)
+  default-recorded = its-records ws starts marks taken (a .tabled .declares) (a .steps) p h (a .tabled .noted) (a .tabled .marked) (a .tabled .knows)
 
   pub start-small : (m : ℕ) → getD starts m 0 ≤ 65536
   unfolding Recorded
@@ -101,7 +101,7 @@ module _ {ws starts marks taken work order : List ℕ} (a : TreesAsked ws starts
   module _ {name : ℕ} (first : name ≡ firstEqual ws starts marks 3 (valueAt ws 2)) where
     derived-is : (m : ℕ) → derivedBy ws starts marks m ≡ T .derived m
     unfolding tablesIn
-    derived-is m = derived-alike ws starts marks taken (a .tabled .declares) (a .steps) p h (a .tabled .scanned) (a .tabled .marked) (a .tabled .knows) m
+    derived-is m = derived-alike ws starts marks taken (a .tabled .declares) (a .steps) p h (a .tabled .noted) (a .tabled .marked) (a .tabled .knows) m
 
     name-is : name ≡ orNone (defaultedEqual T (p .defaulted))
     name-is = first ∙ first-equal-is ws p h starts marks T derived-is
@@ -151,7 +151,7 @@ module _ {ws starts marks taken work order : List ℕ} (a : TreesAsked ws starts
       default-name = small name it-is
 
       start-is : getD starts name 0 ≡ startOf (p .names) name (firstRelation p) (p .relations)
-      start-is = let r = its-relation name it-is in declared-at ws starts marks taken (a .tabled .declares) (a .steps) p h (a .tabled .scanned) (a .tabled .marked) (a .tabled .knows) name (r .0) (r .1)
+      start-is = let r = its-relation name it-is in declared-at ws starts marks taken (a .tabled .declares) (a .steps) p h (a .tabled .noted) (a .tabled .marked) (a .tabled .knows) name (r .0) (r .1)
 
       pub pack-equal : (left places : List ℕ) → PackCame ws (Refused (record { number = 9; place = getD starts name 0; name = name; other = 0 })) left places
       pack-equal left places =

@@ -7,10 +7,8 @@ use mathlib.Core.Option.{Option, none, some}
 use Rattle.pack.specs.declared.table.Follows.the-variants.{Aggregate}
 use Rattle.pack.specs.Table.{valueOf, wordOf}
 use Rattle.pack.specs.Pack.{Pack, yes, read}
-use Rattle.chains.specs.Scan.{scanTable}
-use Rattle.chains.specs.AllKinds.{KindsMarked}
+use Rattle.chains.specs.AllKinds.{Noted, KindsMarked}
 use Rattle.chains.specs.Taking.{Known}
-use Rattle.chains.proofs.PackIndex.{zeros}
 use lib.ListN.{getD}
 use Rattle.resolve.specs.declared.direction.Direction.{Direction}
 use Rattle.resolve.specs.declared.direction.Direction.the-variants.{Turned, Open}
@@ -20,7 +18,7 @@ use Rattle.resolve.specs.Direction as direction
 use Rattle.resolve.specs.Inputs.{input}
 use Rattle.resolve.specs.Turning.{Citing, Fields, aggregate, membershipTest, stepBy, fieldWords}
 use Rattle.resolve.specs.Resolving.{cites}
-use Rattle.resolve.specs.Words.{recordAfter, tablesIn, MemberTurned}
+use Rattle.resolve.specs.Words.{tablesIn, MemberTurned}
 use Rattle.chains.specs.Record.{valueAt}
 use Rattle.resolve.specs.Blocks.{placeOfKind}
 use Rattle.resolve.specs.Walk.{TwoSlots, SlotsFit, SlotsSet, slotsSet, kindCode, testCode, NodeTurned, MemberStepped, orNot, citingIn, stepCode, fieldsAfter, SlotNode, AnyFields, Stepped}
@@ -125,11 +123,11 @@ number-again none h = refl
 number-again (some zero) h = absurd (omega (arith, h .0))
 number-again (some (suc n)) h = refl
 
-pub citing-is : (ws records marks taken names : List ℕ) (steps : ℕ) (p : Pack) → read ws ≡ yes p → records ≡ scanTable recordAfter zeros ws → KindsMarked ws steps names marks → Known ws taken
+pub citing-is : (ws records marks taken names : List ℕ) (steps : ℕ) (p : Pack) → read ws ≡ yes p → Noted ws names records → KindsMarked ws steps names marks → Known ws taken
     → {at : ℕ} → at ≡ placeOfKind 28 0 ws → (name origin : ℕ) → citingIn ws records marks taken (at + 1) (valueAt ws at) name origin ≡ cites p name origin
 unfolding citingIn
-citing-is ws records marks taken names steps p h scanned marked knows {at} e name origin =
-    let t = tables-are ws records marks taken names steps p h scanned marked knows in
+citing-is ws records marks taken names steps p h noted marked knows {at} e name origin =
+    let t = tables-are ws records marks taken names steps p h noted marked knows in
     let r = reads-inputs ws p h e in
     let inputs : citingIn ws records marks taken (at + 1) (valueAt ws at) name origin .input ≡ cites p name origin .input =
     fun-ext (λ owner. fun-ext (λ n. ap orNot (r .inputs origin owner n) ∙ number-again (input (p .blocks) origin owner n) (input-numbered (p .blocks) origin owner n))) in

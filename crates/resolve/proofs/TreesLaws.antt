@@ -13,16 +13,11 @@ use Rattle.pack.specs.Pack.{Relation, Rule, Pack, WellFormed, yes, read, words,
 use Rattle.pack.proofs.PackLaws.{words-read, words-length}
 use Rattle.chains.specs.Operations.{relationWords, firstRelation, namesAt, placeOf}
 use Rattle.chains.specs.Kinds.{ownAnswer}
-use Rattle.chains.specs.Scan.{scanTable}
-use Rattle.chains.specs.AllKinds.{IsPack, KindsMarked}
-use Rattle.chains.specs.Taking.{takenIn}
-use Rattle.chains.proofs.TakenKnown.{all-known}
-use Rattle.chains.proofs.PackIndex.{parts, zeros}
+use Rattle.chains.proofs.PackIndex.{parts}
 use Rattle.chains.proofs.ListAt.{place-holds}
 use Rattle.chains.proofs.CheckedLaws.{same-pack}
 use Rattle.resolve.specs.Turning.{Outcome, done, refused, andThen, mapDone}
 use Rattle.resolve.specs.Resolving.{ruleWords, resolveRule, resolveRules, resolveRelation, resolveRelations, firstRule}
-use Rattle.resolve.specs.Words.{recordAfter}
 use Rattle.chains.specs.Record.{valueAt}
 use Rattle.resolve.specs.Blocks.{placeOfKind}
 use Rattle.resolve.specs.Walk.{citingIn}
@@ -136,14 +131,14 @@ module _ {ws records marks taken : List ℕ} {steps : ℕ} (a : Tabled ws record
     is-ready =
         let i = reads-inputs ws p h place in
         record {
-          recorded = its-records ws records marks taken (a .declares) steps p h (a .scanned) (a .marked) (a .knows);
+          recorded = its-records ws records marks taken (a .declares) steps p h (a .noted) (a .marked) (a .knows);
           low = let s = short in omega (arith, i .near);
           few = omega (arith, i .counts, i .few, value);
           short = few;
           pack = p;
           checked = h;
           most = parts p w .most;
-          citings = λ name origin. ap (λ (x : ℕ). citingIn ws records marks taken (b + 1) x name origin) value ∙ citing-is ws records marks taken (a .declares) steps p h (a .scanned) (a .marked) (a .knows) place name origin;
+          citings = λ name origin. ap (λ (x : ℕ). citingIn ws records marks taken (b + 1) x name origin) value ∙ citing-is ws records marks taken (a .declares) steps p h (a .noted) (a .marked) (a .knows) place name origin;
         }
 
   -- rules, in a copy of the words
@@ -258,8 +253,3 @@ module _ {ws records marks taken : List ℕ} {steps : ℕ} (a : Tabled ws record
                     each = λ q e. subst (λ (y : Pack). CameWhole (turned y) answer′ left′) (same-pack ws h e)
                         (subst (λ (o : Outcome Pack). CameWhole o answer′ left′) (sym turned-is) (whole (resolveRelations p (firstRelation p) (p .relations)) refl its′));
                   }
-
-pub tabled-of : {ws starts starts₀ marks taken taken₀ names : List ℕ} {steps : ℕ} → IsPack ws → starts₀ ≡ zeros → taken₀ ≡ zeros → starts ≡ scanTable recordAfter starts₀ ws → KindsMarked ws steps names marks → taken ≡ takenIn ws marks taken₀
-    → Tabled ws starts marks taken steps
-tabled-of {ws} {marks = marks} {names = names} c z y s m t =
-    record { checked = c; scanned = s ∙ ap (λ (x : List ℕ). scanTable recordAfter x ws) z; declares = names; marked = m; knows = all-known m (t ∙ ap (takenIn ws marks) y) }

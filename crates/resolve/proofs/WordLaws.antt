@@ -9,13 +9,11 @@ use lib.ListN.{length, getD, drop, set, length-append, drop-of-length-le}
 use lib.Seq.{set-getD, getD-at}
 use lib.Dec.{eqb}
 use borrow.Author.Tests.{eq-eqb, ne-eqb, eqb-true, eqb-false, lt-ltb, le-ltb}
-use Rattle.pack.specs.Table.{pick, kindOf}
+use Rattle.pack.specs.Table.{pick}
 use Rattle.chains.specs.declared.taking.Kind.{Kind}
 use Rattle.chains.specs.declared.taking.Kind.the-variants as kind
 use Rattle.chains.specs.Filtered.{kindAt}
 use Rattle.chains.specs.Operations.{namesAt, tableFrom}
-use Rattle.chains.specs.Scan.{nameAfter, tableAfter}
-use Rattle.chains.specs.Index.{Indexed}
 use Rattle.chains.specs.Taking.{kindIn, KindFound}
 use Rattle.chains.specs.Said.{directOf, directIn}
 use Rattle.chains.proofs.FillLaws.{Filling}
@@ -25,19 +23,8 @@ use Rattle.resolve.specs.declared.direction.Membership as direction
 use Rattle.resolve.specs.declared.direction.Membership.the-variants.{Kinds, Unknown}
 use Rattle.resolve.specs.Direction.{bearing, orElse, kindOrZero, matched, towards, turn, Membership, eachOnce, between, tested, member}
 use Rattle.resolve.specs.Tables.{Derived, Tables}
-use Rattle.resolve.specs.Words.{directBy, recordAfter, typedIn, derivedIn, tablesIn, membershipOf, MemberTurned}
+use Rattle.resolve.specs.Words.{directBy, typedIn, derivedIn, tablesIn, membershipOf, MemberTurned}
 use Rattle.chains.specs.Record.{valueAt, kindCount, flagAt, slotsPlace, Recorded}
-
--- ---- records
-
-module _ (t : List ℕ) (name place w : ℕ) {here : ℕ} (n : here ≡ nameAfter name w) (b : here < 4096) where
-  pub record-starts : kindOf w ≡ 6 → Indexed recordAfter t name place w here (set t here place)
-  unfolding tableAfter recordAfter
-  record-starts k = record { here = n; held = rw (← n, eq-eqb (kindOf w) 6 k) refl; below = b }
-
-  pub record-goes-on : (kindOf w ≡ 6 → ⊥) → Indexed recordAfter t name place w here t
-  unfolding tableAfter recordAfter
-  record-goes-on k = record { here = n; held = rw (← n, ne-eqb (kindOf w) 6 k) (sym (set-getD t here 0)); below = b }
 
 -- ---- a kind or 0
 

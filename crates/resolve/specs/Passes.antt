@@ -4,7 +4,7 @@ use mathlib.Core.Path.{_≡_}
 use mathlib.Core.List.{List, [], _∷_, _++_, map}
 use mathlib.Core.Bool.{Bool, true}
 use mathlib.Core.Option.{none, some}
-use lib.ListN.{length, getD, replicate}
+use lib.ListN.{length, getD}
 use Rattle.pack.specs.declared.answer.Answer.{Answer}
 use Rattle.pack.specs.declared.answer.Answer.the-variants.{Given, Refused}
 use Rattle.pack.specs.Table.{wordOf}
@@ -12,15 +12,13 @@ use Rattle.pack.specs.Form.{among, Fine}
 use Rattle.pack.specs.Pack.{Relation, Body, Rule, Pack, yes, read, words, body, rule, relation}
 use Rattle.chains.specs.Kinds.{declared, kindsOf, allKinds}
 use Rattle.chains.specs.Operations.{relationWords, firstRelation, namesAt}
-use Rattle.chains.specs.Scan.{scanTable}
-use Rattle.chains.specs.AllKinds.{IsPack, KindsMarked}
+use Rattle.chains.specs.AllKinds.{IsPack, Noted, KindsMarked}
 use Rattle.chains.specs.Taking.{Known}
 use Rattle.resolve.specs.Turning.{Outcome, done, refused, andThen, mapDone, treeWords}
 use Rattle.resolve.specs.Tables.{tables}
 use Rattle.resolve.specs.Resolving.{defaultedEqual, equalRefusal, cites, resolveBody, ruleWords, resolveRule, resolveRules, resolveRelation, resolveRelations, stamp, firstRule}
 use Rattle.resolve.specs.Operations.{givenOut, writtenOut}
 use Rattle.resolve.specs.Writing.{placesFrom, withRelations}
-use Rattle.resolve.specs.Words.{recordAfter}
 use Rattle.chains.specs.Record.{Recorded}
 use Rattle.resolve.specs.Walk.{citingIn, refusalCode}
 
@@ -178,8 +176,8 @@ pub record TreesCame (ws : List ℕ) (answer : Answer) (left order : List ℕ) :
 -- the tables of a checked pack: where the records of relations start, the marks of their names, and what entities take
 pub record Tabled (ws records marks taken : List ℕ) (steps : ℕ) : Type 0 where
   pub checked : IsPack ws
-  pub scanned : records ≡ scanTable recordAfter (replicate 4096 0) ws
   pub declares : List ℕ
+  pub noted : Noted ws declares records
   pub marked : KindsMarked ws steps declares marks
   pub knows : Known ws taken
 

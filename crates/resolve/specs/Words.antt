@@ -6,7 +6,7 @@ use mathlib.Core.Option.{Option, none, some}
 use mathlib.Core.Bool.{Bool}
 use lib.ListN.{getD}
 use lib.Dec.{eqb, ltb}
-use Rattle.pack.specs.Table.{pick, kindOf}
+use Rattle.pack.specs.Table.{pick}
 use Rattle.pack.specs.Table as table
 use Rattle.chains.specs.Operations.{namesAt}
 use Rattle.chains.specs.Record.{valueAt, kindCount, flagAt, slotsPlace}
@@ -19,11 +19,7 @@ use Rattle.resolve.specs.Tables.{Derived, Tables}
 use Rattle.resolve.specs.Direction.{Membership, membership, member}
 use Rattle.resolve.specs.Resolving.{equalKinds}
 
--- the place of a relation's record, by name
-unfoldable pub recordAfter : ℕ → ℕ → ℕ → ℕ
-recordAfter x place w = pick (eqb (kindOf w) 6) place x
-
--- it as a typed relation, and as a derived one whose kinds stand at a place
+-- the relation whose record starts at a place as a typed one, and as a derived one whose kinds stand at a place
 unfoldable pub typedIn : List ℕ → ℕ → Option (List ℕ)
 typedIn ws start = pick (eqb (flagAt ws start) 1) none (pick (eqb (kindCount ws start) 2) (some (valueAt ws (start + 4) ∷ valueAt ws (start + 5) ∷ [])) none)
 

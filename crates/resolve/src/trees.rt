@@ -1,13 +1,11 @@
 // All trees of a checked pack, resolved in a copy of its words: those of its rules, then those of its relations.
-use crate::records::records;
 use crate::relations::relations;
 use crate::rules::rules;
 use crate::words::place_of_blocks;
 use crate::words::place_of_kind;
 use chains::header::relation_count;
-use chains::mark_kinds::mark_kinds;
 use chains::record::value_at;
-use chains::taking::take_all;
+use chains::taking::read_tables;
 use pack::answer::Answer;
 use pack::kinds::Pack;
 ghost use mathlib.Core.Path.{_≡_};
@@ -28,10 +26,7 @@ pub fn fill_tables(
 {
     let mut names = [0u32; 512];
     let count = relation_count(pack);
-    let steps = mark_kinds(pack, &mut names[0..count], marks);
-    records(pack, starts);
-    take_all(pack, marks, taken);
-    steps
+    read_tables(pack, &mut names[0..count], starts, marks, taken)
 }
 
 // All trees, in a copy of the words; the places of relations are noted.

@@ -1,50 +1,54 @@
 -- `chains::taking::take_all` meets its contract.
-use native.Mathlib.Omega.{arith}
 use Prim.Native.Nat.{_-_}
-use lib.ListN.{length}
-use Rattle.chains.proofs.TakingLaws.{Taken, begin, taken-22, taken-all, taken-next}
+use native.Mathlib.Omega.{arith}
+use lib.ListN.{length, getD}
 use borrow.Author.Needs.{needs}
+use Rattle.chains.proofs.DeclarationLaws.{record-low}
+use Rattle.chains.proofs.TakingLaws.{Taken, begin, taken-all, taken-next, name-low}
 use Rattle.chains.proofs.taking.take_all.Statement.{statement}
 use Rattle.chains.proofs.taking.take_all.Tie as tie
 
 abbrev Inv-loop : tie.InvT-loop
-Inv-loop pack marks table₀ name₀ slot₀ i₀ table name slot i = Taken pack marks table₀ table name slot i
+Inv-loop pack names records marks table₀ j₀ table j = Taken pack records marks names table₀ table j
 
 abbrev μ-loop : tie.MeasureT-loop
-μ-loop pack marks table₀ name₀ slot₀ i₀ table name slot i = length pack - i
+μ-loop pack names records marks table₀ j₀ table j = length names - j
 
 loop-holds : tie.Need-loop-holds Inv-loop μ-loop
-loop-holds c = begin _ _ _
+loop-holds c = begin _ _ _ _ _
 
-mul-w : tie.Need-mul-w Inv-loop μ-loop
-mul-w c = search needs
+mul-name : tie.Need-mul-name Inv-loop μ-loop
+mul-name c = search needs
 
-shared-slice-read-w : tie.Need-shared-slice-read-w Inv-loop μ-loop
-shared-slice-read-w c = search needs
+shared-slice-read-name : tie.Need-shared-slice-read-name Inv-loop μ-loop
+shared-slice-read-name c = search needs
 
-returns : tie.Need-returns Inv-loop μ-loop
-returns c = taken-22 _ _ _ ((c .before .before .before .loop) .inv) (omega arith) ((c .if1) .taken)
+cast-name : tie.Need-cast-name Inv-loop μ-loop
+cast-name c = omega (arith, name-low _ _ (c .before .before .before .before .before .pre) (c .before .before .loop .j))
 
-name-after-requires : tie.Need-name-after-requires Inv-loop μ-loop
-name-after-requires c κs = (c .before .before .before .loop) .inv .below
+mul-take-record : tie.Need-mul-take-record Inv-loop μ-loop
+mul-take-record c = omega (arith, name-low _ _ (c .before .before .before .before .before .before .pre) (c .before .before .before .loop .j))
 
-slot-after-requires : tie.Need-slot-after-requires Inv-loop μ-loop
-slot-after-requires c κs = search needs
+element-copy-out-take-record : tie.Need-element-copy-out-take-record Inv-loop μ-loop
+element-copy-out-take-record c = omega (arith, name-low _ _ (c .before .before .before .before .before .before .pre) (c .before .before .before .loop .j))
 
-take-word-requires : tie.Need-take-word-requires Inv-loop μ-loop
-take-word-requires c κs = (c .before .before .name-after) .ensures .1
+cast-take-record : tie.Need-cast-take-record Inv-loop μ-loop
+cast-take-record c = omega (arith, record-low _ (c .before .before .before .before .before .before .before .pre .low) (getD (c .before .before .before .before .before .before .before .args .names .now) (c .before .before .before .before .loop .j) 0))
 
-add-i : tie.Need-add-i Inv-loop μ-loop
-add-i c = search needs
+take-record-requires : tie.Need-take-record-requires Inv-loop μ-loop
+take-record-requires c κs = (name-low _ _ (c .before .before .before .before .before .before .before .pre) _, record-low _ (c .before .before .before .before .before .before .before .pre .low) _)
+
+add-j : tie.Need-add-j Inv-loop μ-loop
+add-j c = search needs
 
 loop-less : tie.Need-loop-less Inv-loop μ-loop
 loop-less c = search needs
 
 loop-again : tie.Need-loop-again Inv-loop μ-loop
-loop-again c = taken-next _ _ _ ((c .before .before .before .before .before .before .before .loop) .inv) (omega arith) ((c .before .before .before .before .if1) .left) ((c .before .before .before .name-after) .ensures .0) ((c .before .before .before .name-after) .ensures .1) ((c .before .before .slot-after) .ensures) ((c .take-word) .ensures)
+loop-again c = taken-next _ _ _ _ _ (c .before .before .before .before .before .loop .inv) (omega arith) (c .take-record .ensures)
 
-returns-2 : tie.Need-returns-2 Inv-loop μ-loop
-returns-2 c = taken-all _ _ _ ((c .before .loop) .inv) (omega arith)
+returns : tie.Need-returns Inv-loop μ-loop
+returns c = taken-all _ _ _ _ _ (c .before .loop .inv) (omega arith)
 
 pub take-all-spec : {M : Type 1} → statement M
 take-all-spec =
@@ -53,13 +57,14 @@ take-all-spec =
     Inv-loop
     μ-loop
     loop-holds
-    mul-w
-    shared-slice-read-w
-    returns
-    name-after-requires
-    slot-after-requires
-    take-word-requires
-    add-i
+    mul-name
+    shared-slice-read-name
+    cast-name
+    mul-take-record
+    element-copy-out-take-record
+    cast-take-record
+    take-record-requires
+    add-j
     loop-less
     loop-again
-    returns-2)
+    returns)
