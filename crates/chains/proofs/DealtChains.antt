@@ -10,7 +10,8 @@ use Rattle.pack.specs.Dealt.{Dealt}
 use Rattle.pack.proofs.PackLaws.{words-read}
 use Rattle.pack.proofs.DealtLaws.{shuffled-length}
 use Rattle.chains.specs.Kinds.{declared, undeclaredSources, ownAnswer, kindsOf}
-use Rattle.chains.specs.Operations.{placeOf, namesAt, allKindsWords, allKindsAnswer, leanAnswer, tableFrom, says, filterWords, filterAnswer, filterBuffer}
+use Rattle.chains.specs.Operations.{placeOf, namesAt, allKindsWords, allKindsAnswer, leanAnswer, tableFrom}
+use Rattle.chains.specs.FilteredTables.{says, filterWords, filterAnswer, filterBuffer}
 use Rattle.chains.specs.declared.filtered.Filter.{Filter}
 use Rattle.chains.specs.declared.filtered.Filter.the-variants.{Direct, Innermost, Alias, Unresolved}
 use Rattle.chains.specs.Chain.{Distinct}

@@ -29,4 +29,5 @@ pub mod InnerLaws
 pub mod SaysLaws
 pub mod OperationLaws
 pub mod RefusalNumbers
+pub mod FilterLaws
 pub mod DealtChains

@@ -16,14 +16,11 @@ use Rattle.pack.specs.Table.{pick}
 use Rattle.pack.specs.Pack.{Pack, read}
 use Rattle.pack.specs.Operations.{answer, buffer, noRoom, checkAnswer}
 use Rattle.pack.proofs.OperationLaws.{accepted, turned-away}
-use Rattle.chains.specs.declared.filtered.Filter.{Filter}
 use Rattle.chains.specs.Kinds.{allKinds, ownAnswer}
 use Rattle.chains.specs.Reach.{leans}
-use Rattle.chains.specs.Operations.{placeOf, unknown, kindsOfAnswer, yesNo, leanAnswer, allKindsWords, allKindsAnswer, allKindsBuffer, writeAnswer, writeBuffer, Answered, says, filterWords, filterAnswer, filterBuffer}
+use Rattle.chains.specs.Operations.{placeOf, unknown, kindsOfAnswer, yesNo, leanAnswer, allKindsWords, allKindsAnswer, allKindsBuffer, writeAnswer, writeBuffer, Answered}
 use Rattle.chains.specs.AllKinds.{IsPack, Counted, Named, OwnPlace, Leaning, KindsAsked, KindsLeft}
-use Rattle.chains.specs.Said.{FilterAsked, FilterLeft}
 use Rattle.chains.proofs.KindLaws.{words-count}
-use Rattle.chains.proofs.FillLaws.{table-length}
 
 -- an answer of Check's
 pub checked : (ws : List ℕ) {a : Answer} {v s : ℕ} → a ≡ checkAnswer ws → a ≡ Given v s → IsPack ws
@@ -33,28 +30,28 @@ checked ws e o = let c = accepted ws e o in record { pack = c .pack; reads = c .
 
 -- the words that an operation makes of a pack, and its steps
 module _ (make : Pack → List ℕ) (steps : Pack → ℕ) where
-  abbrev madeAnswer : List ℕ → ℕ → Answer
+  abbrev pub madeAnswer : List ℕ → ℕ → Answer
   madeAnswer ws room = answer (read ws) (λ p. writeAnswer (make p) (steps p) room)
 
-  abbrev madeBuffer : List ℕ → List ℕ → List ℕ
+  abbrev pub madeBuffer : List ℕ → List ℕ → List ℕ
   madeBuffer ws lent = buffer (read ws) (λ p. writeBuffer (make p) lent) lent
 
-  made-refused : (ws lent : List ℕ) {a : Answer} {r : Refusal} → a ≡ checkAnswer ws → a ≡ Refused r → Answered madeAnswer madeBuffer ws lent a lent
+  pub made-refused : (ws lent : List ℕ) {a : Answer} {r : Refusal} → a ≡ checkAnswer ws → a ≡ Refused r → Answered madeAnswer madeBuffer ws lent a lent
   made-refused ws lent e o =
       let t = turned-away ws lent e o (λ p. writeAnswer (make p) (steps p) (length lent)) (λ p. writeBuffer (make p) lent) in
       record { answers = t .0; leaves = t .1 }
 
   module _ (ws lent : List ℕ) (c : IsPack ws) {count : ℕ} (k : length (make (c .pack)) ≡ count) where
-    made-room : length lent < count → {a : Answer} → a ≡ noRoom → Answered madeAnswer madeBuffer ws lent a lent
+    pub made-room : length lent < count → {a : Answer} → a ≡ noRoom → Answered madeAnswer madeBuffer ws lent a lent
     made-room h e = record { answers = e ∙ sym (simp (c .reads, k, lt-leb count (length lent) h)); leaves = sym (simp (c .reads, k, lt-leb count (length lent) h)) }
 
-    made-done : count ≤ length lent → {s : ℕ} {out : List ℕ} → s ≡ steps (c .pack) → out ≡ make (c .pack) → Answered madeAnswer madeBuffer ws lent (Given count s) (putMid 0 (count - 0) lent out)
+    pub made-done : count ≤ length lent → {s : ℕ} {out : List ℕ} → s ≡ steps (c .pack) → out ≡ make (c .pack) → Answered madeAnswer madeBuffer ws lent (Given count s) (putMid 0 (count - 0) lent out)
     made-done h e m =
         let whole : count - 0 ≡ count = omega arith in
         rw whole (record { answers = sym (simp (c .reads, k, le-leb count (length lent) h, e)); leaves = sym (simp (c .reads, k, le-leb count (length lent) h, m)) })
 
 -- a slice of so many words at the front of the lent one
-front-length : (lent : List ℕ) (count : ℕ) → count ≤ length lent → length (midOf 0 (count - 0) lent) ≡ count
+pub front-length : (lent : List ℕ) (count : ℕ) → count ≤ length lent → length (midOf 0 (count - 0) lent) ≡ count
 front-length lent count h = let whole : count - 0 ≡ count = omega arith in rw whole (length-take-le count lent h)
 
 -- ---- All kinds
@@ -80,31 +77,6 @@ module _ (ws lent : List ℕ) (c : IsPack ws) {count : ℕ} (k : Counted ws coun
   pub kinds-done : count ≤ length lent → {steps : ℕ} {out : List ℕ} → KindsLeft ws steps out → Answered allKindsAnswer allKindsBuffer ws lent (Given count steps) (putMid 0 (count - 0) lent out)
   unfolding allKindsAnswer allKindsBuffer
   kinds-done h l = made-done allKindsWords kindSteps ws lent c one-each h (l .counts (c .pack) (c .reads)) (l .holds (c .pack) (c .reads))
-
--- ---- the filtered tables
-
-abbrev noSteps : Pack → ℕ
-noSteps p = 0
-
-pub filter-asked : (ws lent : List ℕ) → IsPack ws → {n : ℕ} → Named ws n → n ≤ length lent → FilterAsked ws (midOf 0 (n - 0) lent)
-filter-asked ws lent c {n} k h = record { checked = c; fits = rw (front-length lent n h) k }
-
-module _ (f : Filter) (ws lent : List ℕ) where
-  pub filter-refused : {a : Answer} {r : Refusal} → a ≡ checkAnswer ws → a ≡ Refused r → Answered (filterAnswer f) (filterBuffer f) ws lent a lent
-  unfolding filterAnswer filterBuffer
-  filter-refused e o = made-refused (filterWords f) noSteps ws lent e o
-
-  module _ (c : IsPack ws) {n : ℕ} (k : Named ws n) where
-    one-name : length (filterWords f (c .pack)) ≡ n
-    one-name = table-length (says f (c .pack)) 0 (c .pack .names) ∙ sym (k .names (c .pack) (c .reads))
-
-    pub filter-room : length lent < n → {a : Answer} → a ≡ noRoom → Answered (filterAnswer f) (filterBuffer f) ws lent a lent
-    unfolding filterAnswer filterBuffer
-    filter-room h e = made-room (filterWords f) noSteps ws lent c one-name h e
-
-    pub filter-done : n ≤ length lent → {out : List ℕ} → FilterLeft f ws out → Answered (filterAnswer f) (filterBuffer f) ws lent (Given n 0) (putMid 0 (n - 0) lent out)
-    unfolding filterAnswer filterBuffer
-    filter-done h l = made-done (filterWords f) noSteps ws lent c one-name h refl (l .holds (c .pack) (c .reads))
 
 -- ---- Kinds of one name
 

@@ -14,16 +14,15 @@ use Rattle.pack.specs.Table.{pick}
 use Rattle.pack.specs.Pack.{Pack, Reading, yes, refuse, read}
 use Rattle.pack.specs.Operations.{answer, noRoom}
 use Rattle.pack.proofs.Refusals.{Within, read-numbers}
-use Rattle.chains.specs.declared.filtered.Filter.{Filter}
 use Rattle.chains.specs.Kinds.{allKinds, ownAnswer}
 use Rattle.chains.specs.Reach.{leans}
-use Rattle.chains.specs.Operations.{placeOf, allKindsWords, writeAnswer, allKindsAnswer, unknown, kindsOfAnswer, yesNo, leanAnswer, filterWords, filterAnswer}
+use Rattle.chains.specs.Operations.{placeOf, allKindsWords, writeAnswer, allKindsAnswer, unknown, kindsOfAnswer, yesNo, leanAnswer}
 
 no-given : {v s : ℕ} {r : Refusal} → _≡_ {A = Answer} (Given v s) (Refused r) → ⊥
 no-given e = let z : _≡_ {A = ℕ} 0 1 = cc in omega arith
 
 -- an operation's refusals are Check's, and those of what it makes of a pack
-refuses : (P : Refusal → Type 0) (f : Pack → Answer) → ((p : Pack) (r : Refusal) → f p ≡ Refused r → P r) → (ws : List ℕ) (r : Refusal) → answer (read ws) f ≡ Refused r → Within 8192 r ⊎ P r
+pub refuses : (P : Refusal → Type 0) (f : Pack → Answer) → ((p : Pack) (r : Refusal) → f p ≡ Refused r → P r) → (ws : List ℕ) (r : Refusal) → answer (read ws) f ≡ Refused r → Within 8192 r ⊎ P r
 refuses P f made ws r e = go (read ws) refl e
   where
     go : (m : Reading) → read ws ≡ m → answer m f ≡ Refused r → Within 8192 r ⊎ P r
@@ -32,10 +31,10 @@ refuses P f made ws r e = go (read ws) refl e
 
 -- ---- words are written: 16
 
-abbrev NoRoom : Refusal → Type 0
+abbrev pub NoRoom : Refusal → Type 0
 NoRoom r = Refused r ≡ noRoom
 
-writing-refuses : (out : List ℕ) (steps room : ℕ) (r : Refusal) → writeAnswer out steps room ≡ Refused r → NoRoom r
+pub writing-refuses : (out : List ℕ) (steps room : ℕ) (r : Refusal) → writeAnswer out steps room ≡ Refused r → NoRoom r
 writing-refuses out steps room r e = go (leb (length out) room) e
   where
     go : (b : Bool) → pick b (Given (length out) steps) noRoom ≡ Refused r → NoRoom r
@@ -46,10 +45,6 @@ pub all-kinds-numbers : (ws : List ℕ) (room : ℕ) (r : Refusal) → allKindsA
 unfolding allKindsAnswer
 all-kinds-numbers ws room r e =
     refuses NoRoom (λ p. writeAnswer (allKindsWords p) (allKinds (p .relations) .steps) room) (λ p r. writing-refuses (allKindsWords p) (allKinds (p .relations) .steps) room r) ws r e
-
-pub filter-numbers : (f : Filter) (ws : List ℕ) (room : ℕ) (r : Refusal) → filterAnswer f ws room ≡ Refused r → Within 8192 r ⊎ NoRoom r
-unfolding filterAnswer
-filter-numbers f ws room r e = refuses NoRoom (λ p. writeAnswer (filterWords f p) 0 room) (λ p r. writing-refuses (filterWords f p) 0 room r) ws r e
 
 -- ---- names are asked for: 17, with the name
 

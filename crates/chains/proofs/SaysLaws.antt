@@ -17,7 +17,8 @@ use Rattle.chains.specs.declared.filtered.Filter.the-variants.{Direct, I
 use Rattle.chains.specs.Chain.{Step, end, own, same}
 use Rattle.chains.specs.Reach.{any}
 use Rattle.chains.specs.Filtered.{taken, single, direct, alias, namesEntity, isNil, unresolved, innerAt, upTo, innerStep, innermost}
-use Rattle.chains.specs.Operations.{yesNo, orNone, tableFrom, says, filterWords}
+use Rattle.chains.specs.Operations.{yesNo, tableFrom}
+use Rattle.chains.specs.FilteredTables.{orNone, says, filterWords}
 use Rattle.chains.specs.Taking.{several, known, Known}
 use Rattle.chains.specs.Said.{directOf, aliasOf, unresolvedOf, innerOf, saidIn, directIn, Directed, answered, InnerMarked, InnerFor, FilterAsked, FilterLeft}
 use Rattle.chains.proofs.PackIndex.{parts}

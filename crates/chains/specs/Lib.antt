@@ -3,6 +3,7 @@ pub mod Kinds
 pub mod Reach
 pub mod Filtered
 pub mod Operations
+pub mod FilteredTables
 pub mod Record
 pub mod Declaration
 pub mod Settle

@@ -9,16 +9,12 @@ use lib.Dec.{ltb, leb, eqb}
 use Rattle.pack.specs.declared.answer.Answer.{Answer}
 use Rattle.pack.specs.declared.answer.Answer.the-variants.{Given, Refused}
 use Rattle.pack.specs.Table.{pick, valueOf}
-use Rattle.pack.specs.Table as table
 use Rattle.pack.specs.Form.{wordsBy}
 use Rattle.pack.specs.Pack.{Hop, Relation, relation, Pack, read}
 use Rattle.pack.specs.Operations.{answer, buffer, noRoom}
-use Rattle.chains.specs.declared.filtered.Filter.{Filter}
-use Rattle.chains.specs.declared.filtered.Filter.the-variants.{Direct, Innermost, Alias, Unresolved}
 use Rattle.chains.specs.Kinds.{Which, list9, list21, find, allKinds, ownAnswer}
 use Rattle.chains.specs.Kinds as kinds
 use Rattle.chains.specs.Reach.{leans}
-use Rattle.chains.specs.Filtered.{direct, alias, unresolved, innermost}
 
 -- the words of a relation
 abbrev pub relationWords : ℕ → Relation → List ℕ
@@ -107,24 +103,3 @@ leanAnswer ws a b =
 abbrev pub tableFrom : (ℕ → ℕ) → ℕ → ℕ → List ℕ
 tableFrom f n zero = []
 tableFrom f n (suc k) = f n ∷ tableFrom f (suc n) k
-
-abbrev pub orNone : Option ℕ → ℕ
-orNone none = table.none
-orNone (some n) = n
-
--- the filtered tables: what each says of a name
-abbrev pub says : Filter → Pack → ℕ → ℕ
-says Direct p e = orNone (direct (p .relations) e)
-says Innermost p e = orNone (innermost (p .relations) (p .names) e)
-says Alias p e = yesNo (alias (p .relations) e)
-says Unresolved p e = yesNo (unresolved (p .relations) e)
-
-abbrev pub filterWords : Filter → Pack → List ℕ
-filterWords f p = tableFrom (says f p) 0 (p .names)
-
--- "Filtered tables .. give Check's refusals, then 16 if the slice has fewer than N words. N words are written, the rest kept."
-unfoldable pub filterAnswer : Filter → List ℕ → ℕ → Answer
-filterAnswer f ws room = answer (read ws) (λ p. writeAnswer (filterWords f p) 0 room)
-
-unfoldable pub filterBuffer : Filter → List ℕ → List ℕ → List ℕ
-filterBuffer f ws lent = buffer (read ws) (λ p. writeBuffer (filterWords f p) lent) lent

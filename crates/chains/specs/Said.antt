@@ -12,7 +12,7 @@ use Rattle.chains.specs.declared.filtered.Filter.{Filter}
 use Rattle.chains.specs.declared.filtered.Filter.the-variants.{Direct, Innermost, Alias, Unresolved}
 use Rattle.chains.specs.Chain.{own, same}
 use Rattle.chains.specs.Filtered.{upTo, innerStep}
-use Rattle.chains.specs.Operations.{filterWords}
+use Rattle.chains.specs.FilteredTables.{filterWords}
 use Rattle.chains.specs.AllKinds.{IsPack, Named}
 use Rattle.chains.specs.Taking.{several}
 

@@ -19,7 +19,8 @@ use Rattle.pack.proofs.Refusals.{read-numbers}
 use Rattle.chains.specs.Chain.{Step, end, next, same, withNext, outside}
 use Rattle.chains.specs.Kinds as kinds
 use Rattle.chains.specs.Kinds.{kindStep, declared, ownAnswer, allKinds}
-use Rattle.chains.specs.Operations.{placeOf, writeAnswer, allKindsWords, allKindsAnswer, unknown, kindsOfAnswer, yesNo, leanAnswer, filterWords, filterAnswer}
+use Rattle.chains.specs.Operations.{placeOf, writeAnswer, allKindsWords, allKindsAnswer, unknown, kindsOfAnswer, yesNo, leanAnswer}
+use Rattle.chains.specs.FilteredTables.{filterWords, filterAnswer}
 use Rattle.chains.specs.Reach.{leans}
 use Rattle.chains.specs.declared.filtered.Filter.{Filter}
 use Rattle.chains.proofs.KindLaws.{kinds-steps, distinct-names}

@@ -17,7 +17,8 @@ use Rattle.pack.specs.Pack.{Pack, Reading, yes, refuse, read, total, words}
 use Rattle.pack.specs.Operations.{answer, buffer, noRoom, checkAnswer, rewriteAnswer, rewriteBuffer}
 use Rattle.pack.proofs.PackLaws.{words-length, words-read}
 use Rattle.chains.specs.Kinds.{allKinds}
-use Rattle.chains.specs.Operations.{writeAnswer, writeBuffer, allKindsWords, allKindsAnswer, allKindsBuffer, kindsOfAnswer, leanAnswer, says, filterWords, filterAnswer, filterBuffer}
+use Rattle.chains.specs.Operations.{writeAnswer, writeBuffer, allKindsWords, allKindsAnswer, allKindsBuffer, kindsOfAnswer, leanAnswer}
+use Rattle.chains.specs.FilteredTables.{says, filterWords, filterAnswer, filterBuffer}
 use Rattle.chains.specs.declared.filtered.Filter.{Filter}
 use Rattle.chains.proofs.PackIndex.{parts}
 use Rattle.chains.proofs.FillLaws.{table-length}

@@ -25,9 +25,11 @@ use Rattle.resolve.specs.Turning.{Outcome, done, refused, andThen, mapDo
 use Rattle.resolve.specs.Resolving.{stamp, ruleWords, resolveRule, resolveRules, resolveRelation, resolveRelations, firstRule}
 use Rattle.chains.specs.Record.{Recorded}
 use Rattle.resolve.specs.Stamping.{atomsIn, listsFor, addedBy, Listed}
-use Rattle.resolve.specs.Writing.{placesFrom, Stamped, WriteAsked, WriteCame}
+use Rattle.resolve.specs.Writing.{Stamped, WriteAsked, WriteCame}
+use Rattle.resolve.specs.Passes.{placesFrom}
 use Rattle.resolve.specs.Operations.{givenOut, writtenOut}
-use Rattle.resolve.specs.Passes.{wordsOf, runBy, RelationKeeps, withRecords, turned, placesIn, Tabled, stampAll, FinishAsked, FinishCame}
+use Rattle.resolve.specs.Passes.{wordsOf, runBy, RelationKeeps, withRecords, turned, placesIn, Tabled}
+use Rattle.resolve.specs.Finish.{stampAll, FinishAsked, FinishCame}
 use Rattle.resolve.proofs.KeepsForm.{Good}
 use Rattle.resolve.proofs.ResolvedFine.{RulesFine, rules-good}
 use Rattle.resolve.proofs.ResolvedPack.{least-words, rules-fine}

@@ -41,6 +41,7 @@ pub mod AtomLaws
 pub mod RoleLaws
 pub mod ListForLaws
 pub mod WriteLaws
+pub mod PredicateLaws
 pub mod StampLaws
 pub mod ThereLaws
 pub mod QuietForms

@@ -26,7 +26,7 @@ use Rattle.resolve.specs.Resolving.{cites, predicatePlace, withPredicate
 use Rattle.resolve.specs.Words.{slotKindsIn}
 use Rattle.chains.specs.Record.{valueAt, kindCount, flagAt, slotsPlace, predicateAt}
 use Rattle.resolve.specs.Walk.{citingIn, TreeAsked, TreeTurned}
-use Rattle.resolve.specs.Writing.{placesFrom}
+use Rattle.resolve.specs.Passes.{placesFrom}
 use Rattle.resolve.specs.Passes.{RefusedAs, CameAt, CameFrom, AskedFrom, wordsOf, runBy, Many, Ready, Bodily, RelationKeeps, KindsReady, RelationAsked, RelationCame, RelationsAsked, RelationsCame}
 use Rattle.resolve.proofs.KeepsForm.{Good, tree-good}
 use Rattle.resolve.proofs.SlotLaws.{tables-fit-in}
@@ -35,7 +35,7 @@ use Rattle.chains.proofs.RecordLaws.{value-there, counted, no-flag, a-flag, cur
 use Rattle.resolve.proofs.TreeWords.{size-is, size-kept, tree-words}
 use Rattle.resolve.proofs.SmallKinds.{names-small}
 use Rattle.resolve.proofs.ResolvedFine.{tail-derivation, tables-fit}
-use Rattle.resolve.proofs.StampLaws.{front, predicate-open}
+use Rattle.resolve.proofs.PredicateLaws.{front, predicate-open}
 use Rattle.resolve.proofs.ThereLaws.{there-inside, there-asked, there-went, there-stopped}
 use Rattle.resolve.proofs.RunLaws.{RunGoing, run-begin, run-end, run-asked, run-next, run-stop}
 use Rattle.resolve.proofs.ChildrenLaws.{part, back}

@@ -28,7 +28,8 @@ use Rattle.resolve.specs.Resolving.{equalKinds, defaultedEqual, equalRef
 use Rattle.resolve.specs.Operations.{givenOut, writtenOut, resolveAnswer, resolveBuffer}
 use Rattle.resolve.specs.Words.{derivedBy, tablesIn, firstEqual, DefaultedFit}
 use Rattle.chains.specs.Record.{valueAt, Recorded}
-use Rattle.resolve.specs.Passes.{withRecords, turned, stampAll, unstamped, CameWhole, TreesCame, Tabled, TreesAsked, PackCame, ResolveAsked, FinishAsked, FinishCame}
+use Rattle.resolve.specs.Passes.{withRecords, turned, CameWhole, TreesCame, Tabled, TreesAsked}
+use Rattle.resolve.specs.Finish.{stampAll, unstamped, PackCame, ResolveAsked, FinishAsked, FinishCame}
 use Rattle.resolve.proofs.CheckedTables.{its-records, declared-at, derived-alike}
 use Rattle.resolve.proofs.DefaultedLaws.{orNone, defaulted-fit, first-equal-is}
 

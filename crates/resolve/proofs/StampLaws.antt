@@ -21,22 +21,15 @@ use Rattle.resolve.specs.Turning.{treeWords}
 use Rattle.resolve.specs.Resolving.{holds, roleJudgment, atomNames, empty, unlike, stampedWith, stampBy, stampDerived, stamp}
 use Rattle.chains.specs.Record.{slotsPlace, entityCount, predicateAt}
 use Rattle.resolve.specs.Stamping.{StampedBy, as-it-is, with-kinds, roleIn, unstamped, passedIn, unlikeIn, nameAt, listFor}
-use Rattle.chains.proofs.RecordLaws as record-laws
-use Rattle.chains.proofs.RecordLaws.{value-there, counted, no-flag, a-flag, current-there, related-there, entities-there, its-fine, before-predicate, predicate-there}
-use Rattle.resolve.proofs.TreeWords.{tree-words}
+use Rattle.chains.proofs.RecordLaws.{value-there, counted, no-flag, a-flag, current-there, related-there, entities-there, its-fine, predicate-there}
+use Rattle.resolve.proofs.PredicateLaws.{front, predicate-open}
 use Rattle.resolve.proofs.RoleLaws.{Ends, role-read}
 
 -- ---- the predicate of a derivation
 
 module _ (work : List ℕ) (start n : ℕ) (r : Relation) (i : InWords work start n r) (most : n ≤ 4096) (d : Derivation) (e : r .derivation ≡ some d) where
-  abbrev pub front : List ℕ
-  front = before-predicate work start n r i most d e
-
-  pub predicate-open : work ≡ front ++ (treeWords (d .predicate) ++ i .after)
-  predicate-open = record-laws.predicate-open work start n r i most d e ∙ ap (λ (l : List ℕ). front ++ (l ++ i .after)) (tree-words (d .predicate) n 32 judgment (its-fine work start n r i most d e))
-
   pub role-there : Ends (i .after) → roleIn work (predicateAt work start) ≡ holds roleJudgment (d .predicate)
-  role-there h = role-read work front (i .after) (predicateAt work start) n 32 judgment (d .predicate) predicate-open (predicate-there work start n r i most d e) (omega arith) (its-fine work start n r i most d e) h
+  role-there h = role-read work (front work start n r i most d e) (i .after) (predicateAt work start) n 32 judgment (d .predicate) (predicate-open work start n r i most d e) (predicate-there work start n r i most d e) (omega arith) (its-fine work start n r i most d e) h
 
 -- ---- the list
 

@@ -14,7 +14,8 @@ use Rattle.chains.proofs.RelationScan.{RelationsFine, kept}
 use Rattle.resolve.specs.Turning.{done}
 use Rattle.resolve.specs.Resolving.{atomNames, stamp, resolveRelation}
 use Rattle.resolve.specs.Stamping.{StampedBy, listFor, listsFor}
-use Rattle.resolve.specs.Writing.{placesFrom, Stamped, no-more, one-more}
+use Rattle.resolve.specs.Writing.{Stamped, no-more, one-more}
+use Rattle.resolve.specs.Passes.{placesFrom}
 use Rattle.resolve.specs.Passes.{wordsOf, All, RelationKeeps, KindsReady}
 use Rattle.resolve.proofs.KeepsForm.{Good}
 use Rattle.resolve.proofs.ResolvedFine.{Same, tail-of, with-tail, relation-good}

@@ -22,7 +22,7 @@ use Rattle.chains.specs.Record.{valueAt}
 use Rattle.resolve.specs.Blocks.{placeOfKind}
 use Rattle.resolve.specs.Walk.{citingIn}
 use Rattle.resolve.specs.Passes.{CameAt, AskedFrom, wordsOf, runBy, Many, Ready, KindsReady, RelationKeeps, RulesAsked, RulesCame, RelationsAsked, RelationsCame, withRecords, turned, CameWhole, placesIn, TreesCame, Tabled}
-use Rattle.resolve.specs.Writing.{placesFrom}
+use Rattle.resolve.specs.Passes.{placesFrom}
 use Rattle.resolve.proofs.CheckedTables.{its-records}
 use Rattle.resolve.proofs.StepWords.{citing-is}
 use Rattle.chains.proofs.RecordLaws.{value-there}

@@ -22,7 +22,8 @@ use Rattle.chains.proofs.PackIndex.{parts}
 use Rattle.resolve.specs.Resolving.{orKinds, withEntities, stampedWith}
 use Rattle.chains.specs.Record.{kindCount, slotsPlace}
 use Rattle.resolve.specs.Stamping.{StampedBy, as-it-is, with-kinds, namesOr, addedFor, addedBy}
-use Rattle.resolve.specs.Writing.{placesFrom, Stamped, no-more, one-more, withRelations, fromTo, listWords, putFor, Put, Room, WriteAsked}
+use Rattle.resolve.specs.Writing.{Stamped, no-more, one-more, withRelations, fromTo, listWords, putFor, Put, Room, WriteAsked}
+use Rattle.resolve.specs.Passes.{placesFrom}
 use Rattle.resolve.specs.Passes.{wordsOf}
 use Rattle.chains.proofs.RecordLaws.{counted, before-slots, four, four-length}
 use Rattle.resolve.proofs.WriteLaws.{At, at-on, at-room, at-put, at-rest, at-within, at-end}

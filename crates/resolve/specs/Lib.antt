@@ -12,3 +12,4 @@ pub mod Rows
 pub mod Stamping
 pub mod Passes
 pub mod Writing
+pub mod Finish

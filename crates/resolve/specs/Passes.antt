@@ -17,8 +17,6 @@ use Rattle.chains.specs.Taking.{Known}
 use Rattle.resolve.specs.Turning.{Outcome, done, refused, andThen, mapDone, treeWords}
 use Rattle.resolve.specs.Tables.{tables}
 use Rattle.resolve.specs.Resolving.{defaultedEqual, equalRefusal, cites, resolveBody, ruleWords, resolveRule, resolveRules, resolveRelation, resolveRelations, stamp, firstRule}
-use Rattle.resolve.specs.Operations.{givenOut, writtenOut}
-use Rattle.resolve.specs.Writing.{placesFrom, withRelations}
 use Rattle.chains.specs.Record.{Recorded}
 use Rattle.resolve.specs.Walk.{citingIn, refusalCode}
 
@@ -122,6 +120,11 @@ pub record RulesCame (ws : List ℕ) (many at : ℕ) (work : List ℕ) (answer :
 
 -- ---- relations of a checked pack
 
+-- where relations start, one after the other from a place on
+unfoldable pub placesFrom : ℕ → ℕ → List Relation → List ℕ
+placesFrom n at [] = []
+placesFrom n at (r ∷ rs) = at ∷ placesFrom n (at + length (relationWords n r)) rs
+
 -- a relation that keeps to its form, of a name that the pack declares
 pub record RelationKeeps (p : Pack) (r : Relation) : Type 0 where
   pub used : ℕ → Bool
@@ -187,38 +190,3 @@ pub record TreesAsked (ws records marks taken : List ℕ) (work order : List ℕ
   pub tabled : Tabled ws records marks taken steps
   pub copied : work ≡ ws
   pub room : (p : Pack) → read ws ≡ yes p → length order ≡ length (p .relations)
-
--- ---- the result
-
--- with the relations of a pack stamped
-abbrev pub stampAll : Pack → Pack → Pack
-stampAll p q = withRelations q (map (stamp p) (q .relations))
-
--- the words of a pack whose trees are resolved, and where its relations start
-pub record FinishAsked (ws marks work order : List ℕ) (steps : ℕ) : Type 0 where
-  pub records : List ℕ
-  pub taken : List ℕ
-  pub tabled : Tabled ws records marks taken steps
-  pub whole : Pack
-  pub resolves : turned (tabled .checked .pack) ≡ done whole
-  pub stands : work ≡ words whole
-  pub places : order ≡ placesIn (tabled .checked .pack)
-
--- what is answered and left of them
-pub record FinishCame (ws lent : List ℕ) (answer : Answer) (left : List ℕ) : Type 0 where
-  pub answers : (p q : Pack) → read ws ≡ yes p → turned p ≡ done q → answer ≡ givenOut (allKinds (p .relations) .steps) (length lent) (done (stampAll p q))
-  pub leaves : (p q : Pack) → read ws ≡ yes p → turned p ≡ done q → left ≡ writtenOut lent (done (stampAll p q))
-
--- ---- the first three steps of Resolving
-
-unfoldable pub unstamped : Pack → Outcome Pack
-unstamped p = elim (defaultedEqual (tables (p .names) (p .relations)) (p .defaulted)) [ some n ↦ refused (equalRefusal p n) | none ↦ turned p ]
-
-pub record PackCame (ws : List ℕ) (answer : Answer) (left order : List ℕ) : Type 0 where
-  pub each : (p : Pack) → read ws ≡ yes p → CameWhole (unstamped p) answer left
-  pub places : (p : Pack) → read ws ≡ yes p → (next x : ℕ) → answer ≡ Given next x → order ≡ placesIn p
-
--- a slice for as many words as a checked pack has
-pub record ResolveAsked (ws work : List ℕ) : Type 0 where
-  pub checked : IsPack ws
-  pub room : length work ≡ length ws

@@ -11,11 +11,6 @@ use Rattle.chains.specs.Operations.{relationWords, firstRelation}
 use Rattle.chains.specs.Record.{kindCount}
 use Rattle.resolve.specs.Stamping.{StampedBy}
 
--- where relations start, one after the other from a place on
-unfoldable pub placesFrom : ℕ → ℕ → List Relation → List ℕ
-placesFrom n at [] = []
-placesFrom n at (r ∷ rs) = at ∷ placesFrom n (at + length (relationWords n r)) rs
-
 -- relations, and in the same order as they come out with their lists stamped
 pub data Stamped (ws : List ℕ) : List ℕ → List Relation → List Relation → Type 0 where
   no-more : Stamped ws [] [] []

@@ -5,7 +5,7 @@ use crate::write::write;
 use pack::answer::Answer;
 use pack::check::refuse;
 use pack::kinds::Pack;
-ghost use Rattle.resolve.specs.Passes.{FinishAsked, FinishCame};
+ghost use Rattle.resolve.specs.Finish.{FinishAsked, FinishCame};
 
 // From the words of a pack whose trees are resolved.
 pub fn finish(

@@ -13,7 +13,8 @@ ghost use mathlib.Core.Path.{_≡_};
 ghost use Rattle.chains.specs.AllKinds.{IsPack};
 ghost use Rattle.chains.specs.Operations.{Answered};
 ghost use Rattle.resolve.specs.Operations.{resolveAnswer, resolveBuffer};
-ghost use Rattle.resolve.specs.Passes.{TreesAsked, PackCame, ResolveAsked};
+ghost use Rattle.resolve.specs.Passes.{TreesAsked};
+ghost use Rattle.resolve.specs.Finish.{PackCame, ResolveAsked};
 
 // Defaulted names with equal kinds are refused; then all trees are resolved, in a copy of the words.
 fn turn_pack(

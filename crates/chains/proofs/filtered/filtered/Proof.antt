@@ -1,6 +1,7 @@
 -- `chains::filtered::filtered` meets its contract.
 use native.Mathlib.Omega.{arith}
-use Rattle.chains.proofs.OperationLaws.{checked, filter-refused, filter-room, filter-asked, filter-done}
+use Rattle.chains.proofs.OperationLaws.{checked}
+use Rattle.chains.proofs.FilterLaws.{filter-refused, filter-room, filter-asked, filter-done}
 use borrow.Author.Needs.{needs}
 use Rattle.chains.proofs.filtered.filtered.Statement.{statement}
 use Rattle.chains.proofs.filtered.filtered.Tie as tie
