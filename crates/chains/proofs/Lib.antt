@@ -1,4 +1,3 @@
-pub mod Worked
 pub mod Names
 pub mod Walks
 pub mod Outside
@@ -6,7 +5,6 @@ pub mod ChainLaws
 pub mod MappedLaws
 pub mod KindLaws
 pub mod LeanLaws
-pub mod FilteredLaws
 pub mod Hushed
 pub mod RelationScan
 pub mod PackIndex
@@ -16,18 +14,10 @@ pub mod PlaceBounds
 pub mod AllKindsLaws
 pub mod CheckedLaws
 pub mod SourceLaws
-pub mod TakingLaws
 pub mod ListAt
 pub mod RecordLaws
 pub mod DeclarationLaws
 pub mod RecordsLaws
-pub mod TakenKnown
 pub mod FillLaws
-pub mod SaidLaws
-pub mod KindBounds
-pub mod InnerLaws
-pub mod SaysLaws
 pub mod OperationLaws
 pub mod RefusalNumbers
-pub mod FilterLaws
-pub mod DealtChains

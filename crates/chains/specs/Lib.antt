@@ -1,13 +1,9 @@
 pub mod Chain
 pub mod Kinds
 pub mod Reach
-pub mod Filtered
 pub mod Operations
-pub mod FilteredTables
 pub mod Record
 pub mod Declaration
 pub mod Settle
 pub mod AllKinds
 pub mod Sources
-pub mod Taking
-pub mod Said

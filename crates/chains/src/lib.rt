@@ -4,15 +4,12 @@
 // and what a record says (record, declaration), the walk (settle, mark_kinds), the walk of innermost kinds (inner), where
 // sources lead (sources) and the kinds that entities take (taking). The parts that are public serve resolving.
 pub mod all_kinds;
-mod declaration;
-pub mod filtered;
+pub mod declaration;
 pub mod header;
-mod inner;
 pub mod kinds_of;
 pub mod lean;
-mod mark_kinds;
+pub mod mark_kinds;
 pub mod record;
-mod records;
-mod settle;
-mod sources;
-pub mod taking;
+pub mod records;
+pub mod settle;
+pub mod sources;

@@ -20,17 +20,17 @@ use Rattle.chains.specs.Chain.{Step, end, next, same, withNext, outside}
 use Rattle.chains.specs.Kinds as kinds
 use Rattle.chains.specs.Kinds.{kindStep, declared, ownAnswer, allKinds}
 use Rattle.chains.specs.Operations.{placeOf, writeAnswer, allKindsWords, allKindsAnswer, unknown, kindsOfAnswer, yesNo, leanAnswer}
-use Rattle.chains.specs.FilteredTables.{filterWords, filterAnswer}
+use Rattle.filtered.specs.FilteredTables.{filterWords, filterAnswer}
 use Rattle.chains.specs.Reach.{leans}
-use Rattle.chains.specs.declared.filtered.Filter.{Filter}
+use Rattle.filtered.specs.declared.filtered.Filter.{Filter}
 use Rattle.chains.proofs.KindLaws.{kinds-steps, distinct-names}
 use Rattle.chains.proofs.PackIndex.{parts}
 use Rattle.chains.proofs.PlaceBounds.{end-small}
 use Rattle.chains.proofs.ListAt.{own-holds}
-use Rattle.resolve.specs.Turning.{Outcome, done, refused}
-use Rattle.resolve.specs.Resolving.{resolved}
+use Rattle.nodes.specs.Turning.{Outcome, done, refused}
+use Rattle.nodes.specs.Resolving.{resolved}
 use Rattle.resolve.specs.Operations.{givenOut, resolveAnswer}
-use Rattle.resolve.proofs.Numbers.{refused-number}
+use Rattle.nodes.proofs.Numbers.{refused-number}
 use Rattle.resolve.proofs.RefusalNames.{Told, resolved-told}
 use Rattle.host.specs.Bytes.{encode, areWords, notWords, overBytes, wordsOf}
 use Rattle.host.proofs.Writes.{few-words, few-places, few-names}

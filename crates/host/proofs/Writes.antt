@@ -18,12 +18,12 @@ use Rattle.pack.specs.Operations.{answer, buffer, noRoom, checkAnswer, rewriteA
 use Rattle.pack.proofs.PackLaws.{words-length, words-read}
 use Rattle.chains.specs.Kinds.{allKinds}
 use Rattle.chains.specs.Operations.{writeAnswer, writeBuffer, allKindsWords, allKindsAnswer, allKindsBuffer, kindsOfAnswer, leanAnswer}
-use Rattle.chains.specs.FilteredTables.{says, filterWords, filterAnswer, filterBuffer}
-use Rattle.chains.specs.declared.filtered.Filter.{Filter}
+use Rattle.filtered.specs.FilteredTables.{says, filterWords, filterAnswer, filterBuffer}
+use Rattle.filtered.specs.declared.filtered.Filter.{Filter}
 use Rattle.chains.proofs.PackIndex.{parts}
 use Rattle.chains.proofs.FillLaws.{table-length}
-use Rattle.resolve.specs.Turning.{Outcome, done, refused}
-use Rattle.resolve.specs.Resolving.{resolved}
+use Rattle.nodes.specs.Turning.{Outcome, done, refused}
+use Rattle.nodes.specs.Resolving.{resolved}
 use Rattle.resolve.specs.Operations.{givenOut, writtenOut, resolveAnswer, resolveBuffer}
 use Rattle.host.specs.declared.operations.Question.{Question}
 use Rattle.host.specs.declared.operations.Question.the-variants.{Check, KindsOf, Lean}

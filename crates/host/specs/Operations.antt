@@ -6,7 +6,7 @@ use lib.ListN.{length}
 use Rattle.pack.specs.declared.answer.Answer.{Answer}
 use Rattle.pack.specs.Operations.{checkAnswer, rewriteAnswer, rewriteBuffer}
 use Rattle.chains.specs.Operations.{allKindsAnswer, allKindsBuffer, kindsOfAnswer, leanAnswer}
-use Rattle.chains.specs.FilteredTables.{filterAnswer, filterBuffer}
+use Rattle.filtered.specs.FilteredTables.{filterAnswer, filterBuffer}
 use Rattle.resolve.specs.Operations.{resolveAnswer, resolveBuffer}
 use Rattle.host.specs.declared.operations.Question.{Question}
 use Rattle.host.specs.declared.operations.Question.the-variants.{Check, KindsOf, Lean}

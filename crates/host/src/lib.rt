@@ -7,13 +7,13 @@ use crate::operations::Question;
 use crate::operations::Writing;
 use crate::operations::ask;
 use crate::operations::write;
-use chains::filtered::Filter;
+use filtered::filtered::Filter;
 ghost use mathlib.Core.Path.{_≡_};
 ghost use Rattle.pack.specs.Operations.{checkAnswer, rewriteAnswer, rewriteBuffer};
 ghost use Rattle.chains.specs.Operations.{allKindsAnswer, allKindsBuffer, kindsOfAnswer, leanAnswer};
-ghost use Rattle.chains.specs.FilteredTables.{filterAnswer, filterBuffer};
+ghost use Rattle.filtered.specs.FilteredTables.{filterAnswer, filterBuffer};
 ghost use Rattle.resolve.specs.Operations.{resolveAnswer, resolveBuffer};
-ghost use Rattle.chains.specs.declared.filtered.Filter.the-variants.{Direct, Innermost, Alias, Unresolved};
+ghost use Rattle.filtered.specs.declared.filtered.Filter.the-variants.{Direct, Innermost, Alias, Unresolved};
 ghost use Rattle.host.specs.Bytes.{encode, overBytes, Gives};
 
 // Check.

@@ -14,9 +14,9 @@ use Rattle.pack.specs.Table.{pick, kindOf, valueOf}
 use Rattle.pack.specs.Pack.{Relation, Pack, yes, read}
 use Rattle.pack.proofs.PackLaws.{words-read}
 use Rattle.chains.specs.Reach.{any}
-use Rattle.resolve.specs.Resolving.{atomOf, inDerivation, inRule, atomNames}
+use Rattle.nodes.specs.Resolving.{atomOf, inDerivation, inRule, atomNames}
 use Rattle.resolve.specs.Stamping.{atomAfter, atomsIn, NoAtoms}
-use Rattle.resolve.proofs.HeldWords.{OfNodes, found, pack-tells}
+use Rattle.nodes.proofs.HeldWords.{OfNodes, found, pack-tells}
 
 -- ---- one word
 

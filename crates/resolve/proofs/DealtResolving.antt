@@ -16,14 +16,14 @@ use Rattle.chains.specs.Reach.{any}
 use Rattle.chains.specs.Operations.{firstRelation}
 use Rattle.chains.proofs.Names.{shuffled-any, shuffled-map}
 use Rattle.chains.proofs.KindLaws.{kinds-dealt, distinct-names}
-use Rattle.chains.proofs.FilteredLaws.{filtered-dealt}
-use Rattle.resolve.specs.Tables.{derivedAt, typedAt, Tables, tables}
-use Rattle.resolve.specs.Turning.{Outcome, done, refused, andThen, mapDone, Citing, InRange, result}
-use Rattle.resolve.specs.Resolving.{cites, defaultedEqual, equalRefusal, ruleBy, resolveRule, resolveRules, predicateBy, withPredicate, resolveDerivation, resolveRelation, resolveRelations, holds, roleJudgment, atomOf, inDerivation, inRule, atomNames, empty, stampBy, stampDerived, stamp, firstRule, resolveRecords, resolved}
+use Rattle.filtered.proofs.FilteredLaws.{filtered-dealt}
+use Rattle.nodes.specs.Tables.{derivedAt, typedAt, Tables, tables}
+use Rattle.nodes.specs.Turning.{Outcome, done, refused, andThen, mapDone, Citing, InRange, result}
+use Rattle.nodes.specs.Resolving.{cites, defaultedEqual, equalRefusal, ruleBy, resolveRule, resolveRules, predicateBy, withPredicate, resolveDerivation, resolveRelation, resolveRelations, holds, roleJudgment, atomOf, inDerivation, inRule, atomNames, empty, stampBy, stampDerived, stamp, firstRule, resolveRecords, resolved}
 use Rattle.resolve.proofs.OutcomeLaws.{result-map, allDone, Alike, all-dealt}
 use Rattle.resolve.proofs.PlaceFree.{rules-each, relations-each}
-use Rattle.resolve.proofs.Numbers.{Numbered, rules-numbered, relations-numbered}
-use Rattle.resolve.proofs.InputLaws.{input-dealt}
+use Rattle.nodes.proofs.Numbers.{Numbered, rules-numbered, relations-numbered}
+use Rattle.nodes.proofs.InputLaws.{input-dealt}
 
 tables-dealt : (n : ℕ) {rs rs′ : List Relation} → InAnyOrder rs rs′ → Distinct (declared rs) → tables n rs ≡ tables n rs′
 unfolding tables

@@ -16,14 +16,14 @@ use Rattle.pack.specs.Dealt.{Checked, Dealt}
 use Rattle.pack.proofs.PackLaws.{words-read}
 use Rattle.pack.proofs.DealtLaws.{dealt-total, dealt-again, dealt-checked}
 use Rattle.chains.specs.Kinds.{list21, listOf, find, allKinds, ownAnswer, kindsOf}
-use Rattle.chains.specs.Filtered.{kindAt}
+use Rattle.filtered.specs.Filtered.{kindAt}
 use Rattle.chains.specs.Operations.{placeOf, namesAt, firstRelation, allKindsWords, allKindsBuffer}
 use Rattle.chains.proofs.KindLaws.{kinds-dealt, distinct-names, words-own, words-count, kinds-steps}
 use Rattle.chains.proofs.ListAt.{place-holds}
-use Rattle.chains.proofs.DealtChains.{all-kinds-steps, chains-dealt}
-use Rattle.resolve.specs.Tables.{Derived, derivedBy, derivedAt, tables}
-use Rattle.resolve.specs.Turning.{Outcome, done, refused, andThen, mapDone, result}
-use Rattle.resolve.specs.Resolving.{defaultedEqual, equalRefusal, resolveRules, resolveRelation, resolveRelations, empty, unlike, passedOver, stampedWith, stampBy, stampDerived, stamp, firstRule, resolveRecords, resolved}
+use Rattle.filtered.proofs.DealtChains.{all-kinds-steps, chains-dealt}
+use Rattle.nodes.specs.Tables.{Derived, derivedBy, derivedAt, tables}
+use Rattle.nodes.specs.Turning.{Outcome, done, refused, andThen, mapDone, result}
+use Rattle.nodes.specs.Resolving.{defaultedEqual, equalRefusal, resolveRules, resolveRelation, resolveRelations, empty, unlike, passedOver, stampedWith, stampBy, stampDerived, stamp, firstRule, resolveRecords, resolved}
 use Rattle.resolve.specs.Operations.{givenOut, writtenOut, resolveAnswer, resolveBuffer}
 use Rattle.resolve.specs.Demand3.{AnswersAlike, bothGiven, bothEqual, bothRoom, bothOpen, BuffersAlike, untouched, written, ruleOut, Each, nil, cons, ComesOut, KindsWritten, no-more, one-more, KindsUsed, stepSum, Demand3}
 use Rattle.resolve.proofs.OutcomeLaws.{bound, allDone}

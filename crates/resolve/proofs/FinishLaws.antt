@@ -21,24 +21,24 @@ use Rattle.chains.specs.Operations.{relationWords, firstRelation}
 use Rattle.chains.proofs.RelationScan.{RelationsFine}
 use Rattle.chains.proofs.PackIndex.{parts, zeros}
 use Rattle.chains.proofs.CheckedLaws.{same-pack}
-use Rattle.resolve.specs.Turning.{Outcome, done, refused, andThen, mapDone}
-use Rattle.resolve.specs.Resolving.{stamp, ruleWords, resolveRule, resolveRules, resolveRelation, resolveRelations, firstRule}
+use Rattle.nodes.specs.Turning.{Outcome, done, refused, andThen, mapDone}
+use Rattle.nodes.specs.Resolving.{stamp, ruleWords, resolveRule, resolveRules, resolveRelation, resolveRelations, firstRule}
 use Rattle.chains.specs.Record.{Recorded}
 use Rattle.resolve.specs.Stamping.{atomsIn, listsFor, addedBy, Listed}
 use Rattle.resolve.specs.Writing.{Stamped, WriteAsked, WriteCame}
-use Rattle.resolve.specs.Passes.{placesFrom}
+use Rattle.trees.specs.Passes.{placesFrom}
 use Rattle.resolve.specs.Operations.{givenOut, writtenOut}
-use Rattle.resolve.specs.Passes.{wordsOf, runBy, RelationKeeps, withRecords, turned, placesIn, Tabled}
+use Rattle.trees.specs.Passes.{wordsOf, runBy, RelationKeeps, withRecords, turned, placesIn, Tabled}
 use Rattle.resolve.specs.Finish.{stampAll, FinishAsked, FinishCame}
-use Rattle.resolve.proofs.KeepsForm.{Good}
-use Rattle.resolve.proofs.ResolvedFine.{RulesFine, rules-good}
+use Rattle.nodes.proofs.KeepsForm.{Good}
+use Rattle.nodes.proofs.ResolvedFine.{RulesFine, rules-good}
 use Rattle.resolve.proofs.ResolvedPack.{least-words, rules-fine}
 use Rattle.resolve.proofs.AtomLaws.{atoms-named}
-use Rattle.resolve.proofs.RunLaws.{RunPairs, run-words, run-pairs}
-use Rattle.resolve.proofs.RuleLaws.{run-length, rule-long}
-use Rattle.resolve.proofs.RelationLaws.{relation-long, places-many}
-use Rattle.resolve.proofs.TurnedPack.{front, front-long, pack-words, rulesOn, again-words, total-same, rules-run, relations-run, rules-keep, relations-keep}
-use Rattle.resolve.proofs.TreesLaws.{settled}
+use Rattle.trees.proofs.RunLaws.{RunPairs, run-words, run-pairs}
+use Rattle.trees.proofs.RuleLaws.{run-length, rule-long}
+use Rattle.trees.proofs.RelationLaws.{relation-long, places-many}
+use Rattle.trees.proofs.TurnedPack.{front, front-long, pack-words, rulesOn, again-words, total-same, rules-run, relations-run, rules-keep, relations-keep}
+use Rattle.trees.proofs.TreesLaws.{settled}
 use Rattle.resolve.proofs.StampedPack.{still-fine, all-stamped, same-places}
 use Rattle.resolve.proofs.WrittenPack.{longer}
 

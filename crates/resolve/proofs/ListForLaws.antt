@@ -10,12 +10,12 @@ use lib.Dec.{eqb}
 use borrow.Author.Tests.{eq-eqb, ne-eqb}
 use Rattle.pack.specs.Table.{valueOf}
 use Rattle.chains.specs.Operations.{namesAt}
-use Rattle.chains.specs.declared.taking.Kind.{Kind}
-use Rattle.chains.specs.declared.taking.Kind.the-variants as kind
-use Rattle.chains.specs.Taking.{KindFound}
+use Rattle.filtered.specs.declared.taking.Kind.{Kind}
+use Rattle.filtered.specs.declared.taking.Kind.the-variants as kind
+use Rattle.filtered.specs.Taking.{KindFound}
 use Rattle.chains.specs.Record.{valueAt, kindCount, flagAt, slotsPlace, entityCount, predicateAt}
 use Rattle.resolve.specs.Stamping.{roleIn, unstamped, passedIn, unlikeIn, nameAt, listFor, namesOr, Lists, addedFor, listsFor, addedBy, Listed}
-use Rattle.resolve.proofs.EqualLaws.{is-known, is-unknown}
+use Rattle.nodes.proofs.EqualLaws.{is-known, is-unknown}
 
 -- ---- list 21
 

@@ -13,25 +13,25 @@ use Rattle.pack.specs.Tree.{Tree, root, tree}
 use Rattle.pack.specs.Pack.{Derivation, Relation, Body, Rule, Pack, WellFormed, words, total, relationTail, body, rule, blocks}
 use Rattle.pack.proofs.PackLaws.{words-length}
 use Rattle.chains.specs.Kinds.{list9, find, kindsOf}
-use Rattle.chains.specs.Filtered.{kindAt}
+use Rattle.filtered.specs.Filtered.{kindAt}
 use Rattle.chains.specs.Operations.{relationWords, startOf, firstRelation}
-use Rattle.chains.proofs.KindBounds.{Below, BelowAll, tail-below, kinds-below}
+use Rattle.filtered.proofs.KindBounds.{Below, BelowAll, tail-below, kinds-below}
 use Rattle.chains.proofs.RelationScan.{kept}
 use Rattle.chains.proofs.PackIndex.{parts, find-name, find-kept, start-within, opening, relationsPart, split, opening-length}
-use Rattle.resolve.specs.Direction.{Membership, kindOrZero, membership}
-use Rattle.resolve.specs.Tables.{Derived, derivedBy, derivedAt, pair, typedBy, typedAt, tables}
-use Rattle.resolve.specs.Turning.{Outcome, done, refused, andThen, mapDone, Citing, treeWords, size, resolveTree}
-use Rattle.resolve.specs.Inputs.{input}
-use Rattle.resolve.specs.Resolving.{cites, defaultedEqual, equalRefusal, resolveBody, resolveRule, ruleWords, resolveRules, predicatePlace, predicateBy, resolvePredicate, resolveDerivation, resolveRelation, resolveRelations, firstRule, resolveRecords, resolved}
-use Rattle.resolve.specs.Passes.{wordsOf, runBy, All, bodyWords, RelationKeeps}
-use Rattle.resolve.proofs.Numbers.{OfInput, input-numbered}
-use Rattle.resolve.proofs.TreeWords.{size-is}
-use Rattle.resolve.proofs.CitingNames.{NamedBy, tree-named}
-use Rattle.resolve.proofs.SmallKinds.{Small, below-small, KindsBelow, turn-below}
-use Rattle.resolve.proofs.RefusalBounds.{Fits, Refuses, CitingFits, MemberSmall, tree-refuses}
-use Rattle.resolve.proofs.RuleLaws.{bodiesOf, head, rule-parts, again, rule-run}
-use Rattle.resolve.proofs.RelationLaws.{lead, lead-words, lead-long, predicate-kept, both-small}
-use Rattle.resolve.proofs.TurnedPack.{front, front-long, pack-words, front22, front22-long, pack-words-22, rules-run, relations-run, rules-keep, relations-keep}
+use Rattle.nodes.specs.Direction.{Membership, kindOrZero, membership}
+use Rattle.nodes.specs.Tables.{Derived, derivedBy, derivedAt, pair, typedBy, typedAt, tables}
+use Rattle.nodes.specs.Turning.{Outcome, done, refused, andThen, mapDone, Citing, treeWords, size, resolveTree}
+use Rattle.nodes.specs.Inputs.{input}
+use Rattle.nodes.specs.Resolving.{cites, defaultedEqual, equalRefusal, resolveBody, resolveRule, ruleWords, resolveRules, predicatePlace, predicateBy, resolvePredicate, resolveDerivation, resolveRelation, resolveRelations, firstRule, resolveRecords, resolved}
+use Rattle.trees.specs.Passes.{wordsOf, runBy, All, bodyWords, RelationKeeps}
+use Rattle.nodes.proofs.Numbers.{OfInput, input-numbered}
+use Rattle.nodes.proofs.TreeWords.{size-is}
+use Rattle.nodes.proofs.CitingNames.{NamedBy, tree-named}
+use Rattle.nodes.proofs.SmallKinds.{Small, below-small, KindsBelow, turn-below}
+use Rattle.nodes.proofs.RefusalBounds.{Fits, Refuses, CitingFits, MemberSmall, tree-refuses}
+use Rattle.trees.proofs.RuleLaws.{bodiesOf, head, rule-parts, again, rule-run}
+use Rattle.trees.proofs.RelationLaws.{lead, lead-words, lead-long, predicate-kept, both-small}
+use Rattle.trees.proofs.TurnedPack.{front, front-long, pack-words, front22, front22-long, pack-words-22, rules-run, relations-run, rules-keep, relations-keep}
 use Rattle.resolve.proofs.ResolveLaws.{equal-named, declared-of}
 
 -- a refusal with a place below a limit, whose name and other are names

@@ -14,11 +14,11 @@ use Rattle.pack.specs.Operations.{answer, noRoom}
 use Rattle.pack.proofs.Refusals.{Within, read-numbers}
 use Rattle.chains.specs.Kinds.{allKinds}
 use Rattle.chains.specs.Operations.{firstRelation}
-use Rattle.resolve.specs.Turning.{Outcome, done, refused, andThen, mapDone, InRange}
-use Rattle.resolve.specs.Tables.{tables}
-use Rattle.resolve.specs.Resolving.{resolveRules, resolveRelations, defaultedEqual, equalRefusal, firstRule, resolveRecords, resolved}
+use Rattle.nodes.specs.Turning.{Outcome, done, refused, andThen, mapDone, InRange}
+use Rattle.nodes.specs.Tables.{tables}
+use Rattle.nodes.specs.Resolving.{resolveRules, resolveRelations, defaultedEqual, equalRefusal, firstRule, resolveRecords, resolved}
 use Rattle.resolve.specs.Operations.{givenOut, resolveAnswer}
-use Rattle.resolve.proofs.Numbers.{Numbered, rules-numbered, relations-numbered}
+use Rattle.nodes.proofs.Numbers.{Numbered, rules-numbered, relations-numbered}
 
 -- "Check's refusals, then 9 ..; 10 ..; 11 to 15. Then 16"
 pub data ResolveRefuses (r : Refusal) : Type 0 where

@@ -10,11 +10,11 @@ use Rattle.pack.specs.Pack.{Relation, Rule, Pack, WellFormed, yes, read, words,
 use Rattle.pack.proofs.PackLaws.{read-words}
 use Rattle.chains.specs.Operations.{firstRelation}
 use Rattle.chains.proofs.RelationScan.{RelationsFine}
-use Rattle.resolve.specs.Tables.{tables}
-use Rattle.resolve.specs.Turning.{done, refused}
-use Rattle.resolve.specs.Resolving.{defaultedEqual, resolveRules, resolveRelations, equalRefusal, stamp, firstRule, resolveRecords, resolved}
-use Rattle.resolve.proofs.KeepsForm.{Good, map-good, then-good}
-use Rattle.resolve.proofs.ResolvedFine.{RulesFine, rules-good, relations-good}
+use Rattle.nodes.specs.Tables.{tables}
+use Rattle.nodes.specs.Turning.{done, refused}
+use Rattle.nodes.specs.Resolving.{defaultedEqual, resolveRules, resolveRelations, equalRefusal, stamp, firstRule, resolveRecords, resolved}
+use Rattle.nodes.proofs.KeepsForm.{Good, map-good, then-good}
+use Rattle.nodes.proofs.ResolvedFine.{RulesFine, rules-good, relations-good}
 
 -- every pack has the five words of its own and a total
 pub least-words : (p : Pack) → 6 ≤ total p

@@ -13,11 +13,11 @@ use Rattle.pack.specs.Table.{pick, kindOf, valueOf}
 use Rattle.pack.specs.Form.{Fine}
 use Rattle.pack.specs.Tree.{Tree, tree}
 use Rattle.chains.proofs.Hushed.{Quiet, tree-hushed}
-use Rattle.resolve.specs.Turning.{treeWords}
-use Rattle.resolve.specs.Resolving.{holds, roleJudgment}
+use Rattle.nodes.specs.Turning.{treeWords}
+use Rattle.nodes.specs.Resolving.{holds, roleJudgment}
 use Rattle.resolve.specs.Stamping.{roleAmong, roleIn}
-use Rattle.resolve.proofs.TreeWords.{tree-words}
-use Rattle.resolve.proofs.HeldWords.{OfNodes, found, tree-found}
+use Rattle.nodes.proofs.TreeWords.{tree-words}
+use Rattle.nodes.proofs.HeldWords.{OfNodes, found, tree-found}
 
 -- ---- one word
 

@@ -13,16 +13,16 @@ use Rattle.pack.specs.Form.{wordsBy, Fine}
 use Rattle.pack.specs.Tree.{tree, root}
 use Rattle.pack.specs.Pack.{Derivation, Relation, Pack, newName, relation, derivation, member, relationTail}
 use Rattle.chains.specs.Kinds.{kindsOf}
-use Rattle.chains.specs.Filtered.{kindAt}
+use Rattle.filtered.specs.Filtered.{kindAt}
 use Rattle.chains.specs.Operations.{namesAt}
 use Rattle.chains.proofs.RelationScan.{kept}
 use Rattle.chains.proofs.ListAt.{InWords}
-use Rattle.resolve.specs.Turning.{treeWords}
-use Rattle.resolve.specs.Resolving.{holds, roleJudgment, atomNames, empty, unlike, stampedWith, stampBy, stampDerived, stamp}
+use Rattle.nodes.specs.Turning.{treeWords}
+use Rattle.nodes.specs.Resolving.{holds, roleJudgment, atomNames, empty, unlike, stampedWith, stampBy, stampDerived, stamp}
 use Rattle.chains.specs.Record.{slotsPlace, entityCount, predicateAt}
 use Rattle.resolve.specs.Stamping.{StampedBy, as-it-is, with-kinds, roleIn, unstamped, passedIn, unlikeIn, nameAt, listFor}
 use Rattle.chains.proofs.RecordLaws.{value-there, counted, no-flag, a-flag, current-there, related-there, entities-there, its-fine, predicate-there}
-use Rattle.resolve.proofs.PredicateLaws.{front, predicate-open}
+use Rattle.nodes.proofs.PredicateLaws.{front, predicate-open}
 use Rattle.resolve.proofs.RoleLaws.{Ends, role-read}
 
 -- ---- the predicate of a derivation

@@ -11,16 +11,16 @@ use Rattle.pack.specs.Pack.{Relation, Pack, WellFormed, yes, read, newName, rel
 use Rattle.chains.specs.Kinds.{declared, kindsOf}
 use Rattle.chains.specs.Operations.{relationWords, namesAt}
 use Rattle.chains.proofs.RelationScan.{RelationsFine, kept}
-use Rattle.resolve.specs.Turning.{done}
-use Rattle.resolve.specs.Resolving.{atomNames, stamp, resolveRelation}
+use Rattle.nodes.specs.Turning.{done}
+use Rattle.nodes.specs.Resolving.{atomNames, stamp, resolveRelation}
 use Rattle.resolve.specs.Stamping.{StampedBy, listFor, listsFor}
 use Rattle.resolve.specs.Writing.{Stamped, no-more, one-more}
-use Rattle.resolve.specs.Passes.{placesFrom}
-use Rattle.resolve.specs.Passes.{wordsOf, All, RelationKeeps, KindsReady}
-use Rattle.resolve.proofs.KeepsForm.{Good}
-use Rattle.resolve.proofs.ResolvedFine.{Same, tail-of, with-tail, relation-good}
-use Rattle.resolve.proofs.RunLaws.{RunPairs}
-use Rattle.resolve.proofs.RelationLaws.{relation-long}
+use Rattle.trees.specs.Passes.{placesFrom}
+use Rattle.trees.specs.Passes.{wordsOf, All, RelationKeeps, KindsReady}
+use Rattle.nodes.proofs.KeepsForm.{Good}
+use Rattle.nodes.proofs.ResolvedFine.{Same, tail-of, with-tail, relation-good}
+use Rattle.trees.proofs.RunLaws.{RunPairs}
+use Rattle.trees.proofs.RelationLaws.{relation-long}
 use Rattle.resolve.proofs.RoleLaws.{Ends}
 use Rattle.resolve.proofs.StampLaws.{stamped-by}
 

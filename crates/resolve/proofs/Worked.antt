@@ -10,15 +10,15 @@ use Rattle.pack.specs.Tree as trees
 use Rattle.pack.specs.Pack.{Relation, Rule, Pack, undated, relation, newName, relationTail, nameList, optionalDerivation, derivation, chain, path, hop, member}
 use Rattle.chains.specs.Chain.{walk, own}
 use Rattle.chains.specs.Kinds.{find, kindStep, kindsOf}
-use Rattle.chains.specs.Filtered.{taken, direct}
+use Rattle.filtered.specs.Filtered.{taken, direct}
 use Rattle.chains.specs.Operations.{startOf}
-use Rattle.chains.proofs.Worked.{Worked, worked}
-use Rattle.resolve.specs.Tables.{tables}
-use Rattle.resolve.specs.Direction.{turn}
-use Rattle.resolve.specs.Direction as direction
-use Rattle.resolve.specs.Inputs.{input}
-use Rattle.resolve.specs.Turning.{Outcome, done, refused, stepBy, size, resolveTree}
-use Rattle.resolve.specs.Resolving.{defaultedEqual, resolveBodies, ruleBy, resolveRules, predicateBy, resolveRelation, resolveRelations, holds, atomNames, stamp, resolved}
+use Rattle.filtered.proofs.Worked.{Worked, worked}
+use Rattle.nodes.specs.Tables.{tables}
+use Rattle.nodes.specs.Direction.{turn}
+use Rattle.nodes.specs.Direction as direction
+use Rattle.nodes.specs.Inputs.{input}
+use Rattle.nodes.specs.Turning.{Outcome, done, refused, stepBy, size, resolveTree}
+use Rattle.nodes.specs.Resolving.{defaultedEqual, resolveBodies, ruleBy, resolveRules, predicateBy, resolveRelation, resolveRelations, holds, atomNames, stamp, resolved}
 
 -- a relation without derivation, and one of the name 6 that is derived
 abbrev plain : ℕ → List ℕ → Relation

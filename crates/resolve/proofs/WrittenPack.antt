@@ -19,15 +19,15 @@ use Rattle.chains.specs.Operations.{namesAt, relationWords}
 use Rattle.chains.proofs.ListAt.{nameWords, list-words, early, late, option-words, InWords}
 use Rattle.chains.proofs.RelationScan.{RelationsFine}
 use Rattle.chains.proofs.PackIndex.{parts}
-use Rattle.resolve.specs.Resolving.{orKinds, withEntities, stampedWith}
+use Rattle.nodes.specs.Resolving.{orKinds, withEntities, stampedWith}
 use Rattle.chains.specs.Record.{kindCount, slotsPlace}
 use Rattle.resolve.specs.Stamping.{StampedBy, as-it-is, with-kinds, namesOr, addedFor, addedBy}
 use Rattle.resolve.specs.Writing.{Stamped, no-more, one-more, withRelations, fromTo, listWords, putFor, Put, Room, WriteAsked}
-use Rattle.resolve.specs.Passes.{placesFrom}
-use Rattle.resolve.specs.Passes.{wordsOf}
+use Rattle.trees.specs.Passes.{placesFrom}
+use Rattle.trees.specs.Passes.{wordsOf}
 use Rattle.chains.proofs.RecordLaws.{counted, before-slots, four, four-length}
 use Rattle.resolve.proofs.WriteLaws.{At, at-on, at-room, at-put, at-rest, at-within, at-end}
-use Rattle.resolve.proofs.TurnedPack.{front, front-long, pack-words, opened, rulesOn}
+use Rattle.trees.proofs.TurnedPack.{front, front-long, pack-words, opened, rulesOn}
 
 -- ---- a derived relation: the words up to list 21, by its list 9
 

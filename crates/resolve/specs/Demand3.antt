@@ -11,9 +11,9 @@ use Rattle.pack.specs.Pack.{Relation, Rule, Pack, total, words}
 use Rattle.pack.specs.Dealt.{Checked, Dealt}
 use Rattle.chains.specs.Kinds.{list21, listOf, undeclaredSources, kindsOf}
 use Rattle.chains.specs.Operations.{namesAt, allKindsAnswer, allKindsBuffer}
-use Rattle.resolve.specs.Tables.{Derived, tables}
-use Rattle.resolve.specs.Turning.{Outcome, done, InRange, result}
-use Rattle.resolve.specs.Resolving.{resolveRule, resolveRelation, stamp, resolved}
+use Rattle.nodes.specs.Tables.{Derived, tables}
+use Rattle.nodes.specs.Turning.{Outcome, done, InRange, result}
+use Rattle.nodes.specs.Resolving.{resolveRule, resolveRelation, stamp, resolved}
 use Rattle.resolve.specs.Operations.{resolveAnswer, resolveBuffer}
 
 -- "both resolve or both refuse": with the same length and steps; by 9 with the same name; by 16; or each by one of 10 to 15

@@ -1,15 +1,5 @@
-pub mod Tables
-pub mod Direction
-pub mod Inputs
-pub mod Turning
-pub mod Resolving
 pub mod Operations
 pub mod Demand3
-pub mod Words
-pub mod Blocks
-pub mod Walk
-pub mod Rows
 pub mod Stamping
-pub mod Passes
 pub mod Writing
 pub mod Finish

@@ -10,8 +10,8 @@ use Rattle.pack.specs.Table.{pick}
 use Rattle.pack.specs.Pack.{Pack, total, words, read}
 use Rattle.pack.specs.Operations.{answer, buffer, noRoom}
 use Rattle.chains.specs.Kinds.{allKinds}
-use Rattle.resolve.specs.Turning.{Outcome, done, refused}
-use Rattle.resolve.specs.Resolving.{resolved}
+use Rattle.nodes.specs.Turning.{Outcome, done, refused}
+use Rattle.nodes.specs.Resolving.{resolved}
 
 -- "Then 16: the result needs over 8,192 words or more than the output slice has."
 abbrev pub givenOut : ℕ → ℕ → Outcome Pack → Answer

@@ -8,10 +8,10 @@ use lib.ListN.{length, getD, drop, set}
 use lib.Dec.{eqb, ltb, leb}
 use Rattle.pack.specs.Table.{pick, kindOf, valueOf}
 use Rattle.pack.specs.Pack.{Derivation, Relation}
-use Rattle.chains.specs.Filtered.{kindAt}
+use Rattle.filtered.specs.Filtered.{kindAt}
 use Rattle.chains.specs.Operations.{namesAt}
 use Rattle.chains.specs.Record.{valueAt, kindCount, flagAt, slotsPlace, entityCount, predicateAt}
-use Rattle.resolve.specs.Resolving.{roleJudgment, unlike, stampedWith}
+use Rattle.nodes.specs.Resolving.{roleJudgment, unlike, stampedWith}
 
 pub data StampedBy (ws : List ℕ) (list : ℕ) (r : Relation) : Relation → Type 0 where
   as-it-is : list ≡ 0 → StampedBy ws list r r

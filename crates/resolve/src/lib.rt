@@ -4,19 +4,7 @@
 // children (leaves), the children of the other nodes (rows), and relations with equal kinds in both slots (equal); on the
 // walkers of trees (walk) and the passes over bodies, rules and relations (bodies, rules, relations, trees), which resolve a
 // copy of the words in place; and on stamping and writing (stamping, write, finish).
-mod bodies;
-mod direction;
-mod equal;
-mod finish;
-mod inputs;
-mod leaves;
-mod relations;
+pub mod finish;
 pub mod resolve;
-mod rows;
-mod rules;
-mod slots;
-mod stamping;
-mod trees;
-mod walk;
-mod words;
-mod write;
+pub mod stamping;
+pub mod write;

@@ -1,9 +1,9 @@
 // Resolve: a pack with its directions settled, written out whole.
-use crate::equal::first_equal;
+use nodes::equal::first_equal;
 use crate::finish::finish;
-use crate::trees::fill_tables;
-use crate::trees::trees;
-use crate::words::copy;
+use trees::trees::fill_tables;
+use trees::trees::trees;
+use nodes::words::copy;
 use chains::header::relation_count;
 use pack::answer::Answer;
 use pack::answer::Refusal;
@@ -13,7 +13,7 @@ ghost use mathlib.Core.Path.{_≡_};
 ghost use Rattle.chains.specs.AllKinds.{IsPack};
 ghost use Rattle.chains.specs.Operations.{Answered};
 ghost use Rattle.resolve.specs.Operations.{resolveAnswer, resolveBuffer};
-ghost use Rattle.resolve.specs.Passes.{TreesAsked};
+ghost use Rattle.trees.specs.Passes.{TreesAsked};
 ghost use Rattle.resolve.specs.Finish.{PackCame, ResolveAsked};
 
 // Defaulted names with equal kinds are refused; then all trees are resolved, in a copy of the words.

@@ -1,7 +1,7 @@
 // Writing the whole pack: the resolved words as they stand, but each stamped list in place of an empty one.
 // `pack` are the words in which the lists stand, `work` the resolved ones.
 use crate::stamping::names_at;
-use crate::words::copy;
+use nodes::words::copy;
 use chains::record::kind_count;
 use chains::record::slots_place;
 use chains::record::value_at;

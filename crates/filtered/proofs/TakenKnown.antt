@@ -1,0 +1,223 @@
+-- After all relations of a checked pack the table says of every entity what is known of it: whether a derivation names it, and the kinds that it takes.
+use Prim.Native.Nat.{ℕ, suc, _+_, _-_, _<_, _≤_}
+use native.Mathlib.Omega.{arith}
+use mathlib.Core.Path.{_≡_, refl, ap, sym, _∙_, subst}
+use mathlib.Core.List.{List, [], _∷_, _++_, map, append-nil, append-assoc}
+use mathlib.Core.Bool.{Bool, true, false, _||_, not, or-assoc}
+use mathlib.Core.Option.{Option, none, some}
+use lib.ListN.{length, getD, take, drop, set, length-set, length-replicate, List·getD-map}
+use lib.Seq.{getD-set-same, getD-set-other}
+use lib.Dec.{eqb, ltb}
+use borrow.Author.Tests.{eq-eqb, ne-eqb, eqb-true, eqb-false, lt-ltb, le-ltb}
+use Rattle.pack.specs.Table.{pick, valueOf}
+use Rattle.pack.specs.Form.{among}
+use Rattle.pack.specs.Pack.{Derivation, Relation, Pack, WellFormed, yes, read, words}
+use Rattle.chains.specs.Kinds.{find, declared, ownAnswer, kindsOf}
+use Rattle.chains.specs.Reach.{any}
+use Rattle.filtered.specs.Filtered as filtered
+use Rattle.filtered.specs.Filtered.{kindAt, listed, takenFrom, taken, namesEntity}
+use Rattle.chains.specs.Operations.{placeOf, namesAt}
+use Rattle.chains.specs.Record.{valueAt, flagAt, slotsPlace}
+use Rattle.chains.specs.AllKinds.{IsPack, Noted, KindsMarked}
+use Rattle.filtered.specs.Taking.{several, known, namedAfter, takenAfter, takeAt, takenBy, kindMarked, takenIn, Takeable, Filled}
+use Rattle.pack.proofs.PackLaws.{words-read}
+use Rattle.chains.proofs.Names.{or-left, or-right, or-false, or-true}
+use Rattle.chains.proofs.PackIndex.{zeros, zero-at, parts, EachFound, all-found}
+use Rattle.chains.proofs.ListAt.{InWords, place-holds}
+use Rattle.chains.proofs.RecordLaws.{no-flag, a-flag, current-there, entity-there}
+use Rattle.chains.proofs.DeclarationLaws.{standing}
+use Rattle.chains.proofs.CheckedLaws.{its-recorded, placeable}
+
+-- ---- what is known, after one more derivation
+
+named-known : (b : Bool) (ks : List ℕ) → namedAfter (known b ks) ≡ known true ks
+unfolding namedAfter
+named-known true [] = refl
+named-known false [] = refl
+named-known b (k ∷ ks) = go (any (λ x. not (eqb x k)) ks)
+  where
+    go : (c : Bool) → pick (eqb (pick c several (2 + k)) 0) 1 (pick c several (2 + k)) ≡ pick c several (2 + k)
+    go true = refl
+    go false = rw (ne-eqb (2 + k) 0 (λ e. omega arith)) refl
+
+any-last : (f : ℕ → Bool) (ks : List ℕ) (k : ℕ) → any f (ks ++ (k ∷ [])) ≡ (any f ks || f k)
+any-last f [] k = or-false (f k)
+any-last f (j ∷ ks) k = ap (λ (b : Bool). f j || b) (any-last f ks k) ∙ sym (or-assoc (f j) (any f ks) (f k))
+
+kind-known : (ks : List ℕ) (k : ℕ) → k < 16777216 → takenAfter (known true ks) (some k) ≡ known true (ks ++ (k ∷ []))
+unfolding takenAfter
+kind-known [] k h = refl
+kind-known (j ∷ js) k h = go (any (λ x. not (eqb x j)) js) refl
+  where
+    last : any (λ x. not (eqb x j)) (js ++ (k ∷ [])) ≡ (any (λ x. not (eqb x j)) js || not (eqb k j))
+    last = any-last (λ x. not (eqb x j)) js k
+
+    alike : (e : Bool) → eqb k j ≡ e → pick (ltb (2 + j) 2) (2 + k) (pick (eqb (2 + j) (2 + k)) (2 + j) several) ≡ pick (not e) several (2 + j)
+    alike true q = let s : 2 + j ≡ 2 + k = ap (λ (x : ℕ). 2 + x) (sym (eqb-true k j q)) in rw (le-ltb (2 + j) 2 (omega arith), eq-eqb (2 + j) (2 + k) s) refl
+    alike false q = rw (le-ltb (2 + j) 2 (omega arith), ne-eqb (2 + j) (2 + k) (λ s. eqb-false k j q (omega arith))) refl
+
+    go : (b : Bool) → any (λ x. not (eqb x j)) js ≡ b
+        → pick (ltb (pick b several (2 + j)) 2) (2 + k) (pick (eqb (pick b several (2 + j)) (2 + k)) (pick b several (2 + j)) several)
+        ≡ pick (any (λ x. not (eqb x j)) (js ++ (k ∷ []))) several (2 + j)
+    go true e = rw (last, e, ne-eqb several (2 + k) (λ s. omega arith)) refl
+    go false e = rw (last, e) (alike (eqb k j) refl)
+
+-- a kind that is a value
+abbrev Fits : Option ℕ → Type 0
+Fits none = Unit {0}
+Fits (some k) = k < 16777216
+
+more-known : (b : Bool) (ks : List ℕ) (o : Option ℕ) → Fits o → takenAfter (namedAfter (known b ks)) o ≡ known true (ks ++ listed o)
+unfolding takenAfter
+more-known b ks none h = named-known b ks ∙ ap (known true) (sym (append-nil ks))
+more-known b ks (some k) h = ap (λ (x : ℕ). takenAfter x (some k)) (named-known b ks) ∙ kind-known ks k h
+
+-- ---- the relations
+
+module _ (kind : ℕ → ℕ → Option ℕ) where
+  -- the table after a relation
+  abbrev tableAfter : ℕ → Option Derivation → List ℕ → List ℕ
+  tableAfter n none t = t
+  tableAfter n (some d) t = takeAt t (d .entity) (kind n (d .current))
+
+  -- and after a list of relations
+  abbrev afterAll : List Relation → List ℕ → List ℕ
+  afterAll [] t = t
+  afterAll (r ∷ rs) t = afterAll rs (tableAfter (r .name) (r .derivation) t)
+
+  -- ---- an entity
+
+  abbrev takesBy : ℕ → ℕ → Option Derivation → List ℕ
+  takesBy e n none = []
+  takesBy e n (some d) = pick (eqb (d .entity) e) (listed (kind n (d .current))) []
+
+  abbrev takenOf : ℕ → List Relation → List ℕ
+  takenOf e [] = []
+  takenOf e (r ∷ rs) = takesBy e (r .name) (r .derivation) ++ takenOf e rs
+
+  module _ (fits : (n slot : ℕ) → Fits (kind n slot)) (e : ℕ) (inside : e < 4096) where
+    take-known : (t : List ℕ) (n : ℕ) (o : Option Derivation) (b : Bool) (ks : List ℕ) → length t ≡ 4096 → getD t e 0 ≡ known b ks
+        → getD (tableAfter n o t) e 0 ≡ known (b || namesEntity e o) (ks ++ takesBy e n o)
+    unfolding takeAt
+    take-known t n none b ks l h = h ∙ rw (append-nil ks, or-false b) refl
+    take-known t n (some d) b ks l h = go (eqb (d .entity) e) refl
+      where
+        k : Option ℕ
+        k = kind n (d .current)
+
+        kept-or : (c : Bool) → ltb (d .entity) 4096 ≡ c → (e ≡ d .entity → ⊥) → getD (pick c (set t (d .entity) (takenAfter (namedAfter (getD t (d .entity) 0)) k)) t) e 0 ≡ getD t e 0
+        kept-or true q z = getD-set-other t (d .entity) e _ 0 z
+        kept-or false q z = refl
+
+        go : (c : Bool) → eqb (d .entity) e ≡ c
+            → getD (pick (ltb (d .entity) 4096) (set t (d .entity) (takenAfter (namedAfter (getD t (d .entity) 0)) k)) t) e 0 ≡ known (b || c) (ks ++ pick c (listed k) [])
+        go true q =
+            let m : d .entity ≡ e = eqb-true (d .entity) e q in
+            rw (m, lt-ltb e 4096 inside, or-true b)
+            (getD-set-same t e (takenAfter (namedAfter (getD t e 0)) k) 0 (omega arith) ∙ ap (λ (x : ℕ). takenAfter (namedAfter x) k) h ∙ more-known b ks k (fits n (d .current)))
+        go false q =
+            kept-or (ltb (d .entity) 4096) refl (λ z. eqb-false (d .entity) e q (sym z)) ∙ h ∙ rw (or-false b, append-nil ks) refl
+
+    take-long : (t : List ℕ) (n : ℕ) (o : Option Derivation) → length t ≡ 4096 → length (tableAfter n o t) ≡ 4096
+    unfolding takeAt
+    take-long t n none l = l
+    take-long t n (some d) l = go (ltb (d .entity) 4096)
+      where
+        go : (c : Bool) → length (pick c (set t (d .entity) (takenAfter (namedAfter (getD t (d .entity) 0)) (kind n (d .current)))) t) ≡ 4096
+        go true = rw length-set l
+        go false = l
+
+    relations-known : (l : List Relation) (t : List ℕ) (b : Bool) (ks : List ℕ) → length t ≡ 4096 → getD t e 0 ≡ known b ks
+        → getD (afterAll l t) e 0 ≡ known (b || any (λ (r : Relation). namesEntity e (r .derivation)) l) (ks ++ takenOf e l)
+    relations-known [] t b ks l h = h ∙ rw (append-nil ks, or-false b) refl
+    relations-known (r ∷ rs) t b ks l h =
+        let c : Bool = namesEntity e (r .derivation) in
+        let js : List ℕ = takesBy e (r .name) (r .derivation) in
+        relations-known rs (tableAfter (r .name) (r .derivation) t) (b || c) (ks ++ js) (take-long t (r .name) (r .derivation) l) (take-known t (r .name) (r .derivation) b ks l h)
+        ∙ rw (or-assoc b c (any (λ (r : Relation). namesEntity e (r .derivation)) rs), append-assoc ks js (takenOf e rs)) refl
+
+-- ---- a checked pack
+
+taken-alike : (kind : ℕ → ℕ → Option ℕ) (all : List Relation) (e : ℕ) (l : List Relation) → ((n : ℕ) → among n (declared l) ≡ true → (slot : ℕ) → kind n slot ≡ kindAt (kindsOf all n) slot)
+    → takenOf kind e l ≡ takenFrom all e l
+taken-alike kind all e [] h = refl
+taken-alike kind all e (r ∷ l) h =
+    rw (go (r .derivation), taken-alike kind all e l (λ n i slot. h n (or-right (eqb n (r .name)) i) slot)) refl
+  where
+    go : (o : Option Derivation) → takesBy kind e (r .name) o ≡ filtered.takes all e (r .name) o
+    go none = refl
+    go (some d) = ap (λ (k : Option ℕ). pick (eqb (d .entity) e) (listed k) []) (h (r .name) (or-left (among (r .name) (declared l)) (eq-eqb (r .name) (r .name) refl)) (d .current))
+
+value-fits : (l : List ℕ) (slot : ℕ) → getD (map valueOf l) slot 0 < 16777216
+value-fits l slot = rw (List·getD-map valueOf l slot 0) (omega arith)
+
+marked-fits : (ws marks : List ℕ) (n slot : ℕ) → Fits (kindMarked ws marks n slot)
+unfolding kindMarked namesAt
+marked-fits ws marks n slot = go (eqb (getD marks n 0 - 2) 0)
+  where
+    l : List ℕ
+    l = take (valueOf (getD ws (getD marks n 0 - 2) 0)) (drop (suc (getD marks n 0 - 2)) ws)
+
+    at : (c : Bool) → Fits (pick c (some (getD (map valueOf l) slot 0)) none)
+    at true = value-fits l slot
+    at false = tt
+
+    go : (b : Bool) → Fits (kindAt (pick b none (some (map valueOf l))) slot)
+    go true = tt
+    go false = at (ltb slot (length (map valueOf l)))
+
+pub kind-of : {ws names marks : List ℕ} {steps : ℕ} → KindsMarked ws steps names marks → (p : Pack) → read ws ≡ yes p → words p ≡ ws → WellFormed p
+    → (n : ℕ) → among n (declared (p .relations)) ≡ true → (slot : ℕ) → kindMarked ws marks n slot ≡ kindAt (kindsOf (p .relations) n) slot
+unfolding kindMarked
+kind-of {ws} {marks = marks} m p h same fine n i slot =
+    let q : getD marks n 0 - 2 ≡ placeOf p (ownAnswer (p .relations) n) = (let k = m .marked p h n i in omega arith) in
+    ap (λ (o : Option (List ℕ)). kindAt o slot) (ap (namesAt ws) q ∙ ap (λ (v : List ℕ). namesAt v (placeOf p (ownAnswer (p .relations) n))) (sym same) ∙ place-holds p fine n)
+
+module _ {ws names records marks : List ℕ} {steps : ℕ} (noted : Noted ws names records) (m : KindsMarked ws steps names marks) (p : Pack) (h : read ws ≡ yes p) where
+  abbrev kind : ℕ → ℕ → Option ℕ
+  kind = kindMarked ws marks
+
+  same : words p ≡ ws
+  same = words-read ws p h .same
+
+  fine : WellFormed p
+  fine = words-read ws p h .fine
+
+  -- what the code reads at a relation's record
+  record-takes : (r : Relation) → find (r .name) (p .relations) ≡ some r → (t : List ℕ) → takenBy ws marks t (r .name) (getD records (r .name) 0) ≡ tableAfter kind (r .name) (r .derivation) t
+  unfolding takenBy
+  record-takes r e t = go (r .derivation) refl
+    where
+      start : ℕ
+      start = getD records (r .name) 0
+
+      i : InWords ws start (p .names) r
+      i = subst (λ (v : List ℕ). InWords v start (p .names) r) same (standing p fine records (noted .placed p h) (r .name) r e .stands)
+
+      most : p .names ≤ 4096
+      most = parts p fine .most
+
+      go : (o : Option Derivation) → r .derivation ≡ o
+          → pick (eqb (flagAt ws start) 1) (takeAt t (valueAt ws (slotsPlace ws start + 2)) (kind (r .name) (valueAt ws (slotsPlace ws start)))) t ≡ tableAfter kind (r .name) o t
+      go none q = rw (no-flag ws start (p .names) r i most q) refl
+      go (some d) q = rw (a-flag ws start (p .names) r i most d q, entity-there ws start (p .names) r i most d q, current-there ws start (p .names) r i most d q) refl
+
+  all-take : (l : List Relation) → EachFound (p .relations) l → (t : List ℕ) → takenIn ws records marks (declared l) t ≡ afterAll kind l t
+  unfolding takenIn
+  all-take [] f t = refl
+  all-take (r ∷ l) f t = ap (takenIn ws records marks (declared l)) (record-takes r (f .0) t) ∙ all-take l (f .1) (tableAfter kind (r .name) (r .derivation) t)
+
+  entity-known : {t : List ℕ} → t ≡ takenIn ws records marks names zeros → (e : ℕ) → e < 4096
+      → getD t e 0 ≡ known (any (λ r. namesEntity e (r .derivation)) (p .relations)) (taken (p .relations) e)
+  unfolding taken
+  entity-known q e i =
+      ap (λ (u : List ℕ). getD u e 0) (q ∙ ap (λ (l : List ℕ). takenIn ws records marks l zeros) (noted .named p h) ∙ all-take (p .relations) (all-found p fine) zeros)
+      ∙ relations-known kind (marked-fits ws marks) e i (p .relations) zeros false [] (length-replicate {A = ℕ} 4096 0) (zero-at 4096 e)
+      ∙ ap (known (any (λ (r : Relation). namesEntity e (r .derivation)) (p .relations))) (taken-alike kind (p .relations) e (p .relations) (kind-of m p h same fine))
+
+module _ {ws names records marks : List ℕ} {steps : ℕ} (c : IsPack ws) (noted : Noted ws names records) (m : KindsMarked ws steps names marks) where
+  pub takeable : Takeable names records
+  takeable = record { below = placeable c m .names-below; low = its-recorded c noted }
+
+  pub filled : {t : List ℕ} → t ≡ takenIn ws records marks names zeros → Filled ws names records marks t steps
+  filled q = record { noted = noted; marked = m; knows = record { holds = λ p h. entity-known noted m p h q } }

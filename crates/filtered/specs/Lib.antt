@@ -1,0 +1,4 @@
+pub mod Filtered
+pub mod FilteredTables
+pub mod Taking
+pub mod Said

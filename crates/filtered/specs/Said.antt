@@ -1,0 +1,89 @@
+-- What the filtered tables say of a name, from the numbers that the code holds of it.
+use Prim.Native.Nat.{ℕ, _+_, _-_, _<_}
+use mathlib.Core.Path.{_≡_}
+use mathlib.Core.List.{List}
+use mathlib.Core.Option.{Option, none, some}
+use lib.ListN.{length, getD}
+use lib.Dec.{ltb, leb, eqb}
+use Rattle.pack.specs.Table.{pick}
+use Rattle.pack.specs.Table as table
+use Rattle.pack.specs.Pack.{Pack, yes, read}
+use Rattle.filtered.specs.declared.filtered.Filter.{Filter}
+use Rattle.filtered.specs.declared.filtered.Filter.the-variants.{Direct, Innermost, Alias, Unresolved}
+use Rattle.chains.specs.Chain.{own, same}
+use Rattle.filtered.specs.Filtered.{upTo, innerStep}
+use Rattle.filtered.specs.FilteredTables.{filterWords}
+use Rattle.chains.specs.AllKinds.{IsPack, Named}
+use Rattle.filtered.specs.Taking.{several}
+
+-- from what is known of an entity: the one kind that it takes, or none
+unfoldable pub directOf : ℕ → ℕ
+directOf x = pick (ltb x 2) table.none (pick (eqb x several) table.none (x - 2))
+
+unfoldable pub aliasOf : ℕ → ℕ → ℕ
+aliasOf x e = pick (ltb x 2) 0 (pick (eqb x (2 + e)) 0 1)
+
+unfoldable pub unresolvedOf : ℕ → ℕ
+unresolvedOf x = pick (eqb x 1) 1 0
+
+-- the chain of direct kinds as an index: where a name leads on it is 65536 and the name, else 1 and the name itself
+unfoldable pub innerEntry : ℕ → ℕ → ℕ
+innerEntry x e = pick (eqb (directOf x) table.none) (e + 1) (pick (eqb (directOf x) e) (e + 1) (65536 + directOf x))
+
+-- a settled name's mark is 2 and its answer, of which 0 is none
+unfoldable pub innerOf : ℕ → ℕ → ℕ
+innerOf x mark = pick (eqb (directOf x) table.none) table.none (pick (leb mark 2) table.none (mark - 3))
+
+abbrev pub said : Filter → ℕ → ℕ → ℕ → ℕ
+said Direct x mark e = directOf x
+said Innermost x mark e = innerOf x mark
+said Alias x mark e = aliasOf x e
+said Unresolved x mark e = unresolvedOf x
+
+unfoldable pub saidIn : Filter → List ℕ → List ℕ → ℕ → ℕ
+saidIn f taken marks e = said f (getD taken e 0) (getD marks e 0) e
+
+unfoldable pub entriesIn : List ℕ → ℕ → ℕ
+entriesIn taken e = innerEntry (getD taken e 0) e
+
+-- a name whose direct kind is a name
+pub record KnownName (x e : ℕ) : Type 0 where
+  pub below : e < 4096
+  pub leads : (directOf x ≡ table.none → ⊥) → directOf x < 4096
+
+-- each name itself
+abbrev pub plainly : ℕ → ℕ
+plainly e = e
+
+-- the direct kinds of a table
+unfoldable pub directIn : List ℕ → ℕ → Option ℕ
+directIn taken e = pick (eqb (directOf (getD taken e 0)) table.none) none (some (directOf (getD taken e 0)))
+
+-- they are names below 4,096
+unfoldable pub Directed : List ℕ → Type 0
+Directed taken = (e : ℕ) → e < 4096 → (directOf (getD taken e 0) ≡ table.none → ⊥) → directOf (getD taken e 0) < 4096
+
+-- an innermost kind as a walk's answer
+abbrev pub answered : Option ℕ → ℕ
+answered none = 0
+answered (some n) = n + 1
+
+-- after the walks along the direct kinds of n names each has the mark of its own walk
+pub record InnerMarked (taken : List ℕ) (n : ℕ) (marks : List ℕ) : Type 0 where
+  pub marked : (e : ℕ) → e < n → getD marks e 0 ≡ 2 + answered (own none same (innerStep n (directIn taken)) (upTo n) e)
+
+-- only the innermost kinds need the walks
+abbrev pub InnerFor : Filter → List ℕ → ℕ → List ℕ → Type 0
+InnerFor Direct taken n marks = Unit {0}
+InnerFor Innermost taken n marks = InnerMarked taken n marks
+InnerFor Alias taken n marks = Unit {0}
+InnerFor Unresolved taken n marks = Unit {0}
+
+-- a slice with one word for each name
+pub record FilterAsked (ws out : List ℕ) : Type 0 where
+  pub checked : IsPack ws
+  pub fits : Named ws (length out)
+
+-- the words of a filtered table
+pub record FilterLeft (f : Filter) (ws out : List ℕ) : Type 0 where
+  pub holds : (p : Pack) → read ws ≡ yes p → out ≡ filterWords f p

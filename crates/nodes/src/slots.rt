@@ -1,0 +1,147 @@
+// The slots of a node that stands at the front of a slice.
+use crate::direction::Direction;
+use crate::direction::Membership;
+use crate::direction::member;
+use crate::direction::turn;
+use crate::inputs::input;
+use pack::kinds::Pack;
+ghost use mathlib.Core.Path.{_≡_};
+ghost use Prim.Native.Nat.{_<_};
+ghost use Rattle.nodes.specs.Words.{tablesIn, membershipOf};
+ghost use Rattle.nodes.specs.Walk.{TwoSlots, SlotsFit, SlotsSet, refusalCode, kindCode, testCode, TurnAsked, NodeTurned, MemberStepped, OnlyAsked, OnlyStepped};
+
+// Sets them as a direction says.
+pub fn set_slots(work: &mut [u32], d: Direction)
+    requires { ⌜ TwoSlots (now work) × SlotsFit d ⌝ }
+    ensures { λ r. ⌜ SlotsSet (now (work .entry)) d (now (work .exit)) ⌝ }
+{
+    let Direction::Turned(c, r, _) = d else {
+        return;
+    };
+    work[1] = Pack::CURRENT * Pack::VALUES + c;
+    work[2] = Pack::RELATED * Pack::VALUES + r;
+}
+
+// A refusal in one number.
+fn refusal_code(number: u32, place: u32, other: u32) -> u64
+    requires { ⌜ (number < 16) × (place < 16384) ⌝ }
+    ensures { λ r. ⌜ r ≡ refusalCode number place other ⌝ }
+{
+    Pack::VALUES as u64 + (number as u64 + 16 * (place as u64 + 16384 * other as u64))
+}
+
+// The kind that results, or the refusal of an open direction, in one number.
+fn kind_code(place: u32, d: Direction) -> u64
+    requires { ⌜ place < 16384 ⌝ }
+    ensures { λ r. ⌜ r ≡ kindCode place d ⌝ }
+{
+    match d {
+        Direction::Turned(_, _, k) => k as u64,
+        Direction::Open(o) => refusal_code(10, place, o),
+    }
+}
+
+// An aggregate at the front of a slice: its slots are set, and the kind for its where tree results.
+pub fn turn_node(
+    pack: &[u32],
+    records: &[u32; 4096],
+    marks: &[u32; 4096],
+    taken: &[u32; 4096],
+    work: &mut [u32],
+    place: u32,
+    entity: u32,
+) -> u64
+    requires { ⌜ TurnAsked (now records) (now work) place entity ⌝ }
+    ensures { λ r. ⌜ NodeTurned (tablesIn (now (pack .entry)) (now (records .entry)) (now (marks .entry)) (now (taken .entry))) (now (work .entry)) place entity r (now (work .exit)) ⌝ }
+{
+    let relation = (work[0] % Pack::VALUES) as usize;
+    let current = work[1] % Pack::VALUES;
+    let related = work[2] % Pack::VALUES;
+    let d = turn(
+        pack,
+        records,
+        marks,
+        taken,
+        relation,
+        entity,
+        current,
+        related,
+    );
+    set_slots(work, d);
+    kind_code(place, d)
+}
+
+// The entity of a test's children, or the refusal of an open direction.
+fn test_code(place: u32, entity: u32, d: Direction) -> u64
+    requires { ⌜ place < 16384 ⌝ }
+    ensures { λ r. ⌜ r ≡ testCode place entity d ⌝ }
+{
+    match d {
+        Direction::Turned(_, _, _) => entity as u64,
+        Direction::Open(o) => refusal_code(10, place, o),
+    }
+}
+
+// A test of membership at the front of a slice: its slots are set.
+pub fn member_node(
+    pack: &[u32],
+    records: &[u32; 4096],
+    work: &mut [u32],
+    place: u32,
+    entity: u32,
+    m: Membership,
+) -> u64
+    requires { ⌜ TurnAsked (now records) (now work) place 0 ⌝ }
+    ensures { λ r. ⌜ MemberStepped (now (pack .entry)) (now (records .entry)) (now (work .entry)) place entity (membershipOf m) r (now (work .exit)) ⌝ }
+{
+    let relation = (work[0] % Pack::VALUES) as usize;
+    let current = work[1] % Pack::VALUES;
+    let related = work[2] % Pack::VALUES;
+    let d = member(pack, records, relation, m, current, related);
+    set_slots(work, d);
+    test_code(place, entity, d)
+}
+
+// An OnlyRelated node at the front of a slice: its slots are set if its input is declared for the kind that results.
+pub fn only_node(
+    pack: &[u32],
+    records: &[u32; 4096],
+    marks: &[u32; 4096],
+    taken: &[u32; 4096],
+    blocks: usize,
+    count: usize,
+    origin: u32,
+    work: &mut [u32],
+    place: u32,
+    entity: u32,
+) -> u64
+    requires { ⌜ OnlyAsked (now records) (now work) place entity blocks count ⌝ }
+    ensures { λ r. ⌜ OnlyStepped (now (pack .entry)) (now (records .entry)) (now (marks .entry)) (now (taken .entry)) blocks count origin (now (work .entry)) place entity r (now (work .exit)) ⌝ }
+{
+    let relation = (work[0] % Pack::VALUES) as usize;
+    let current = work[1] % Pack::VALUES;
+    let related = work[2] % Pack::VALUES;
+    let d = turn(
+        pack,
+        records,
+        marks,
+        taken,
+        relation,
+        entity,
+        current,
+        related,
+    );
+    let Direction::Turned(_, _, owner) = d else {
+        return kind_code(place, d);
+    };
+    let name = work[3] % Pack::VALUES;
+    if work[3] / Pack::VALUES == Pack::DERIVED {
+        return refusal_code(11, place, name);
+    }
+    let number = input(pack, blocks, count, origin, owner, name);
+    if number != 0 {
+        return refusal_code(number, place, name);
+    }
+    set_slots(work, d);
+    0
+}

@@ -1,0 +1,13 @@
+pub mod RowLaws
+pub mod ChildrenLaws
+pub mod PlainLaws
+pub mod AggregateLaws
+pub mod WalkerLaws
+pub mod JoinLaws
+pub mod RunLaws
+pub mod BodyLaws
+pub mod RuleLaws
+pub mod ThereLaws
+pub mod RelationLaws
+pub mod TurnedPack
+pub mod TreesLaws

@@ -1,0 +1,122 @@
+// Relations, resolved where they stand in the words.
+use crate::bodies::refused;
+use nodes::direction::kind_or_zero;
+use nodes::equal::slot_kinds;
+use nodes::leaves::Cited;
+use crate::walk::tree;
+use chains::record::flag_at;
+use chains::record::kind_count;
+use chains::record::predicate_place;
+use chains::record::slots_place;
+use chains::record::value_at;
+use filtered::taking::place_of;
+use pack::answer::Answer;
+use pack::kinds::Pack;
+ghost use mathlib.Core.Path.{_≡_};
+ghost use lib.ListN.{length};
+ghost use Rattle.chains.specs.Record.{flagAt};
+ghost use Rattle.trees.specs.Passes.{RelationAsked, RelationCame, RelationsAsked, RelationsCame};
+
+// The predicate of a relation: its entity is the kind at the related slot, its membership that of both slots. The answer
+// is the place after it.
+fn predicate(
+    pack: &[u32],
+    records: &[u32; 4096],
+    marks: &[u32; 4096],
+    taken: &[u32; 4096],
+    blocks: usize,
+    count: usize,
+    work: &mut [u32],
+    at: usize,
+) -> Answer
+    requires { ⌜ RelationAsked (now pack) (now records) (now marks) (now taken) blocks count at (now work) × (flagAt (now work) at ≡ 1) ⌝ }
+    ensures { λ r. ⌜ RelationCame (now (pack .entry)) at (now (work .entry)) r (now (work .exit)) ⌝ }
+{
+    let name = value_at(work, at);
+    let origin = value_at(work, at + 1);
+    let list = place_of(marks, name as usize);
+    let related = value_at(work, slots_place(work, at) + 1);
+    let entity = kind_or_zero(pack, list, related);
+    let m = slot_kinds(pack, work, list, at);
+    let place = predicate_place(work, at);
+    let code = tree(
+        pack,
+        records,
+        marks,
+        taken,
+        Cited {
+            blocks,
+            count,
+            origin,
+        },
+        &mut work[place..],
+        place as u32,
+        entity,
+        m,
+        Pack::JUDGMENT,
+        Pack::DEPTH,
+    );
+    if Pack::VALUES as u64 <= code {
+        return refused(code, name);
+    }
+    Answer::Given(place as u32 + code as u32, 0)
+}
+
+// A relation: its predicate, if it has a derivation.
+fn relation(
+    pack: &[u32],
+    records: &[u32; 4096],
+    marks: &[u32; 4096],
+    taken: &[u32; 4096],
+    blocks: usize,
+    count: usize,
+    work: &mut [u32],
+    at: usize,
+) -> Answer
+    requires { ⌜ RelationAsked (now pack) (now records) (now marks) (now taken) blocks count at (now work) ⌝ }
+    ensures { λ r. ⌜ RelationCame (now (pack .entry)) at (now (work .entry)) r (now (work .exit)) ⌝ }
+{
+    if flag_at(work, at) == 1 {
+        return predicate(pack, records, marks, taken, blocks, count, work, at);
+    }
+    Answer::Given((at + 5 + kind_count(work, at)) as u32, 0)
+}
+
+// So many relations from a place on; their places are noted.
+pub fn relations(
+    pack: &[u32],
+    records: &[u32; 4096],
+    marks: &[u32; 4096],
+    taken: &[u32; 4096],
+    blocks: usize,
+    count: usize,
+    work: &mut [u32],
+    first: usize,
+    many: u32,
+    order: &mut [u32],
+) -> Answer
+    requires { ⌜ RelationsAsked (now pack) (now records) (now marks) (now taken) blocks count many first (now work) × (length (now order) ≡ many) ⌝ }
+    ensures { λ r. ⌜ RelationsCame (now (pack .entry)) many first (now (work .entry)) r (now (work .exit)) (now (order .exit)) ⌝ }
+{
+    let mut at = first as u32;
+    let mut k = many;
+    while 0 < k {
+        order[(many - k) as usize] = at;
+        let a = relation(
+            pack,
+            records,
+            marks,
+            taken,
+            blocks,
+            count,
+            work,
+            at as usize,
+        );
+        let Answer::Given(next, _) = a else {
+            return a;
+        };
+        at = next;
+        k -= 1;
+    }
+    Answer::Given(at, 0)
+}
