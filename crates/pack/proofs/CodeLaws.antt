@@ -14,14 +14,14 @@ use Rattle.pack.specs.declared.cursor.Step.{Step}
 use Rattle.pack.specs.declared.cursor.Step.the-variants.{On, Refused}
 use Rattle.pack.specs.declared.table.Rule.the-variants.{Any, AtMost}
 use Rattle.pack.specs.declared.table.Follows.the-variants.{Aggregate}
-use Rattle.pack.specs.Table.{pick, kindOf, valueOf, entryOf, howMany, fieldsOf, childrenOf, judgment}
-use Rattle.pack.specs.Packed.{UpTo}
+use Rattle.pack.specs.Table.{pick, kindOf, valueOf, entryOf, howMany, fieldsOf, childrenOf, scalar, judgment, table}
+use Rattle.pack.specs.Packed.{UpTo, Compares}
 use Rattle.pack.specs.Form.{Read, got, refused, because, bind, mapRead, allowedHere, readWord, among, only, Form, field, word, empty, each, _▹_, via, wordsBy, Fine, readBy}
 use Rattle.pack.specs.Tree.{Tree, heads, lastField, fields, follow, tree}
 use Rattle.pack.specs.Steps.{stepBy, stepOf, walk, wholeWord, coded, fault, decoded}
 use Rattle.pack.proofs.FormLaws.{lawful}
 use Rattle.pack.proofs.StepLaws.{went, word-ended, word-there, word-stop, word-turned, word-value, word-on, step-no, last-stop, each-done, each-stop, by-each, each-last, then-stop, by-then, by-kept, many-done, many-stop, many-next}
-use Rattle.pack.proofs.TreeLaws.{whole-word, head-sort, tree-stop, tree-rest, level-left, Row, by-row, Leaf, by-leaf}
+use Rattle.pack.proofs.TreeLaws.{whole-word, heads-in, comparison-row, compared, head-sort, tree-stop, tree-rest, level-left, Row, by-row, Leaf, by-leaf}
 
 -- what was read stood among the words
 stood-there : {A : Type 0} (F : Form A) (at : ℕ) (ws : List ℕ) {a : A} {at′ : ℕ} {rest : List ℕ} → readBy F at ws ≡ got a at′ rest → at′ + length rest ≡ at + length ws
@@ -247,6 +247,22 @@ module _ (n sort left : ℕ) (ws : List ℕ) (at : ℕ) {x : ℕ} (e : x ≡ cod
 
         pub node-on : y < 65536 → walk (row-of left m) ws at ≡ walk (row-of left (m - 1)) ws y
         node-on z = many-next (tree n left) sort ws at m more (λ a. 0) refl (sym (goes refl) ∙ code-on after ws (at + 1) q z)
+
+-- a row of one Comparison: its two scalars
+pub by-compared : (n left : ℕ) (ws : List ℕ) (at m : ℕ) → length ws ≤ 8192 → Compares ws at left → m ≡ 1 → {y next : ℕ} → next ≡ at + 1
+    → y ≡ coded (walk (each (tree n (left - 1)) (replicate 2 scalar)) ws next) → y ≡ coded (walk (each (tree n left) (replicate m judgment)) ws at)
+unfolding entryOf table allowedHere
+by-compared n left ws at m most p o {y} {next} b q =
+    let k : kindOf (getD ws at 0) ≡ 96 = p .kind in
+    let i : heads judgment left (kindOf (getD ws at 0)) ≡ 0 = rw k (heads-in judgment left 96 refl refl (λ z. omega (arith, p .level))) in
+    let a : allowedHere n (kindOf (getD ws at 0)) (valueOf (getD ws at 0)) ≡ true = rw k refl in
+    let e : at + 1 ≡ coded (walk (word (heads judgment left) n) ws at) = fault-on (heads judgment left) n ws at (fault-read (heads judgment left) n ws at (p .inside) i a) refl in
+    let l : at ≤ length ws = omega (arith, p .inside) in
+    let t : walk (each (tree n (left - 1)) (replicate 2 scalar)) ws (at + 1) ≡ walk (tree n left judgment) ws at =
+    goes n judgment left ws at e most l m (omega arith) (small-next most l)
+    (by-row n (tree n (left - 1)) (valueOf (getD ws at 0)) ws (at + 1) (kindOf (getD ws at 0)) scalar (comparison-row (valueOf (getD ws at 0)) (kindOf (getD ws at 0)) k) (compared (kindOf (getD ws at 0)) (valueOf (getD ws at 0)) k) refl)
+    in
+    rw o (code-as (rw b at q) (each-last (tree n left) ws at judgment (λ a. 0) (λ a. 0) (λ a. refl) t))
 
 -- one for each entry of a list, where the first one's code is known
 module _ {X A : Type 0} (F : X → Form A) (x : X) (xs : List X) (ws : List ℕ) (at : ℕ) {v : ℕ} (e : v ≡ coded (walk (F x) ws at)) where

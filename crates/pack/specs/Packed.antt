@@ -9,7 +9,7 @@ use Rattle.pack.specs.declared.table.Rule.{Rule}
 use Rattle.pack.specs.declared.table.Rule.the-variants.{Unused, Any, AtMost, FromOne, AtMostOrNone, Total, Name, NameOrNone}
 use Rattle.pack.specs.declared.table.Follows.{Follows}
 use Rattle.pack.specs.declared.table.Follows.the-variants.{Nothing, Counted, OneScalar, TwoScalars, Scalars, Patterns, Periods, OneJudgment, Judgments, Choice, Aggregate, OnlyRelated, Slots, Atom, Exists}
-use Rattle.pack.specs.Table.{pick, entryOf}
+use Rattle.pack.specs.Table.{pick, kindOf, entryOf}
 use Rattle.pack.specs.Form.{allowedHere}
 
 abbrev pub ruleFrom : ℕ → Rule
@@ -61,3 +61,9 @@ pub record Lent (ws t : List ℕ) : Type 0 where
 -- a word of this kind may have any value up to a most
 unfoldable pub UpTo : ℕ → ℕ → Type 0
 UpTo kind most = (n v : ℕ) → v < 16777216 → allowedHere n kind v ≡ leb v most
+
+-- a Comparison stands at a place, with a level left
+pub record Compares (ws : List ℕ) (at left : ℕ) : Type 0 where
+  pub inside : at < length ws
+  pub level : 1 ≤ left
+  pub kind : kindOf (getD ws at 0) ≡ 96

@@ -12,11 +12,12 @@ use crate::table::sort_of;
 ghost use mathlib.Core.Path.{_≡_};
 ghost use Prim.Native.Nat.{ℕ, _≤_, _<_};
 ghost use mathlib.Core.List.{[], _∷_};
+ghost use mathlib.Core.Bool.{true};
 ghost use lib.ListN.{length, replicate};
 ghost use Rattle.pack.specs.declared.cursor.Step.the-variants.{Refused};
 ghost use Rattle.pack.specs.declared.table.Follows.the-variants.{Aggregate, OnlyRelated, Slots, Atom, Exists};
 ghost use Rattle.pack.specs.Table.{scalar, judgment, kindOf, valueOf, entryOf, howMany, fieldsOf};
-ghost use Rattle.pack.specs.Packed.{Lent, Tabled, UpTo};
+ghost use Rattle.pack.specs.Packed.{Lent, Tabled, UpTo, Compares};
 ghost use Rattle.pack.specs.Form.{word, only, each};
 ghost use Rattle.pack.specs.Tree.{heads, fields, follow, tree};
 ghost use Rattle.pack.specs.Steps.{walk, coded, fault, decoded};
@@ -119,6 +120,19 @@ fn only_related(s: &[u32], at: usize, n: u32) -> usize
     }
 }
 
+// Whether a Comparison stands at a place, with a level left.
+fn compares(s: &[u32], at: usize, left: u32) -> bool
+    ensures { λ r. ⌜ (r ≡ true → Compares (now (s .entry)) at left) ⌝ }
+{
+    if left < 1 {
+        return false;
+    }
+    if s.len() <= at {
+        return false;
+    }
+    s[at] / Pack::VALUES == Pack::COMPARISON
+}
+
 // How many children follow a OneChild up to a Max.
 fn children(kind: u32, v: u32) -> u32
     requires { ⌜ (66 ≤ kind) × (kind ≤ 70) ⌝ }
@@ -217,7 +231,7 @@ fn choice(s: &[u32], t: &[u32; 256], at: usize, n: u32, left: u32) -> usize
     scalars(s, t, next, n, 2, left)
 }
 
-// The fields of an aggregate, and its where tree.
+// The fields of an aggregate, and its where tree. Of a Comparison the two scalars are walked at once.
 fn aggregate(s: &[u32], t: &[u32; 256], at: usize, n: u32, left: u32) -> usize
     requires { ⌜ Lent (now s) (now t) × (at ≤ length (now s)) ⌝ }
     ensures { λ r. ⌜ r ≡ coded (walk (follow n (tree n left) Aggregate 0) (now (s .entry)) at) ⌝ }
@@ -238,7 +252,13 @@ fn aggregate(s: &[u32], t: &[u32; 256], at: usize, n: u32, left: u32) -> usize
     if f4 != 0 {
         return f4;
     }
-    judgments(s, t, at + 4, n, s[at + 3] % Pack::VALUES, left)
+    let flag = s[at + 3] % Pack::VALUES;
+    if flag == 1 {
+        if compares(s, at + 4, left) {
+            return scalars(s, t, at + 5, n, 2, left - 1);
+        }
+    }
+    judgments(s, t, at + 4, n, flag, left)
 }
 
 // The arguments of an Exists, and its body.

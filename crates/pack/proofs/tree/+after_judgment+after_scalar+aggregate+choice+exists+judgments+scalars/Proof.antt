@@ -12,7 +12,7 @@ use Rattle.pack.specs.Form.{each}
 use Rattle.pack.specs.Tree.{fields, follow, tree}
 use Rattle.pack.specs.Steps.{walk}
 use Rattle.pack.proofs.TreeLaws.{followed, no-fields, only-fields, aggregate-kind, scalar-row, comparison-row, judgment-row, above, leaf-low, leaf-last, leaf-between, leaf-high, by-row, compared, scalar-kind, judgment-kind}
-use Rattle.pack.proofs.CodeLaws.{code-within, code-forward, code-as, passed, fault-code, fault-large, fault-on, small-next, Going, turn, row-stop, row-leaf, row-last, node-stop, node-on, row-done, one-row, none-code, first-code, next-code, last-code, then-code, then-next, by-where, up-to-any, up-to-most}
+use Rattle.pack.proofs.CodeLaws.{code-within, code-forward, code-as, passed, fault-code, fault-large, fault-on, small-next, Going, turn, row-stop, row-leaf, row-last, node-stop, node-on, row-done, one-row, none-code, first-code, next-code, last-code, then-code, then-next, by-where, by-compared, up-to-any, up-to-most}
 use borrow.Fn.Kinds.{In}
 use borrow.Fn.PlainCycle.{Measures, is, falls, and}
 use Rattle.pack.proofs.tree.after_judgment.Reads as after-judgment
@@ -39,6 +39,7 @@ use Rattle.pack.proofs.tree.+after_judgment+after_scalar+aggregate+choi
 use Rattle.pack.proofs.tree.atom.Reads as atom-reads
 use Rattle.pack.proofs.tree.by_table.Reads as by-table-reads
 use Rattle.pack.proofs.tree.children.Reads as children-reads
+use Rattle.pack.proofs.tree.compares.Reads as compares-reads
 use Rattle.pack.proofs.tree.head.Reads as head-reads
 use Rattle.pack.proofs.tree.joined.Reads as joined-reads
 use Rattle.pack.proofs.tree.only_related.Reads as only-related-reads
@@ -139,7 +140,7 @@ abbrev after-scalar-calls : ℕ → after-scalar-lts.Claims
 after-scalar-calls t = (choice-below t, choice.Post, only-related-reads.Asked, only-related-reads.Learnt, children-reads.Asked, children-reads.Learnt, scalars-below t, scalars.Post, by-table-reads.Asked, by-table-reads.Learnt, aggregate-below t, aggregate.Post)
 
 abbrev aggregate-calls : ℕ → aggregate-lts.Claims
-aggregate-calls t = (up-to-reads.Asked, up-to-reads.Learnt, judgments-below t, judgments.Post)
+aggregate-calls t = (up-to-reads.Asked, up-to-reads.Learnt, compares-reads.Asked, compares-reads.Learnt, scalars-below t, scalars.Post, judgments-below t, judgments.Post)
 
 abbrev choice-calls : ℕ → choice-lts.Claims
 choice-calls t = (judgments-below t, judgments.Post, scalars-below t, scalars.Post)
@@ -281,23 +282,41 @@ aggregate-returns-4 : (t : ℕ) → aggregate-lts.Need-returns-4 (aggregate-call
 unfolding follow fields fieldsOf
 aggregate-returns-4 t c = let m1 = passed _ _ _ _ ((c .before .before .before .before .before .before .before .up-to .ensures) (c .before .before .before .before .before .before .before .before .before .args .n)) (c .before .before .before .before .before .before .before .before .before .pre .1 .0 .most) (c .before .before .before .before .before .before .before .before .before .pre .1 .1) (c .before .before .before .before .before .before .if1 .left) ((c .before .before .before .before .before .before .before .before .before .args .at) + 1) (omega arith) in let m2 = passed _ _ _ _ ((c .before .before .before .before .before .up-to2 .ensures) (c .before .before .before .before .before .before .before .before .before .args .n)) (c .before .before .before .before .before .before .before .before .before .pre .1 .0 .most) (m1 .there) (c .before .before .before .before .if2 .left) ((c .before .before .before .before .before .before .before .before .before .args .at) + 2) (omega arith) in let m3 = passed _ _ _ _ ((c .before .before .before .up-to3 .ensures) (c .before .before .before .before .before .before .before .before .before .args .n)) (c .before .before .before .before .before .before .before .before .before .pre .1 .0 .most) (m2 .there) (c .before .before .if3 .left) ((c .before .before .before .before .before .before .before .before .before .args .at) + 3) (omega arith) in then-code _ _ _ _ (next-code _ _ _ _ _ (m1 .same) (m1 .small) (next-code _ _ _ _ _ (m2 .same) (m2 .small) (next-code _ _ _ _ _ (m3 .same) (m3 .small) (last-code _ _ _ _ (fault-code _ _ _ _ ((c .before .up-to4 .ensures) (c .before .before .before .before .before .before .before .before .before .args .n)) (c .if4 .taken)))))) (c .before .before .before .before .before .before .before .before .before .pre .1 .0 .most) (c .before .before .before .before .before .before .before .before .before .pre .1 .1) (fault-large _ _ _ _ ((c .before .up-to4 .ensures) (c .before .before .before .before .before .before .before .before .before .args .n)) (c .if4 .taken))
 
-aggregate-add-judgments : (t : ℕ) → aggregate-lts.Need-add-judgments (aggregate-calls t) (aggregate-at t) aggregate.Post
-aggregate-add-judgments t c = omega (arith, (c .before .before .before .before .before .before .before .before .before .pre .1 .0 .most), (c .before .before .before .before .before .before .before .before .before .pre .1 .1))
+aggregate-add-flag : (t : ℕ) → aggregate-lts.Need-add-flag (aggregate-calls t) (aggregate-at t) aggregate.Post
+aggregate-add-flag t c = omega (arith, (c .before .before .before .before .before .before .before .before .before .pre .1 .0 .most), (c .before .before .before .before .before .before .before .before .before .pre .1 .1))
 
-aggregate-add-judgments-2 : (t : ℕ) → aggregate-lts.Need-add-judgments-2 (aggregate-calls t) (aggregate-at t) aggregate.Post
-aggregate-add-judgments-2 t c = omega (arith, (c .before .before .before .before .before .before .before .before .before .pre .1 .0 .most), (c .before .before .before .before .before .before .before .before .before .pre .1 .1))
+aggregate-mul-flag : (t : ℕ) → aggregate-lts.Need-mul-flag (aggregate-calls t) (aggregate-at t) aggregate.Post
+aggregate-mul-flag t c = let m1 = passed _ _ _ _ ((c .before .before .before .before .before .before .before .up-to .ensures) (c .before .before .before .before .before .before .before .before .before .args .n)) (c .before .before .before .before .before .before .before .before .before .pre .1 .0 .most) (c .before .before .before .before .before .before .before .before .before .pre .1 .1) (c .before .before .before .before .before .before .if1 .left) ((c .before .before .before .before .before .before .before .before .before .args .at) + 1) (omega arith) in let m2 = passed _ _ _ _ ((c .before .before .before .before .before .up-to2 .ensures) (c .before .before .before .before .before .before .before .before .before .args .n)) (c .before .before .before .before .before .before .before .before .before .pre .1 .0 .most) (m1 .there) (c .before .before .before .before .if2 .left) ((c .before .before .before .before .before .before .before .before .before .args .at) + 2) (omega arith) in let m3 = passed _ _ _ _ ((c .before .before .before .up-to3 .ensures) (c .before .before .before .before .before .before .before .before .before .args .n)) (c .before .before .before .before .before .before .before .before .before .pre .1 .0 .most) (m2 .there) (c .before .before .if3 .left) ((c .before .before .before .before .before .before .before .before .before .args .at) + 3) (omega arith) in let m4 = passed _ _ _ _ ((c .before .up-to4 .ensures) (c .before .before .before .before .before .before .before .before .before .args .n)) (c .before .before .before .before .before .before .before .before .before .pre .1 .0 .most) (m3 .there) (c .if4 .left) ((c .before .before .before .before .before .before .before .before .before .args .at) + 4) (omega arith) in omega (arith, m4 .there, (c .before .before .before .before .before .before .before .before .before .pre .1 .0 .most))
 
-aggregate-mul-judgments : (t : ℕ) → aggregate-lts.Need-mul-judgments (aggregate-calls t) (aggregate-at t) aggregate.Post
-aggregate-mul-judgments t c = let m1 = passed _ _ _ _ ((c .before .before .before .before .before .before .before .up-to .ensures) (c .before .before .before .before .before .before .before .before .before .args .n)) (c .before .before .before .before .before .before .before .before .before .pre .1 .0 .most) (c .before .before .before .before .before .before .before .before .before .pre .1 .1) (c .before .before .before .before .before .before .if1 .left) ((c .before .before .before .before .before .before .before .before .before .args .at) + 1) (omega arith) in let m2 = passed _ _ _ _ ((c .before .before .before .before .before .up-to2 .ensures) (c .before .before .before .before .before .before .before .before .before .args .n)) (c .before .before .before .before .before .before .before .before .before .pre .1 .0 .most) (m1 .there) (c .before .before .before .before .if2 .left) ((c .before .before .before .before .before .before .before .before .before .args .at) + 2) (omega arith) in let m3 = passed _ _ _ _ ((c .before .before .before .up-to3 .ensures) (c .before .before .before .before .before .before .before .before .before .args .n)) (c .before .before .before .before .before .before .before .before .before .pre .1 .0 .most) (m2 .there) (c .before .before .if3 .left) ((c .before .before .before .before .before .before .before .before .before .args .at) + 3) (omega arith) in let m4 = passed _ _ _ _ ((c .before .up-to4 .ensures) (c .before .before .before .before .before .before .before .before .before .args .n)) (c .before .before .before .before .before .before .before .before .before .pre .1 .0 .most) (m3 .there) (c .if4 .left) ((c .before .before .before .before .before .before .before .before .before .args .at) + 4) (omega arith) in omega (arith, m4 .there, (c .before .before .before .before .before .before .before .before .before .pre .1 .0 .most))
+aggregate-shared-slice-read-flag : (t : ℕ) → aggregate-lts.Need-shared-slice-read-flag (aggregate-calls t) (aggregate-at t) aggregate.Post
+aggregate-shared-slice-read-flag t c = let m1 = passed _ _ _ _ ((c .before .before .before .before .before .before .before .before .up-to .ensures) (c .before .before .before .before .before .before .before .before .before .before .args .n)) (c .before .before .before .before .before .before .before .before .before .before .pre .1 .0 .most) (c .before .before .before .before .before .before .before .before .before .before .pre .1 .1) (c .before .before .before .before .before .before .before .if1 .left) ((c .before .before .before .before .before .before .before .before .before .before .args .at) + 1) (omega arith) in let m2 = passed _ _ _ _ ((c .before .before .before .before .before .before .up-to2 .ensures) (c .before .before .before .before .before .before .before .before .before .before .args .n)) (c .before .before .before .before .before .before .before .before .before .before .pre .1 .0 .most) (m1 .there) (c .before .before .before .before .before .if2 .left) ((c .before .before .before .before .before .before .before .before .before .before .args .at) + 2) (omega arith) in let m3 = passed _ _ _ _ ((c .before .before .before .before .up-to3 .ensures) (c .before .before .before .before .before .before .before .before .before .before .args .n)) (c .before .before .before .before .before .before .before .before .before .before .pre .1 .0 .most) (m2 .there) (c .before .before .before .if3 .left) ((c .before .before .before .before .before .before .before .before .before .before .args .at) + 3) (omega arith) in let m4 = passed _ _ _ _ ((c .before .before .up-to4 .ensures) (c .before .before .before .before .before .before .before .before .before .before .args .n)) (c .before .before .before .before .before .before .before .before .before .before .pre .1 .0 .most) (m3 .there) (c .before .if4 .left) ((c .before .before .before .before .before .before .before .before .before .before .args .at) + 4) (omega arith) in omega (arith, m4 .there)
 
-aggregate-shared-slice-read-judgments : (t : ℕ) → aggregate-lts.Need-shared-slice-read-judgments (aggregate-calls t) (aggregate-at t) aggregate.Post
-aggregate-shared-slice-read-judgments t c = let m1 = passed _ _ _ _ ((c .before .before .before .before .before .before .before .before .up-to .ensures) (c .before .before .before .before .before .before .before .before .before .before .args .n)) (c .before .before .before .before .before .before .before .before .before .before .pre .1 .0 .most) (c .before .before .before .before .before .before .before .before .before .before .pre .1 .1) (c .before .before .before .before .before .before .before .if1 .left) ((c .before .before .before .before .before .before .before .before .before .before .args .at) + 1) (omega arith) in let m2 = passed _ _ _ _ ((c .before .before .before .before .before .before .up-to2 .ensures) (c .before .before .before .before .before .before .before .before .before .before .args .n)) (c .before .before .before .before .before .before .before .before .before .before .pre .1 .0 .most) (m1 .there) (c .before .before .before .before .before .if2 .left) ((c .before .before .before .before .before .before .before .before .before .before .args .at) + 2) (omega arith) in let m3 = passed _ _ _ _ ((c .before .before .before .before .up-to3 .ensures) (c .before .before .before .before .before .before .before .before .before .before .args .n)) (c .before .before .before .before .before .before .before .before .before .before .pre .1 .0 .most) (m2 .there) (c .before .before .before .if3 .left) ((c .before .before .before .before .before .before .before .before .before .before .args .at) + 3) (omega arith) in let m4 = passed _ _ _ _ ((c .before .before .up-to4 .ensures) (c .before .before .before .before .before .before .before .before .before .before .args .n)) (c .before .before .before .before .before .before .before .before .before .before .pre .1 .0 .most) (m3 .there) (c .before .if4 .left) ((c .before .before .before .before .before .before .before .before .before .before .args .at) + 4) (omega arith) in omega (arith, m4 .there)
+aggregate-add-compares : (t : ℕ) → aggregate-lts.Need-add-compares (aggregate-calls t) (aggregate-at t) aggregate.Post
+aggregate-add-compares t c = omega (arith, (c .before .before .before .before .before .before .before .before .before .before .before .pre .1 .0 .most), (c .before .before .before .before .before .before .before .before .before .before .before .pre .1 .1))
 
-aggregate-judgments-requires : (t : ℕ) → aggregate-lts.Need-judgments-requires (aggregate-calls t) (aggregate-at t) aggregate.Post
-aggregate-judgments-requires t c κs = let m1 = passed _ _ _ _ ((c .before .before .before .before .before .before .before .before .up-to .ensures) (c .before .before .before .before .before .before .before .before .before .before .args .n)) (c .before .before .before .before .before .before .before .before .before .before .pre .1 .0 .most) (c .before .before .before .before .before .before .before .before .before .before .pre .1 .1) (c .before .before .before .before .before .before .before .if1 .left) ((c .before .before .before .before .before .before .before .before .before .before .args .at) + 1) (omega arith) in let m2 = passed _ _ _ _ ((c .before .before .before .before .before .before .up-to2 .ensures) (c .before .before .before .before .before .before .before .before .before .before .args .n)) (c .before .before .before .before .before .before .before .before .before .before .pre .1 .0 .most) (m1 .there) (c .before .before .before .before .before .if2 .left) ((c .before .before .before .before .before .before .before .before .before .before .args .at) + 2) (omega arith) in let m3 = passed _ _ _ _ ((c .before .before .before .before .up-to3 .ensures) (c .before .before .before .before .before .before .before .before .before .before .args .n)) (c .before .before .before .before .before .before .before .before .before .before .pre .1 .0 .most) (m2 .there) (c .before .before .before .if3 .left) ((c .before .before .before .before .before .before .before .before .before .before .args .at) + 3) (omega arith) in let m4 = passed _ _ _ _ ((c .before .before .up-to4 .ensures) (c .before .before .before .before .before .before .before .before .before .before .args .n)) (c .before .before .before .before .before .before .before .before .before .before .pre .1 .0 .most) (m3 .there) (c .before .if4 .left) ((c .before .before .before .before .before .before .before .before .before .before .args .at) + 4) (omega arith) in (omega arith, ((c .before .before .before .before .before .before .before .before .before .before .pre .1 .0), m4 .there))
+aggregate-compares-requires : (t : ℕ) → aggregate-lts.Need-compares-requires (aggregate-calls t) (aggregate-at t) aggregate.Post
+aggregate-compares-requires t c κs = search needs
+
+aggregate-add-scalars : (t : ℕ) → aggregate-lts.Need-add-scalars (aggregate-calls t) (aggregate-at t) aggregate.Post
+aggregate-add-scalars t c = omega (arith, (c .before .before .before .before .before .before .before .before .before .before .before .before .before .pre .1 .0 .most), (c .before .before .before .before .before .before .before .before .before .before .before .before .before .pre .1 .1))
+
+aggregate-sub-scalars : (t : ℕ) → aggregate-lts.Need-sub-scalars (aggregate-calls t) (aggregate-at t) aggregate.Post
+aggregate-sub-scalars t c = omega (arith, (c .before .compares .ensures) (c .if6 .taken) .level)
+
+aggregate-scalars-requires : (t : ℕ) → aggregate-lts.Need-scalars-requires (aggregate-calls t) (aggregate-at t) aggregate.Post
+aggregate-scalars-requires t c κs = let p = (c .before .compares .ensures) (c .if6 .taken) in (omega (arith, p .level, c .before .before .before .before .before .before .before .before .before .before .before .before .before .pre .0), ((c .before .before .before .before .before .before .before .before .before .before .before .before .before .pre .1 .0), omega (arith, p .inside)))
 
 aggregate-returns-5 : (t : ℕ) → aggregate-lts.Need-returns-5 (aggregate-calls t) (aggregate-at t) aggregate.Post
-aggregate-returns-5 t c = let m1 = passed _ _ _ _ ((c .before .before .before .before .before .before .before .before .before .up-to .ensures) (c .before .before .before .before .before .before .before .before .before .before .before .args .n)) (c .before .before .before .before .before .before .before .before .before .before .before .pre .1 .0 .most) (c .before .before .before .before .before .before .before .before .before .before .before .pre .1 .1) (c .before .before .before .before .before .before .before .before .if1 .left) ((c .before .before .before .before .before .before .before .before .before .before .before .args .at) + 1) (omega arith) in let m2 = passed _ _ _ _ ((c .before .before .before .before .before .before .before .up-to2 .ensures) (c .before .before .before .before .before .before .before .before .before .before .before .args .n)) (c .before .before .before .before .before .before .before .before .before .before .before .pre .1 .0 .most) (m1 .there) (c .before .before .before .before .before .before .if2 .left) ((c .before .before .before .before .before .before .before .before .before .before .before .args .at) + 2) (omega arith) in let m3 = passed _ _ _ _ ((c .before .before .before .before .before .up-to3 .ensures) (c .before .before .before .before .before .before .before .before .before .before .before .args .n)) (c .before .before .before .before .before .before .before .before .before .before .before .pre .1 .0 .most) (m2 .there) (c .before .before .before .before .if3 .left) ((c .before .before .before .before .before .before .before .before .before .before .before .args .at) + 3) (omega arith) in let m4 = passed _ _ _ _ ((c .before .before .before .up-to4 .ensures) (c .before .before .before .before .before .before .before .before .before .before .before .args .n)) (c .before .before .before .before .before .before .before .before .before .before .before .pre .1 .0 .most) (m3 .there) (c .before .before .if4 .left) ((c .before .before .before .before .before .before .before .before .before .before .before .args .at) + 4) (omega arith) in by-where _ _ _ _ (m1 .same) (m1 .small) (m2 .same) (m2 .small) (m3 .same) (m3 .small) (m4 .same) (m4 .small) (m3 .there) (c .judgments .ensures)
+aggregate-returns-5 t c = let m1 = passed _ _ _ _ ((c .before .before .before .before .before .before .before .before .before .before .before .before .up-to .ensures) (c .before .before .before .before .before .before .before .before .before .before .before .before .before .before .args .n)) (c .before .before .before .before .before .before .before .before .before .before .before .before .before .before .pre .1 .0 .most) (c .before .before .before .before .before .before .before .before .before .before .before .before .before .before .pre .1 .1) (c .before .before .before .before .before .before .before .before .before .before .before .if1 .left) ((c .before .before .before .before .before .before .before .before .before .before .before .before .before .before .args .at) + 1) (omega arith) in let m2 = passed _ _ _ _ ((c .before .before .before .before .before .before .before .before .before .before .up-to2 .ensures) (c .before .before .before .before .before .before .before .before .before .before .before .before .before .before .args .n)) (c .before .before .before .before .before .before .before .before .before .before .before .before .before .before .pre .1 .0 .most) (m1 .there) (c .before .before .before .before .before .before .before .before .before .if2 .left) ((c .before .before .before .before .before .before .before .before .before .before .before .before .before .before .args .at) + 2) (omega arith) in let m3 = passed _ _ _ _ ((c .before .before .before .before .before .before .before .before .up-to3 .ensures) (c .before .before .before .before .before .before .before .before .before .before .before .before .before .before .args .n)) (c .before .before .before .before .before .before .before .before .before .before .before .before .before .before .pre .1 .0 .most) (m2 .there) (c .before .before .before .before .before .before .before .if3 .left) ((c .before .before .before .before .before .before .before .before .before .before .before .before .before .before .args .at) + 3) (omega arith) in let m4 = passed _ _ _ _ ((c .before .before .before .before .before .before .up-to4 .ensures) (c .before .before .before .before .before .before .before .before .before .before .before .before .before .before .args .n)) (c .before .before .before .before .before .before .before .before .before .before .before .before .before .before .pre .1 .0 .most) (m3 .there) (c .before .before .before .before .before .if4 .left) ((c .before .before .before .before .before .before .before .before .before .before .before .before .before .before .args .at) + 4) (omega arith) in by-where _ _ _ _ (m1 .same) (m1 .small) (m2 .same) (m2 .small) (m3 .same) (m3 .small) (m4 .same) (m4 .small) (m3 .there) (by-compared _ _ _ _ _ (c .before .before .before .before .before .before .before .before .before .before .before .before .before .before .pre .1 .0 .most) ((c .before .before .compares .ensures) (c .before .if6 .taken)) (c .before .before .before .if5 .taken) (omega arith) (c .scalars .ensures))
+
+aggregate-add-judgments : (t : ℕ) → aggregate-lts.Need-add-judgments (aggregate-calls t) (aggregate-at t) aggregate.Post
+aggregate-add-judgments t c = omega (arith, (c .before .before .before .before .before .before .before .before .before .before .before .pre .1 .0 .most), (c .before .before .before .before .before .before .before .before .before .before .before .pre .1 .1))
+
+aggregate-judgments-requires : (t : ℕ) → aggregate-lts.Need-judgments-requires (aggregate-calls t) (aggregate-at t) aggregate.Post
+aggregate-judgments-requires t c κs = let m1 = passed _ _ _ _ ((c .before .before .before .before .before .before .before .before .before .up-to .ensures) (c .before .before .before .before .before .before .before .before .before .before .before .args .n)) (c .before .before .before .before .before .before .before .before .before .before .before .pre .1 .0 .most) (c .before .before .before .before .before .before .before .before .before .before .before .pre .1 .1) (c .before .before .before .before .before .before .before .before .if1 .left) ((c .before .before .before .before .before .before .before .before .before .before .before .args .at) + 1) (omega arith) in let m2 = passed _ _ _ _ ((c .before .before .before .before .before .before .before .up-to2 .ensures) (c .before .before .before .before .before .before .before .before .before .before .before .args .n)) (c .before .before .before .before .before .before .before .before .before .before .before .pre .1 .0 .most) (m1 .there) (c .before .before .before .before .before .before .if2 .left) ((c .before .before .before .before .before .before .before .before .before .before .before .args .at) + 2) (omega arith) in let m3 = passed _ _ _ _ ((c .before .before .before .before .before .up-to3 .ensures) (c .before .before .before .before .before .before .before .before .before .before .before .args .n)) (c .before .before .before .before .before .before .before .before .before .before .before .pre .1 .0 .most) (m2 .there) (c .before .before .before .before .if3 .left) ((c .before .before .before .before .before .before .before .before .before .before .before .args .at) + 3) (omega arith) in let m4 = passed _ _ _ _ ((c .before .before .before .up-to4 .ensures) (c .before .before .before .before .before .before .before .before .before .before .before .args .n)) (c .before .before .before .before .before .before .before .before .before .before .before .pre .1 .0 .most) (m3 .there) (c .before .before .if4 .left) ((c .before .before .before .before .before .before .before .before .before .before .before .args .at) + 4) (omega arith) in (omega arith, ((c .before .before .before .before .before .before .before .before .before .before .before .pre .1 .0), m4 .there))
+
+aggregate-returns-6 : (t : ℕ) → aggregate-lts.Need-returns-6 (aggregate-calls t) (aggregate-at t) aggregate.Post
+aggregate-returns-6 t c = let m1 = passed _ _ _ _ ((c .before .before .before .before .before .before .before .before .before .before .up-to .ensures) (c .before .before .before .before .before .before .before .before .before .before .before .before .args .n)) (c .before .before .before .before .before .before .before .before .before .before .before .before .pre .1 .0 .most) (c .before .before .before .before .before .before .before .before .before .before .before .before .pre .1 .1) (c .before .before .before .before .before .before .before .before .before .if1 .left) ((c .before .before .before .before .before .before .before .before .before .before .before .before .args .at) + 1) (omega arith) in let m2 = passed _ _ _ _ ((c .before .before .before .before .before .before .before .before .up-to2 .ensures) (c .before .before .before .before .before .before .before .before .before .before .before .before .args .n)) (c .before .before .before .before .before .before .before .before .before .before .before .before .pre .1 .0 .most) (m1 .there) (c .before .before .before .before .before .before .before .if2 .left) ((c .before .before .before .before .before .before .before .before .before .before .before .before .args .at) + 2) (omega arith) in let m3 = passed _ _ _ _ ((c .before .before .before .before .before .before .up-to3 .ensures) (c .before .before .before .before .before .before .before .before .before .before .before .before .args .n)) (c .before .before .before .before .before .before .before .before .before .before .before .before .pre .1 .0 .most) (m2 .there) (c .before .before .before .before .before .if3 .left) ((c .before .before .before .before .before .before .before .before .before .before .before .before .args .at) + 3) (omega arith) in let m4 = passed _ _ _ _ ((c .before .before .before .before .up-to4 .ensures) (c .before .before .before .before .before .before .before .before .before .before .before .before .args .n)) (c .before .before .before .before .before .before .before .before .before .before .before .before .pre .1 .0 .most) (m3 .there) (c .before .before .before .if4 .left) ((c .before .before .before .before .before .before .before .before .before .before .before .before .args .at) + 4) (omega arith) in by-where _ _ _ _ (m1 .same) (m1 .small) (m2 .same) (m2 .small) (m3 .same) (m3 .small) (m4 .same) (m4 .small) (m3 .there) (c .judgments .ensures)
 
 choice-judgments-requires : (t : ℕ) → choice-lts.Need-judgments-requires (choice-calls t) (choice-at t) choice.Post
 choice-judgments-requires t c κs = (omega arith, ((c .before .pre .1 .0), (c .before .pre .1 .1)))
@@ -498,12 +517,18 @@ pub +after-judgment+after-scalar+aggregate+choice+exists+judgments+scalars-spec 
     (aggregate-add-up-to-3 t)
     (aggregate-up-to-requires-4 t)
     (aggregate-returns-4 t)
+    (aggregate-add-flag t)
+    (aggregate-mul-flag t)
+    (aggregate-shared-slice-read-flag t)
+    (aggregate-add-compares t)
+    (aggregate-compares-requires t)
+    (aggregate-add-scalars t)
+    (aggregate-sub-scalars t)
+    (aggregate-scalars-requires t)
+    (aggregate-returns-5 t)
     (aggregate-add-judgments t)
-    (aggregate-add-judgments-2 t)
-    (aggregate-mul-judgments t)
-    (aggregate-shared-slice-read-judgments t)
     (aggregate-judgments-requires t)
-    (aggregate-returns-5 t))
+    (aggregate-returns-6 t))
     (λ t. choice-lts.spec (choice-calls t) (choice-at t)
     choice.Post
     (choice-judgments-requires t)
