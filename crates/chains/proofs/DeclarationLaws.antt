@@ -166,7 +166,6 @@ module _ (p : Pack) (w : WellFormed p) (starts : List ℕ) (placed-there : (m : 
 
   -- the relation of a name stands where its record starts
   pub record Standing (m : ℕ) (r : Relation) : Type 0 where
-    pub is-name : m ≡ r .name
     pub below : m < 4096
     pub stands : InWords (words p) (getD starts m 0) n r
     pub later : 0 < getD starts m 0
@@ -178,7 +177,6 @@ module _ (p : Pack) (w : WellFormed p) (starts : List ℕ) (placed-there : (m : 
       let k = find-kept n m [] rs r (parts p w .relations-fine) e .1 in
       let s : startsAt (r .name) ≡ getD starts m 0 = ap startsAt (sym q) ∙ sym (a-record m r e) in
       record {
-        is-name = q;
         below = omega (arith, k .below, parts p w .most);
         stands = subst (λ (v : ℕ). InWords (words p) v n r) s (in-pack p w r f);
         later = omega (arith, a-record m r e, start-least n m (firstRelation p) rs);

@@ -9,7 +9,7 @@ use lib.Dec.{ltb, eqb}
 use borrow.Author.Tests.{eqb-true, ltb-true, ltb-false}
 use Rattle.pack.specs.declared.table.Follows.{Follows}
 use Rattle.pack.specs.declared.table.Follows.the-variants.{Nothing, Counted, OneScalar, TwoScalars, Scalars, Patterns, Periods, OneJudgment, Judgments, Choice, Aggregate, OnlyRelated, Slots, Atom, Exists}
-use Rattle.pack.specs.Table.{pick, kindOf, valueOf, wordOf, scalar, judgment, table, entryOf, fieldsOf, childrenOf}
+use Rattle.pack.specs.Table.{pick, kindOf, wordOf, scalar, judgment, table, entryOf, fieldsOf, childrenOf}
 use Rattle.pack.specs.Form.{among, only, wordsAll, wordsEach, FineAll, FineEach, Holder, count, items, Suits, countedFrom, Form, field, word, empty, each, _▹_, via, wordsBy, Fine}
 use Rattle.pack.specs.Tree.{heads, lastField, fields, follow, tree}
 use Rattle.pack.proofs.Listed.{in-range}
@@ -17,9 +17,6 @@ use Rattle.pack.proofs.Listed.{in-range}
 -- a word of a kind and a value that fits
 pub kind-word : (k v : ℕ) → v < 16777216 → kindOf (wordOf k v) ≡ k
 kind-word k v h = omega arith
-
-pub value-word : (k v : ℕ) → v < 16777216 → valueOf (wordOf k v) ≡ v
-value-word k v h = omega arith
 
 abbrev AllOf : {X : Type 0} → (X → Type 0) → List X → Type 0
 AllOf P [] = Unit {0}

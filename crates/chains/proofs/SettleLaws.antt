@@ -1,4 +1,4 @@
--- Laws of the walk over the index: each way in which it stops or goes on, on plain lists.
+-- Laws of the walk over a table: each way in which it stops or goes on, on plain lists.
 use Prim.Native.Nat.{ℕ, zero, suc, _+_, _-_, _*_, _<_, _≤_}
 use native.Mathlib.Omega.{arith}
 use native.Mathlib.Nat.{add-zero, suc-mul, mul-le-mul-right}

@@ -1,4 +1,4 @@
--- The chain walk over the index by name: answers are places, and marks say which names are settled or on the path.
+-- The chain walk over a table by name: answers are places, and marks say which names are settled or on the path.
 use Prim.Native.Nat.{ℕ, _+_, _-_, _*_, _<_, _≤_}
 use mathlib.Core.Path.{_≡_}
 use mathlib.Core.List.{List, [], map}
@@ -9,7 +9,7 @@ use Rattle.pack.specs.Table.{pick}
 use Rattle.pack.specs.Form.{among}
 use Rattle.chains.specs.Chain.{Step, end, next, Settled, Walked, walk, All, walksFrom, same}
 
--- what one entry of the index says
+-- what one entry of the table says
 unfoldable pub stepAt : List ℕ → ℕ → Step ℕ
 stepAt table n = pick (ltb (getD table n 0) 65536) (end (getD table n 0)) (next (getD table n 0 - 65536))
 
@@ -38,7 +38,7 @@ pub record ReadOne (table : List ℕ) (n steps r steps′ : ℕ) : Type 0 where
 unfoldable pub Marked : List ℕ → Type 0
 Marked marks = (n : ℕ) → getD marks n 0 < 65538
 
--- what a walk asks for: a name, an index and marks, and room for as many more steps as there is fuel
+-- what a walk asks for: a name, a table and marks, and room for as many more steps as there is fuel
 pub record Walkable (table marks : List ℕ) (steps n fuel : ℕ) : Type 0 where
   pub name : n < 4096
   pub leading : Leading table
