@@ -1,10 +1,10 @@
 // The filtered tables: what direct, innermost, alias and unresolved say of each name.
-use chains::declaration::Declaration;
-use chains::header::name_count;
 use crate::inner::settle_all;
-use chains::settle::Mark;
 use crate::taking::Taken;
 use crate::taking::take_kinds;
+use chains::declaration::Declaration;
+use chains::header::name_count;
+use chains::settle::Mark;
 use pack::answer::Answer;
 use pack::check::check;
 use pack::check::refuse;

@@ -1,9 +1,9 @@
 // The direction of one node, from what the pack says of its relation.
-use filtered::filtered::direct_of;
 use chains::record::flag_at;
 use chains::record::kind_count;
 use chains::record::slots_place;
 use chains::record::value_at;
+use filtered::filtered::direct_of;
 use filtered::taking::Kind;
 use filtered::taking::kind_at;
 use filtered::taking::place_of;

@@ -1,14 +1,14 @@
 // Resolve: a pack with its directions settled, written out whole.
-use nodes::equal::first_equal;
 use crate::finish::finish;
-use trees::trees::fill_tables;
-use trees::trees::trees;
-use nodes::words::copy;
 use chains::header::relation_count;
+use nodes::equal::first_equal;
+use nodes::words::copy;
 use pack::answer::Answer;
 use pack::answer::Refusal;
 use pack::check::check;
 use pack::kinds::Pack;
+use trees::trees::fill_tables;
+use trees::trees::trees;
 ghost use mathlib.Core.Path.{_≡_};
 ghost use Rattle.chains.specs.AllKinds.{IsPack};
 ghost use Rattle.chains.specs.Operations.{Answered};

@@ -1,10 +1,10 @@
 // Writing the whole pack: the resolved words as they stand, but each stamped list in place of an empty one.
 // `pack` are the words in which the lists stand, `work` the resolved ones.
 use crate::stamping::names_at;
-use nodes::words::copy;
 use chains::record::kind_count;
 use chains::record::slots_place;
 use chains::record::value_at;
+use nodes::words::copy;
 use pack::kinds::Pack;
 ghost use mathlib.Core.Path.{_≡_};
 ghost use mathlib.Core.List.{_++_, map};

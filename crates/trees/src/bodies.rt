@@ -1,7 +1,7 @@
 // The bodies of a rule, resolved where they stand in the words.
+use crate::walk::tree;
 use nodes::direction::Membership;
 use nodes::leaves::Cited;
-use crate::walk::tree;
 use pack::answer::Answer;
 use pack::answer::Refusal;
 use pack::kinds::Pack;

@@ -1,8 +1,5 @@
 // Relations, resolved where they stand in the words.
 use crate::bodies::refused;
-use nodes::direction::kind_or_zero;
-use nodes::equal::slot_kinds;
-use nodes::leaves::Cited;
 use crate::walk::tree;
 use chains::record::flag_at;
 use chains::record::kind_count;
@@ -10,6 +7,9 @@ use chains::record::predicate_place;
 use chains::record::slots_place;
 use chains::record::value_at;
 use filtered::taking::place_of;
+use nodes::direction::kind_or_zero;
+use nodes::equal::slot_kinds;
+use nodes::leaves::Cited;
 use pack::answer::Answer;
 use pack::kinds::Pack;
 ghost use mathlib.Core.Path.{_≡_};

@@ -1,11 +1,11 @@
 // All trees of a checked pack, resolved in a copy of its words: those of its rules, then those of its relations.
 use crate::relations::relations;
 use crate::rules::rules;
-use nodes::words::place_of_blocks;
-use nodes::words::place_of_kind;
 use chains::header::relation_count;
 use chains::record::value_at;
 use filtered::taking::read_tables;
+use nodes::words::place_of_blocks;
+use nodes::words::place_of_kind;
 use pack::answer::Answer;
 use pack::kinds::Pack;
 ghost use mathlib.Core.Path.{_≡_};

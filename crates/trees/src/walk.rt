@@ -1,13 +1,13 @@
 // Trees resolved in place: rows of scalars and rows of judgments, which call each other through the nodes whose children are of
 // the other sort or lose the membership; all other children join the row. With each call the number of levels left falls. They
 // answer how many words the trees have, or a refusal's code.
+use crate::rows::head_words;
+use crate::rows::judgments_after;
+use crate::rows::scalars_after;
 use nodes::direction::Membership;
 use nodes::leaves::Cited;
 use nodes::leaves::only_related;
 use nodes::leaves::relation_member;
-use crate::rows::head_words;
-use crate::rows::judgments_after;
-use crate::rows::scalars_after;
 use nodes::slots::turn_node;
 use nodes::words::kind_of;
 use pack::kinds::Pack;
