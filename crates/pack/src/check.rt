@@ -3,6 +3,7 @@ use crate::answer::Answer;
 use crate::answer::Refusal;
 use crate::cursor::Step;
 use crate::kinds::Pack;
+use crate::record::records;
 use crate::table::Rule;
 use crate::table::table;
 ghost use mathlib.Core.Path.{_≡_};
@@ -38,7 +39,7 @@ fn layout(s: &[u32], len: u32) -> Step
     let Step::On(n, c2) = f2 else {
         return f2;
     };
-    c2.records(s, &t, n)
+    records(c2, s, &t, n)
 }
 
 // Whether the words are a pack, or the first refusal.
