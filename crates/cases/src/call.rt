@@ -11,10 +11,10 @@ use crate::words::read_words;
 use chains::all_kinds::all_kinds;
 use chains::kinds_of::kinds_of;
 use chains::lean::lean;
+use checking::check::refuse;
 use filtered::filtered::Filter;
 use filtered::filtered::filtered;
 use pack::answer::Answer;
-use pack::check::refuse;
 use resolve::resolve::resolve;
 
 // What the operation that is named here answers; no operation gives refusal 0.

@@ -18,9 +18,9 @@ use crate::text::find;
 use crate::text::least;
 use crate::text::number_at;
 use crate::words::read_words;
+use checking::check::check;
+use checking::rewrite::rewrite;
 use pack::answer::Answer;
-use pack::check::check;
-use pack::rewrite::rewrite;
 ghost use Prim.Native.Nat.{_≤_};
 ghost use lib.ListN.{length};
 

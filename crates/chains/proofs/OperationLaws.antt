@@ -15,7 +15,7 @@ use Rattle.pack.specs.declared.answer.Answer.the-variants.{Given, Refused}
 use Rattle.pack.specs.Table.{pick}
 use Rattle.pack.specs.Pack.{Pack, read}
 use Rattle.pack.specs.Operations.{answer, buffer, noRoom, checkAnswer}
-use Rattle.pack.proofs.OperationLaws.{accepted, turned-away}
+use Rattle.checking.proofs.OperationLaws.{accepted, turned-away}
 use Rattle.chains.specs.Kinds.{allKinds, ownAnswer}
 use Rattle.chains.specs.Reach.{leans}
 use Rattle.chains.specs.Operations.{placeOf, unknown, kindsOfAnswer, yesNo, leanAnswer, allKindsWords, allKindsAnswer, allKindsBuffer, writeAnswer, writeBuffer, Answered}

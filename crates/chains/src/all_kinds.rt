@@ -3,9 +3,9 @@ use crate::header::relation_count;
 use crate::mark_kinds::mark_kinds;
 use crate::records::records;
 use crate::settle::places;
+use checking::check::check;
+use checking::check::refuse;
 use pack::answer::Answer;
-use pack::check::check;
-use pack::check::refuse;
 ghost use Rattle.chains.specs.Operations.{Answered, allKindsAnswer, allKindsBuffer};
 ghost use Rattle.chains.specs.AllKinds.{KindsAsked, KindsLeft};
 

@@ -6,8 +6,4 @@ pub mod Examples
 pub mod StepLaws
 pub mod TreeLaws
 pub mod CodeLaws
-pub mod RecordLaws
-pub mod CheckLaws
-pub mod OperationLaws
-pub mod RewriteLaws
 pub mod Refusals

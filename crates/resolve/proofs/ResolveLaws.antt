@@ -15,7 +15,7 @@ use Rattle.pack.specs.Table.{pick}
 use Rattle.pack.specs.Table as table
 use Rattle.pack.specs.Pack.{Relation, Rule, Pack, WellFormed, yes, read, words}
 use Rattle.pack.specs.Operations.{answer, checkAnswer}
-use Rattle.pack.proofs.OperationLaws.{turned-away}
+use Rattle.checking.proofs.OperationLaws.{turned-away}
 use Rattle.pack.proofs.PackLaws.{words-read}
 use Rattle.chains.specs.Kinds.{find, kindsOf, allKinds}
 use Rattle.chains.specs.Operations.{firstRelation, startOf, Answered}

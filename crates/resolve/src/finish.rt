@@ -2,8 +2,8 @@
 use crate::stamping::atoms;
 use crate::stamping::lists;
 use crate::write::write;
+use checking::check::refuse;
 use pack::answer::Answer;
-use pack::check::refuse;
 use pack::kinds::Pack;
 ghost use Rattle.resolve.specs.Finish.{FinishAsked, FinishCame};
 

@@ -1,11 +1,11 @@
 // Resolve: a pack with its directions settled, written out whole.
 use crate::finish::finish;
 use chains::header::relation_count;
+use checking::check::check;
 use nodes::equal::first_equal;
 use nodes::words::copy;
 use pack::answer::Answer;
 use pack::answer::Refusal;
-use pack::check::check;
 use pack::kinds::Pack;
 use trees::trees::fill_tables;
 use trees::trees::trees;

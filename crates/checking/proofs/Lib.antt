@@ -1,0 +1,4 @@
+pub mod RecordLaws
+pub mod CheckLaws
+pub mod OperationLaws
+pub mod RewriteLaws

@@ -1,0 +1,68 @@
+-- `pack::check::layout` meets its contract.
+use mathlib.Core.Path.{refl}
+use Rattle.pack.specs.Pack.{layout, inner}
+use Rattle.pack.proofs.StepLaws.{walks}
+use Rattle.checking.proofs.RecordLaws.{names-most}
+use Rattle.checking.proofs.CheckLaws.{from-start}
+use Rattle.pack.specs.Table.{entryOf, table}
+use borrow.Author.Needs.{needs}
+use Rattle.checking.proofs.check.layout.Statement.{statement}
+use Rattle.checking.proofs.check.layout.Tie as tie
+
+table-requires : tie.Need-table-requires
+table-requires c κs = search needs
+
+start-requires : tie.Need-start-requires
+start-requires c κs = search needs
+
+skip-requires : tie.Need-skip-requires
+unfolding entryOf table
+skip-requires c κs = refl
+
+enum-known-f1 : tie.Need-enum-known-f1
+enum-known-f1 c = search needs
+
+enum-told : tie.Need-enum-told
+enum-told c = search needs
+
+returns : tie.Need-returns
+unfolding layout inner
+returns c = from-start _ _ (c .before .before .before .start .ensures) (search walks depth 12)
+
+field-requires : tie.Need-field-requires
+unfolding entryOf table
+field-requires c κs = refl
+
+enum-known-f2 : tie.Need-enum-known-f2
+enum-known-f2 c = search needs
+
+enum-told-2 : tie.Need-enum-told-2
+enum-told-2 c = search needs
+
+returns-2 : tie.Need-returns-2
+unfolding layout inner
+returns-2 c = from-start _ _ (c .before .before .before .before .before .before .before .start .ensures) (search walks depth 12)
+
+records-requires : tie.Need-records-requires
+records-requires c κs = (names-most _ _ _ (c .before .before .before .before .field .ensures) (c .before .before .f2 .given .1), record { most = (c .before .before .before .before .before .before .before .before .before .before .before .before .pre); tabled = (c .before .before .before .before .before .before .before .before .before .before .table .ensures) })
+
+returns-3 : tie.Need-returns-3
+unfolding layout inner
+returns-3 c = from-start _ _ (c .before .before .before .before .before .before .before .before .before .before .start .ensures) (search walks depth 12)
+
+pub layout-spec : {M : Type 1} → statement M
+layout-spec =
+    tie.close
+    (tie.spec
+    table-requires
+    start-requires
+    skip-requires
+    enum-known-f1
+    enum-told
+    returns
+    field-requires
+    enum-known-f2
+    enum-told-2
+    returns-2
+    records-requires
+    returns-3)
