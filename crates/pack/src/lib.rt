@@ -1,5 +1,6 @@
-// The pack: its words, what each may be, and the two operations that need nothing else, Check and Rewrite.
-// A file per idea: what operations answer, the numbers (kinds), the table by kind, the reading place, trees, records, Check, Rewrite.
+// The pack: its words, what each may be, and how they are read.
+// A file per idea: what operations answer (answer), the numbers (kinds), the table by kind (table), the reading place (cursor)
+// and trees (tree). Its definitions describe the format, Check and Rewrite, and packs dealt out again.
 pub mod answer;
 pub mod cursor;
 pub mod kinds;

@@ -1,9 +1,9 @@
 // All trees of a checked pack, resolved in a copy of its words.
-// How many children a node has (rows), the walkers of scalars and judgments (walk), and the passes over bodies, rules and relations (bodies,
-// rules, relations, trees).
-pub mod bodies;
-pub mod relations;
-pub mod rows;
-pub mod rules;
+// How many children a node has (rows), the walkers of scalars and judgments (walk), and the passes over bodies, rules and
+// relations (bodies, rules, relations, trees).
+mod bodies;
+mod relations;
+mod rows;
+mod rules;
 pub mod trees;
-pub mod walk;
+mod walk;
