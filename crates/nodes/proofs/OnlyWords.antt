@@ -1,46 +1,91 @@
 -- An OnlyRelated node's step on the words is its step on the tree.
-use Prim.Native.Nat.{ℕ, zero, suc, _+_, _<_}
+use Prim.Native.Nat.{ℕ, zero, suc, _+_, _<_, _≤_}
 use native.Mathlib.Omega.{arith}
 use mathlib.Core.Path.{_≡_, refl, ap, sym, _∙_}
 use mathlib.Core.List.{List, [], _∷_, _++_}
 use mathlib.Core.Bool.{Bool, true, false, _||_, not}
 use mathlib.Core.Option.{Option}
-use lib.ListN.{getD}
+use lib.ListN.{length, getD, set}
 use lib.Dec.{eqb}
 use borrow.Author.Tests.{ne-eqb}
 use Rattle.pack.specs.Table.{pick, kindOf, valueOf, wordOf}
 use Rattle.nodes.specs.declared.direction.Direction.{Direction}
 use Rattle.nodes.specs.declared.direction.Direction.the-variants.{Turned, Open}
+use Rattle.nodes.specs.Tables.{Tables}
 use Rattle.nodes.specs.Direction.{turn}
 use Rattle.nodes.specs.Turning.{Fields, stops, allowedInput, onlyRelated, stepBy, fieldWords}
 use Rattle.nodes.specs.Words.{tablesIn}
 use Rattle.chains.specs.Record.{valueAt}
 use Rattle.nodes.specs.Blocks.{inputNumber, inputIn, seenBlocks}
-use Rattle.nodes.specs.Walk.{SlotsSet, refusalCode, kindCode, inputCode, onlyCode, setIfNone, onlySet, OnlyOut, orNot, citingIn, stepCode, fieldsAfter, SlotNode, ValueFirst, OnlyStepped}
+use Rattle.nodes.specs.Walk.{TwoSlots, refusalCode, slotsSet, kindCode, inputCode, onlyCode, onlyNumber, setIfNone, onlySet, OnlyOut, NodeTurned, orNot, citingIn, stepCode, fieldsAfter, SlotNode, ValueFirst, OnlyStepped}
 use Rattle.nodes.proofs.SlotLaws.{head-is, current-is, related-is}
 use Rattle.nodes.proofs.StepWords.{two-slots}
+use Rattle.nodes.proofs.SmallKinds.{KindFits, turn-small}
 
 -- ---- the ways out
 
-pub only-open : (number : ℕ → ℕ → ℕ) (work : List ℕ) (place : ℕ) {d : Direction} {other code : ℕ} → d ≡ Open other → code ≡ kindCode place d → OnlyOut number work place d code work
-only-open number work place e q = record { says = q ∙ rw e refl; sets = λ head current related more s. rw e refl }
+no-number : (k n : ℕ) → pick (eqb k 84) 11 n ≡ 0 → (eqb k 84 ≡ false) × (n ≡ 0)
+no-number k n e = go (eqb k 84) e
+  where
+    go : (b : Bool) → pick b 11 n ≡ 0 → (b ≡ false) × (n ≡ 0)
+    go true q = absurd (omega arith)
+    go false q = (refl, q)
 
-pub only-derived : (number : ℕ → ℕ → ℕ) (work : List ℕ) (place : ℕ) {d : Direction} {c r owner code : ℕ} → d ≡ Turned c r owner → kindOf (getD work 3 0) ≡ 84
-    → code ≡ refusalCode 11 place (valueOf (getD work 3 0)) → OnlyOut number work place d code work
-only-derived number work place e k q = record { says = q ∙ rw (e, k) refl; sets = λ head current related more s. rw (e, k) refl }
+-- a node whose slots were set by a direction, or left where it is open
+module _ (number : ℕ → ℕ → ℕ) {work : List ℕ} (place : ℕ) (t : TwoSlots work) where
+  abbrev word : ℕ
+  word = getD work 3 0
 
-abbrev NotDerived : List ℕ → Type 0
-NotDerived work = kindOf (getD work 3 0) ≡ 84 → ⊥
+  module _ {d : Direction} {code : ℕ} {left : List ℕ} (says : code ≡ kindCode place d) (sets : left ≡ slotsSet (t .head) (t .more) d work) where
+    pub only-open : KindFits 16777216 d → 16777216 ≤ code → OnlyOut number work place d code left
+    only-open small h = go d refl small says sets
+      where
+        go : (x : Direction) → d ≡ x → KindFits 16777216 x → code ≡ kindCode place x → left ≡ slotsSet (t .head) (t .more) x work → OnlyOut number work place d code left
+        go (Turned c r k) e f q s = absurd (omega arith)
+        go (Open o) e f q s = record { says = q ∙ rw e refl; sets = λ head current related more w. s ∙ rw e refl }
 
-pub only-refused : (number : ℕ → ℕ → ℕ) (work : List ℕ) (place : ℕ) {d : Direction} {c r owner n code : ℕ} → d ≡ Turned c r owner → NotDerived work
-    → n ≡ number owner (valueOf (getD work 3 0)) → (n ≡ 0 → ⊥) → code ≡ refusalCode n place (valueOf (getD work 3 0)) → OnlyOut number work place d code work
-only-refused number work place {n = zero} e k i h q = absurd (h refl)
-only-refused number work place {n = suc m} e k i h q = record { says = q ∙ rw (e, ne-eqb (kindOf (getD work 3 0)) 84 k, sym i) refl; sets = λ head current related more s. rw (e, ne-eqb (kindOf (getD work 3 0)) 84 k, sym i) refl }
+    pub only-refused : code < 16777216 → {n : ℕ} → n ≡ onlyNumber number word code → (n ≡ 0 → ⊥)
+        → OnlyOut number work place d (refusalCode n place (valueOf word)) (set (set left 1 (getD work 1 0)) 2 (getD work 2 0))
+    unfolding onlyNumber
+    only-refused h {n} i z = go d refl says sets
+      where
+        set-back : (c r : ℕ) → left ≡ t .head ∷ wordOf 80 c ∷ wordOf 81 r ∷ t .more → set (set left 1 (getD work 1 0)) 2 (getD work 2 0) ≡ work
+        set-back c r s = rw s (ap (λ (l : List ℕ). t .head ∷ getD l 1 0 ∷ getD l 2 0 ∷ t .more) (t .stands) ∙ sym (t .stands))
 
-pub only-allowed : (number : ℕ → ℕ → ℕ) (work left : List ℕ) (place : ℕ) {d : Direction} {c r owner n : ℕ} → d ≡ Turned c r owner → NotDerived work
-    → n ≡ number owner (valueOf (getD work 3 0)) → n ≡ 0 → SlotsSet work (Turned c r owner) left → OnlyOut number work place d 0 left
-only-allowed number work left place e k i z s =
-    record { says = rw (e, ne-eqb (kindOf (getD work 3 0)) 84 k, sym i, z) refl; sets = λ head current related more st. s .set head current related more st ∙ rw (e, ne-eqb (kindOf (getD work 3 0)) 84 k, sym i, z) refl }
+        coded : (owner : ℕ) → code ≡ owner → (b : Bool) → eqb (kindOf word) 84 ≡ b → (m : ℕ) → number owner (valueOf word) ≡ m
+            → refusalCode n place (valueOf word) ≡ pick b (refusalCode 11 place (valueOf word)) (inputCode place (valueOf word) m)
+        coded owner q true e m f = ap (λ (x : ℕ). refusalCode x place (valueOf word)) (i ∙ rw e refl)
+        coded owner q false e zero f = absurd (z (i ∙ rw (e, q, f) refl))
+        coded owner q false e (suc m) f = ap (λ (x : ℕ). refusalCode x place (valueOf word)) (i ∙ rw (e, q, f) refl)
+
+        kept : (b : Bool) → eqb (kindOf word) 84 ≡ b → (owner : ℕ) → code ≡ owner → (m : ℕ) → number owner (valueOf word) ≡ m → (other : List ℕ) → work ≡ pick b work (setIfNone m other work)
+        kept true e owner q m f other = refl
+        kept false e owner q zero f other = absurd (z (i ∙ rw (e, q, f) refl))
+        kept false e owner q (suc m) f other = refl
+
+        go : (x : Direction) → d ≡ x → code ≡ kindCode place x → left ≡ slotsSet (t .head) (t .more) x work
+            → OnlyOut number work place d (refusalCode n place (valueOf word)) (set (set left 1 (getD work 1 0)) 2 (getD work 2 0))
+        go (Open o) e q s = absurd (omega arith)
+        go (Turned c r k) e q s =
+            record {
+              says = coded k q (eqb (kindOf word) 84) refl (number k (valueOf word)) refl ∙ rw e refl;
+              sets = λ head current related more w. set-back c r s ∙ kept (eqb (kindOf word) 84) refl k q (number k (valueOf word)) refl (head ∷ wordOf 80 c ∷ wordOf 81 r ∷ more) ∙ rw e refl;
+            }
+
+    pub only-allowed : code < 16777216 → {n : ℕ} → n ≡ onlyNumber number word code → n ≡ 0 → OnlyOut number work place d 0 left
+    unfolding onlyNumber
+    only-allowed h {n} i z = go d refl says sets
+      where
+        go : (x : Direction) → d ≡ x → code ≡ kindCode place x → left ≡ slotsSet (t .head) (t .more) x work → OnlyOut number work place d 0 left
+        go (Open o) e q s = absurd (omega arith)
+        go (Turned c r k) e q s =
+            let b = no-number (kindOf word) (number code (valueOf word)) (sym i ∙ z) in
+            let m : number k (valueOf word) ≡ 0 = ap (λ (x : ℕ). number x (valueOf word)) (sym q) ∙ b .1 in
+            record {
+              says = rw (e, b .0, m) refl;
+              sets = λ head current related more w. s ∙ (let u : t .head ∷ wordOf 80 (t .current) ∷ wordOf 81 (t .related) ∷ t .more ≡ head ∷ wordOf 80 current ∷ wordOf 81 related ∷ more = sym (t .stands) ∙ w in
+                  let v : t .head ≡ head = cc in let y : t .more ≡ more = cc in rw (e, b .0, m, v, y) refl);
+            }
 
 -- a number of input fits
 pub input-small : (ws : List ℕ) (at count origin owner name : ℕ) → inputIn ws at count origin owner name < 16
@@ -146,3 +191,53 @@ only-stepped ws records marks taken blocks count origin work place entity {d} {c
         ∙ slots number place (wordOf (t .kind) (t .value)) (t .current) (t .related) (f .0) (f .1) fs (t .more) work u (stands t (f ∷ fs) q) d
         ∙ ap (λ (x : Direction). wordOf (t .kind) (t .value) ∷ (fieldWords (fieldsAfter ((80, t .current) ∷ (81, t .related) ∷ f ∷ fs) (onlyRelated (input number place) ((80, t .current) ∷ (81, t .related) ∷ f ∷ fs) x)) ++ t .more)) (it t)
         ∙ ap (λ (l : Fields). wordOf (t .kind) (t .value) ∷ (fieldWords (fieldsAfter ((80, t .current) ∷ (81, t .related) ∷ l) (onlyRelated (input number place) ((80, t .current) ∷ (81, t .related) ∷ l) (turned t))) ++ t .more)) (sym q)
+
+-- ---- for the code
+
+pub derived-number : (number : ℕ → ℕ → ℕ) (word owner : ℕ) → kindOf word ≡ 84 → 11 ≡ onlyNumber number word owner
+unfolding onlyNumber
+derived-number number word owner e = rw e refl
+
+pub input-number : (number : ℕ → ℕ → ℕ) (word owner : ℕ) → (kindOf word ≡ 84 → ⊥) → {n : ℕ} → n ≡ number owner (valueOf word) → n ≡ onlyNumber number word owner
+unfolding onlyNumber
+input-number number word owner h e = e ∙ rw (ne-eqb (kindOf word) 84 h) refl
+
+module _ (ws records marks taken : List ℕ) (blocks count origin : ℕ) {work : List ℕ} (place entity : ℕ) (t : TwoSlots work) {code : ℕ} {left : List ℕ} (n : NodeTurned (tablesIn ws records marks taken) work place entity code left) where
+  abbrev T : Tables
+  T = tablesIn ws records marks taken
+
+  abbrev d : Direction
+  d = turn T (valueOf (getD work 0 0)) entity (valueOf (getD work 1 0)) (valueOf (getD work 2 0))
+
+  abbrev number : ℕ → ℕ → ℕ
+  number owner name = inputIn ws blocks count origin owner name
+
+  d-is : turn T (valueOf (t .head)) entity (t .current) (t .related) ≡ d
+  d-is = sym (rw (head-is t, current-is t, related-is t) refl)
+
+  said : code ≡ kindCode place d
+  said = n .says t ∙ ap (kindCode place) d-is
+
+  made : left ≡ slotsSet (t .head) (t .more) d work
+  made = n .sets t ∙ ap (λ (x : Direction). slotsSet (t .head) (t .more) x work) d-is
+
+  small : KindFits 16777216 d
+  small = turn-small ws records marks taken (valueOf (getD work 0 0)) entity (valueOf (getD work 1 0)) (valueOf (getD work 2 0))
+
+  pub stepped-open : 16777216 ≤ code → OnlyStepped ws records marks taken blocks count origin work place entity code left
+  stepped-open h = only-stepped ws records marks taken blocks count origin work place entity refl (only-open number place t said made small h)
+
+  pub stepped-allowed : code < 16777216 → {m : ℕ} → m ≡ onlyNumber number (getD work 3 0) code → m ≡ 0 → OnlyStepped ws records marks taken blocks count origin work place entity 0 left
+  stepped-allowed h i z = only-stepped ws records marks taken blocks count origin work place entity refl (only-allowed number place t said made h i z)
+
+  pub stepped-refused : code < 16777216 → {m : ℕ} → m ≡ onlyNumber number (getD work 3 0) code → (m ≡ 0 → ⊥) → {answer : ℕ} → answer ≡ refusalCode m place (valueOf (getD work 3 0))
+      → OnlyStepped ws records marks taken blocks count origin work place entity answer (set (set left 1 (getD work 1 0)) 2 (getD work 2 0))
+  stepped-refused h i z q = rw q (only-stepped ws records marks taken blocks count origin work place entity refl (only-refused number place t said made h i z))
+
+  -- a slice with set slots is as long as before
+  pub as-long : length left ≡ length work
+  as-long = ap length made ∙ go d
+    where
+      go : (x : Direction) → length (slotsSet (t .head) (t .more) x work) ≡ length work
+      go (Turned c r k) = sym (ap length (t .stands))
+      go (Open o) = refl

@@ -127,6 +127,10 @@ abbrev pub onlyCode : ℕ → (ℕ → ℕ → ℕ) → ℕ → Direction → �
 onlyCode place number word (Open other) = refusalCode 10 place other
 onlyCode place number word (Turned c r owner) = pick (eqb (kindOf word) 84) (refusalCode 11 place (valueOf word)) (inputCode place (valueOf word) (number owner (valueOf word)))
 
+-- the number by which it is refused, 0 if it is not
+unfoldable pub onlyNumber : (ℕ → ℕ → ℕ) → ℕ → ℕ → ℕ
+onlyNumber number word owner = pick (eqb (kindOf word) 84) 11 (number owner (valueOf word))
+
 abbrev pub setIfNone : ℕ → List ℕ → List ℕ → List ℕ
 setIfNone zero set work = set
 setIfNone (suc n) set work = work

@@ -6,9 +6,10 @@ use crate::direction::turn;
 use crate::inputs::input;
 use pack::kinds::Pack;
 ghost use mathlib.Core.Path.{_≡_};
-ghost use Prim.Native.Nat.{_<_};
+ghost use Prim.Native.Nat.{_<_, _≤_};
 ghost use Rattle.nodes.specs.Words.{tablesIn, membershipOf};
-ghost use Rattle.nodes.specs.Walk.{TwoSlots, SlotsFit, SlotsSet, refusalCode, kindCode, testCode, TurnAsked, NodeTurned, MemberStepped, OnlyAsked, OnlyStepped};
+ghost use Rattle.nodes.specs.Blocks.{inputIn};
+ghost use Rattle.nodes.specs.Walk.{TwoSlots, SlotsFit, SlotsSet, refusalCode, kindCode, testCode, TurnAsked, NodeTurned, MemberStepped, onlyNumber, OnlyAsked, OnlyStepped};
 
 // Sets them as a direction says.
 pub fn set_slots(work: &mut [u32], d: Direction)
@@ -102,7 +103,19 @@ pub fn member_node(
     test_code(place, entity, d)
 }
 
-// An OnlyRelated node at the front of a slice: its slots are set if its input is declared for the kind that results.
+// The number by which an OnlyRelated node is refused, whose value's word this is and whose slots lead to an owner; 0 if it is not.
+fn only_number(pack: &[u32], blocks: usize, count: usize, origin: u32, owner: u32, word: u32) -> u32
+    requires { ⌜ (blocks ≤ 65536) × (count ≤ 64) ⌝ }
+    ensures { λ r. ⌜ (r ≡ onlyNumber (inputIn (now (pack .entry)) blocks count origin) word owner) × (r < 16) ⌝ }
+{
+    if word / Pack::VALUES == Pack::DERIVED {
+        return 11;
+    }
+    input(pack, blocks, count, origin, owner, word % Pack::VALUES)
+}
+
+// An OnlyRelated node at the front of a slice: its slots are set, and set back if its input is not declared for the kind that
+// results.
 pub fn only_node(
     pack: &[u32],
     records: &[u32; 4096],
@@ -118,30 +131,18 @@ pub fn only_node(
     requires { ⌜ OnlyAsked (now records) (now work) place entity blocks count ⌝ }
     ensures { λ r. ⌜ OnlyStepped (now (pack .entry)) (now (records .entry)) (now (marks .entry)) (now (taken .entry)) blocks count origin (now (work .entry)) place entity r (now (work .exit)) ⌝ }
 {
-    let relation = (work[0] % Pack::VALUES) as usize;
-    let current = work[1] % Pack::VALUES;
-    let related = work[2] % Pack::VALUES;
-    let d = turn(
-        pack,
-        records,
-        marks,
-        taken,
-        relation,
-        entity,
-        current,
-        related,
-    );
-    let Direction::Turned(_, _, owner) = d else {
-        return kind_code(place, d);
-    };
-    let name = work[3] % Pack::VALUES;
-    if work[3] / Pack::VALUES == Pack::DERIVED {
-        return refusal_code(11, place, name);
+    let current = work[1];
+    let related = work[2];
+    let word = work[3];
+    let code = turn_node(pack, records, marks, taken, work, place, entity);
+    if Pack::VALUES as u64 <= code {
+        return code;
     }
-    let number = input(pack, blocks, count, origin, owner, name);
-    if number != 0 {
-        return refusal_code(number, place, name);
+    let number = only_number(pack, blocks, count, origin, code as u32, word);
+    if number == 0 {
+        return 0;
     }
-    set_slots(work, d);
-    0
+    work[1] = current;
+    work[2] = related;
+    refusal_code(number, place, word % Pack::VALUES)
 }
