@@ -1,4 +1,4 @@
--- `pack::check::check` meets its contract.
+-- `checking::check::check` meets its contract.
 use mathlib.Core.Path.{_∙_}
 use native.Mathlib.Omega.{arith}
 use Rattle.checking.proofs.CheckLaws.{check-short, check-long, check-refused, check-left, check-yes}

@@ -1,4 +1,4 @@
--- `pack::check::layout` meets its contract.
+-- `checking::check::layout` meets its contract.
 use mathlib.Core.Path.{refl}
 use Rattle.pack.specs.Pack.{layout, inner}
 use Rattle.pack.proofs.StepLaws.{walks}

@@ -1,4 +1,4 @@
--- `pack::record::block` meets its contract.
+-- `checking::record::block` meets its contract.
 use mathlib.Core.Path.{refl}
 use Rattle.pack.specs.Pack.{block}
 use Rattle.pack.proofs.StepLaws.{walks}

@@ -1,4 +1,4 @@
--- `pack::record::body` meets its contract.
+-- `checking::record::body` meets its contract.
 use mathlib.Core.Path.{_≡_, refl}
 use native.Mathlib.Omega.{arith}
 use Rattle.pack.specs.Pack.{body}

@@ -1,4 +1,4 @@
--- `pack::record::chain` meets its contract.
+-- `checking::record::chain` meets its contract.
 use mathlib.Core.Path.{refl}
 use Rattle.pack.specs.Pack.{chain}
 use Rattle.pack.proofs.StepLaws.{by-then, then-stop}

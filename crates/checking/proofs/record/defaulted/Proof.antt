@@ -1,4 +1,4 @@
--- `pack::record::defaulted` meets its contract.
+-- `checking::record::defaulted` meets its contract.
 use mathlib.Core.Path.{_≡_, refl, _∙_}
 use native.Mathlib.Omega.{arith}
 use mathlib.Core.List.{List}

@@ -1,4 +1,4 @@
--- `pack::record::defaulted_name` meets its contract.
+-- `checking::record::defaulted_name` meets its contract.
 use mathlib.Core.Path.{_∙_, refl}
 use borrow.Author.Tests.{lt-leb, le-leb}
 use Rattle.pack.specs.Pack.{defaultedName}

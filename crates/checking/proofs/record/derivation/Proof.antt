@@ -1,4 +1,4 @@
--- `pack::record::derivation` meets its contract.
+-- `checking::record::derivation` meets its contract.
 use Rattle.pack.specs.Pack.{derivation}
 use Rattle.pack.proofs.StepLaws.{walks}
 use borrow.Author.Needs.{needs}

@@ -1,4 +1,4 @@
--- `pack::record::hop` meets its contract.
+-- `checking::record::hop` meets its contract.
 use mathlib.Core.Path.{refl}
 use Rattle.pack.specs.Pack.{hop}
 use Rattle.pack.proofs.StepLaws.{walks}

@@ -1,4 +1,4 @@
--- `pack::record::item` meets its contract.
+-- `checking::record::item` meets its contract.
 use mathlib.Core.Path.{refl}
 use Rattle.pack.specs.Pack.{item}
 use Rattle.pack.proofs.StepLaws.{walks}

@@ -1,4 +1,4 @@
--- `pack::record::member` meets its contract.
+-- `checking::record::member` meets its contract.
 use mathlib.Core.Path.{refl}
 use Rattle.pack.specs.Pack.{member}
 use Rattle.pack.specs.Tree.{root}

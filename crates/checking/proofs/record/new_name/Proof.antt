@@ -1,4 +1,4 @@
--- `pack::record::new_name` meets its contract.
+-- `checking::record::new_name` meets its contract.
 use mathlib.Core.Path.{ap, refl}
 use native.Mathlib.Omega.{arith}
 use mathlib.Core.Bool.{not}

@@ -1,4 +1,4 @@
--- `pack::record::optional_derivation` meets its contract.
+-- `checking::record::optional_derivation` meets its contract.
 use mathlib.Core.Path.{refl}
 use Rattle.pack.specs.Pack.{optionalDerivation}
 use Rattle.pack.specs.Table.{entryOf, table}

@@ -1,4 +1,4 @@
--- `pack::record::records` meets its contract.
+-- `checking::record::records` meets its contract.
 use Rattle.pack.specs.Pack.{records}
 use Rattle.pack.proofs.StepLaws.{by-then, then-stop}
 use borrow.Author.Needs.{needs}

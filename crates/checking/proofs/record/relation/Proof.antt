@@ -1,4 +1,4 @@
--- `pack::record::relation` meets its contract.
+-- `checking::record::relation` meets its contract.
 use Rattle.pack.specs.Pack.{relation}
 use Rattle.pack.proofs.StepLaws.{walks}
 use borrow.Author.Needs.{needs}

@@ -1,4 +1,4 @@
--- `pack::record::relation_tail` meets its contract.
+-- `checking::record::relation_tail` meets its contract.
 use mathlib.Core.Path.{refl}
 use Rattle.pack.specs.Pack.{relationTail}
 use Rattle.pack.proofs.StepLaws.{by-then, then-stop}

@@ -1,4 +1,4 @@
--- `pack::record::repeats` meets its contract.
+-- `checking::record::repeats` meets its contract.
 use mathlib.Core.Path.{sym}
 use borrow.Author.Tests.{eq-eqb, ne-eqb}
 use Rattle.checking.proofs.record.repeats.Statement.{statement}

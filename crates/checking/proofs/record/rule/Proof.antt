@@ -1,4 +1,4 @@
--- `pack::record::rule` meets its contract.
+-- `checking::record::rule` meets its contract.
 use mathlib.Core.Path.{refl}
 use Rattle.pack.specs.Pack.{rule}
 use Rattle.pack.proofs.StepLaws.{by-via, by-then, then-stop}

@@ -1,4 +1,4 @@
--- `chains::filtered::alias_of` meets its contract.
+-- `filtered::filtered::alias_of` meets its contract.
 use native.Mathlib.Omega.{arith}
 use Rattle.filtered.proofs.SaidLaws.{alias-few, alias-itself, alias-other}
 use borrow.Author.Needs.{needs}

@@ -1,4 +1,4 @@
--- `chains::filtered::count_up` meets its contract.
+-- `filtered::filtered::count_up` meets its contract.
 use native.Mathlib.Omega.{arith}
 use mathlib.Core.Path.{refl}
 use Prim.Native.Nat.{_-_}

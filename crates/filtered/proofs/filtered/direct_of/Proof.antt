@@ -1,4 +1,4 @@
--- `chains::filtered::direct_of` meets its contract.
+-- `filtered::filtered::direct_of` meets its contract.
 use native.Mathlib.Omega.{arith}
 use Rattle.filtered.proofs.SaidLaws.{direct-few, direct-many, direct-one}
 use Rattle.filtered.proofs.filtered.direct_of.Statement.{statement}

@@ -1,4 +1,4 @@
--- `chains::filtered::fill` meets its contract.
+-- `filtered::filtered::fill` meets its contract.
 use lib.ListN.{length}
 use mathlib.Core.Path.{refl}
 use Rattle.filtered.proofs.SaysLaws.{few-names, is-directed, filter-left}

@@ -1,4 +1,4 @@
--- `chains::filtered::filtered` meets its contract.
+-- `filtered::filtered::filtered` meets its contract.
 use native.Mathlib.Omega.{arith}
 use Rattle.chains.proofs.OperationLaws.{checked}
 use Rattle.filtered.proofs.FilterLaws.{filter-refused, filter-room, filter-asked, filter-done}

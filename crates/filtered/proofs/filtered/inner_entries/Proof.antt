@@ -1,4 +1,4 @@
--- `chains::filtered::inner_entries` meets its contract.
+-- `filtered::filtered::inner_entries` meets its contract.
 use native.Mathlib.Omega.{arith}
 use Prim.Native.Nat.{_-_, _≤_}
 use Rattle.filtered.specs.Said.{entriesIn, Directed}

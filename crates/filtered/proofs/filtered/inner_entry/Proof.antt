@@ -1,4 +1,4 @@
--- `chains::filtered::inner_entry` meets its contract.
+-- `filtered::filtered::inner_entry` meets its contract.
 use native.Mathlib.Omega.{arith}
 use mathlib.Core.Path.{_∙_}
 use Rattle.filtered.proofs.SaidLaws.{entry-none, entry-itself, entry-leads}

@@ -1,4 +1,4 @@
--- `chains::filtered::inner_of` meets its contract.
+-- `filtered::filtered::inner_of` meets its contract.
 use native.Mathlib.Omega.{arith}
 use Rattle.filtered.proofs.SaidLaws.{inner-none, inner-ring, inner-some}
 use borrow.Author.Needs.{needs}

@@ -1,4 +1,4 @@
--- `chains::filtered::mark_inner` meets its contract.
+-- `filtered::filtered::mark_inner` meets its contract.
 use borrow.Author.Needs.{needs}
 use Rattle.filtered.proofs.filtered.mark_inner.Statement.{statement}
 use Rattle.filtered.proofs.filtered.mark_inner.Tie as tie

@@ -1,4 +1,4 @@
--- `chains::filtered::say` meets its contract.
+-- `filtered::filtered::say` meets its contract.
 use borrow.Author.Needs.{needs}
 use Rattle.filtered.proofs.filtered.say.Statement.{statement}
 use Rattle.filtered.proofs.filtered.say.Tie as tie

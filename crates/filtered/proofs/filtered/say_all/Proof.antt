@@ -1,4 +1,4 @@
--- `chains::filtered::say_all` meets its contract.
+-- `filtered::filtered::say_all` meets its contract.
 use native.Mathlib.Omega.{arith}
 use Prim.Native.Nat.{_-_}
 use lib.ListN.{length}

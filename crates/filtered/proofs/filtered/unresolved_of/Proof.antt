@@ -1,4 +1,4 @@
--- `chains::filtered::unresolved_of` meets its contract.
+-- `filtered::filtered::unresolved_of` meets its contract.
 use Rattle.filtered.proofs.SaidLaws.{unresolved-yes, unresolved-no}
 use Rattle.filtered.proofs.filtered.unresolved_of.Statement.{statement}
 use Rattle.filtered.proofs.filtered.unresolved_of.Tie as tie

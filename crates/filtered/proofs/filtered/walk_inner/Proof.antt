@@ -1,4 +1,4 @@
--- `chains::filtered::walk_inner` meets its contract.
+-- `filtered::filtered::walk_inner` meets its contract.
 use Rattle.filtered.proofs.InnerLaws.{walks-asked, walks-left}
 use borrow.Author.Needs.{needs}
 use Rattle.filtered.proofs.filtered.walk_inner.Statement.{statement}

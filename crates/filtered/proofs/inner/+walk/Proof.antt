@@ -1,4 +1,4 @@
--- `chains::inner::walk` meets its contract. What falls at each call is the fuel.
+-- `filtered::inner::walk` meets its contract. What falls at each call is the fuel.
 use Prim.Native.Nat.{ℕ, _<_}
 use native.Mathlib.Omega.{arith}
 use borrow.Author.Needs.{needs}

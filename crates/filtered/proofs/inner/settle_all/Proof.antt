@@ -1,4 +1,4 @@
--- `chains::inner::settle_all` meets its contract.
+-- `filtered::inner::settle_all` meets its contract.
 use native.Mathlib.Omega.{arith}
 use Prim.Native.Nat.{_-_}
 use lib.ListN.{length}

@@ -1,4 +1,4 @@
--- `chains::taking::kind_at` meets its contract.
+-- `filtered::taking::kind_at` meets its contract.
 use native.Mathlib.Omega.{arith}
 use Rattle.filtered.proofs.TakingLaws.{no-list, past-the-words, past-the-count, in-the-list}
 use borrow.Author.Needs.{needs}

@@ -1,4 +1,4 @@
--- `chains::taking::named_after` meets its contract.
+-- `filtered::taking::named_after` meets its contract.
 use Rattle.filtered.proofs.TakingLaws.{not-named, named-before}
 use Rattle.filtered.proofs.taking.named_after.Statement.{statement}
 use Rattle.filtered.proofs.taking.named_after.Tie as tie

@@ -1,4 +1,4 @@
--- `chains::taking::read_tables` meets its contract.
+-- `filtered::taking::read_tables` meets its contract.
 use Rattle.filtered.proofs.TakenKnown.{takeable, filled}
 use borrow.Author.Needs.{needs}
 use Rattle.filtered.proofs.taking.read_tables.Statement.{statement}

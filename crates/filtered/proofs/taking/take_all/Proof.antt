@@ -1,4 +1,4 @@
--- `chains::taking::take_all` meets its contract.
+-- `filtered::taking::take_all` meets its contract.
 use Prim.Native.Nat.{_-_}
 use native.Mathlib.Omega.{arith}
 use lib.ListN.{length, getD}

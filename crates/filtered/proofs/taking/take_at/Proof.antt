@@ -1,4 +1,4 @@
--- `chains::taking::take_at` meets its contract.
+-- `filtered::taking::take_at` meets its contract.
 use native.Mathlib.Omega.{arith}
 use Rattle.filtered.proofs.TakingLaws.{no-entity, an-entity}
 use borrow.Author.Needs.{needs}

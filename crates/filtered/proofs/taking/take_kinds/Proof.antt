@@ -1,4 +1,4 @@
--- `chains::taking::take_kinds` meets its contract.
+-- `filtered::taking::take_kinds` meets its contract.
 use native.Mathlib.Omega.{arith}
 use mathlib.Core.Path.{refl}
 use Rattle.chains.proofs.CheckedLaws.{few-counted}

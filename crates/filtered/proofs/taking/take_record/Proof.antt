@@ -1,4 +1,4 @@
--- `chains::taking::take_record` meets its contract.
+-- `filtered::taking::take_record` meets its contract.
 use Rattle.filtered.proofs.TakingLaws.{none-takes, one-takes}
 use borrow.Author.Needs.{needs}
 use Rattle.filtered.proofs.taking.take_record.Statement.{statement}

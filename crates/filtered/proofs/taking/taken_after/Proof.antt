@@ -1,4 +1,4 @@
--- `chains::taking::taken_after` meets its contract.
+-- `filtered::taking::taken_after` meets its contract.
 use native.Mathlib.Omega.{arith}
 use Rattle.filtered.proofs.TakingLaws.{nothing-taken, first-taken, same-taken, other-taken, small-kind}
 use borrow.Author.Needs.{needs}

@@ -1,4 +1,4 @@
--- `resolve::direction::between` meets its contract.
+-- `nodes::direction::between` meets its contract.
 use Rattle.nodes.proofs.WordLaws.{first-unlike, second-unlike, both-like, in-order, second-missing, turned-round, current-missing, related-missing}
 use Rattle.nodes.proofs.direction.between.Statement.{statement}
 use Rattle.nodes.proofs.direction.between.Tie as tie

@@ -1,4 +1,4 @@
--- `resolve::direction::kind_or_zero` meets its contract.
+-- `nodes::direction::kind_or_zero` meets its contract.
 use Rattle.nodes.proofs.WordLaws.{kind-known, kind-unknown}
 use borrow.Author.Needs.{needs}
 use Rattle.nodes.proofs.direction.kind_or_zero.Statement.{statement}

@@ -1,4 +1,4 @@
--- `resolve::direction::matched` meets its contract.
+-- `nodes::direction::matched` meets its contract.
 use Rattle.nodes.proofs.WordLaws.{both-bear, first-bears, second-bears, kept-first, kept-second, kept-none}
 use Rattle.nodes.proofs.direction.matched.Statement.{statement}
 use Rattle.nodes.proofs.direction.matched.Tie as tie

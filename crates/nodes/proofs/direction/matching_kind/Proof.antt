@@ -1,4 +1,4 @@
--- `resolve::direction::matching_kind` meets its contract.
+-- `nodes::direction::matching_kind` meets its contract.
 use native.Mathlib.Omega.{arith}
 use Rattle.nodes.proofs.WordLaws.{matches-beyond, matches-itself, matches-kind}
 use borrow.Author.Needs.{needs}

@@ -1,4 +1,4 @@
--- `resolve::direction::member` meets its contract.
+-- `nodes::direction::member` meets its contract.
 use native.Mathlib.Omega.{arith}
 use mathlib.Core.Path.{_∙_}
 use Rattle.nodes.proofs.WordLaws.{member-undeclared, member-typed, member-slots, recorded}

@@ -1,4 +1,4 @@
--- `resolve::direction::tested` meets its contract.
+-- `nodes::direction::tested` meets its contract.
 use Rattle.nodes.proofs.WordLaws.{no-membership, untested, is-tested}
 use borrow.Author.Needs.{needs}
 use Rattle.nodes.proofs.direction.tested.Statement.{statement}

@@ -1,4 +1,4 @@
--- `resolve::direction::towards` meets its contract.
+-- `nodes::direction::towards` meets its contract.
 use Rattle.nodes.proofs.WordLaws.{untyped, typed}
 use borrow.Author.Needs.{needs}
 use Rattle.nodes.proofs.direction.towards.Statement.{statement}

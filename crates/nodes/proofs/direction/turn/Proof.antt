@@ -1,4 +1,4 @@
--- `resolve::direction::turn` meets its contract.
+-- `nodes::direction::turn` meets its contract.
 use native.Mathlib.Omega.{arith}
 use mathlib.Core.Path.{_∙_}
 use Rattle.nodes.proofs.WordLaws.{undeclared, not-derived, is-derived, recorded}

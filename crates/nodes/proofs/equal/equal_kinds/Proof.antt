@@ -1,4 +1,4 @@
--- `resolve::equal::equal_kinds` meets its contract.
+-- `nodes::equal::equal_kinds` meets its contract.
 use native.Mathlib.Omega.{arith}
 use Rattle.nodes.proofs.WordLaws.{recorded}
 use Rattle.nodes.proofs.EqualLaws.{no-record, no-derivation, unknown-kinds, known-kinds}

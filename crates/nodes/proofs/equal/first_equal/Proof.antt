@@ -1,4 +1,4 @@
--- `resolve::equal::first_equal` meets its contract.
+-- `nodes::equal::first_equal` meets its contract.
 use Prim.Native.Nat.{_-_}
 use Rattle.nodes.proofs.EqualLaws.{Looking, look, found, look-on, looked, named, counted}
 use borrow.Author.Needs.{needs}

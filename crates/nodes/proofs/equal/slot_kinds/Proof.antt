@@ -1,4 +1,4 @@
--- `resolve::equal::slot_kinds` meets its contract.
+-- `nodes::equal::slot_kinds` meets its contract.
 use Rattle.nodes.proofs.EqualLaws.{first-unknown, second-unknown, both-known}
 use borrow.Author.Needs.{needs}
 use Rattle.nodes.proofs.equal.slot_kinds.Statement.{statement}

@@ -1,4 +1,4 @@
--- `resolve::inputs::after_block` meets its contract.
+-- `nodes::inputs::after_block` meets its contract.
 use Rattle.nodes.proofs.InputWords.{after-none, after-some}
 use borrow.Author.Needs.{needs}
 use Rattle.nodes.proofs.inputs.after_block.Statement.{statement}

@@ -1,4 +1,4 @@
--- `resolve::inputs::input` meets its contract.
+-- `nodes::inputs::input` meets its contract.
 use Rattle.nodes.proofs.InputWords.{the-input}
 use borrow.Author.Needs.{needs}
 use Rattle.nodes.proofs.inputs.input.Statement.{statement}

@@ -1,4 +1,4 @@
--- `resolve::inputs::input_number` meets its contract.
+-- `nodes::inputs::input_number` meets its contract.
 use Rattle.nodes.proofs.InputWords.{number-12, number-13, number-13-again, number-14, number-15, number-15-again, number-0}
 use borrow.Author.Needs.{needs}
 use Rattle.nodes.proofs.inputs.input_number.Statement.{statement}

@@ -1,4 +1,4 @@
--- `resolve::inputs::seen_after` meets its contract.
+-- `nodes::inputs::seen_after` meets its contract.
 use Rattle.nodes.proofs.InputWords.{another-name, first-of-name, more-of-name}
 use Rattle.nodes.proofs.inputs.seen_after.Statement.{statement}
 use Rattle.nodes.proofs.inputs.seen_after.Tie as tie

@@ -1,4 +1,4 @@
--- `resolve::inputs::seen_block` meets its contract.
+-- `nodes::inputs::seen_block` meets its contract.
 use Rattle.nodes.proofs.InputWords.{other-origin, no-sequence, a-sequence}
 use borrow.Author.Needs.{needs}
 use Rattle.nodes.proofs.inputs.seen_block.Statement.{statement}

@@ -1,4 +1,4 @@
--- `resolve::inputs::seen_blocks` meets its contract.
+-- `nodes::inputs::seen_blocks` meets its contract.
 use native.Mathlib.Omega.{arith}
 use Prim.Native.Nat.{_-_, _≤_}
 use Rattle.nodes.proofs.InputWords.{Blocks, begin-blocks, block-near, lacking, next-block, all-blocks}

@@ -1,4 +1,4 @@
--- `resolve::inputs::seen_items` meets its contract.
+-- `nodes::inputs::seen_items` meets its contract.
 use native.Mathlib.Omega.{arith}
 use Prim.Native.Nat.{_-_}
 use Rattle.nodes.proofs.InputWords.{Seeing, begin, at-near, next, done}

@@ -1,4 +1,4 @@
--- `resolve::slots::kind_code` meets its contract.
+-- `nodes::slots::kind_code` meets its contract.
 use borrow.Author.Needs.{needs}
 use Rattle.nodes.proofs.slots.kind_code.Statement.{statement}
 use Rattle.nodes.proofs.slots.kind_code.Tie as tie

@@ -1,4 +1,4 @@
--- `resolve::slots::member_node` meets its contract.
+-- `nodes::slots::member_node` meets its contract.
 use native.Mathlib.Omega.{arith}
 use Rattle.nodes.proofs.SlotLaws.{three-words, relation-below}
 use Rattle.nodes.proofs.StepWords.{member-fits-code, member-stepped}

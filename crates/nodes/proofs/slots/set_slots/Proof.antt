@@ -1,4 +1,4 @@
--- `resolve::slots::set_slots` meets its contract.
+-- `nodes::slots::set_slots` meets its contract.
 use native.Mathlib.Omega.{arith}
 use Rattle.nodes.proofs.SlotLaws.{three-words, slots-small, left-open, slots-set}
 use borrow.Author.Needs.{needs}

@@ -1,4 +1,4 @@
--- `resolve::slots::test_code` meets its contract.
+-- `nodes::slots::test_code` meets its contract.
 use borrow.Author.Needs.{needs}
 use Rattle.nodes.proofs.slots.test_code.Statement.{statement}
 use Rattle.nodes.proofs.slots.test_code.Tie as tie

@@ -1,4 +1,4 @@
--- `resolve::slots::turn_node` meets its contract.
+-- `nodes::slots::turn_node` meets its contract.
 use native.Mathlib.Omega.{arith}
 use Rattle.nodes.proofs.SlotLaws.{three-words, relation-below, turned-fits, node-turned}
 use borrow.Author.Needs.{needs}

@@ -1,4 +1,4 @@
--- `resolve::words::place_of_blocks` meets its contract: the place looked for is below the place reached.
+-- `nodes::words::place_of_blocks` meets its contract: the place looked for is below the place reached.
 use native.Mathlib.Omega.{arith}
 use Prim.Native.Nat.{_≤_, _<_}
 use lib.ListN.{length}

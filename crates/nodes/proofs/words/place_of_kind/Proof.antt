@@ -1,4 +1,4 @@
--- `resolve::words::place_of_kind` meets its contract.
+-- `nodes::words::place_of_kind` meets its contract.
 use native.Mathlib.Omega.{arith}
 use Prim.Native.Nat.{_-_}
 use lib.ListN.{length}

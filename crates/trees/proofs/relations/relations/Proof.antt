@@ -1,4 +1,4 @@
--- `resolve::relations::relations` meets its contract.
+-- `trees::relations::relations` meets its contract.
 use native.Mathlib.Omega.{arith}
 use mathlib.Core.Path.{sym, _∙_}
 use Rattle.trees.specs.Passes.{RelationsAsked}

@@ -1,4 +1,4 @@
--- `resolve::trees::fill_tables` meets its contract.
+-- `trees::trees::fill_tables` meets its contract.
 use native.Mathlib.Omega.{arith}
 use Rattle.chains.proofs.CheckedLaws.{few-counted}
 use Rattle.chains.proofs.OperationLaws.{kinds-asked}
