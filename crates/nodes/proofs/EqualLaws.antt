@@ -1,7 +1,7 @@
 -- Laws of equal kinds in both slots.
 use Prim.Native.Nat.{ℕ, suc, _+_, _-_, _<_, _≤_}
 use native.Mathlib.Omega.{arith}
-use mathlib.Core.Path.{_≡_, refl, ap, sym, _∙_}
+use mathlib.Core.Path.{_≡_, refl, ap, sym, subst, _∙_}
 use mathlib.Core.List.{List}
 use mathlib.Core.Bool.{Bool, true, false}
 use mathlib.Core.Option.{Option, none, some}
@@ -12,14 +12,14 @@ use Rattle.filtered.specs.declared.taking.Kind.{Kind}
 use Rattle.filtered.specs.declared.taking.Kind.the-variants as kind
 use Rattle.chains.specs.Operations.{namesAt}
 use Rattle.filtered.specs.Filtered.{kindAt}
-use Rattle.filtered.specs.Taking.{KindFound, kindIn}
+use Rattle.filtered.specs.Taking.{KindFound, kindIn, Small}
 use Rattle.nodes.specs.declared.direction.Membership as direction
 use Rattle.nodes.specs.declared.direction.Membership.the-variants.{Kinds, Unknown}
 use Rattle.nodes.specs.Direction.{Membership, membership}
 use Rattle.nodes.specs.Resolving.{sameKind}
 use Rattle.pack.specs.Table.{pick}
 use Rattle.pack.specs.Table as table
-use Rattle.nodes.specs.Words.{firstEqual, DefaultedFit, derivedIn, equalIn, slotKindsIn, membershipOf}
+use Rattle.nodes.specs.Words.{firstEqual, DefaultedFit, derivedIn, equalIn, slotKindsIn, membershipOf, MembershipFits}
 use Rattle.chains.specs.Record.{valueAt, flagAt, slotsPlace}
 
 -- ---- the kinds in the slots
@@ -30,6 +30,9 @@ is-known ws list slot f e = sym (f .is) ∙ ap kindIn e
 pub is-unknown : (ws : List ℕ) (list slot : ℕ) {found : Kind} → KindFound ws list slot found → found ≡ kind.Unknown → kindAt (namesAt ws list) slot ≡ none
 is-unknown ws list slot f e = sym (f .is) ∙ ap kindIn e
 
+is-small : (ws : List ℕ) (list slot : ℕ) {found : Kind} {k : ℕ} → KindFound ws list slot found → found ≡ kind.Is k → k < 16777216
+is-small ws list slot f e = subst Small e (f .small)
+
 module _ (ws work : List ℕ) (list start : ℕ) {at x : ℕ} (s : at ≡ slotsPlace work start) (u : x ≡ valueAt work at) where
   pub first-unknown : {f : Kind} → KindFound ws list x f → f ≡ kind.Unknown → none ≡ slotKindsIn ws work list start
   first-unknown f e = rw (← s, ← u, is-unknown ws list x f e) refl
@@ -37,6 +40,9 @@ module _ (ws work : List ℕ) (list start : ℕ) {at x : ℕ} (s : at ≡ slotsP
   module _ {f : Kind} {c y : ℕ} (found : KindFound ws list x f) (e : f ≡ kind.Is c) (v : y ≡ valueAt work (at + 1)) where
     pub second-unknown : {g : Kind} → KindFound ws list y g → g ≡ kind.Unknown → none ≡ slotKindsIn ws work list start
     second-unknown g h = rw (← s, ← u, ← v, is-known ws list x found e, is-unknown ws list y g h) refl
+
+    pub both-small : {g : Kind} {r : ℕ} → KindFound ws list y g → g ≡ kind.Is r → MembershipFits (Kinds c r)
+    both-small g h = (is-small ws list x found e, is-small ws list y g h)
 
     pub both-known : {g : Kind} {r : ℕ} → KindFound ws list y g → g ≡ kind.Is r → some (c, r) ≡ slotKindsIn ws work list start
     both-known g h = rw (← s, ← u, ← v, is-known ws list x found e, is-known ws list y g h) refl

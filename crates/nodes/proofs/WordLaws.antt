@@ -1,7 +1,7 @@
 -- What the code reads of a relation by place, in each way out.
-use Prim.Native.Nat.{ℕ, suc, _+_, _-_, _<_, _≤_}
+use Prim.Native.Nat.{ℕ, zero, suc, _+_, _-_, _*_, _/_, _%_, _<_, _≤_}
 use native.Mathlib.Omega.{arith}
-use mathlib.Core.Path.{_≡_, refl, ap, sym, _∙_}
+use mathlib.Core.Path.{_≡_, refl, ap, sym, subst, _∙_}
 use mathlib.Core.List.{List, [], _∷_, _++_, append-nil, append-assoc}
 use mathlib.Core.Bool.{Bool, true, false}
 use mathlib.Core.Option.{Option, none, some}
@@ -23,7 +23,7 @@ use Rattle.nodes.specs.declared.direction.Membership as direction
 use Rattle.nodes.specs.declared.direction.Membership.the-variants.{Kinds, Unknown}
 use Rattle.nodes.specs.Direction.{bearing, orElse, kindOrZero, matched, towards, turn, Membership, eachOnce, between, tested, member}
 use Rattle.nodes.specs.Tables.{Derived, Tables}
-use Rattle.nodes.specs.Words.{directBy, typedIn, derivedIn, tablesIn, membershipOf, MemberTurned}
+use Rattle.nodes.specs.Words.{directBy, typedIn, derivedIn, tablesIn, membershipOf, membershipIn, MembershipFits, MemberTurned}
 use Rattle.chains.specs.Record.{valueAt, kindCount, flagAt, slotsPlace, Recorded}
 
 -- ---- a kind or 0
@@ -134,6 +134,25 @@ pub recorded : (records : List ℕ) (n : ℕ) → Recorded records → getD reco
 unfolding Recorded
 recorded records n h = h n
 
+-- ---- a membership in one number
+
+pub from-code : (code : ℕ) → (code ≡ 0 → ⊥) → some ((code - 1) % 16777216, (code - 1) / 16777216 % 16777216) ≡ membershipIn code
+from-code zero h = absurd (h refl)
+from-code (suc x) h = let z : suc x - 1 ≡ x = omega arith in rw z refl
+
+kinds-back : (c r : ℕ) → c < 16777216 → r < 16777216 → membershipIn (1 + (c + 16777216 * r)) ≡ some (c, r)
+kinds-back c r p q =
+    let code : ℕ = 1 + (c + 16777216 * r) in
+    let low : (code - 1) % 16777216 ≡ c = omega arith in
+    let high : (code - 1) / 16777216 ≡ r = omega arith in
+    let whole : r % 16777216 ≡ r = omega arith in
+    sym (from-code code (λ (z : code ≡ 0). omega arith)) ∙ rw (low, high, whole) refl
+
+pub code-known : {m : direction.Membership} {c r : ℕ} → m ≡ Kinds c r → MembershipFits m → membershipIn (1 + (c + 16777216 * r)) ≡ membershipOf m
+code-known {m} {c} {r} e h =
+    let fits : MembershipFits (Kinds c r) = subst MembershipFits e h in
+    kinds-back c r (fits .0) (fits .1) ∙ rw e refl
+
 -- ---- a test of membership
 
 module _ (a b c r x y : ℕ) where
@@ -185,8 +204,8 @@ module _ (a b c r x y : ℕ) where
             sym (rw (ne-eqb c r unlike, ne-eqb a c p, ne-eqb a r q, e, u) refl)
 
 module _ (ws : List ℕ) (start x y : ℕ) (flag : flagAt ws start ≡ 1 → ⊥) where
-  pub no-membership : {m : direction.Membership} → m ≡ Unknown → Turned x y 0 ≡ tested (typedIn ws start) (membershipOf m) x y
-  no-membership e = rw e (go (typedIn ws start))
+  pub no-membership : {o : Membership} {m : direction.Membership} → membershipOf m ≡ o → m ≡ Unknown → Turned x y 0 ≡ tested (typedIn ws start) o x y
+  no-membership q e = rw (← q, e) (go (typedIn ws start))
     where
       go : (o : Option (List ℕ)) → Turned x y 0 ≡ tested o none x y
       go none = refl
@@ -197,10 +216,10 @@ module _ (ws : List ℕ) (start x y : ℕ) (flag : flagAt ws start ≡ 1 → ⊥
     unfolding typedIn
     untested m z = sym (rw (ne-eqb (flagAt ws start) 1 flag, ← k, ne-eqb count 2 z) refl)
 
-    pub is-tested : count ≡ 2 → {m : direction.Membership} {a b c r : ℕ} {d : Direction} → m ≡ Kinds c r → a ≡ valueAt ws (start + 4) → b ≡ valueAt ws (start + 5) → d ≡ between (a ∷ b ∷ []) (c, r) x y
-        → d ≡ tested (typedIn ws start) (membershipOf m) x y
+    pub is-tested : count ≡ 2 → {o : Membership} {m : direction.Membership} {a b c r : ℕ} {d : Direction} → membershipOf m ≡ o → m ≡ Kinds c r → a ≡ valueAt ws (start + 4) → b ≡ valueAt ws (start + 5) → d ≡ between (a ∷ b ∷ []) (c, r) x y
+        → d ≡ tested (typedIn ws start) o x y
     unfolding typedIn
-    is-tested z e u v q = q ∙ sym (rw (e, ne-eqb (flagAt ws start) 1 flag, ← k, eq-eqb count 2 z, ← u, ← v) refl)
+    is-tested z s e u v q = q ∙ sym (rw (← s, e, ne-eqb (flagAt ws start) 1 flag, ← k, eq-eqb count 2 z, ← u, ← v) refl)
 
 member-plain : (T : Tables) (n : ℕ) (m : Membership) (x y : ℕ) → T .derived n ≡ none → member T n m x y ≡ tested (T .typed n) m x y
 unfolding member

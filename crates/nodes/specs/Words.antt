@@ -1,5 +1,5 @@
 -- What the code reads of a relation from the words of a pack.
-use Prim.Native.Nat.{ℕ, zero, suc, _+_, _-_, _<_}
+use Prim.Native.Nat.{ℕ, zero, suc, _+_, _-_, _/_, _%_, _<_}
 use mathlib.Core.Path.{_≡_}
 use mathlib.Core.List.{List, [], _∷_}
 use mathlib.Core.Option.{Option, none, some}
@@ -49,6 +49,16 @@ tablesIn ws records marks taken =
 abbrev pub membershipOf : direction.Membership → Membership
 membershipOf (Kinds c r) = some (c, r)
 membershipOf Unknown = none
+
+-- its kinds are values
+abbrev pub MembershipFits : direction.Membership → Type 0
+MembershipFits (Kinds c r) = (c < 16777216) × (r < 16777216)
+MembershipFits Unknown = Unit {0}
+
+-- the same in one number: 0 where it is not known, else one more than the current kind and 16777216 times the related one
+abbrev pub membershipIn : ℕ → Membership
+membershipIn zero = none
+membershipIn (suc x) = some (x % 16777216, x / 16777216 % 16777216)
 
 -- a test of membership comes out as the tables say, whatever they say of marks and entities
 pub record MemberTurned (ws records : List ℕ) (relation : ℕ) (m : Membership) (current related : ℕ) (d : Direction) : Type 0 where

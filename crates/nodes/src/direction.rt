@@ -13,7 +13,7 @@ ghost use mathlib.Core.List.{[], _∷_};
 ghost use Prim.Native.Nat.{_<_, _≤_};
 ghost use Rattle.chains.specs.Operations.{namesAt};
 ghost use Rattle.nodes.specs.Direction.{bearing, orElse, kindOrZero, matched, towards, turn, between, tested};
-ghost use Rattle.nodes.specs.Words.{typedIn, directBy, tablesIn, membershipOf, MemberTurned};
+ghost use Rattle.nodes.specs.Words.{typedIn, directBy, tablesIn, membershipOf, membershipIn, MembershipFits, MemberTurned};
 ghost use Rattle.chains.specs.Record.{flagAt, Recorded};
 
 // How a node comes out: its slots and the kind that results; or its direction is open, between slots of this kind or entity.
@@ -26,6 +26,35 @@ pub enum Direction {
 pub enum Membership {
     Kinds(u32, u32),
     Unknown,
+}
+
+// A membership in one number, as the walkers hand it on: UNKNOWN, or one more than the current kind and VALUES times the
+// related one.
+pub struct Code {}
+
+impl Code {
+    pub const UNKNOWN: u64 = 0;
+}
+
+pub fn membership_code(m: Membership) -> u64
+    requires { ⌜ MembershipFits m ⌝ }
+    ensures { λ r. ⌜ membershipIn r ≡ membershipOf m ⌝ }
+{
+    let Membership::Kinds(c, r) = m else {
+        return Code::UNKNOWN;
+    };
+    1 + (c as u64 + Pack::VALUES as u64 * r as u64)
+}
+
+fn membership_of(code: u64) -> Membership
+    ensures { λ r. ⌜ membershipOf r ≡ membershipIn code ⌝ }
+{
+    if code == Code::UNKNOWN {
+        return Membership::Unknown;
+    }
+    let x = code - 1;
+    let values = Pack::VALUES as u64;
+    Membership::Kinds((x % values) as u32, (x / values % values) as u32)
 }
 
 // The kind at a slot of the list whose count word stands at a place, or 0.
@@ -150,11 +179,11 @@ pub fn turn(
 }
 
 // A test of membership over a relation without derivation, whose record starts at a place.
-fn tested(pack: &[u32], start: usize, m: Membership, current: u32, related: u32) -> Direction
+fn tested(pack: &[u32], start: usize, m: u64, current: u32, related: u32) -> Direction
     requires { ⌜ (start ≤ 65536) × (flagAt (now pack) start ≡ 1 → ⊥) ⌝ }
-    ensures { λ r. ⌜ r ≡ tested (typedIn (now (pack .entry)) start) (membershipOf m) current related ⌝ }
+    ensures { λ r. ⌜ r ≡ tested (typedIn (now (pack .entry)) start) (membershipIn m) current related ⌝ }
 {
-    let Membership::Kinds(c, r) = m else {
+    let Membership::Kinds(c, r) = membership_of(m) else {
         return Direction::Turned(current, related, 0);
     };
     if kind_count(pack, start) != 2 {
@@ -170,12 +199,12 @@ pub fn member(
     pack: &[u32],
     records: &[u32; 4096],
     relation: usize,
-    m: Membership,
+    m: u64,
     current: u32,
     related: u32,
 ) -> Direction
     requires { ⌜ Recorded (now records) × (relation < 4096) ⌝ }
-    ensures { λ r. ⌜ MemberTurned (now (pack .entry)) (now (records .entry)) relation (membershipOf m) current related r ⌝ }
+    ensures { λ r. ⌜ MemberTurned (now (pack .entry)) (now (records .entry)) relation (membershipIn m) current related r ⌝ }
 {
     let start = records[relation] as usize;
     if start == 0 {

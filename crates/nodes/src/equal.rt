@@ -9,14 +9,14 @@ use filtered::taking::place_of;
 use pack::kinds::Pack;
 ghost use mathlib.Core.Path.{_≡_};
 ghost use Prim.Native.Nat.{_<_, _≤_};
-ghost use Rattle.nodes.specs.Words.{membershipOf, slotKindsIn, equalIn, firstEqual, DefaultedFit};
+ghost use Rattle.nodes.specs.Words.{membershipOf, MembershipFits, slotKindsIn, equalIn, firstEqual, DefaultedFit};
 ghost use Rattle.chains.specs.Record.{Recorded, valueAt};
 
 // The kinds in the slots of a derived relation whose record starts at a place of some words, from the list of the pack
 // that settles it.
 pub fn slot_kinds(pack: &[u32], work: &[u32], list: u32, start: usize) -> Membership
     requires { ⌜ start ≤ 65536 ⌝ }
-    ensures { λ r. ⌜ membershipOf r ≡ slotKindsIn (now (pack .entry)) (now (work .entry)) list start ⌝ }
+    ensures { λ r. ⌜ (membershipOf r ≡ slotKindsIn (now (pack .entry)) (now (work .entry)) list start) × MembershipFits r ⌝ }
 {
     let at = slots_place(work, start);
     let Kind::Is(c) = kind_at(pack, list, value_at(work, at)) else {

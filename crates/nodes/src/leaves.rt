@@ -1,10 +1,9 @@
 // Nodes with slots and without children, resolved in place: how many words they have, or a refusal's code.
-use crate::direction::Membership;
 use crate::slots::member_node;
 use crate::slots::only_node;
 use pack::kinds::Pack;
 ghost use Prim.Native.Nat.{_<_, _≤_};
-ghost use Rattle.nodes.specs.Words.{membershipOf};
+ghost use Rattle.nodes.specs.Words.{membershipIn};
 ghost use Rattle.nodes.specs.Walk.{NodeAsked, MemberWalked, OnlyWalked};
 
 // The blocks and the origin of the citing rule or relation: where the first block stands and how many they are.
@@ -21,10 +20,10 @@ pub fn relation_member(
     work: &mut [u32],
     place: u32,
     entity: u32,
-    m: Membership,
+    m: u64,
 ) -> u64
     requires { ⌜ NodeAsked (now records) 101 (now work) place × (entity < 16777216) ⌝ }
-    ensures { λ r. ⌜ MemberWalked (now (pack .entry)) (now (records .entry)) entity (membershipOf m) place (now (work .entry)) r (now (work .exit)) ⌝ }
+    ensures { λ r. ⌜ MemberWalked (now (pack .entry)) (now (records .entry)) entity (membershipIn m) place (now (work .entry)) r (now (work .exit)) ⌝ }
 {
     let code = member_node(pack, records, work, place, entity, m);
     if Pack::VALUES as u64 <= code {

@@ -1,13 +1,12 @@
 // The slots of a node that stands at the front of a slice.
 use crate::direction::Direction;
-use crate::direction::Membership;
 use crate::direction::member;
 use crate::direction::turn;
 use crate::inputs::input;
 use pack::kinds::Pack;
 ghost use mathlib.Core.Path.{_≡_};
 ghost use Prim.Native.Nat.{_<_, _≤_};
-ghost use Rattle.nodes.specs.Words.{tablesIn, membershipOf};
+ghost use Rattle.nodes.specs.Words.{tablesIn, membershipIn};
 ghost use Rattle.nodes.specs.Blocks.{inputIn};
 ghost use Rattle.nodes.specs.Walk.{TwoSlots, SlotsFit, SlotsSet, refusalCode, kindCode, testCode, TurnAsked, NodeTurned, MemberStepped, onlyNumber, OnlyAsked, OnlyStepped};
 
@@ -90,10 +89,10 @@ pub fn member_node(
     work: &mut [u32],
     place: u32,
     entity: u32,
-    m: Membership,
+    m: u64,
 ) -> u64
     requires { ⌜ TurnAsked (now records) (now work) place 0 ⌝ }
-    ensures { λ r. ⌜ MemberStepped (now (pack .entry)) (now (records .entry)) (now (work .entry)) place entity (membershipOf m) r (now (work .exit)) ⌝ }
+    ensures { λ r. ⌜ MemberStepped (now (pack .entry)) (now (records .entry)) (now (work .entry)) place entity (membershipIn m) r (now (work .exit)) ⌝ }
 {
     let relation = (work[0] % Pack::VALUES) as usize;
     let current = work[1] % Pack::VALUES;

@@ -13,7 +13,7 @@ use Rattle.pack.specs.Tree.{Tree, node, tree}
 use Rattle.nodes.specs.declared.leaves.Cited.{Cited}
 use Rattle.nodes.specs.declared.direction.Membership as direction
 use Rattle.nodes.specs.Direction.{Membership}
-use Rattle.nodes.specs.Words.{membershipOf}
+use Rattle.nodes.specs.Words.{membershipIn}
 use Rattle.nodes.specs.Turning.{Outcome, done, refused, Citing, treeWords, size, sizes, resolveTree}
 use Rattle.trees.specs.Rows.{joined, headWords}
 use Rattle.nodes.specs.Walk.{citingIn, Came, TreeAsked, NodeAsked, RowAsked, TreeTurned, RowTurned, MemberWalked, OnlyWalked}
@@ -85,27 +85,27 @@ and-more sort (suc j) k = ap (λ (l : List ℕ). sort ∷ l) (and-more sort j k)
 part-word : (at : ℕ) (work : List ℕ) → getD (part at work) 0 0 ≡ getD work at 0
 part-word at work = ap (λ (l : List ℕ). getD l 0 0) (part-drop at work) ∙ getD-drop at work 0 0 ∙ ap (λ (n : ℕ). getD work n 0) (let e : at + 0 ≡ at = omega arith in e)
 
-module _ (pack records marks taken : List ℕ) (cited : Cited) (work₀ : List ℕ) (place entity : ℕ) (m : direction.Membership) (count left sort : ℕ) where
+module _ (pack records marks taken : List ℕ) (cited : Cited) (work₀ : List ℕ) (place entity m count left sort : ℕ) where
   abbrev On : List ℕ → ℕ → List ℕ → Type 0
   On sorts at work =
       Going pack records marks taken (cited .blocks) (cited .count) (cited .origin) left entity place work₀
-      (rowCases pack records marks taken (cited .blocks) (cited .count) (cited .origin) left sort count entity (membershipOf m) place work₀) sorts (membershipOf m) (membershipOf m) at work
+      (rowCases pack records marks taken (cited .blocks) (cited .count) (cited .origin) left sort count entity (membershipIn m) place work₀) sorts (membershipIn m) (membershipIn m) at work
 
   -- at a word, with so many trees to come
   pub record Row (work : List ℕ) (at k : ℕ) : Type 0 where
     pub on : On (replicate k sort) at work
 
   pub row-begins : Row work₀ 0 count
-  row-begins = record { on = row-going pack records marks taken (cited .blocks) (cited .count) (cited .origin) left sort count entity (membershipOf m) place work₀ }
+  row-begins = record { on = row-going pack records marks taken (cited .blocks) (cited .count) (cited .origin) left sort count entity (membershipIn m) place work₀ }
 
   abbrev Turned : ℕ → List ℕ → Type 0
-  Turned code work = RowTurned pack records marks taken (cited .blocks) (cited .count) (cited .origin) left sort count entity (membershipOf m) place work₀ code work
+  Turned code work = RowTurned pack records marks taken (cited .blocks) (cited .count) (cited .origin) left sort count entity (membershipIn m) place work₀ code work
 
   module _ {work : List ℕ} {at k : ℕ} (g : Row work at k) where
     pub row-ends : k ≤ 0 → Turned at work
     row-ends h =
         let none : k ≡ 0 = omega arith in
-        row-shown pack records marks taken (cited .blocks) (cited .count) (cited .origin) left sort count entity (membershipOf m) place work₀
+        row-shown pack records marks taken (cited .blocks) (cited .count) (cited .origin) left sort count entity (membershipIn m) place work₀
         (going-end pack records marks taken (cited .blocks) (cited .count) (cited .origin) left entity place work₀ _ (subst (λ (n : ℕ). On (replicate n sort) at work) none (g .on)))
 
     module _ (a : RowAsked records left sort count work₀ place entity (cited .blocks) (cited .count)) where
@@ -136,13 +136,13 @@ module _ (pack records marks taken : List ℕ) (cited : Cited) (work₀ : List �
       pub row-kind : {kind : ℕ} → kind ≡ kindOf (getD work at 0) → kind ≡ kindOf (getD (part at work) 0 0)
       row-kind e = e ∙ ap (λ (x : ℕ). kindOf x) (sym (part-word at work))
 
-      module _ {code : ℕ} {l : List ℕ} (w : TreeTurned pack records marks taken (cited .blocks) (cited .count) (cited .origin) left sort entity (membershipOf m) (place + at) (part at work) code l) where
+      module _ {code : ℕ} {l : List ℕ} (w : TreeTurned pack records marks taken (cited .blocks) (cited .count) (cited .origin) left sort entity (membershipIn m) (place + at) (part at work) code l) where
         pub row-goes : code < 16777216 → length l ≡ length (part at work) → Row (back at work l) (at + code) (k - 1)
         row-goes small same = record { on = going-next pack records marks taken (cited .blocks) (cited .count) (cited .origin) left entity place work₀ _ on-next w small same }
 
         pub row-stops : 16777216 ≤ code → length work < 16777216 → Turned code (back at work l)
         row-stops big short =
-            row-shown pack records marks taken (cited .blocks) (cited .count) (cited .origin) left sort count entity (membershipOf m) place work₀
+            row-shown pack records marks taken (cited .blocks) (cited .count) (cited .origin) left sort count entity (membershipIn m) place work₀
             (going-refused pack records marks taken (cited .blocks) (cited .count) (cited .origin) left entity place work₀ _ on-next w big short)
 
 -- a tree that is done has words
@@ -179,7 +179,7 @@ is-compared e (inr h) other = absurd (other (e ∙ h))
 
 -- ---- leaves and plain nodes of a row
 
-module _ (pack records marks taken : List ℕ) (cited : Cited) (work₀ : List ℕ) (place entity : ℕ) (m : direction.Membership) (count left : ℕ) {work : List ℕ} {at k kind : ℕ} where
+module _ (pack records marks taken : List ℕ) (cited : Cited) (work₀ : List ℕ) (place entity m count left : ℕ) {work : List ℕ} {at k kind : ℕ} where
   pub scalars-join : Row pack records marks taken cited work₀ place entity m count left scalar work at k → 0 < k → RowAsked records left scalar count work₀ place entity (cited .blocks) (cited .count)
       → kind ≡ kindOf (getD work at 0) → kind ≤ 70 → {more : ℕ} → more ≡ joined (entryOf (kindOf (getD work at 0)) .follows) (valueOf (getD work at 0))
       → Row pack records marks taken cited work₀ place entity m count left scalar work (at + 1) (k - 1 + more)

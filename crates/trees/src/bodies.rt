@@ -1,6 +1,6 @@
 // The bodies of a rule, resolved where they stand in the words.
 use crate::walk::tree;
-use nodes::direction::Membership;
+use nodes::direction::Code;
 use nodes::leaves::Cited;
 use pack::answer::Answer;
 use pack::answer::Refusal;
@@ -47,7 +47,7 @@ fn body(
         &mut work[at + 1..],
         at as u32 + 1,
         entity,
-        Membership::Unknown,
+        Code::UNKNOWN,
         sort,
         Pack::DEPTH,
     );

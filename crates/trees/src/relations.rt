@@ -8,6 +8,7 @@ use chains::record::slots_place;
 use chains::record::value_at;
 use filtered::taking::place_of;
 use nodes::direction::kind_or_zero;
+use nodes::direction::membership_code;
 use nodes::equal::slot_kinds;
 use nodes::leaves::Cited;
 use pack::answer::Answer;
@@ -37,7 +38,7 @@ fn predicate(
     let list = place_of(marks, name as usize);
     let related = value_at(work, slots_place(work, at) + 1);
     let entity = kind_or_zero(pack, list, related);
-    let m = slot_kinds(pack, work, list, at);
+    let m = membership_code(slot_kinds(pack, work, list, at));
     let place = predicate_place(work, at);
     let code = tree(
         pack,

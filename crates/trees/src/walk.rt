@@ -4,7 +4,7 @@
 use crate::rows::head_words;
 use crate::rows::judgments_after;
 use crate::rows::scalars_after;
-use nodes::direction::Membership;
+use nodes::direction::Code;
 use nodes::leaves::Cited;
 use nodes::leaves::only_related;
 use nodes::leaves::relation_member;
@@ -16,7 +16,7 @@ ghost use mathlib.Core.Logic.{_⊎_};
 ghost use Prim.Native.Nat.{_<_, _≤_};
 ghost use lib.ListN.{getD};
 ghost use Rattle.pack.specs.Table.{kindOf};
-ghost use Rattle.nodes.specs.Words.{membershipOf};
+ghost use Rattle.nodes.specs.Words.{membershipIn};
 ghost use Rattle.nodes.specs.Walk.{TreeAsked, RowAsked, TreeTurned, RowTurned};
 
 // A row of scalars.
@@ -29,12 +29,12 @@ fn scalars(
     work: &mut [u32],
     place: u32,
     entity: u32,
-    m: Membership,
+    m: u64,
     count: u32,
     left: u32,
 ) -> u64
     requires { ⌜ RowAsked (now records) left 0 count (now work) place entity (cited .blocks) (cited .count) ⌝ }
-    ensures { λ r. ⌜ RowTurned (now (pack .entry)) (now (records .entry)) (now (marks .entry)) (now (taken .entry)) (cited .blocks) (cited .count) (cited .origin) left 0 count entity (membershipOf m) place (now (work .entry)) r (now (work .exit)) ⌝ }
+    ensures { λ r. ⌜ RowTurned (now (pack .entry)) (now (records .entry)) (now (marks .entry)) (now (taken .entry)) (cited .blocks) (cited .count) (cited .origin) left 0 count entity (membershipIn m) place (now (work .entry)) r (now (work .exit)) ⌝ }
 {
     let mut at: usize = 0;
     let mut k = count;
@@ -76,12 +76,12 @@ fn judgments(
     work: &mut [u32],
     place: u32,
     entity: u32,
-    m: Membership,
+    m: u64,
     count: u32,
     left: u32,
 ) -> u64
     requires { ⌜ RowAsked (now records) left 1 count (now work) place entity (cited .blocks) (cited .count) ⌝ }
-    ensures { λ r. ⌜ RowTurned (now (pack .entry)) (now (records .entry)) (now (marks .entry)) (now (taken .entry)) (cited .blocks) (cited .count) (cited .origin) left 1 count entity (membershipOf m) place (now (work .entry)) r (now (work .exit)) ⌝ }
+    ensures { λ r. ⌜ RowTurned (now (pack .entry)) (now (records .entry)) (now (marks .entry)) (now (taken .entry)) (cited .blocks) (cited .count) (cited .origin) left 1 count entity (membershipIn m) place (now (work .entry)) r (now (work .exit)) ⌝ }
 {
     let mut at: usize = 0;
     let mut k = count;
@@ -126,11 +126,11 @@ fn scalar(
     work: &mut [u32],
     place: u32,
     entity: u32,
-    m: Membership,
+    m: u64,
     left: u32,
 ) -> u64
     requires { ⌜ TreeAsked (now records) left 0 (now work) place entity (cited .blocks) (cited .count) × (71 ≤ kindOf (getD (now work) 0 0)) ⌝ }
-    ensures { λ r. ⌜ TreeTurned (now (pack .entry)) (now (records .entry)) (now (marks .entry)) (now (taken .entry)) (cited .blocks) (cited .count) (cited .origin) left 0 entity (membershipOf m) place (now (work .entry)) r (now (work .exit)) ⌝ }
+    ensures { λ r. ⌜ TreeTurned (now (pack .entry)) (now (records .entry)) (now (marks .entry)) (now (taken .entry)) (cited .blocks) (cited .count) (cited .origin) left 0 entity (membershipIn m) place (now (work .entry)) r (now (work .exit)) ⌝ }
 {
     match kind_of(work[0]) {
         Pack::COUNT..=Pack::SINGLE => aggregate(
@@ -171,11 +171,11 @@ fn parted(
     work: &mut [u32],
     place: u32,
     entity: u32,
-    m: Membership,
+    m: u64,
     left: u32,
 ) -> u64
     requires { ⌜ TreeAsked (now records) left 0 (now work) place entity (cited .blocks) (cited .count) × (71 ≤ kindOf (getD (now work) 0 0)) × (kindOf (getD (now work) 0 0) ≤ 73) ⌝ }
-    ensures { λ r. ⌜ TreeTurned (now (pack .entry)) (now (records .entry)) (now (marks .entry)) (now (taken .entry)) (cited .blocks) (cited .count) (cited .origin) left 0 entity (membershipOf m) place (now (work .entry)) r (now (work .exit)) ⌝ }
+    ensures { λ r. ⌜ TreeTurned (now (pack .entry)) (now (records .entry)) (now (marks .entry)) (now (taken .entry)) (cited .blocks) (cited .count) (cited .origin) left 0 entity (membershipIn m) place (now (work .entry)) r (now (work .exit)) ⌝ }
 {
     match kind_of(work[0]) {
         Pack::IF => choice(
@@ -227,11 +227,11 @@ fn judgment(
     work: &mut [u32],
     place: u32,
     entity: u32,
-    m: Membership,
+    m: u64,
     left: u32,
 ) -> u64
     requires { ⌜ TreeAsked (now records) left 1 (now work) place entity (cited .blocks) (cited .count) × ((kindOf (getD (now work) 0 0) ≡ 96) ⊎ (kindOf (getD (now work) 0 0) ≡ 101)) ⌝ }
-    ensures { λ r. ⌜ TreeTurned (now (pack .entry)) (now (records .entry)) (now (marks .entry)) (now (taken .entry)) (cited .blocks) (cited .count) (cited .origin) left 1 entity (membershipOf m) place (now (work .entry)) r (now (work .exit)) ⌝ }
+    ensures { λ r. ⌜ TreeTurned (now (pack .entry)) (now (records .entry)) (now (marks .entry)) (now (taken .entry)) (cited .blocks) (cited .count) (cited .origin) left 1 entity (membershipIn m) place (now (work .entry)) r (now (work .exit)) ⌝ }
 {
     if kind_of(work[0]) == Pack::RELATION_MEMBER {
         return relation_member(pack, records, work, place, entity, m);
@@ -265,11 +265,11 @@ fn choice(
     work: &mut [u32],
     place: u32,
     entity: u32,
-    m: Membership,
+    m: u64,
     left: u32,
 ) -> u64
     requires { ⌜ TreeAsked (now records) left 0 (now work) place entity (cited .blocks) (cited .count) × (kindOf (getD (now work) 0 0) ≡ 71) ⌝ }
-    ensures { λ r. ⌜ TreeTurned (now (pack .entry)) (now (records .entry)) (now (marks .entry)) (now (taken .entry)) (cited .blocks) (cited .count) (cited .origin) left 0 entity (membershipOf m) place (now (work .entry)) r (now (work .exit)) ⌝ }
+    ensures { λ r. ⌜ TreeTurned (now (pack .entry)) (now (records .entry)) (now (marks .entry)) (now (taken .entry)) (cited .blocks) (cited .count) (cited .origin) left 0 entity (membershipIn m) place (now (work .entry)) r (now (work .exit)) ⌝ }
 {
     let first = judgments(
         pack,
@@ -317,11 +317,11 @@ fn no_match(
     work: &mut [u32],
     place: u32,
     entity: u32,
-    m: Membership,
+    m: u64,
     left: u32,
 ) -> u64
     requires { ⌜ TreeAsked (now records) left 0 (now work) place entity (cited .blocks) (cited .count) × (kindOf (getD (now work) 0 0) ≡ 72) ⌝ }
-    ensures { λ r. ⌜ TreeTurned (now (pack .entry)) (now (records .entry)) (now (marks .entry)) (now (taken .entry)) (cited .blocks) (cited .count) (cited .origin) left 0 entity (membershipOf m) place (now (work .entry)) r (now (work .exit)) ⌝ }
+    ensures { λ r. ⌜ TreeTurned (now (pack .entry)) (now (records .entry)) (now (marks .entry)) (now (taken .entry)) (cited .blocks) (cited .count) (cited .origin) left 0 entity (membershipIn m) place (now (work .entry)) r (now (work .exit)) ⌝ }
 {
     let many = work[0] % Pack::VALUES;
     let subject = scalars(
@@ -350,7 +350,7 @@ fn no_match(
         &mut work[next..],
         place + next as u32,
         entity,
-        Membership::Unknown,
+        Code::UNKNOWN,
         many,
         left - 1,
     );
@@ -370,11 +370,11 @@ fn periods(
     work: &mut [u32],
     place: u32,
     entity: u32,
-    m: Membership,
+    m: u64,
     left: u32,
 ) -> u64
     requires { ⌜ TreeAsked (now records) left 0 (now work) place entity (cited .blocks) (cited .count) × (kindOf (getD (now work) 0 0) ≡ 73) ⌝ }
-    ensures { λ r. ⌜ TreeTurned (now (pack .entry)) (now (records .entry)) (now (marks .entry)) (now (taken .entry)) (cited .blocks) (cited .count) (cited .origin) left 0 entity (membershipOf m) place (now (work .entry)) r (now (work .exit)) ⌝ }
+    ensures { λ r. ⌜ TreeTurned (now (pack .entry)) (now (records .entry)) (now (marks .entry)) (now (taken .entry)) (cited .blocks) (cited .count) (cited .origin) left 0 entity (membershipIn m) place (now (work .entry)) r (now (work .exit)) ⌝ }
 {
     let many = 1 + work[0] % Pack::VALUES % 2;
     let parts = scalars(
@@ -386,7 +386,7 @@ fn periods(
         &mut work[1..],
         place + 1,
         entity,
-        Membership::Unknown,
+        Code::UNKNOWN,
         many,
         left - 1,
     );
@@ -406,11 +406,11 @@ fn aggregate(
     work: &mut [u32],
     place: u32,
     entity: u32,
-    m: Membership,
+    m: u64,
     left: u32,
 ) -> u64
     requires { ⌜ TreeAsked (now records) left 0 (now work) place entity (cited .blocks) (cited .count) × (74 ≤ kindOf (getD (now work) 0 0)) × (kindOf (getD (now work) 0 0) < 78) ⌝ }
-    ensures { λ r. ⌜ TreeTurned (now (pack .entry)) (now (records .entry)) (now (marks .entry)) (now (taken .entry)) (cited .blocks) (cited .count) (cited .origin) left 0 entity (membershipOf m) place (now (work .entry)) r (now (work .exit)) ⌝ }
+    ensures { λ r. ⌜ TreeTurned (now (pack .entry)) (now (records .entry)) (now (marks .entry)) (now (taken .entry)) (cited .blocks) (cited .count) (cited .origin) left 0 entity (membershipIn m) place (now (work .entry)) r (now (work .exit)) ⌝ }
 {
     let flag = work[4] % Pack::VALUES;
     let code = turn_node(pack, records, marks, taken, work, place, entity);
@@ -429,7 +429,7 @@ fn aggregate(
         &mut work[5..],
         place + 5,
         code as u32,
-        Membership::Unknown,
+        Code::UNKNOWN,
         flag,
         left - 1,
     );
@@ -449,12 +449,12 @@ pub fn tree(
     work: &mut [u32],
     place: u32,
     entity: u32,
-    m: Membership,
+    m: u64,
     sort: u32,
     left: u32,
 ) -> u64
     requires { ⌜ TreeAsked (now records) left sort (now work) place entity (cited .blocks) (cited .count) × (sort ≤ 1) ⌝ }
-    ensures { λ r. ⌜ TreeTurned (now (pack .entry)) (now (records .entry)) (now (marks .entry)) (now (taken .entry)) (cited .blocks) (cited .count) (cited .origin) left sort entity (membershipOf m) place (now (work .entry)) r (now (work .exit)) ⌝ }
+    ensures { λ r. ⌜ TreeTurned (now (pack .entry)) (now (records .entry)) (now (marks .entry)) (now (taken .entry)) (cited .blocks) (cited .count) (cited .origin) left sort entity (membershipIn m) place (now (work .entry)) r (now (work .exit)) ⌝ }
 {
     if sort == Pack::SCALAR {
         return scalars(

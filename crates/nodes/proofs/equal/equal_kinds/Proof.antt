@@ -38,10 +38,10 @@ enum-told : tie.Need-enum-told
 enum-told c = search needs
 
 returns-3 : tie.Need-returns-3
-returns-3 c = unknown-kinds _ _ _ _ ((c .before .before .before .before .before .before .if1) .left) ((c .before .before .before .before .before .flag-at) .ensures) ((c .before .before .before .before .if2) .left) ((c .before .before .before .place-of) .ensures) _ ((c .before .before .slot-kinds) .ensures) ((c .enum-told) .given .1)
+returns-3 c = unknown-kinds _ _ _ _ ((c .before .before .before .before .before .before .if1) .left) ((c .before .before .before .before .before .flag-at) .ensures) ((c .before .before .before .before .if2) .left) ((c .before .before .before .place-of) .ensures) _ ((c .before .before .slot-kinds) .ensures .0) ((c .enum-told) .given .1)
 
 returns-4 : tie.Need-returns-4
-returns-4 c = known-kinds _ _ _ _ ((c .before .before .before .before .before .before .before .if1) .left) ((c .before .before .before .before .before .before .flag-at) .ensures) ((c .before .before .before .before .before .if2) .left) ((c .before .before .before .before .place-of) .ensures) _ ((c .before .before .before .slot-kinds) .ensures) ((c .before .c) .given .1)
+returns-4 c = known-kinds _ _ _ _ ((c .before .before .before .before .before .before .before .if1) .left) ((c .before .before .before .before .before .before .flag-at) .ensures) ((c .before .before .before .before .before .if2) .left) ((c .before .before .before .before .place-of) .ensures) _ ((c .before .before .before .slot-kinds) .ensures .0) ((c .before .c) .given .1)
 
 pub equal-kinds-spec : {M : Type 1} → statement M
 equal-kinds-spec =

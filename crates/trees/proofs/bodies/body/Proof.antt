@@ -52,11 +52,11 @@ cast-t14 c = omega (arith, body-inside _ _ ((c .before .before .before .before .
 add-t20 : tie.Need-add-t20
 add-t20 c = omega (arith, body-inside _ _ ((c .before .before .before .before .before .before .before .before .pre) .1), ((c .before .before .before .before .before .before .before .before .pre) .0 .short))
 
-cast-t24 : tie.Need-cast-t24
-cast-t24 c = search needs
+cast-t23 : tie.Need-cast-t23
+cast-t23 c = search needs
 
-add-t25 : tie.Need-add-t25
-add-t25 c = omega (arith, body-inside _ _ ((c .before .before .before .before .before .before .before .before .pre) .1), ((c .before .before .before .before .before .before .before .before .pre) .0 .short))
+add-t24 : tie.Need-add-t24
+add-t24 c = omega (arith, body-inside _ _ ((c .before .before .before .before .before .before .before .before .pre) .1), ((c .before .before .before .before .before .before .before .before .pre) .0 .short))
 
 same-length-2 : tie.Need-same-length-2
 same-length-2 c = search needs
@@ -84,7 +84,7 @@ body-spec =
     returns
     cast-t14
     add-t20
-    cast-t24
-    add-t25
+    cast-t23
+    add-t24
     same-length-2
     returns-2)

@@ -1,4 +1,6 @@
+-- `trees::relations::predicate` meets its contract.
 use native.Mathlib.Omega.{arith}
+use mathlib.Core.Path.{_∙_}
 use Rattle.trees.proofs.RelationLaws.{reads-of, entity-small, relation-inside, asked-name, relation-bodily, asked-inside, asked-tree, came-went, came-stopped}
 use borrow.Author.Needs.{needs}
 use Rattle.trees.proofs.relations.predicate.Statement.{statement}
@@ -34,17 +36,20 @@ kind-or-zero-requires c κs = search needs
 slot-kinds-requires : tie.Need-slot-kinds-requires
 slot-kinds-requires c κs = omega (arith, relation-inside ((c .before .before .before .before .before .before .before .before .before .before .before .before .pre) .0), ((c .before .before .before .before .before .before .before .before .before .before .before .before .pre) .0 .ready .short))
 
+membership-code-requires : tie.Need-membership-code-requires
+membership-code-requires c κs = (c .slot-kinds) .ensures .1
+
 predicate-place-requires : tie.Need-predicate-place-requires
-predicate-place-requires c κs = omega (arith, relation-inside ((c .before .before .before .before .before .before .before .before .before .before .before .before .before .before .pre) .0), ((c .before .before .before .before .before .before .before .before .before .before .before .before .before .before .pre) .0 .ready .short))
+predicate-place-requires c κs = omega (arith, relation-inside ((c .before .before .before .before .before .before .before .before .before .before .before .before .before .before .before .pre) .0), ((c .before .before .before .before .before .before .before .before .before .before .before .before .before .before .before .pre) .0 .ready .short))
 
 mul-tree : tie.Need-mul-tree
 mul-tree c = omega (arith, ((c .predicate-place) .ensures .1))
 
 sub-tree : tie.Need-sub-tree
-sub-tree c = omega (arith, asked-inside ((c .before .before .before .before .before .before .before .before .before .before .before .before .before .before .before .pre) .0) ((c .before .before .before .before .before .before .before .before .before .before .before .before .before .before .before .pre) .1), ((c .predicate-place) .ensures .0))
+sub-tree c = omega (arith, asked-inside ((c .before .before .before .before .before .before .before .before .before .before .before .before .before .before .before .before .pre) .0) ((c .before .before .before .before .before .before .before .before .before .before .before .before .before .before .before .before .pre) .1), ((c .predicate-place) .ensures .0))
 
 part-tree-start : tie.Need-part-tree-start
-part-tree-start c = omega (arith, asked-inside ((c .before .before .before .before .before .before .before .before .before .before .before .before .before .before .before .pre) .0) ((c .before .before .before .before .before .before .before .before .before .before .before .before .before .before .before .pre) .1), ((c .predicate-place) .ensures .0))
+part-tree-start c = omega (arith, asked-inside ((c .before .before .before .before .before .before .before .before .before .before .before .before .before .before .before .before .pre) .0) ((c .before .before .before .before .before .before .before .before .before .before .before .before .before .before .before .before .pre) .1), ((c .predicate-place) .ensures .0))
 
 part-tree-end : tie.Need-part-tree-end
 part-tree-end c = search needs
@@ -53,7 +58,7 @@ cast-tree : tie.Need-cast-tree
 cast-tree c = omega (arith, ((c .before .predicate-place) .ensures .1))
 
 tree-requires : tie.Need-tree-requires
-tree-requires c κs = (asked-tree ((c .before .before .before .before .before .before .before .before .before .before .before .before .before .before .before .before .pre) .0) ((c .before .before .before .before .before .before .before .before .before .before .before .before .before .before .before .before .pre) .1) ((c .before .predicate-place) .ensures .0) (relation-bodily ((c .before .before .before .before .before .before .before .before .before .before .before .before .before .before .before .before .pre) .0) (entity-small _ _ _ ((c .before .before .before .before .before .kind-or-zero) .ensures))), omega arith)
+tree-requires c κs = (asked-tree ((c .before .before .before .before .before .before .before .before .before .before .before .before .before .before .before .before .before .pre) .0) ((c .before .before .before .before .before .before .before .before .before .before .before .before .before .before .before .before .before .pre) .1) ((c .before .predicate-place) .ensures .0) (relation-bodily ((c .before .before .before .before .before .before .before .before .before .before .before .before .before .before .before .before .before .pre) .0) (entity-small _ _ _ ((c .before .before .before .before .before .before .kind-or-zero) .ensures))), omega arith)
 
 cast-if1 : tie.Need-cast-if1
 cast-if1 c = search needs
@@ -65,22 +70,22 @@ same-length : tie.Need-same-length
 same-length c = search needs
 
 returns : tie.Need-returns
-returns c = came-stopped ((c .before .before .before .before .before .before .before .before .before .before .before .before .before .before .before .before .before .before .before .before .before .pre) .0) ((c .before .before .before .before .before .before .before .before .before .before .before .before .before .before .before .before .before .before .before .before .before .pre) .1) (reads-of _ _ _ _ ((c .before .before .before .before .before .before .before .before .before .before .before .before .before .before .before .before .before .value-at) .ensures .0) ((c .before .before .before .before .before .before .before .before .before .before .before .before .before .before .before .value-at2) .ensures .0) ((c .before .before .before .before .before .before .before .before .before .before .before .before .before .before .place-of) .ensures) ((c .before .before .before .before .before .before .before .before .before .before .before .before .slots-place) .ensures .0) ((c .before .before .before .before .before .before .before .before .before .before .before .value-at3) .ensures .0) ((c .before .before .before .before .before .before .before .before .before .before .kind-or-zero) .ensures) ((c .before .before .before .before .before .before .before .before .slot-kinds) .ensures) ((c .before .before .before .before .before .before .predicate-place) .ensures .0)) ((c .before .before .before .before .tree) .ensures) (relation-bodily ((c .before .before .before .before .before .before .before .before .before .before .before .before .before .before .before .before .before .before .before .before .before .pre) .0) (entity-small _ _ _ ((c .before .before .before .before .before .before .before .before .before .before .kind-or-zero) .ensures))) ((c .before .if1) .taken) ((c .refused) .ensures)
+returns c = came-stopped ((c .before .before .before .before .before .before .before .before .before .before .before .before .before .before .before .before .before .before .before .before .before .before .pre) .0) ((c .before .before .before .before .before .before .before .before .before .before .before .before .before .before .before .before .before .before .before .before .before .before .pre) .1) (reads-of _ _ _ _ ((c .before .before .before .before .before .before .before .before .before .before .before .before .before .before .before .before .before .before .value-at) .ensures .0) ((c .before .before .before .before .before .before .before .before .before .before .before .before .before .before .before .before .value-at2) .ensures .0) ((c .before .before .before .before .before .before .before .before .before .before .before .before .before .before .before .place-of) .ensures) ((c .before .before .before .before .before .before .before .before .before .before .before .before .before .slots-place) .ensures .0) ((c .before .before .before .before .before .before .before .before .before .before .before .before .value-at3) .ensures .0) ((c .before .before .before .before .before .before .before .before .before .before .before .kind-or-zero) .ensures) ((c .before .before .before .before .before .before .before .before .membership-code) .ensures ∙ (c .before .before .before .before .before .before .before .before .before .slot-kinds) .ensures .0) ((c .before .before .before .before .before .before .predicate-place) .ensures .0)) ((c .before .before .before .before .tree) .ensures) (relation-bodily ((c .before .before .before .before .before .before .before .before .before .before .before .before .before .before .before .before .before .before .before .before .before .before .pre) .0) (entity-small _ _ _ ((c .before .before .before .before .before .before .before .before .before .before .before .kind-or-zero) .ensures))) ((c .before .if1) .taken) ((c .refused) .ensures)
 
-cast-t35 : tie.Need-cast-t35
-cast-t35 c = omega (arith, ((c .before .before .before .before .before .predicate-place) .ensures .1))
+cast-t36 : tie.Need-cast-t36
+cast-t36 c = omega (arith, ((c .before .before .before .before .before .predicate-place) .ensures .1))
 
-cast-t38 : tie.Need-cast-t38
-cast-t38 c = search needs
+cast-t39 : tie.Need-cast-t39
+cast-t39 c = search needs
 
-add-t39 : tie.Need-add-t39
-add-t39 c = omega (arith, ((c .before .before .before .before .before .predicate-place) .ensures .1))
+add-t40 : tie.Need-add-t40
+add-t40 c = omega (arith, ((c .before .before .before .before .before .predicate-place) .ensures .1))
 
 same-length-2 : tie.Need-same-length-2
 same-length-2 c = search needs
 
 returns-2 : tie.Need-returns-2
-returns-2 c = came-went ((c .before .before .before .before .before .before .before .before .before .before .before .before .before .before .before .before .before .before .before .before .pre) .0) ((c .before .before .before .before .before .before .before .before .before .before .before .before .before .before .before .before .before .before .before .before .pre) .1) (reads-of _ _ _ _ ((c .before .before .before .before .before .before .before .before .before .before .before .before .before .before .before .before .value-at) .ensures .0) ((c .before .before .before .before .before .before .before .before .before .before .before .before .before .before .value-at2) .ensures .0) ((c .before .before .before .before .before .before .before .before .before .before .before .before .before .place-of) .ensures) ((c .before .before .before .before .before .before .before .before .before .before .before .slots-place) .ensures .0) ((c .before .before .before .before .before .before .before .before .before .before .value-at3) .ensures .0) ((c .before .before .before .before .before .before .before .before .before .kind-or-zero) .ensures) ((c .before .before .before .before .before .before .before .slot-kinds) .ensures) ((c .before .before .before .before .before .predicate-place) .ensures .0)) ((c .before .before .before .tree) .ensures) ((c .if1) .left)
+returns-2 c = came-went ((c .before .before .before .before .before .before .before .before .before .before .before .before .before .before .before .before .before .before .before .before .before .pre) .0) ((c .before .before .before .before .before .before .before .before .before .before .before .before .before .before .before .before .before .before .before .before .before .pre) .1) (reads-of _ _ _ _ ((c .before .before .before .before .before .before .before .before .before .before .before .before .before .before .before .before .before .value-at) .ensures .0) ((c .before .before .before .before .before .before .before .before .before .before .before .before .before .before .before .value-at2) .ensures .0) ((c .before .before .before .before .before .before .before .before .before .before .before .before .before .before .place-of) .ensures) ((c .before .before .before .before .before .before .before .before .before .before .before .before .slots-place) .ensures .0) ((c .before .before .before .before .before .before .before .before .before .before .before .value-at3) .ensures .0) ((c .before .before .before .before .before .before .before .before .before .before .kind-or-zero) .ensures) ((c .before .before .before .before .before .before .before .membership-code) .ensures ∙ (c .before .before .before .before .before .before .before .before .slot-kinds) .ensures .0) ((c .before .before .before .before .before .predicate-place) .ensures .0)) ((c .before .before .before .tree) .ensures) ((c .if1) .left)
 
 pub predicate-spec : {M : Type 1} → statement M
 predicate-spec =
@@ -96,6 +101,7 @@ predicate-spec =
     value-at-requires-3
     kind-or-zero-requires
     slot-kinds-requires
+    membership-code-requires
     predicate-place-requires
     mul-tree
     sub-tree
@@ -107,8 +113,8 @@ predicate-spec =
     refused-requires
     same-length
     returns
-    cast-t35
-    cast-t38
-    add-t39
+    cast-t36
+    cast-t39
+    add-t40
     same-length-2
     returns-2)
