@@ -24,7 +24,7 @@ use Rattle.chains.proofs.CheckedLaws.{same-pack}
 use Rattle.nodes.specs.Turning.{Outcome, done, refused, andThen, mapDone}
 use Rattle.nodes.specs.Resolving.{stamp, ruleWords, resolveRule, resolveRules, resolveRelation, resolveRelations, firstRule}
 use Rattle.chains.specs.Record.{Recorded}
-use Rattle.resolve.specs.Stamping.{atomsIn, listsFor, addedBy, Listed}
+use Rattle.stamping.specs.Stamping.{atomsIn, listsFor, addedBy, Listed}
 use Rattle.resolve.specs.Writing.{Stamped, WriteAsked, WriteCame}
 use Rattle.trees.specs.Passes.{placesFrom}
 use Rattle.resolve.specs.Operations.{givenOut, writtenOut}
@@ -33,7 +33,7 @@ use Rattle.resolve.specs.Finish.{stampAll, FinishAsked, FinishCame}
 use Rattle.nodes.proofs.KeepsForm.{Good}
 use Rattle.nodes.proofs.ResolvedFine.{RulesFine, rules-good}
 use Rattle.resolve.proofs.ResolvedPack.{least-words, rules-fine}
-use Rattle.resolve.proofs.AtomLaws.{atoms-named}
+use Rattle.stamping.proofs.AtomLaws.{atoms-named}
 use Rattle.trees.proofs.RunLaws.{RunPairs, run-words, run-pairs}
 use Rattle.trees.proofs.RuleLaws.{run-length, rule-long}
 use Rattle.trees.proofs.RelationLaws.{relation-long, places-many}

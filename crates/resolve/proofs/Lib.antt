@@ -5,11 +5,7 @@ pub mod ResolveNumbers
 pub mod DealtResolving
 pub mod ResolvedPack
 pub mod Demand3Laws
-pub mod AtomLaws
-pub mod RoleLaws
-pub mod ListForLaws
 pub mod WriteLaws
-pub mod StampLaws
 pub mod WrittenPack
 pub mod StampedPack
 pub mod FinishLaws

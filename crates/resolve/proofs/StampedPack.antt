@@ -13,7 +13,7 @@ use Rattle.chains.specs.Operations.{relationWords, namesAt}
 use Rattle.chains.proofs.RelationScan.{RelationsFine, kept}
 use Rattle.nodes.specs.Turning.{done}
 use Rattle.nodes.specs.Resolving.{atomNames, stamp, resolveRelation}
-use Rattle.resolve.specs.Stamping.{StampedBy, listFor, listsFor}
+use Rattle.stamping.specs.Stamping.{StampedBy, listFor, listsFor}
 use Rattle.resolve.specs.Writing.{Stamped, no-more, one-more}
 use Rattle.trees.specs.Passes.{placesFrom}
 use Rattle.trees.specs.Passes.{wordsOf, All, RelationKeeps, KindsReady}
@@ -21,8 +21,8 @@ use Rattle.nodes.proofs.KeepsForm.{Good}
 use Rattle.nodes.proofs.ResolvedFine.{Same, tail-of, with-tail, relation-good}
 use Rattle.trees.proofs.RunLaws.{RunPairs}
 use Rattle.trees.proofs.RelationLaws.{relation-long}
-use Rattle.resolve.proofs.RoleLaws.{Ends}
-use Rattle.resolve.proofs.StampLaws.{stamped-by}
+use Rattle.stamping.proofs.RoleLaws.{Ends}
+use Rattle.stamping.proofs.StampLaws.{stamped-by}
 
 -- ---- relations after their trees are resolved
 

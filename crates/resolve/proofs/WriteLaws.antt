@@ -11,9 +11,9 @@ use Rattle.pack.specs.Table.{valueOf, wordOf}
 use Rattle.chains.specs.Operations.{namesAt, tableFrom}
 use Rattle.chains.proofs.FillLaws.{Filling, done}
 use Rattle.chains.specs.Record.{valueAt, kindCount}
-use Rattle.resolve.specs.Stamping.{namesOr, Lists}
+use Rattle.stamping.specs.Stamping.{namesOr, Lists}
 use Rattle.resolve.specs.Writing.{fromTo, listWords, putFor, Put, Room}
-use Rattle.resolve.proofs.ListForLaws.{names-there}
+use Rattle.stamping.proofs.ListForLaws.{names-there}
 
 -- ---- the names of a list
 

@@ -21,7 +21,7 @@ use Rattle.chains.proofs.RelationScan.{RelationsFine}
 use Rattle.chains.proofs.PackIndex.{parts}
 use Rattle.nodes.specs.Resolving.{orKinds, withEntities, stampedWith}
 use Rattle.chains.specs.Record.{kindCount, slotsPlace}
-use Rattle.resolve.specs.Stamping.{StampedBy, as-it-is, with-kinds, namesOr, addedFor, addedBy}
+use Rattle.stamping.specs.Stamping.{StampedBy, as-it-is, with-kinds, namesOr, addedFor, addedBy}
 use Rattle.resolve.specs.Writing.{Stamped, no-more, one-more, withRelations, fromTo, listWords, putFor, Put, Room, WriteAsked}
 use Rattle.trees.specs.Passes.{placesFrom}
 use Rattle.trees.specs.Passes.{wordsOf}

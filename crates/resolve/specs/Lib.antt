@@ -1,5 +1,4 @@
 pub mod Operations
 pub mod Demand3
-pub mod Stamping
 pub mod Writing
 pub mod Finish

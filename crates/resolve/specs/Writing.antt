@@ -10,7 +10,7 @@ use Rattle.pack.specs.Pack.{Relation, Pack, WellFormed, words}
 use Rattle.chains.specs.Operations.{relationWords, firstRelation}
 use Rattle.chains.specs.Record.{kindCount}
 use Rattle.trees.specs.Passes.{placesFrom}
-use Rattle.resolve.specs.Stamping.{StampedBy}
+use Rattle.stamping.specs.Stamping.{StampedBy}
 
 -- relations, and in the same order as they come out with their lists stamped
 pub data Stamped (ws : List ℕ) : List ℕ → List Relation → List Relation → Type 0 where

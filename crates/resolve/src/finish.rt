@@ -1,6 +1,6 @@
 // The result: relations stamped, and the whole pack written out if there is room for it.
-use crate::stamping::atoms;
-use crate::stamping::lists;
+use stamping::atoms::atoms;
+use stamping::lists::lists;
 use crate::write::write;
 use checking::check::refuse;
 use pack::answer::Answer;

@@ -3,5 +3,4 @@
 // relations (stamping), and on the writer (write, finish). Order never matters: Demand3.
 mod finish;
 pub mod resolve;
-mod stamping;
 mod write;

@@ -1,6 +1,6 @@
 // Writing the whole pack: the resolved words as they stand, but each stamped list in place of an empty one.
 // `pack` are the words in which the lists stand, `work` the resolved ones.
-use crate::stamping::names_at;
+use stamping::lists::names_at;
 use chains::record::kind_count;
 use chains::record::slots_place;
 use chains::record::value_at;
@@ -12,7 +12,7 @@ ghost use Prim.Native.Nat.{_+_, _≤_};
 ghost use lib.ListN.{length};
 ghost use Rattle.pack.specs.Table.{wordOf};
 ghost use Rattle.chains.specs.Operations.{namesAt};
-ghost use Rattle.resolve.specs.Stamping.{namesOr, Lists};
+ghost use Rattle.stamping.specs.Stamping.{namesOr, Lists};
 ghost use Rattle.resolve.specs.Writing.{fromTo, listWords, putFor, Put, Room, WriteAsked, WriteCame};
 
 // The names of a list, in a slice with as many words.

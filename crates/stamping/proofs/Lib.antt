@@ -1,0 +1,4 @@
+pub mod AtomLaws
+pub mod RoleLaws
+pub mod ListForLaws
+pub mod StampLaws

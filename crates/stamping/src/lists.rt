@@ -1,0 +1,175 @@
+// Which list of kinds is stamped on each relation, by the place of the list.
+use chains::record::flag_at;
+use chains::record::kind_count;
+use chains::record::predicate_place;
+use chains::record::slots_place;
+use chains::record::value_at;
+use filtered::taking::Kind;
+use filtered::taking::kind_at;
+use filtered::taking::place_of;
+use pack::kinds::Pack;
+ghost use mathlib.Core.Path.{_≡_};
+ghost use Prim.Native.Nat.{_<_, _≤_};
+ghost use lib.ListN.{length};
+ghost use Rattle.pack.specs.Table.{kindOf, valueOf};
+ghost use Rattle.nodes.specs.Resolving.{roleJudgment};
+ghost use Rattle.chains.specs.Record.{Recorded};
+ghost use Rattle.stamping.specs.Stamping.{roleIn, unstamped, passedIn, unlikeIn, listFor, Lists, addedFor, Listed};
+
+// Kinds of nodes: the first, and the last of the judgments of roles.
+struct Node {}
+
+impl Node {
+    const FIRST: u32 = 64;
+
+    const SAME_ENTITY: u32 = 104;
+}
+
+// Whether a word is that of a judgment of roles.
+fn role_word(word: u32) -> bool
+    ensures { λ r. ⌜ r ≡ roleJudgment (kindOf word) (valueOf word) ⌝ }
+{
+    let kind = word / Pack::VALUES;
+    if kind < Pack::RELATION_ATOM {
+        return false;
+    }
+    kind <= Node::SAME_ENTITY
+}
+
+// Whether the tree whose root stands at a place holds a judgment of roles.
+fn role(work: &[u32], at: usize) -> bool
+    ensures { λ r. ⌜ r ≡ roleIn (now (work .entry)) at ⌝ }
+{
+    let mut i = at;
+    while i < work.len() {
+        let w = work[i];
+        if w / Pack::VALUES < Node::FIRST {
+            return false;
+        }
+        if role_word(w) {
+            return true;
+        }
+        i += 1;
+    }
+    false
+}
+
+// Whether it has a derivation without names of its own.
+fn unstamped(work: &[u32], start: usize) -> bool
+    requires { ⌜ start ≤ 65536 ⌝ }
+    ensures { λ r. ⌜ r ≡ unstamped (now (work .entry)) start ⌝ }
+{
+    if flag_at(work, start) != 1 {
+        return false;
+    }
+    value_at(work, slots_place(work, start) + 4) == 0
+}
+
+// Whether a list has a kind at its current slot, and not the same at its related slot.
+fn unlike(pack: &[u32], work: &[u32], list: u32, start: usize) -> bool
+    requires { ⌜ start ≤ 65536 ⌝ }
+    ensures { λ r. ⌜ r ≡ unlikeIn (now (pack .entry)) (now (work .entry)) list start ⌝ }
+{
+    let at = slots_place(work, start);
+    let Kind::Is(c) = kind_at(pack, list, value_at(work, at)) else {
+        return false;
+    };
+    let Kind::Is(r) = kind_at(pack, list, value_at(work, at + 1)) else {
+        return true;
+    };
+    c != r
+}
+
+// Whether it is passed over: without slot kinds, named by an atom or Exists, or with a judgment of roles.
+fn passed_over(work: &[u32], atoms: &[u8; 4096], name: usize, start: usize) -> bool
+    requires { ⌜ (start ≤ 65536) × (name < 4096) ⌝ }
+    ensures { λ r. ⌜ r ≡ passedIn (now (work .entry)) (now (atoms .entry)) name start ⌝ }
+{
+    if value_at(work, start + 3) != 0 {
+        return false;
+    }
+    if atoms[name] == 1 {
+        return true;
+    }
+    role(work, predicate_place(work, start))
+}
+
+// The place of the list that is stamped on the relation whose record starts at a place; 0 for none.
+fn list_for(
+    pack: &[u32],
+    work: &[u32],
+    marks: &[u32; 4096],
+    atoms: &[u8; 4096],
+    start: usize,
+) -> u32
+    requires { ⌜ start ≤ 65536 ⌝ }
+    ensures { λ r. ⌜ r ≡ listFor (now (pack .entry)) (now (work .entry)) (now (marks .entry)) (now (atoms .entry)) start ⌝ }
+{
+    if !unstamped(work, start) {
+        return 0;
+    }
+    let name = (value_at(work, start) % Pack::MOST_NAMES) as usize;
+    let list = place_of(marks, name);
+    if !unlike(pack, work, list, start) {
+        return 0;
+    }
+    if !passed_over(work, atoms, name, start) {
+        return list;
+    }
+    0
+}
+
+// How many names the list at a place has within the pack; at place 0 there are none.
+pub fn names_at(pack: &[u32], list: u32) -> u32
+    ensures { λ r. ⌜ Lists (now (pack .entry)) list r ⌝ }
+{
+    if list == 0 {
+        return 0;
+    }
+    let at = list as usize;
+    if pack.len() <= at {
+        return 0;
+    }
+    let count = pack[at] % Pack::VALUES;
+    let after = pack.len() - at - 1;
+    if after < count as usize {
+        return after as u32;
+    }
+    count
+}
+
+// How many words more the relation has with the list stamped on it.
+fn added(pack: &[u32], work: &[u32], list: u32, start: usize) -> usize
+    requires { ⌜ start ≤ 65536 ⌝ }
+    ensures { λ r. ⌜ (r ≡ addedFor (now (pack .entry)) (now (work .entry)) list start) × (r < 33554432) ⌝ }
+{
+    let names = names_at(pack, list) as usize;
+    if kind_count(work, start) == 0 {
+        return names * 2;
+    }
+    names
+}
+
+// The lists for relations that start at places. The answer is how many words more there are with them.
+pub fn lists(
+    pack: &[u32],
+    work: &[u32],
+    marks: &[u32; 4096],
+    atoms: &[u8; 4096],
+    order: &[u32],
+    table: &mut [u32],
+) -> usize
+    requires { ⌜ Recorded (now order) × (length (now table) ≡ length (now order)) × (length (now order) ≤ 512) ⌝ }
+    ensures { λ r. ⌜ Listed (now (pack .entry)) (now (work .entry)) (now (marks .entry)) (now (atoms .entry)) (now (order .entry)) (now (table .exit)) r ⌝ }
+{
+    let mut more: usize = 0;
+    let mut i: usize = 0;
+    while i < order.len() {
+        let start = order[i] as usize;
+        let list = list_for(pack, work, marks, atoms, start);
+        table[i] = list;
+        more += added(pack, work, list, start);
+        i += 1;
+    }
+    more
+}
