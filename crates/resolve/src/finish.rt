@@ -1,10 +1,10 @@
 // The result: relations stamped, and the whole pack written out if there is room for it.
-use stamping::atoms::atoms;
-use stamping::lists::lists;
 use crate::write::write;
 use checking::check::refuse;
 use pack::answer::Answer;
 use pack::kinds::Pack;
+use stamping::atoms::atoms;
+use stamping::lists::lists;
 ghost use Rattle.resolve.specs.Finish.{FinishAsked, FinishCame};
 
 // From the words of a pack whose trees are resolved.

@@ -1,11 +1,11 @@
 // Writing the whole pack: the resolved words as they stand, but each stamped list in place of an empty one.
 // `pack` are the words in which the lists stand, `work` the resolved ones.
-use stamping::lists::names_at;
 use chains::record::kind_count;
 use chains::record::slots_place;
 use chains::record::value_at;
 use nodes::words::copy;
 use pack::kinds::Pack;
+use stamping::lists::names_at;
 ghost use mathlib.Core.Path.{_≡_};
 ghost use mathlib.Core.List.{_++_, map};
 ghost use Prim.Native.Nat.{_+_, _≤_};

@@ -41,11 +41,10 @@ returns-2 : tie.Need-returns-2
 returns-2 c = (second-unknown _ _ _ _ ((c .before .before .before .before .before .before .before .before .before .slots-place) .ensures .0) ((c .before .before .before .before .before .before .before .before .value-at) .ensures .0) ((c .before .before .before .before .before .before .before .kind-at) .ensures) ((c .before .before .before .before .before .c) .given .1) ((c .before .before .before .value-at2) .ensures .0) ((c .before .before .kind-at2) .ensures) ((c .enum-told2) .given .1), tt)
 
 returns-3 : tie.Need-returns-3
-returns-3 c =
-    (
-      both-known _ _ _ _ ((c .before .before .before .before .before .before .before .before .before .before .slots-place) .ensures .0) ((c .before .before .before .before .before .before .before .before .before .value-at) .ensures .0) ((c .before .before .before .before .before .before .before .before .kind-at) .ensures) ((c .before .before .before .before .before .before .c) .given .1) ((c .before .before .before .before .value-at2) .ensures .0) ((c .before .before .before .kind-at2) .ensures) ((c .before .r) .given .1),
-      both-small _ _ _ _ ((c .before .before .before .before .before .before .before .before .before .before .slots-place) .ensures .0) ((c .before .before .before .before .before .before .before .before .before .value-at) .ensures .0) ((c .before .before .before .before .before .before .before .before .kind-at) .ensures) ((c .before .before .before .before .before .before .c) .given .1) ((c .before .before .before .before .value-at2) .ensures .0) ((c .before .before .before .kind-at2) .ensures) ((c .before .r) .given .1),
-    )
+returns-3 c = (
+  both-known _ _ _ _ ((c .before .before .before .before .before .before .before .before .before .before .slots-place) .ensures .0) ((c .before .before .before .before .before .before .before .before .before .value-at) .ensures .0) ((c .before .before .before .before .before .before .before .before .kind-at) .ensures) ((c .before .before .before .before .before .before .c) .given .1) ((c .before .before .before .before .value-at2) .ensures .0) ((c .before .before .before .kind-at2) .ensures) ((c .before .r) .given .1),
+  both-small _ _ _ _ ((c .before .before .before .before .before .before .before .before .before .before .slots-place) .ensures .0) ((c .before .before .before .before .before .before .before .before .before .value-at) .ensures .0) ((c .before .before .before .before .before .before .before .before .kind-at) .ensures) ((c .before .before .before .before .before .before .c) .given .1) ((c .before .before .before .before .value-at2) .ensures .0) ((c .before .before .before .kind-at2) .ensures) ((c .before .r) .given .1),
+)
 
 pub slot-kinds-spec : {M : Type 1} → statement M
 slot-kinds-spec =
