@@ -14,9 +14,9 @@ use Rattle.pack.specs.Table.{pick, kindOf, wordOf}
 use Rattle.pack.specs.Form.{among, wordsBy}
 use Rattle.pack.specs.Pack.{Relation, newName, relation, Pack, words}
 use Rattle.chains.specs.Kinds.{find, declared}
-use Rattle.chains.specs.Operations.{relationWords, startOf, firstRelation}
+use Rattle.chains.specs.Operations.{relationWords, startOf, firstRelation, relationsEnd}
 use Rattle.chains.specs.Record.{valueAt, kindCount, flagAt, predicateAt, nodesIn, recordEnd}
-use Rattle.chains.specs.AllKinds.{KindsAsked, placeIn, recordOf, Noted}
+use Rattle.chains.specs.AllKinds.{KindsAsked, placeIn, recordOf, Noted, RulesAt}
 use Rattle.chains.proofs.Names.{or-right}
 use Rattle.chains.proofs.Hushed.{kind-word}
 use Rattle.chains.proofs.RelationScan.{relationsWords, RelationsFine, kept}
@@ -138,6 +138,7 @@ module _ {ws names₀ : List ℕ} (asked : KindsAsked ws names₀) where
     pub named : declared rs ≡ take i names ++ declared left
     pub many : i + length left ≡ length names
     pub places : noted n at left starts ≡ noted n (firstRelation p) rs zeros
+    pub until : relationsEnd n at left ≡ relationsEnd n (firstRelation p) rs
     pub long : length names ≡ length names₀
     pub wide : length starts ≡ 4096
 
@@ -168,6 +169,7 @@ module _ {ws names₀ : List ℕ} (asked : KindsAsked ws names₀) where
         named = refl;
         many = omega (arith, asked .fits .relations p (asked .checked .reads));
         places = rw (← at, z) refl;
+        until = rw (← at) refl;
         long = refl;
         wide = rw z (length-replicate {A = ℕ} 4096 0);
       }
@@ -236,6 +238,7 @@ module _ {ws names₀ : List ℕ} (asked : KindsAsked ws names₀) where
                 ∙ rw (add-one i, take-suc-set names i name h, q) (sym (append-assoc (take i names) (r .name ∷ []) (declared (here .more))));
             many = omega (arith, s .many, ap length (here .is), length-set names i name);
             places = rw (q, g) (sym (ap (λ (l : List Relation). noted n at l starts) (here .is))) ∙ s .places;
+            until = rw g (sym (ap (relationsEnd n at) (here .is))) ∙ s .until;
             long = length-set names i name ∙ s .long;
             wide = length-set starts name at ∙ s .wide;
           }
@@ -261,3 +264,10 @@ module _ {ws names₀ : List ℕ} (asked : KindsAsked ws names₀) where
             last : (m : ℕ) (o : Option Relation) → either n (getD zeros m 0) (startOf n m (firstRelation p) rs) o ≡ placeIn (startOf n m (firstRelation p) rs) o
             last m none = zero-at 4096 m
             last m (some r) = refl
+
+    pub rules-after : length names ≤ i → RulesAt ws at
+    rules-after h = record { after = λ q k. go (s .left) refl ∙ ap (λ (p : Pack). relationsEnd (p .names) (firstRelation p) (p .relations)) (same-pack ws (asked .checked .reads) k) }
+      where
+        go : (l : List Relation) → s .left ≡ l → at ≡ relationsEnd n (firstRelation p) rs
+        go (r ∷ l) e = absurd (omega (arith, s .many, ap length e))
+        go [] e = sym (ap (relationsEnd n at) e) ∙ s .until

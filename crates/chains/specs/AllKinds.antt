@@ -9,7 +9,7 @@ use Rattle.pack.specs.Form.{among}
 use Rattle.pack.specs.Pack.{Relation, Pack, yes, read}
 use Rattle.chains.specs.Kinds.{find, declared, allKinds, ownAnswer}
 use Rattle.chains.specs.Reach.{leans}
-use Rattle.chains.specs.Operations.{startOf, firstRelation, placeOf, allKindsWords}
+use Rattle.chains.specs.Operations.{startOf, firstRelation, relationsEnd, placeOf, allKindsWords}
 
 -- the words are those of a pack
 pub record IsPack (ws : List ℕ) : Type 0 where
@@ -49,6 +49,10 @@ recordOf p m = placeIn (startOf (p .names) m (firstRelation p) (p .relations)) (
 pub record Noted (ws names starts : List ℕ) : Type 0 where
   pub named : (p : Pack) → read ws ≡ yes p → names ≡ declared (p .relations)
   pub placed : (p : Pack) → read ws ≡ yes p → (m : ℕ) → getD starts m 0 ≡ recordOf p m
+
+-- the place of the count of rules (22), which stands after the relations
+pub record RulesAt (ws : List ℕ) (at : ℕ) : Type 0 where
+  pub after : (p : Pack) → read ws ≡ yes p → at ≡ relationsEnd (p .names) (firstRelation p) (p .relations)
 
 -- the relations' names in record order, marks by name that are 2 and the place of the list that settles the name, and the number of declarations read
 pub record KindsMarked (ws : List ℕ) (steps : ℕ) (names marks : List ℕ) : Type 0 where

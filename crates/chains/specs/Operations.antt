@@ -29,6 +29,11 @@ startOf n name at (r ∷ rs) = pick (eqb name (r .name)) at (startOf n name (at 
 abbrev pub firstRelation : Pack → ℕ
 firstRelation p = 4 + length (p .defaulted)
 
+-- where the relations of a list end, from the place where the first starts
+abbrev pub relationsEnd : ℕ → ℕ → List Relation → ℕ
+relationsEnd n at [] = at
+relationsEnd n at (r ∷ rs) = relationsEnd n (at + length (relationWords n r)) rs
+
 abbrev pub hops : Option (List Hop) → ℕ
 hops none = 0
 hops (some l) = length l

@@ -8,7 +8,7 @@ ghost use mathlib.Core.Path.{_≡_};
 ghost use Prim.Native.Nat.{_+_, _≤_};
 ghost use lib.ListN.{drop, replicate};
 ghost use Rattle.chains.specs.Record.{nodesIn, recordEnd};
-ghost use Rattle.chains.specs.AllKinds.{KindsAsked, Noted};
+ghost use Rattle.chains.specs.AllKinds.{KindsAsked, Noted, RulesAt};
 
 // Kinds of words from the first of a node on.
 struct Node {}
@@ -42,10 +42,11 @@ fn record_end(pack: &[u32], start: usize) -> usize
     past_nodes(pack, predicate_place(pack, start))
 }
 
-// The relations' names in record order, one for each word of a slice, and the places of their records; the table holds zeros before.
-pub fn records(pack: &[u32], names: &mut [u32], starts: &mut [u32; 4096])
+// The relations' names in record order, one for each word of a slice, and the places of their records; the table holds
+// zeros before. The answer is the place after the last record, where the count of rules stands.
+pub fn records(pack: &[u32], names: &mut [u32], starts: &mut [u32; 4096]) -> usize
     requires { ⌜ KindsAsked (now pack) (now names) × (now starts ≡ replicate 4096 0) ⌝ }
-    ensures { λ r. ⌜ Noted (now (pack .entry)) (now (names .exit)) (now (starts .exit)) ⌝ }
+    ensures { λ r. ⌜ Noted (now (pack .entry)) (now (names .exit)) (now (starts .exit)) × RulesAt (now (pack .entry)) r ⌝ }
 {
     let mut at = value_at(pack, 2) as usize + 4;
     let mut i: usize = 0;
@@ -56,4 +57,5 @@ pub fn records(pack: &[u32], names: &mut [u32], starts: &mut [u32; 4096])
         at = record_end(pack, at);
         i += 1;
     }
+    at
 }

@@ -10,7 +10,7 @@ use pack::kinds::Pack;
 ghost use mathlib.Core.Path.{_≡_};
 ghost use Prim.Native.Nat.{_-_, _<_, _≤_};
 ghost use lib.ListN.{getD, replicate};
-ghost use Rattle.chains.specs.AllKinds.{IsPack, KindsAsked};
+ghost use Rattle.chains.specs.AllKinds.{IsPack, KindsAsked, RulesAt};
 ghost use Rattle.filtered.specs.Taking.{kindIn, Small, KindFound, namedAfter, takenAfter, takeAt, takenBy, takenIn, Takeable, Known, Filled};
 
 // A relation's kind at a slot, where it is known.
@@ -141,21 +141,27 @@ fn take_all(
     }
 }
 
-// The tables of a checked pack, which hold zeros before; the answer is the number of declarations read.
+// What reading the tables of a pack tells: the number of declarations read, and the place of the count of rules.
+pub struct Read {
+    pub steps: u32,
+    pub rules: usize,
+}
+
+// The tables of a checked pack, which hold zeros before.
 pub fn read_tables(
     pack: &[u32],
     names: &mut [u32],
     starts: &mut [u32; 4096],
     marks: &mut [u32; 4096],
     taken: &mut [u32; 4096],
-) -> u32
+) -> Read
     requires { ⌜ KindsAsked (now pack) (now names) × (now starts ≡ replicate 4096 0) × (now marks ≡ replicate 4096 0) × (now taken ≡ replicate 4096 0) ⌝ }
-    ensures { λ r. ⌜ Filled (now (pack .entry)) (now (names .exit)) (now (starts .exit)) (now (marks .exit)) (now (taken .exit)) r ⌝ }
+    ensures { λ r. ⌜ Filled (now (pack .entry)) (now (names .exit)) (now (starts .exit)) (now (marks .exit)) (now (taken .exit)) (r .steps) × RulesAt (now (pack .entry)) (r .rules) ⌝ }
 {
-    records(pack, names, starts);
+    let rules = records(pack, names, starts);
     let steps = mark_kinds(pack, names, starts, marks);
     take_all(pack, names, starts, marks, taken);
-    steps
+    Read { steps, rules }
 }
 
 // What is known of every entity of a checked pack; the table holds zeros before.

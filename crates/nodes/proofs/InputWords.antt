@@ -1,17 +1,14 @@
 -- Laws of reading the blocks from the words.
 use Prim.Native.Nat.{ℕ, suc, _+_, _-_, _*_, _≤_, _<_}
 use native.Mathlib.Omega.{arith}
-use native.Mathlib.Numerals.{add-one}
 use mathlib.Core.Path.{_≡_, refl, ap, sym, _∙_}
 use mathlib.Core.List.{List}
-use lib.ListN.{length, getD, drop, drop-of-length-le}
-use lib.Seq.{drop-cons}
 use mathlib.Core.Bool.{Bool, true, false, not}
 use lib.Dec.{eqb}
 use borrow.Author.Tests.{eq-eqb, ne-eqb}
-use Rattle.pack.specs.Table.{pick, kindOf}
+use Rattle.pack.specs.Table.{pick}
 use Rattle.chains.specs.Record.{valueAt}
-use Rattle.nodes.specs.Blocks.{seenAfter, seenItems, seenBlock, seenBlocks, inputNumber, inputIn, far, Near, SeenItems, SeenBlock, AfterBlock, SeenBlocks, placeOfKind}
+use Rattle.nodes.specs.Blocks.{seenAfter, seenItems, seenBlock, seenBlocks, inputNumber, inputIn, far, Near, SeenItems, SeenBlock, AfterBlock, SeenBlocks}
 
 pub another-name : (seen at : ℕ) (b : Bool) → not b ≡ true → seen ≡ seenAfter seen at b
 unfolding seenAfter
@@ -171,27 +168,3 @@ module _ (ws : List ℕ) (seen owner : ℕ) where
 pub the-input : (ws : List ℕ) (at count origin owner name : ℕ) {seen r : ℕ} → SeenBlocks ws origin name at count seen → r ≡ inputNumber ws seen owner → r ≡ inputIn ws at count origin owner name
 unfolding inputIn
 the-input ws at count origin owner name s e = e ∙ ap (λ (x : ℕ). inputNumber ws x owner) (s .is)
-
--- ---- the place of a word of a kind
-
-module _ (kind : ℕ) (ws : List ℕ) where
-  -- it is not before the place reached
-  pub record Looking (i : ℕ) : Type 0 where
-    pub within : i ≤ length ws
-    pub todo : placeOfKind kind 0 ws ≡ placeOfKind kind i (drop i ws)
-
-  pub look : Looking 0
-  look = record { within = omega arith; todo = refl }
-
-  module _ {i : ℕ} (s : Looking i) where
-    pub here : i < length ws → kindOf (getD ws i 0) ≡ kind → i ≡ placeOfKind kind 0 ws
-    unfolding placeOfKind
-    here h e = sym (s .todo ∙ rw (drop-cons ws i 0 h, eq-eqb (kindOf (getD ws i 0)) kind e) refl)
-
-    pub further : i < length ws → (kindOf (getD ws i 0) ≡ kind → ⊥) → Looking (i + 1)
-    unfolding placeOfKind
-    further h e = record { within = omega arith; todo = s .todo ∙ rw (drop-cons ws i 0 h, ne-eqb (kindOf (getD ws i 0)) kind e, add-one i) refl }
-
-    pub nowhere : length ws ≤ i → i ≡ placeOfKind kind 0 ws
-    unfolding placeOfKind
-    nowhere h = sym (s .todo ∙ rw (drop-of-length-le ws h) refl)

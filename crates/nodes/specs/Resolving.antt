@@ -14,7 +14,7 @@ use Rattle.pack.specs.Pack.{Derivation, Relation, Body, Rule, Pack, rule}
 use Rattle.chains.specs.Kinds.{kindsOf}
 use Rattle.filtered.specs.Filtered.{kindAt}
 use Rattle.chains.specs.Reach.{any}
-use Rattle.chains.specs.Operations.{relationWords, startOf, firstRelation, hops}
+use Rattle.chains.specs.Operations.{relationWords, startOf, firstRelation, relationsEnd, hops}
 use Rattle.nodes.specs.Tables.{Derived, Tables, tables}
 use Rattle.nodes.specs.Direction.{kindOrZero, membership}
 use Rattle.nodes.specs.Inputs.{input}
@@ -174,11 +174,7 @@ stamp p r = stampDerived p r (r .derivation)
 
 -- ---- the whole
 
--- the first rule stands after the relations and their count of rules
-abbrev pub relationsEnd : ℕ → ℕ → List Relation → ℕ
-relationsEnd n at [] = at
-relationsEnd n at (r ∷ rs) = relationsEnd n (at + length (relationWords n r)) rs
-
+-- the first rule stands after the relations and the count of rules
 abbrev pub firstRule : Pack → ℕ
 firstRule p = relationsEnd (p .names) (firstRelation p) (p .relations) + 1
 

@@ -14,20 +14,6 @@ pub fn kind_of(word: u32) -> u32
     word / Pack::VALUES
 }
 
-// The place of the first word of a kind.
-pub fn place_of_kind(pack: &[u32], kind: u32) -> usize
-    ensures { λ r. ⌜ r ≡ placeOfKind kind 0 (now (pack .entry)) ⌝ }
-{
-    let mut i: usize = 0;
-    while i < pack.len() {
-        if pack[i] / Pack::VALUES == kind {
-            return i;
-        }
-        i += 1;
-    }
-    i
-}
-
 // The words of a slice in another of the same length.
 pub fn copy(pack: &[u32], work: &mut [u32])
     requires { ⌜ length (now work) ≡ length (now pack) ⌝ }

@@ -19,7 +19,7 @@ use Rattle.checking.proofs.OperationLaws.{turned-away}
 use Rattle.pack.proofs.PackLaws.{words-read}
 use Rattle.chains.specs.Kinds.{find, kindsOf, allKinds}
 use Rattle.chains.specs.Operations.{firstRelation, startOf, Answered}
-use Rattle.chains.specs.AllKinds.{IsPack, Counted}
+use Rattle.chains.specs.AllKinds.{IsPack, Counted, RulesAt}
 use Rattle.chains.proofs.CheckedLaws.{same-pack, short-checked, few-counted}
 use Rattle.chains.proofs.PackIndex.{parts, find-name, find-kept}
 use Rattle.nodes.specs.Tables.{Tables, derivedAt, tables}
@@ -76,7 +76,7 @@ pub declared-of : (k : Option (List ℕ)) (o : Option Relation) → equalKinds (
 declared-of k none e = let z : _≡_ {A = ℕ} 0 1 = cc in absurd (omega arith)
 declared-of k (some r) e = (r, refl)
 
-module _ {ws starts marks taken work order : List ℕ} (a : TreesAsked ws starts marks taken work order) where
+module _ {ws starts marks taken work order : List ℕ} {at : ℕ} (a : TreesAsked ws starts marks taken at work order) where
   abbrev p : Pack
   p = a .tabled .checked .pack
 
@@ -229,11 +229,11 @@ pub finish-of : {ws starts marks taken : List ℕ} {steps : ℕ} (t : Tabled ws 
 finish-of {starts = starts} {taken = taken} t {n = n} {x = x} c e = let d = whole-done (t .checked) [] c e in record { records = starts; taken = taken; tabled = t; whole = d .whole; resolves = d .resolves; stands = d .stands; places = c .places (t .checked .pack) (t .checked .reads) n x e }
 
 -- a word for each relation
-pub asked-of : {ws starts marks taken work : List ℕ} {steps : ℕ} → Tabled ws starts marks taken steps → work ≡ ws → {count : ℕ} → Counted ws count → TreesAsked ws starts marks taken work (midOf 0 (count - 0) (replicate 512 0))
-asked-of {ws} {steps = steps} t e {count} k =
+pub asked-of : {ws starts marks taken work : List ℕ} {steps at : ℕ} → Tabled ws starts marks taken steps → RulesAt ws at → work ≡ ws → {count : ℕ} → Counted ws count → TreesAsked ws starts marks taken at work (midOf 0 (count - 0) (replicate 512 0))
+asked-of {ws} {steps = steps} t ruled e {count} k =
     let whole : count - 0 ≡ count = omega arith in
     let long : length {A = ℕ} (midOf 0 (count - 0) (replicate 512 0)) ≡ count = rw whole (length-take-le {A = ℕ} count (replicate 512 0) (omega (arith, few-counted ws (t .checked) k, length-replicate {A = ℕ} 512 0))) in
-    record { steps = steps; tabled = t; copied = e; room = λ p h. long ∙ k .relations p h }
+    record { steps = steps; tabled = t; ruled = ruled; copied = e; room = λ p h. long ∙ k .relations p h }
 
 front-room : (ws : List ℕ) (most : ℕ) → length ws ≤ most → length {A = ℕ} (midOf 0 (length ws - 0) (replicate most 0)) ≡ length ws
 front-room ws most few = let whole : length ws - 0 ≡ length ws = omega arith in rw whole (length-take-le {A = ℕ} (length ws) (replicate most 0) (omega (arith, length-replicate {A = ℕ} most 0)))

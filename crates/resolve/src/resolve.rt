@@ -16,21 +16,23 @@ ghost use Rattle.resolve.specs.Operations.{resolveAnswer, resolveBuffer}
 ghost use Rattle.trees.specs.Passes.{TreesAsked};
 ghost use Rattle.resolve.specs.Finish.{PackCame, ResolveAsked};
 
-// Defaulted names with equal kinds are refused; then all trees are resolved, in a copy of the words.
+// Defaulted names with equal kinds are refused; then all trees are resolved, in a copy of the words. The count of rules
+// stands at a place.
 fn turn_pack(
     pack: &[u32],
     starts: &[u32; 4096],
     marks: &[u32; 4096],
     taken: &[u32; 4096],
+    at: usize,
     work: &mut [u32],
     order: &mut [u32],
 ) -> Answer
-    requires { ⌜ TreesAsked (now pack) (now starts) (now marks) (now taken) (now work) (now order) ⌝ }
+    requires { ⌜ TreesAsked (now pack) (now starts) (now marks) (now taken) at (now work) (now order) ⌝ }
     ensures { λ r. ⌜ PackCame (now (pack .entry)) r (now (work .exit)) (now (order .exit)) ⌝ }
 {
     let name = first_equal(pack, starts, marks);
     if name == Pack::NONE {
-        return trees(pack, starts, marks, taken, work, order);
+        return trees(pack, starts, marks, taken, at, work, order);
     }
     Answer::Refused(Refusal {
         number: 9,
@@ -48,15 +50,15 @@ fn resolve_in(pack: &[u32], work: &mut [u32], out: &mut [u32]) -> Answer
     let mut starts = [0u32; 4096];
     let mut marks = [0u32; 4096];
     let mut taken = [0u32; 4096];
-    let steps = fill_tables(pack, &mut starts, &mut marks, &mut taken);
+    let read = fill_tables(pack, &mut starts, &mut marks, &mut taken);
     copy(pack, work);
     let mut places = [0u32; 512];
     let order = &mut places[0..relation_count(pack)];
-    let a = turn_pack(pack, &starts, &marks, &taken, work, order);
+    let a = turn_pack(pack, &starts, &marks, &taken, read.rules, work, order);
     let Answer::Given(_, _) = a else {
         return a;
     };
-    finish(pack, &marks, work, order, steps, out)
+    finish(pack, &marks, work, order, read.steps, out)
 }
 
 // The whole pack in record order, with slots and lists as resolving leaves them; the answer is its number of words and

@@ -13,6 +13,7 @@ use Rattle.pack.specs.Pack.{Relation, Rule, Pack, WellFormed, yes, read, words,
 use Rattle.pack.proofs.PackLaws.{words-read, words-length}
 use Rattle.chains.specs.Operations.{relationWords, firstRelation, namesAt, placeOf}
 use Rattle.chains.specs.Kinds.{ownAnswer}
+use Rattle.chains.specs.AllKinds.{RulesAt}
 use Rattle.chains.proofs.PackIndex.{parts}
 use Rattle.chains.proofs.ListAt.{place-holds}
 use Rattle.chains.proofs.CheckedLaws.{same-pack}
@@ -27,11 +28,10 @@ use Rattle.nodes.proofs.CheckedTables.{its-records}
 use Rattle.nodes.proofs.StepWords.{citing-is}
 use Rattle.chains.proofs.RecordLaws.{value-there}
 use Rattle.nodes.proofs.BlocksStand.{reads-inputs}
-use Rattle.nodes.proofs.WordsBefore.{place-quiet}
 use Rattle.trees.proofs.RunLaws.{run-words}
 use Rattle.trees.proofs.RuleLaws.{run-length, rule-long}
 use Rattle.trees.proofs.RelationLaws.{relation-long}
-use Rattle.trees.proofs.TurnedPack.{front, pack-words, front-long, front22, pack-words-22, front22-long, quiet-22, rules-run, relations-run, rules-keep, relations-keep, again-words, defaulted-first}
+use Rattle.trees.proofs.TurnedPack.{front, pack-words, front-long, front22, pack-words-22, front22-long, rules-run, relations-run, rules-keep, relations-keep, again-words, defaulted-first}
 
 given-not-refused : {n x : ℕ} {r : Refusal} → Given n x ≡ Refused r → ⊥
 given-not-refused e = let z : _≡_ {A = ℕ} 0 1 = cc in omega arith
@@ -66,7 +66,7 @@ module _ {ws records marks taken : List ℕ} {steps : ℕ} (a : Tabled ws record
 
   -- ---- the places and counts that the code reads
 
-  module _ {at many : ℕ} (place : at ≡ placeOfKind 22 0 ws) (value : many ≡ valueAt ws at) where
+  module _ {at many : ℕ} (place : RulesAt ws at) (value : many ≡ valueAt ws at) where
     abbrev before : List ℕ
     before = front p ++ R (p .relations)
 
@@ -74,14 +74,7 @@ module _ {ws records marks taken : List ℕ} {steps : ℕ} (a : Tabled ws record
     stands-22 = same ∙ pack-words p ∙ sym (append-assoc (front p) (R (p .relations)) (wordOf 22 (length (p .rules)) ∷ (U (p .rules) ++ B)))
 
     pub rules-at : at + 1 ≡ firstRule p
-    rules-at =
-        let r = parts p w .rule-count in
-        let one : List ℕ = wordOf 22 (length (p .rules)) ∷ [] in
-        let q : at ≡ length before = place ∙ ap (placeOfKind 22 0) stands-22 ∙ place-quiet 22 before (U (p .rules) ++ B) (length (p .rules)) 0 r (quiet-22 p w) ∙ omega arith in
-        let x = length-append (front p) (R (p .relations)) in
-        let y = length-append (front p) (R (p .relations) ++ one) in
-        let z = length-append (R (p .relations)) one in
-        omega (arith, front22-long p)
+    rules-at = ap (λ (x : ℕ). x + 1) (place .after p h)
 
     pub rules-many : many ≡ length (p .rules)
     rules-many =
@@ -107,7 +100,7 @@ module _ {ws records marks taken : List ℕ} {steps : ℕ} (a : Tabled ws record
         let q : length (wordOf 1 (total p) ∷ wordOf 2 n ∷ D) ≡ d + 3 = omega (arith, front-long p, defaulted-is) in
         counts ∙ value-there ws (wordOf 1 (total p) ∷ wordOf 2 n ∷ D) _ 5 (length (p .relations)) (d + 3) five-there q (parts p w .relation-count)
 
-  pub rules-near : {at : ℕ} → at ≡ placeOfKind 22 0 ws → at < 8192
+  pub rules-near : {at : ℕ} → RulesAt ws at → at < 8192
   rules-near {at} e =
       let x = ap length (same ∙ pack-words-22 p) ∙ length-append (front22 p) (U (p .rules) ++ B) in
       omega (arith, short, front22-long p, rules-at e refl)
@@ -143,7 +136,7 @@ module _ {ws records marks taken : List ℕ} {steps : ℕ} (a : Tabled ws record
 
   -- rules, in a copy of the words
   module _ {b c : ℕ} (place : b ≡ placeOfKind 28 0 ws) (value : c ≡ valueAt ws b) {work : List ℕ} (few : length work ≤ 8192) where
-    module _ (copied : work ≡ ws) {at many : ℕ} (at-is : at ≡ placeOfKind 22 0 ws) (many-is : many ≡ valueAt ws at) where
+    module _ (copied : work ≡ ws) {at many : ℕ} (at-is : RulesAt ws at) (many-is : many ≡ valueAt ws at) where
       stands-rules : work ≡ front22 p ++ (U (p .rules) ++ B)
       stands-rules = copied ∙ same ∙ pack-words-22 p
 

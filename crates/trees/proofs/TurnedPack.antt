@@ -1,7 +1,7 @@
 -- A pack whose trees are resolved in its words: the words before its relations, its relations, its rules and its blocks.
 use Prim.Native.Nat.{ℕ, suc, _+_}
 use native.Mathlib.Omega.{arith}
-use mathlib.Core.Path.{_≡_, refl, ap, sym, _∙_, subst, fun-ext}
+use mathlib.Core.Path.{_≡_, refl, ap, sym, _∙_, fun-ext}
 use mathlib.Core.List.{List, [], _∷_, _++_, append-assoc}
 use mathlib.Core.Bool.{Bool, true, false, _||_}
 use lib.ListN.{length, length-append}
@@ -11,15 +11,13 @@ use Rattle.pack.specs.Table.{wordOf}
 use Rattle.pack.specs.Form.{among, wordsAll, FineAll, count, items, wordsBy, Fine}
 use Rattle.pack.specs.Pack.{Relation, Rule, Pack, WellFormed, toRow, newName, relation, relations, rule, rules, blocks, defaulted, defaultedName, above, records, inner, layout, total, words}
 use Rattle.chains.specs.Kinds.{declared}
-use Rattle.chains.specs.Operations.{relationWords, firstRelation}
-use Rattle.chains.proofs.Hushed.{Quiet, quiet-append, quiet-word}
+use Rattle.chains.specs.Operations.{relationWords, firstRelation, relationsEnd}
 use Rattle.chains.proofs.RelationScan.{relationsWords, RelationsFine}
 use Rattle.chains.proofs.PackIndex.{parts}
 use Rattle.nodes.specs.Turning.{Outcome, andThen, mapDone}
-use Rattle.nodes.specs.Resolving.{ruleWords, resolveRule, resolveRules, resolveRelation, resolveRelations, relationsEnd, firstRule}
+use Rattle.nodes.specs.Resolving.{ruleWords, resolveRule, resolveRules, resolveRelation, resolveRelations, firstRule}
 use Rattle.trees.specs.Passes.{wordsOf, runBy, All, Many, RelationKeeps, withRecords}
 use Rattle.nodes.proofs.BlocksStand.{first-kind}
-use Rattle.nodes.proofs.WordsBefore.{loud, defaulted-hushed, relations-hushed}
 
 -- ---- its words
 
@@ -98,22 +96,6 @@ front22-long p =
     let a = length-append (front p) (R ++ (wordOf 22 (length (p .rules)) ∷ [])) in
     let b = length-append R (wordOf 22 (length (p .rules)) ∷ []) in
     omega (arith, front-long p, end-is (p .names) (firstRelation p) (p .relations))
-
--- the count of rules is the first word of its kind
-pub quiet-22 : (p : Pack) → WellFormed p → Quiet (loud 22) (front p ++ wordsOf (relationWords (p .names)) (p .relations))
-unfolding inner records relations Fine wordsBy count items
-quiet-22 p w =
-    let n : ℕ = p .names in
-    let f = w .parts in
-    let D : List ℕ = wordsBy (defaulted n) (p .defaulted) in
-    let five : List ℕ = wordOf 5 (length (p .relations)) ∷ [] in
-    let R : List ℕ = wordsOf (relationWords n) (p .relations) in
-    let q = relations-hushed 22 (omega arith) (omega arith) n (p .relations) (f .1 .1 .0) in
-    let whole : Quiet (loud 22) (wordOf 5 (length (p .relations)) ∷ R) = subst (λ (l : List ℕ). Quiet (loud 22) (wordOf 5 (length (p .relations)) ∷ l)) (relations-words n [] (p .relations)) q in
-    subst (λ (l : List ℕ). Quiet (loud 22) (wordOf 1 (total p) ∷ wordOf 2 n ∷ l)) (sym (append-assoc D five R)) (
-      quiet-word (loud 22) 1 (total p) (omega (arith, w .most)) refl .0,
-      (quiet-word (loud 22) 2 n (f .0 .0) refl .0, quiet-append (loud 22) D (wordOf 5 (length (p .relations)) ∷ R) (defaulted-hushed 22 (omega arith) (omega arith) n (p .defaulted) (f .1 .0)) whole),
-    )
 
 -- ---- its runs
 

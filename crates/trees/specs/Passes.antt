@@ -12,7 +12,7 @@ use Rattle.pack.specs.Form.{among, Fine}
 use Rattle.pack.specs.Pack.{Relation, Body, Rule, Pack, yes, read, words, body, rule, relation}
 use Rattle.chains.specs.Kinds.{declared, kindsOf, allKinds}
 use Rattle.chains.specs.Operations.{relationWords, firstRelation, namesAt}
-use Rattle.chains.specs.AllKinds.{IsPack, Noted, KindsMarked}
+use Rattle.chains.specs.AllKinds.{IsPack, Noted, RulesAt, KindsMarked}
 use Rattle.filtered.specs.Taking.{Known}
 use Rattle.nodes.specs.Turning.{Outcome, done, refused, andThen, mapDone, treeWords}
 use Rattle.nodes.specs.Tables.{tables}
@@ -184,9 +184,10 @@ pub record Tabled (ws records marks taken : List ℕ) (steps : ℕ) : Type 0 whe
   pub marked : KindsMarked ws steps declares marks
   pub knows : Known ws taken
 
--- with a copy of the words, and a word for each relation
-pub record TreesAsked (ws records marks taken : List ℕ) (work order : List ℕ) : Type 0 where
+-- with the place of the count of rules, a copy of the words, and a word for each relation
+pub record TreesAsked (ws records marks taken : List ℕ) (at : ℕ) (work order : List ℕ) : Type 0 where
   pub steps : ℕ
   pub tabled : Tabled ws records marks taken steps
+  pub ruled : RulesAt ws at
   pub copied : work ≡ ws
   pub room : (p : Pack) → read ws ≡ yes p → length order ≡ length (p .relations)

@@ -3,47 +3,46 @@ use crate::relations::relations;
 use crate::rules::rules;
 use chains::header::relation_count;
 use chains::record::value_at;
+use filtered::taking::Read;
 use filtered::taking::read_tables;
 use nodes::words::place_of_blocks;
-use nodes::words::place_of_kind;
 use pack::answer::Answer;
-use pack::kinds::Pack;
 ghost use mathlib.Core.Path.{_≡_};
 ghost use lib.ListN.{replicate};
-ghost use Rattle.chains.specs.AllKinds.{IsPack};
+ghost use Rattle.chains.specs.AllKinds.{IsPack, RulesAt};
 ghost use Rattle.trees.specs.Passes.{Tabled, TreesAsked, TreesCame};
 
 // The tables of a checked pack, by name: where the records of relations start, the marks of their kinds, and what
-// entities take. The answer is the number of declarations read.
+// entities take. They hold zeros before.
 pub fn fill_tables(
     pack: &[u32],
     starts: &mut [u32; 4096],
     marks: &mut [u32; 4096],
     taken: &mut [u32; 4096],
-) -> u32
+) -> Read
     requires { ⌜ IsPack (now pack) × (now starts ≡ replicate 4096 0) × (now marks ≡ replicate 4096 0) × (now taken ≡ replicate 4096 0) ⌝ }
-    ensures { λ r. ⌜ Tabled (now (pack .entry)) (now (starts .exit)) (now (marks .exit)) (now (taken .exit)) r ⌝ }
+    ensures { λ r. ⌜ Tabled (now (pack .entry)) (now (starts .exit)) (now (marks .exit)) (now (taken .exit)) (r .steps) × RulesAt (now (pack .entry)) (r .rules) ⌝ }
 {
     let mut names = [0u32; 512];
     let count = relation_count(pack);
     read_tables(pack, &mut names[0..count], starts, marks, taken)
 }
 
-// All trees, in a copy of the words; the places of relations are noted.
+// All trees, in a copy of the words; the count of rules stands at a place. The places of relations are noted.
 pub fn trees(
     pack: &[u32],
     starts: &[u32; 4096],
     marks: &[u32; 4096],
     taken: &[u32; 4096],
+    at: usize,
     work: &mut [u32],
     order: &mut [u32],
 ) -> Answer
-    requires { ⌜ TreesAsked (now pack) (now starts) (now marks) (now taken) (now work) (now order) ⌝ }
+    requires { ⌜ TreesAsked (now pack) (now starts) (now marks) (now taken) at (now work) (now order) ⌝ }
     ensures { λ r. ⌜ TreesCame (now (pack .entry)) r (now (work .exit)) (now (order .exit)) ⌝ }
 {
     let blocks = place_of_blocks(pack);
     let count = value_at(pack, blocks) as usize;
-    let first = place_of_kind(pack, Pack::RULE_COUNT);
     let a = rules(
         pack,
         starts,
@@ -52,8 +51,8 @@ pub fn trees(
         blocks + 1,
         count,
         work,
-        first + 1,
-        value_at(pack, first),
+        at + 1,
+        value_at(pack, at),
     );
     let Answer::Given(_, _) = a else {
         return a;

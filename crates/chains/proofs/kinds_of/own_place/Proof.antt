@@ -29,10 +29,10 @@ add-walk : tie.Need-add-walk
 add-walk c = omega (arith, few-counted _ (c .before .before .before .before .before .before .before .before .before .pre .0) (c .before .before .before .before .before .before .before .relation-count .ensures))
 
 walk-requires : tie.Need-walk-requires
-walk-requires c κs = (its-recorded (c .before .before .before .before .before .before .before .before .before .pre .0) (c .before .before .before .before .records .ensures), walkable-own (c .before .before .before .before .before .before .before .before .before .pre .0) (c .before .before .before .before .records .ensures) (c .before .before .before .before .before .before .before .relation-count .ensures) (c .before .before .before .before .before .before .before .before .before .pre .1))
+walk-requires c κs = (its-recorded (c .before .before .before .before .before .before .before .before .before .pre .0) (c .before .before .before .before .records .ensures .0), walkable-own (c .before .before .before .before .before .before .before .before .before .pre .0) (c .before .before .before .before .records .ensures .0) (c .before .before .before .before .before .before .before .relation-count .ensures) (c .before .before .before .before .before .before .before .before .before .pre .1))
 
 returns : tie.Need-returns
-returns c = own-place (c .before .before .before .before .before .before .before .before .before .before .pre .0) (c .before .before .before .before .before .records .ensures) (c .before .before .before .before .before .before .before .before .relation-count .ensures) (c .walk .ensures)
+returns c = own-place (c .before .before .before .before .before .before .before .before .before .before .pre .0) (c .before .before .before .before .before .records .ensures .0) (c .before .before .before .before .before .before .before .before .relation-count .ensures) (c .walk .ensures)
 
 pub own-place-spec : {M : Type 1} → statement M
 own-place-spec =

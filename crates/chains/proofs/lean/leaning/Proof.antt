@@ -24,10 +24,10 @@ records-requires : tie.Need-records-requires
 records-requires c κs = (kinds-asked _ _ (c .before .before .before .before .pre .0) (c .before .before .relation-count .ensures) (omega (arith, few-counted _ (c .before .before .before .before .pre .0) (c .before .before .relation-count .ensures))), refl)
 
 leads-requires : tie.Need-leads-requires
-leads-requires c κs = (its-recorded (c .before .before .before .before .before .before .before .pre .0) (c .before .before .records .ensures), its-sourced (c .before .before .before .before .before .before .before .pre .0) (c .before .before .records .ensures), c .before .before .before .before .before .before .before .pre .1)
+leads-requires c κs = (its-recorded (c .before .before .before .before .before .before .before .pre .0) (c .before .before .records .ensures .0), its-sourced (c .before .before .before .before .before .before .before .pre .0) (c .before .before .records .ensures .0), c .before .before .before .before .before .before .before .pre .1)
 
 returns : tie.Need-returns
-returns c = its-leaning (c .before .before .before .before .before .before .before .before .pre .0) (c .before .before .before .records .ensures) (c .before .before .before .before .before .before .relation-count .ensures) (c .leads .ensures)
+returns c = its-leaning (c .before .before .before .before .before .before .before .before .pre .0) (c .before .before .before .records .ensures .0) (c .before .before .before .before .before .before .relation-count .ensures) (c .leads .ensures)
 
 pub leaning-spec : {M : Type 1} → statement M
 leaning-spec =

@@ -4,7 +4,7 @@ use native.Mathlib.Omega.{arith}
 use lib.ListN.{length}
 use borrow.Author.Needs.{needs}
 use Rattle.chains.specs.AllKinds.{KindsAsked}
-use Rattle.chains.proofs.RecordsLaws.{Noting, begin, near, name-below, note-on, noted-all}
+use Rattle.chains.proofs.RecordsLaws.{Noting, begin, near, name-below, note-on, noted-all, rules-after}
 use Rattle.chains.proofs.records.records.Statement.{statement}
 use Rattle.chains.proofs.records.records.Tie as tie
 
@@ -63,7 +63,7 @@ same-length : tie.Need-same-length Inv-loop μ-loop
 same-length c = (c .before .loop .inv .1 .long)
 
 returns : tie.Need-returns Inv-loop μ-loop
-returns c = noted-all _ (c .before .loop .inv .1) (omega arith)
+returns c = (noted-all _ (c .before .loop .inv .1) (omega arith), rules-after _ (c .before .loop .inv .1) (omega arith))
 
 pub records-spec : {M : Type 1} → statement M
 records-spec =

@@ -11,13 +11,16 @@ mark-kinds-requires : tie.Need-mark-kinds-requires
 mark-kinds-requires c κs = search needs
 
 take-all-requires : tie.Need-take-all-requires
-take-all-requires c κs = takeable (c .before .before .before .before .before .before .before .before .before .before .before .before .before .before .before .pre .0 .checked) (c .before .before .before .before .before .before .before .before .before .before .records .ensures) (c .before .before .before .before .mark-kinds .ensures)
+take-all-requires c κs = takeable (c .before .before .before .before .before .before .before .before .before .before .before .before .before .before .before .pre .0 .checked) (c .before .before .before .before .before .before .before .before .before .before .records .ensures .0) (c .before .before .before .before .mark-kinds .ensures)
 
 same-length : tie.Need-same-length
 same-length c = search needs
 
 returns : tie.Need-returns
-returns c = filled (c .before .before .before .before .before .before .before .before .before .before .before .before .before .before .before .before .pre .0 .checked) (c .before .before .before .before .before .before .before .before .before .before .before .records .ensures) (c .before .before .before .before .before .mark-kinds .ensures) (rw (c .before .before .before .before .before .before .before .before .before .before .before .before .before .before .before .before .pre .3) at (c .take-all .ensures))
+returns c = (
+  filled (c .before .before .before .before .before .before .before .before .before .before .before .before .before .before .before .before .pre .0 .checked) (c .before .before .before .before .before .before .before .before .before .before .before .records .ensures .0) (c .before .before .before .before .before .mark-kinds .ensures) (rw (c .before .before .before .before .before .before .before .before .before .before .before .before .before .before .before .before .pre .3) at (c .take-all .ensures)),
+  c .before .before .before .before .before .before .before .before .before .before .before .records .ensures .1,
+)
 
 pub read-tables-spec : {M : Type 1} → statement M
 read-tables-spec =

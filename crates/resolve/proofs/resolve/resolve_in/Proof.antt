@@ -25,7 +25,7 @@ part-places-end : tie.Need-part-places-end
 part-places-end c = omega (arith, few-counted _ (c .before .before .before .before .before .before .before .before .before .before .before .before .pre .checked) (c .relation-count .ensures))
 
 turn-pack-requires : tie.Need-turn-pack-requires
-turn-pack-requires c κs = asked-of ((c .before .before .before .before .before .before .before .before .before .before .before .fill-tables) .ensures) ((c .before .before .before .before .before .before .before .before .before .copy) .ensures) (c .before .before .before .before .before .before .relation-count .ensures)
+turn-pack-requires c κs = asked-of ((c .before .before .before .before .before .before .before .before .before .before .before .fill-tables) .ensures .0) ((c .before .before .before .before .before .before .before .before .before .before .before .fill-tables) .ensures .1) ((c .before .before .before .before .before .before .before .before .before .copy) .ensures) (c .before .before .before .before .before .before .relation-count .ensures)
 
 enum-told : tie.Need-enum-told
 enum-told c = search needs
@@ -37,10 +37,10 @@ same-length : tie.Need-same-length
 same-length c = search needs
 
 returns : tie.Need-returns
-returns c = resolve-stopped ((c .before .before .before .before .before .before .before .before .before .before .before .before .before .before .before .before .before .before .before .fill-tables) .ensures .checked) _ ((c .before .before .before .before .before .before .before .turn-pack) .ensures) ((c .before .enum-told2) .given .1)
+returns c = resolve-stopped ((c .before .before .before .before .before .before .before .before .before .before .before .before .before .before .before .before .before .before .before .fill-tables) .ensures .0 .checked) _ ((c .before .before .before .before .before .before .before .turn-pack) .ensures) ((c .before .enum-told2) .given .1)
 
 finish-requires : tie.Need-finish-requires
-finish-requires c κs = finish-of ((c .before .before .before .before .before .before .before .before .before .before .before .before .before .before .before .before .before .before .before .before .before .before .fill-tables) .ensures) ((c .before .before .before .before .before .before .before .before .before .before .turn-pack) .ensures) ((c .before .before .before .before .enum-told) .given .1)
+finish-requires c κs = finish-of ((c .before .before .before .before .before .before .before .before .before .before .before .before .before .before .before .before .before .before .before .before .before .before .fill-tables) .ensures .0) ((c .before .before .before .before .before .before .before .before .before .before .turn-pack) .ensures) ((c .before .before .before .before .enum-told) .given .1)
 
 same-length-2 : tie.Need-same-length-2
 same-length-2 c = search needs
@@ -49,7 +49,7 @@ same-length-3 : tie.Need-same-length-3
 same-length-3 c = search needs
 
 returns-2 : tie.Need-returns-2
-returns-2 c = resolve-done ((c .before .before .before .before .before .before .before .before .before .before .before .before .before .before .before .before .before .before .before .before .before .before .before .before .before .before .fill-tables) .ensures .checked) _ (whole-done ((c .before .before .before .before .before .before .before .before .before .before .before .before .before .before .before .before .before .before .before .before .before .before .before .before .before .before .fill-tables) .ensures .checked) _ ((c .before .before .before .before .before .before .before .before .before .before .before .before .before .before .turn-pack) .ensures) ((c .before .before .before .before .before .before .before .before .enum-told) .given .1)) ((c .before .before .before .finish) .ensures)
+returns-2 c = resolve-done ((c .before .before .before .before .before .before .before .before .before .before .before .before .before .before .before .before .before .before .before .before .before .before .before .before .before .before .fill-tables) .ensures .0 .checked) _ (whole-done ((c .before .before .before .before .before .before .before .before .before .before .before .before .before .before .before .before .before .before .before .before .before .before .before .before .before .before .fill-tables) .ensures .0 .checked) _ ((c .before .before .before .before .before .before .before .before .before .before .before .before .before .before .turn-pack) .ensures) ((c .before .before .before .before .before .before .before .before .enum-told) .given .1)) ((c .before .before .before .finish) .ensures)
 
 pub resolve-in-spec : {M : Type 1} → statement M
 resolve-in-spec =

@@ -19,17 +19,17 @@ same-length-2 c = search needs
 returns : tie.Need-returns
 returns c = pack-turned (c .before .before .before .before .before .before .before .before .before .before .before .before .pre) ((c .before .before .before .before .before .before .before .before .first-equal) .ensures) ((c .before .before .before .before .before .before .before .if1) .taken) ((c .before .before .before .before .trees) .ensures)
 
-cast-t13 : tie.Need-cast-t13
-cast-t13 c = search needs
+cast-t14 : tie.Need-cast-t14
+cast-t14 c = search needs
 
-mul-t14 : tie.Need-mul-t14
-mul-t14 c = search needs
+mul-t15 : tie.Need-mul-t15
+mul-t15 c = search needs
 
-element-copy-out-t17 : tie.Need-element-copy-out-t17
-element-copy-out-t17 c = omega (arith, default-name (c .before .before .before .before .before .pre) ((c .before .first-equal) .ensures) ((c .if1) .left))
+element-copy-out-t18 : tie.Need-element-copy-out-t18
+element-copy-out-t18 c = omega (arith, default-name (c .before .before .before .before .before .pre) ((c .before .first-equal) .ensures) ((c .if1) .left))
 
-cast-t18 : tie.Need-cast-t18
-cast-t18 c = omega (arith, start-small (c .before .before .before .before .before .before .pre) ((c .before .before .first-equal) .result))
+cast-t19 : tie.Need-cast-t19
+cast-t19 c = omega (arith, start-small (c .before .before .before .before .before .before .pre) ((c .before .before .first-equal) .result))
 
 returns-2 : tie.Need-returns-2
 returns-2 c = pack-equal (c .before .before .before .before .before .before .pre) ((c .before .before .first-equal) .ensures) ((c .before .if1) .left) _ _
@@ -43,8 +43,8 @@ turn-pack-spec =
     same-length
     same-length-2
     returns
-    cast-t13
-    mul-t14
-    element-copy-out-t17
-    cast-t18
+    cast-t14
+    mul-t15
+    element-copy-out-t18
+    cast-t19
     returns-2)

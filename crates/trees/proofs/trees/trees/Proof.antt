@@ -15,20 +15,17 @@ value-at-requires c κs = search needs
 cast-count : tie.Need-cast-count
 cast-count c = search needs
 
-place-of-kind-requires : tie.Need-place-of-kind-requires
-place-of-kind-requires c κs = search needs
-
 add-rules : tie.Need-add-rules
-add-rules c = omega (arith, blocks-near ((c .before .before .before .before .before .before .pre) .tabled) ((c .before .before .place-of-blocks) .ensures))
+add-rules c = omega (arith, blocks-near ((c .before .before .before .before .before .pre) .tabled) ((c .before .place-of-blocks) .ensures))
 
 add-rules-2 : tie.Need-add-rules-2
-add-rules-2 c = omega (arith, rules-near ((c .before .before .before .before .before .before .before .pre) .tabled) ((c .before .place-of-kind) .ensures))
+add-rules-2 c = omega (arith, rules-near ((c .before .before .before .before .before .before .pre) .tabled) ((c .before .before .before .before .before .before .pre) .ruled))
 
 value-at-requires-2 : tie.Need-value-at-requires-2
 value-at-requires-2 c κs = search needs
 
 rules-requires : tie.Need-rules-requires
-rules-requires c κs = trees-rules ((c .before .before .before .before .before .before .before .before .pre) .tabled) ((c .before .before .before .before .place-of-blocks) .ensures) ((c .before .before .before .value-at) .ensures .0) (omega (arith, short ((c .before .before .before .before .before .before .before .before .pre) .tabled), ap length ((c .before .before .before .before .before .before .before .before .pre) .copied))) ((c .before .before .before .before .before .before .before .before .pre) .copied) ((c .before .before .place-of-kind) .ensures) ((c .value-at2) .ensures .0)
+rules-requires c κs = trees-rules ((c .before .before .before .before .before .before .before .pre) .tabled) ((c .before .before .before .place-of-blocks) .ensures) ((c .before .before .value-at) .ensures .0) (omega (arith, short ((c .before .before .before .before .before .before .before .pre) .tabled), ap length ((c .before .before .before .before .before .before .before .pre) .copied))) ((c .before .before .before .before .before .before .before .pre) .copied) ((c .before .before .before .before .before .before .before .pre) .ruled) ((c .value-at2) .ensures .0)
 
 enum-told : tie.Need-enum-told
 enum-told c = search needs
@@ -40,7 +37,7 @@ same-length : tie.Need-same-length
 same-length c = search needs
 
 returns : tie.Need-returns
-returns c = trees-stopped ((c .before .before .before .before .before .before .before .before .before .before .before .before .before .pre) .tabled) ((c .before .before .before .before .before .before .before .before .before .place-of-blocks) .ensures) ((c .before .before .before .before .before .before .before .before .value-at) .ensures .0) (omega (arith, short ((c .before .before .before .before .before .before .before .before .before .before .before .before .before .pre) .tabled), ap length ((c .before .before .before .before .before .before .before .before .before .before .before .before .before .pre) .copied))) ((c .before .before .before .before .before .before .before .before .before .before .before .before .before .pre) .copied) ((c .before .before .before .before .before .before .before .place-of-kind) .ensures) ((c .before .before .before .before .before .value-at2) .ensures .0) ((c .before .before .before .before .rules) .ensures) ((c .enum-told2) .given .1) _
+returns c = trees-stopped ((c .before .before .before .before .before .before .before .before .before .before .before .before .pre) .tabled) ((c .before .before .before .before .before .before .before .before .place-of-blocks) .ensures) ((c .before .before .before .before .before .before .before .value-at) .ensures .0) (omega (arith, short ((c .before .before .before .before .before .before .before .before .before .before .before .before .pre) .tabled), ap length ((c .before .before .before .before .before .before .before .before .before .before .before .before .pre) .copied))) ((c .before .before .before .before .before .before .before .before .before .before .before .before .pre) .copied) ((c .before .before .before .before .before .before .before .before .before .before .before .before .pre) .ruled) ((c .before .before .before .before .before .value-at2) .ensures .0) ((c .before .before .before .before .rules) .ensures) ((c .enum-told2) .given .1) _
 
 value-at-requires-3 : tie.Need-value-at-requires-3
 value-at-requires-3 c κs = search needs
@@ -49,7 +46,7 @@ cast-defaulted : tie.Need-cast-defaulted
 cast-defaulted c = search needs
 
 add-relations : tie.Need-add-relations
-add-relations c = omega (arith, blocks-near ((c .before .before .before .before .before .before .before .before .before .before .before .before .before .before .pre) .tabled) ((c .before .before .before .before .before .before .before .before .before .before .place-of-blocks) .ensures))
+add-relations c = omega (arith, blocks-near ((c .before .before .before .before .before .before .before .before .before .before .before .before .before .pre) .tabled) ((c .before .before .before .before .before .before .before .before .before .place-of-blocks) .ensures))
 
 add-relations-2 : tie.Need-add-relations-2
 add-relations-2 c = search needs
@@ -61,7 +58,7 @@ value-at-requires-4 : tie.Need-value-at-requires-4
 value-at-requires-4 c κs = search needs
 
 relations-requires : tie.Need-relations-requires
-relations-requires c κs = (trees-relations ((c .before .before .before .before .before .before .before .before .before .before .before .before .before .before .before .before .before .pre) .tabled) ((c .before .before .before .before .before .before .before .before .before .before .before .before .before .place-of-blocks) .ensures) ((c .before .before .before .before .before .before .before .before .before .before .before .before .value-at) .ensures .0) (omega (arith, short ((c .before .before .before .before .before .before .before .before .before .before .before .before .before .before .before .before .before .pre) .tabled), ap length ((c .before .before .before .before .before .before .before .before .before .before .before .before .before .before .before .before .before .pre) .copied))) ((c .before .before .before .before .before .before .before .before .before .before .before .before .before .before .before .before .before .pre) .copied) ((c .before .before .before .before .before .before .before .before .before .before .before .place-of-kind) .ensures) ((c .before .before .before .before .before .before .before .before .before .value-at2) .ensures .0) ((c .before .before .before .before .before .before .before .before .rules) .ensures) ((c .before .before .before .before .enum-told) .given .1) (omega (arith, short ((c .before .before .before .before .before .before .before .before .before .before .before .before .before .before .before .before .before .pre) .tabled), ap length ((c .before .before .before .before .before .before .before .before .before .before .before .before .before .before .before .before .before .pre) .copied), ((c .before .before .before .before .before .before .before .before .rules) .kept .1 .1 .1 .1 .1 .1 .0))) ((c .before .before .before .value-at3) .ensures .0) ((c .before .value-at4) .ensures .0), trees-room ((c .before .before .before .before .before .before .before .before .before .before .before .before .before .before .before .before .before .pre) .tabled) ((c .before .before .before .before .before .before .before .before .before .before .before .before .before .place-of-blocks) .ensures) ((c .before .before .before .before .before .before .before .before .before .before .before .before .value-at) .ensures .0) (omega (arith, short ((c .before .before .before .before .before .before .before .before .before .before .before .before .before .before .before .before .before .pre) .tabled), ap length ((c .before .before .before .before .before .before .before .before .before .before .before .before .before .before .before .before .before .pre) .copied))) ((c .before .before .before .before .before .before .before .before .before .before .before .before .before .before .before .before .before .pre) .copied) ((c .before .before .before .before .before .before .before .before .before .before .before .place-of-kind) .ensures) ((c .before .before .before .before .before .before .before .before .before .value-at2) .ensures .0) ((c .before .before .before .before .before .before .before .before .rules) .ensures) ((c .before .before .before .before .enum-told) .given .1) (omega (arith, short ((c .before .before .before .before .before .before .before .before .before .before .before .before .before .before .before .before .before .pre) .tabled), ap length ((c .before .before .before .before .before .before .before .before .before .before .before .before .before .before .before .before .before .pre) .copied), ((c .before .before .before .before .before .before .before .before .rules) .kept .1 .1 .1 .1 .1 .1 .0))) ((c .before .before .before .value-at3) .ensures .0) ((c .before .value-at4) .ensures .0) (c .before .before .before .before .before .before .before .before .before .before .before .before .before .before .before .before .before .args .order .now) (c .before .before .before .before .before .before .before .before .before .before .before .before .before .before .before .before .before .pre .room))
+relations-requires c κs = (trees-relations ((c .before .before .before .before .before .before .before .before .before .before .before .before .before .before .before .before .pre) .tabled) ((c .before .before .before .before .before .before .before .before .before .before .before .before .place-of-blocks) .ensures) ((c .before .before .before .before .before .before .before .before .before .before .before .value-at) .ensures .0) (omega (arith, short ((c .before .before .before .before .before .before .before .before .before .before .before .before .before .before .before .before .pre) .tabled), ap length ((c .before .before .before .before .before .before .before .before .before .before .before .before .before .before .before .before .pre) .copied))) ((c .before .before .before .before .before .before .before .before .before .before .before .before .before .before .before .before .pre) .copied) ((c .before .before .before .before .before .before .before .before .before .before .before .before .before .before .before .before .pre) .ruled) ((c .before .before .before .before .before .before .before .before .before .value-at2) .ensures .0) ((c .before .before .before .before .before .before .before .before .rules) .ensures) ((c .before .before .before .before .enum-told) .given .1) (omega (arith, short ((c .before .before .before .before .before .before .before .before .before .before .before .before .before .before .before .before .pre) .tabled), ap length ((c .before .before .before .before .before .before .before .before .before .before .before .before .before .before .before .before .pre) .copied), ((c .before .before .before .before .before .before .before .before .rules) .kept .1 .1 .1 .1 .1 .1 .0))) ((c .before .before .before .value-at3) .ensures .0) ((c .before .value-at4) .ensures .0), trees-room ((c .before .before .before .before .before .before .before .before .before .before .before .before .before .before .before .before .pre) .tabled) ((c .before .before .before .before .before .before .before .before .before .before .before .before .place-of-blocks) .ensures) ((c .before .before .before .before .before .before .before .before .before .before .before .value-at) .ensures .0) (omega (arith, short ((c .before .before .before .before .before .before .before .before .before .before .before .before .before .before .before .before .pre) .tabled), ap length ((c .before .before .before .before .before .before .before .before .before .before .before .before .before .before .before .before .pre) .copied))) ((c .before .before .before .before .before .before .before .before .before .before .before .before .before .before .before .before .pre) .copied) ((c .before .before .before .before .before .before .before .before .before .before .before .before .before .before .before .before .pre) .ruled) ((c .before .before .before .before .before .before .before .before .before .value-at2) .ensures .0) ((c .before .before .before .before .before .before .before .before .rules) .ensures) ((c .before .before .before .before .enum-told) .given .1) (omega (arith, short ((c .before .before .before .before .before .before .before .before .before .before .before .before .before .before .before .before .pre) .tabled), ap length ((c .before .before .before .before .before .before .before .before .before .before .before .before .before .before .before .before .pre) .copied), ((c .before .before .before .before .before .before .before .before .rules) .kept .1 .1 .1 .1 .1 .1 .0))) ((c .before .before .before .value-at3) .ensures .0) ((c .before .value-at4) .ensures .0) (c .before .before .before .before .before .before .before .before .before .before .before .before .before .before .before .before .args .order .now) (c .before .before .before .before .before .before .before .before .before .before .before .before .before .before .before .before .pre .room))
 
 same-length-2 : tie.Need-same-length-2
 same-length-2 c = search needs
@@ -70,7 +67,7 @@ same-length-3 : tie.Need-same-length-3
 same-length-3 c = search needs
 
 returns-2 : tie.Need-returns-2
-returns-2 c = trees-came ((c .before .before .before .before .before .before .before .before .before .before .before .before .before .before .before .before .before .before .before .before .before .before .pre) .tabled) ((c .before .before .before .before .before .before .before .before .before .before .before .before .before .before .before .before .before .before .place-of-blocks) .ensures) ((c .before .before .before .before .before .before .before .before .before .before .before .before .before .before .before .before .before .value-at) .ensures .0) (omega (arith, short ((c .before .before .before .before .before .before .before .before .before .before .before .before .before .before .before .before .before .before .before .before .before .before .pre) .tabled), ap length ((c .before .before .before .before .before .before .before .before .before .before .before .before .before .before .before .before .before .before .before .before .before .before .pre) .copied))) ((c .before .before .before .before .before .before .before .before .before .before .before .before .before .before .before .before .before .before .before .before .before .before .pre) .copied) ((c .before .before .before .before .before .before .before .before .before .before .before .before .before .before .before .before .place-of-kind) .ensures) ((c .before .before .before .before .before .before .before .before .before .before .before .before .before .before .value-at2) .ensures .0) ((c .before .before .before .before .before .before .before .before .before .before .before .before .before .rules) .ensures) ((c .before .before .before .before .before .before .before .before .before .enum-told) .given .1) (omega (arith, short ((c .before .before .before .before .before .before .before .before .before .before .before .before .before .before .before .before .before .before .before .before .before .before .pre) .tabled), ap length ((c .before .before .before .before .before .before .before .before .before .before .before .before .before .before .before .before .before .before .before .before .before .before .pre) .copied), ((c .before .before .before .before .before .before .before .before .before .before .before .before .before .rules) .kept .1 .1 .1 .1 .1 .1 .0))) ((c .before .before .before .before .before .before .before .before .value-at3) .ensures .0) ((c .before .before .before .before .before .before .value-at4) .ensures .0) ((c .before .before .before .before .relations) .ensures)
+returns-2 c = trees-came ((c .before .before .before .before .before .before .before .before .before .before .before .before .before .before .before .before .before .before .before .before .before .pre) .tabled) ((c .before .before .before .before .before .before .before .before .before .before .before .before .before .before .before .before .before .place-of-blocks) .ensures) ((c .before .before .before .before .before .before .before .before .before .before .before .before .before .before .before .before .value-at) .ensures .0) (omega (arith, short ((c .before .before .before .before .before .before .before .before .before .before .before .before .before .before .before .before .before .before .before .before .before .pre) .tabled), ap length ((c .before .before .before .before .before .before .before .before .before .before .before .before .before .before .before .before .before .before .before .before .before .pre) .copied))) ((c .before .before .before .before .before .before .before .before .before .before .before .before .before .before .before .before .before .before .before .before .before .pre) .copied) ((c .before .before .before .before .before .before .before .before .before .before .before .before .before .before .before .before .before .before .before .before .before .pre) .ruled) ((c .before .before .before .before .before .before .before .before .before .before .before .before .before .before .value-at2) .ensures .0) ((c .before .before .before .before .before .before .before .before .before .before .before .before .before .rules) .ensures) ((c .before .before .before .before .before .before .before .before .before .enum-told) .given .1) (omega (arith, short ((c .before .before .before .before .before .before .before .before .before .before .before .before .before .before .before .before .before .before .before .before .before .pre) .tabled), ap length ((c .before .before .before .before .before .before .before .before .before .before .before .before .before .before .before .before .before .before .before .before .before .pre) .copied), ((c .before .before .before .before .before .before .before .before .before .before .before .before .before .rules) .kept .1 .1 .1 .1 .1 .1 .0))) ((c .before .before .before .before .before .before .before .before .value-at3) .ensures .0) ((c .before .before .before .before .before .before .value-at4) .ensures .0) ((c .before .before .before .before .relations) .ensures)
 
 pub trees-spec : {M : Type 1} → statement M
 trees-spec =
@@ -79,7 +76,6 @@ trees-spec =
     place-of-blocks-requires
     value-at-requires
     cast-count
-    place-of-kind-requires
     add-rules
     add-rules-2
     value-at-requires-2
