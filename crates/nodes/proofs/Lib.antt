@@ -1,5 +1,4 @@
 pub mod Numbers
-pub mod InputLaws
 pub mod KeepsForm
 pub mod NodeLaws
 pub mod ResolvedFine
@@ -7,9 +6,6 @@ pub mod WordLaws
 pub mod TablesLaws
 pub mod CheckedTables
 pub mod TreeWords
-pub mod InputWords
-pub mod InputRead
-pub mod BlocksStand
 pub mod SlotLaws
 pub mod EqualLaws
 pub mod DefaultedLaws
@@ -22,5 +18,3 @@ pub mod RefusalBounds
 pub mod CitingNames
 pub mod HeldWords
 pub mod PredicateLaws
-pub mod QuietForms
-pub mod WordsBefore

@@ -18,7 +18,7 @@ use Rattle.chains.specs.Reach.{any}
 use Rattle.chains.specs.Operations.{relationWords, firstRelation}
 use Rattle.nodes.specs.Direction.{Membership, turn}
 use Rattle.nodes.specs.Direction as direction
-use Rattle.nodes.specs.Inputs.{ofOrigin, noSequence, declarations, owned, input}
+use Rattle.inputs.specs.Inputs.{ofOrigin, noSequence, declarations, owned, input}
 use Rattle.nodes.specs.Turning.{Outcome, done, refused, andThen, mapDone, Citing, Fields, currentOf, relatedOf, withSlots, valueOfNode, Step, goes, stops, aggregate, allowedInput, onlyRelated, membershipTest, stepBy, size, atNode, resolveTree, resolveForest, InRange}
 use Rattle.nodes.specs.declared.direction.Direction.{Direction}
 use Rattle.nodes.specs.declared.direction.Direction.the-variants.{Turned, Open}

@@ -16,7 +16,7 @@ use Rattle.nodes.specs.Direction.{turn}
 use Rattle.nodes.specs.Turning.{Fields, stops, allowedInput, onlyRelated, stepBy, fieldWords}
 use Rattle.nodes.specs.Words.{tablesIn}
 use Rattle.chains.specs.Record.{valueAt}
-use Rattle.nodes.specs.Blocks.{inputNumber, inputIn, seenBlocks}
+use Rattle.inputs.specs.Blocks.{inputNumber, inputIn, seenBlocks}
 use Rattle.nodes.specs.Walk.{TwoSlots, refusalCode, slotsSet, kindCode, inputCode, onlyCode, onlyNumber, setIfNone, onlySet, OnlyOut, NodeTurned, orNot, citingIn, stepCode, fieldsAfter, SlotNode, ValueFirst, OnlyStepped}
 use Rattle.nodes.proofs.SlotLaws.{head-is, current-is, related-is}
 use Rattle.nodes.proofs.StepWords.{two-slots}

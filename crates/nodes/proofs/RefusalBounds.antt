@@ -21,7 +21,7 @@ use Rattle.nodes.specs.Tables.{Derived, Tables}
 use Rattle.nodes.specs.Direction.{bearing, orElse, kindOrZero, matched, towards, turn, Membership, all, eachOnce, between, tested}
 use Rattle.nodes.specs.Direction as direction
 use Rattle.nodes.specs.Turning.{Outcome, done, refused, andThen, mapDone, Citing, Fields, currentOf, relatedOf, withSlots, valueOfNode, Step, goes, stops, aggregate, allowedInput, onlyRelated, membershipTest, stepBy, size, sizes, atNode, resolveTree, resolveForest}
-use Rattle.nodes.specs.Blocks.{inputIn}
+use Rattle.inputs.specs.Blocks.{inputIn}
 use Rattle.nodes.specs.Walk.{orNot, citingIn, RowFine}
 use Rattle.nodes.proofs.KeepsForm.{FieldsFine, slotted, open-node, no-level}
 use Rattle.nodes.proofs.SmallKinds.{KindFits, turn-small}

@@ -15,19 +15,19 @@ use Rattle.nodes.specs.declared.direction.Direction.the-variants.{Turned
 use Rattle.nodes.specs.Tables.{Tables, tables}
 use Rattle.nodes.specs.Direction.{Membership, turn}
 use Rattle.nodes.specs.Direction as direction
-use Rattle.nodes.specs.Inputs.{input}
+use Rattle.inputs.specs.Inputs.{input}
 use Rattle.nodes.specs.Turning.{Citing, Fields, aggregate, membershipTest, stepBy, fieldWords}
 use Rattle.nodes.specs.Resolving.{cites}
 use Rattle.nodes.specs.Words.{tablesIn, MemberTurned}
 use Rattle.chains.specs.Record.{valueAt}
-use Rattle.nodes.specs.Blocks.{placeOfKind}
+use Rattle.inputs.specs.Blocks.{placeOfKind}
 use Rattle.nodes.specs.Walk.{TwoSlots, SlotsFit, SlotsSet, slotsSet, kindCode, testCode, NodeTurned, MemberStepped, orNot, citingIn, stepCode, fieldsAfter, SlotNode, AnyFields, Stepped}
 use Rattle.nodes.proofs.KeepsForm.{member-fits}
 use Rattle.nodes.proofs.SlotLaws.{head-is, current-is, related-is, slots-fit-in, tables-fit-in}
 use Rattle.nodes.proofs.Numbers.{OfInput, input-numbered}
-use Rattle.nodes.proofs.InputRead.{numberOf}
+use Rattle.inputs.proofs.InputRead.{numberOf}
 use Rattle.nodes.proofs.CheckedTables.{tables-are}
-use Rattle.nodes.proofs.BlocksStand.{reads-inputs}
+use Rattle.inputs.proofs.BlocksStand.{reads-inputs}
 
 abbrev pub two-slots : {work : List ℕ} → SlotNode work → TwoSlots work
 two-slots t =

@@ -17,7 +17,7 @@ use Rattle.chains.specs.Reach.{any}
 use Rattle.chains.specs.Operations.{relationWords, startOf, firstRelation, relationsEnd, hops}
 use Rattle.nodes.specs.Tables.{Derived, Tables, tables}
 use Rattle.nodes.specs.Direction.{kindOrZero, membership}
-use Rattle.nodes.specs.Inputs.{input}
+use Rattle.inputs.specs.Inputs.{input}
 use Rattle.nodes.specs.Turning.{Outcome, done, refused, andThen, mapDone, Citing, size, resolveTree}
 
 -- a rule or relation of a name and an origin, in a pack

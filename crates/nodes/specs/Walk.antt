@@ -16,7 +16,7 @@ use Rattle.nodes.specs.Direction.{turn, Membership}
 use Rattle.nodes.specs.Turning.{Outcome, done, refused, Citing, Fields, Step, goes, stops, stepBy, fieldWords, treeWords, forestWords, size, sizes, resolveTree, resolveForest}
 use Rattle.nodes.specs.Words.{tablesIn}
 use Rattle.chains.specs.Record.{Recorded}
-use Rattle.nodes.specs.Blocks.{inputIn}
+use Rattle.inputs.specs.Blocks.{inputIn}
 
 -- a refusal in one number, which no number of words and no value is: its number, its place and its other
 abbrev pub refusalCode : ℕ → ℕ → ℕ → ℕ

@@ -2,12 +2,12 @@
 use crate::direction::Direction;
 use crate::direction::member;
 use crate::direction::turn;
-use crate::inputs::input;
+use inputs::inputs::input;
 use pack::kinds::Pack;
 ghost use mathlib.Core.Path.{_≡_};
 ghost use Prim.Native.Nat.{_<_, _≤_};
 ghost use Rattle.nodes.specs.Words.{tablesIn, membershipIn};
-ghost use Rattle.nodes.specs.Blocks.{inputIn};
+ghost use Rattle.inputs.specs.Blocks.{inputIn};
 ghost use Rattle.nodes.specs.Walk.{TwoSlots, SlotsFit, SlotsSet, refusalCode, kindCode, testCode, TurnAsked, NodeTurned, MemberStepped, onlyNumber, OnlyAsked, OnlyStepped};
 
 // Sets them as a direction says.

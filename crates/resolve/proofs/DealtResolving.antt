@@ -23,7 +23,7 @@ use Rattle.nodes.specs.Resolving.{cites, defaultedEqual, equalRefusal, ruleBy, 
 use Rattle.resolve.proofs.OutcomeLaws.{result-map, allDone, Alike, all-dealt}
 use Rattle.resolve.proofs.PlaceFree.{rules-each, relations-each}
 use Rattle.nodes.proofs.Numbers.{Numbered, rules-numbered, relations-numbered}
-use Rattle.nodes.proofs.InputLaws.{input-dealt}
+use Rattle.inputs.proofs.InputLaws.{input-dealt}
 
 tables-dealt : (n : ℕ) {rs rs′ : List Relation} → InAnyOrder rs rs′ → Distinct (declared rs) → tables n rs ≡ tables n rs′
 unfolding tables

@@ -21,7 +21,7 @@ use Rattle.chains.proofs.PackIndex.{parts, find-name, find-kept, start-within, 
 use Rattle.nodes.specs.Direction.{Membership, kindOrZero, membership}
 use Rattle.nodes.specs.Tables.{Derived, derivedBy, derivedAt, pair, typedBy, typedAt, tables}
 use Rattle.nodes.specs.Turning.{Outcome, done, refused, andThen, mapDone, Citing, treeWords, size, resolveTree}
-use Rattle.nodes.specs.Inputs.{input}
+use Rattle.inputs.specs.Inputs.{input}
 use Rattle.nodes.specs.Resolving.{cites, defaultedEqual, equalRefusal, resolveBody, resolveRule, ruleWords, resolveRules, predicatePlace, predicateBy, resolvePredicate, resolveDerivation, resolveRelation, resolveRelations, firstRule, resolveRecords, resolved}
 use Rattle.trees.specs.Passes.{wordsOf, runBy, All, bodyWords, RelationKeeps}
 use Rattle.nodes.proofs.Numbers.{OfInput, input-numbered}

@@ -16,7 +16,7 @@ use Rattle.filtered.proofs.Worked.{Worked, worked}
 use Rattle.nodes.specs.Tables.{tables}
 use Rattle.nodes.specs.Direction.{turn}
 use Rattle.nodes.specs.Direction as direction
-use Rattle.nodes.specs.Inputs.{input}
+use Rattle.inputs.specs.Inputs.{input}
 use Rattle.nodes.specs.Turning.{Outcome, done, refused, stepBy, size, resolveTree}
 use Rattle.nodes.specs.Resolving.{defaultedEqual, resolveBodies, ruleBy, resolveRules, predicateBy, resolveRelation, resolveRelations, holds, atomNames, stamp, resolved}
 

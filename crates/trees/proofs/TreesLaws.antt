@@ -20,14 +20,14 @@ use Rattle.chains.proofs.CheckedLaws.{same-pack}
 use Rattle.nodes.specs.Turning.{Outcome, done, refused, andThen, mapDone}
 use Rattle.nodes.specs.Resolving.{ruleWords, resolveRule, resolveRules, resolveRelation, resolveRelations, firstRule}
 use Rattle.chains.specs.Record.{valueAt}
-use Rattle.nodes.specs.Blocks.{placeOfKind}
+use Rattle.inputs.specs.Blocks.{placeOfKind}
 use Rattle.nodes.specs.Walk.{citingIn}
 use Rattle.trees.specs.Passes.{CameAt, AskedFrom, wordsOf, runBy, Many, Ready, KindsReady, RelationKeeps, RulesAsked, RulesCame, RelationsAsked, RelationsCame, withRecords, turned, CameWhole, placesIn, TreesCame, Tabled}
 use Rattle.trees.specs.Passes.{placesFrom}
 use Rattle.nodes.proofs.CheckedTables.{its-records}
 use Rattle.nodes.proofs.StepWords.{citing-is}
 use Rattle.chains.proofs.RecordLaws.{value-there}
-use Rattle.nodes.proofs.BlocksStand.{reads-inputs}
+use Rattle.inputs.proofs.BlocksStand.{reads-inputs}
 use Rattle.trees.proofs.RunLaws.{run-words}
 use Rattle.trees.proofs.RuleLaws.{run-length, rule-long}
 use Rattle.trees.proofs.RelationLaws.{relation-long}

@@ -17,7 +17,7 @@ use Rattle.chains.proofs.PackIndex.{parts}
 use Rattle.nodes.specs.Turning.{Outcome, andThen, mapDone}
 use Rattle.nodes.specs.Resolving.{ruleWords, resolveRule, resolveRules, resolveRelation, resolveRelations, firstRule}
 use Rattle.trees.specs.Passes.{wordsOf, runBy, All, Many, RelationKeeps, withRecords}
-use Rattle.nodes.proofs.BlocksStand.{first-kind}
+use Rattle.inputs.proofs.BlocksStand.{first-kind}
 
 -- ---- its words
 

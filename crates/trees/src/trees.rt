@@ -5,7 +5,7 @@ use chains::header::relation_count;
 use chains::record::value_at;
 use filtered::taking::Read;
 use filtered::taking::read_tables;
-use nodes::words::place_of_blocks;
+use inputs::blocks::place_of_blocks;
 use pack::answer::Answer;
 ghost use mathlib.Core.Path.{_≡_};
 ghost use lib.ListN.{replicate};

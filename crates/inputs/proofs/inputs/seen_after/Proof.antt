@@ -1,7 +1,7 @@
--- `nodes::inputs::seen_after` meets its contract.
-use Rattle.nodes.proofs.InputWords.{another-name, first-of-name, more-of-name}
-use Rattle.nodes.proofs.inputs.seen_after.Statement.{statement}
-use Rattle.nodes.proofs.inputs.seen_after.Tie as tie
+-- `inputs::inputs::seen_after` meets its contract.
+use Rattle.inputs.proofs.InputWords.{another-name, first-of-name, more-of-name}
+use Rattle.inputs.proofs.inputs.seen_after.Statement.{statement}
+use Rattle.inputs.proofs.inputs.seen_after.Tie as tie
 
 returns : tie.Need-returns
 returns c = another-name _ _ _ ((c .if1) .taken)

@@ -14,7 +14,7 @@ use Rattle.pack.specs.Dealt as dealt
 use Rattle.pack.proofs.DealtLaws.{shuffled-length}
 use Rattle.chains.specs.Reach.{any}
 use Rattle.chains.proofs.Names.{or-swap, shuffled-same, shuffled-after, shuffled-rows}
-use Rattle.nodes.specs.Inputs.{ofOrigin, noSequence, named, sequence, declarations, owned, input}
+use Rattle.inputs.specs.Inputs.{ofOrigin, noSequence, named, sequence, declarations, owned, input}
 
 shuffled-before : {A : Type 0} {k l : List A} → InAnyOrder k l → (m : List A) → InAnyOrder (k ++ m) (l ++ m)
 shuffled-before nil m = shuffled-same m

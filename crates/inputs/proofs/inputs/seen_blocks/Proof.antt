@@ -1,10 +1,10 @@
--- `nodes::inputs::seen_blocks` meets its contract.
+-- `inputs::inputs::seen_blocks` meets its contract.
 use native.Mathlib.Omega.{arith}
 use Prim.Native.Nat.{_-_, _≤_}
-use Rattle.nodes.proofs.InputWords.{Blocks, begin-blocks, block-near, lacking, next-block, all-blocks}
+use Rattle.inputs.proofs.InputWords.{Blocks, begin-blocks, block-near, lacking, next-block, all-blocks}
 use borrow.Author.Needs.{needs}
-use Rattle.nodes.proofs.inputs.seen_blocks.Statement.{statement}
-use Rattle.nodes.proofs.inputs.seen_blocks.Tie as tie
+use Rattle.inputs.proofs.inputs.seen_blocks.Statement.{statement}
+use Rattle.inputs.proofs.inputs.seen_blocks.Tie as tie
 
 abbrev Inv-loop : tie.InvT-loop
 Inv-loop pack first count origin name seen₀ at₀ i₀ seen at i = (low : first ≤ 65536) (few : count ≤ 64) → Blocks pack origin name first count low few seen at i

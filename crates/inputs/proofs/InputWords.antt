@@ -8,7 +8,7 @@ use lib.Dec.{eqb}
 use borrow.Author.Tests.{eq-eqb, ne-eqb}
 use Rattle.pack.specs.Table.{pick}
 use Rattle.chains.specs.Record.{valueAt}
-use Rattle.nodes.specs.Blocks.{seenAfter, seenItems, seenBlock, seenBlocks, inputNumber, inputIn, far, Near, SeenItems, SeenBlock, AfterBlock, SeenBlocks}
+use Rattle.inputs.specs.Blocks.{seenAfter, seenItems, seenBlock, seenBlocks, inputNumber, inputIn, far, Near, SeenItems, SeenBlock, AfterBlock, SeenBlocks}
 
 pub another-name : (seen at : ℕ) (b : Bool) → not b ≡ true → seen ≡ seenAfter seen at b
 unfolding seenAfter

@@ -13,9 +13,9 @@ use Rattle.pack.specs.Table as table
 use Rattle.pack.specs.Form.{listOrNone, count, repeats}
 use Rattle.pack.specs.Pack.{Item, Block}
 use Rattle.chains.specs.Reach.{any}
-use Rattle.nodes.specs.Inputs.{ofOrigin, noSequence, named, sequence, declarations, owned, input}
+use Rattle.inputs.specs.Inputs.{ofOrigin, noSequence, named, sequence, declarations, owned, input}
 use Rattle.chains.specs.Record.{valueAt}
-use Rattle.nodes.specs.Blocks.{seenAfter, seenItems, seenBlock, seenBlocks, inputNumber, inputIn}
+use Rattle.inputs.specs.Blocks.{seenAfter, seenItems, seenBlock, seenBlocks, inputNumber, inputIn}
 use Rattle.chains.proofs.RecordLaws.{value-there}
 
 -- the words of items and of blocks

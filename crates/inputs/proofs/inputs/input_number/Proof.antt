@@ -1,8 +1,8 @@
--- `nodes::inputs::input_number` meets its contract.
-use Rattle.nodes.proofs.InputWords.{number-12, number-13, number-13-again, number-14, number-15, number-15-again, number-0}
+-- `inputs::inputs::input_number` meets its contract.
+use Rattle.inputs.proofs.InputWords.{number-12, number-13, number-13-again, number-14, number-15, number-15-again, number-0}
 use borrow.Author.Needs.{needs}
-use Rattle.nodes.proofs.inputs.input_number.Statement.{statement}
-use Rattle.nodes.proofs.inputs.input_number.Tie as tie
+use Rattle.inputs.proofs.inputs.input_number.Statement.{statement}
+use Rattle.inputs.proofs.inputs.input_number.Tie as tie
 
 returns : tie.Need-returns
 returns c = number-12 _ _ _ ((c .if1) .taken)

@@ -1,8 +1,8 @@
--- `nodes::inputs::seen_block` meets its contract.
-use Rattle.nodes.proofs.InputWords.{other-origin, no-sequence, a-sequence}
+-- `inputs::inputs::seen_block` meets its contract.
+use Rattle.inputs.proofs.InputWords.{other-origin, no-sequence, a-sequence}
 use borrow.Author.Needs.{needs}
-use Rattle.nodes.proofs.inputs.seen_block.Statement.{statement}
-use Rattle.nodes.proofs.inputs.seen_block.Tie as tie
+use Rattle.inputs.proofs.inputs.seen_block.Statement.{statement}
+use Rattle.inputs.proofs.inputs.seen_block.Tie as tie
 
 value-at-requires : tie.Need-value-at-requires
 value-at-requires c κs = search needs

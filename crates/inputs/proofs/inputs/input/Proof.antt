@@ -1,8 +1,8 @@
--- `nodes::inputs::input` meets its contract.
-use Rattle.nodes.proofs.InputWords.{the-input}
+-- `inputs::inputs::input` meets its contract.
+use Rattle.inputs.proofs.InputWords.{the-input}
 use borrow.Author.Needs.{needs}
-use Rattle.nodes.proofs.inputs.input.Statement.{statement}
-use Rattle.nodes.proofs.inputs.input.Tie as tie
+use Rattle.inputs.proofs.inputs.input.Statement.{statement}
+use Rattle.inputs.proofs.inputs.input.Tie as tie
 
 seen-blocks-requires : tie.Need-seen-blocks-requires
 seen-blocks-requires c κs = search needs

@@ -1,8 +1,8 @@
--- `nodes::inputs::after_block` meets its contract.
-use Rattle.nodes.proofs.InputWords.{after-none, after-some}
+-- `inputs::inputs::after_block` meets its contract.
+use Rattle.inputs.proofs.InputWords.{after-none, after-some}
 use borrow.Author.Needs.{needs}
-use Rattle.nodes.proofs.inputs.after_block.Statement.{statement}
-use Rattle.nodes.proofs.inputs.after_block.Tie as tie
+use Rattle.inputs.proofs.inputs.after_block.Statement.{statement}
+use Rattle.inputs.proofs.inputs.after_block.Tie as tie
 
 add-value-at : tie.Need-add-value-at
 add-value-at c = search needs

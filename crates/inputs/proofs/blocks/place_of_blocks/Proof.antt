@@ -1,12 +1,12 @@
--- `nodes::words::place_of_blocks` meets its contract: the place looked for is below the place reached.
+-- `inputs::blocks::place_of_blocks` meets its contract: the place looked for is below the place reached.
 use native.Mathlib.Omega.{arith}
 use Prim.Native.Nat.{_≤_, _<_}
 use lib.ListN.{length}
 use borrow.Author.Needs.{needs}
-use Rattle.nodes.specs.Blocks.{placeOfKind}
-use Rattle.nodes.proofs.BlocksStand.{only-place, met, ahead-still}
-use Rattle.nodes.proofs.words.place_of_blocks.Statement.{statement}
-use Rattle.nodes.proofs.words.place_of_blocks.Tie as tie
+use Rattle.inputs.specs.Blocks.{placeOfKind}
+use Rattle.inputs.proofs.BlocksStand.{only-place, met, ahead-still}
+use Rattle.inputs.proofs.blocks.place_of_blocks.Statement.{statement}
+use Rattle.inputs.proofs.blocks.place_of_blocks.Tie as tie
 
 abbrev Inv-loop : tie.InvT-loop
 Inv-loop pack i₀ i = (i ≤ length pack) × (placeOfKind 28 0 pack < i)

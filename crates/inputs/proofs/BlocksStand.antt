@@ -15,12 +15,12 @@ use Rattle.pack.specs.Pack.{Item, Block, Pack, WellFormed, yes, read, item, blo
 use Rattle.pack.proofs.PackLaws.{words-read}
 use Rattle.chains.specs.AllKinds.{IsPack}
 use Rattle.chains.proofs.Hushed.{Quiet, quiet-append, quiet-word, kind-word}
-use Rattle.nodes.specs.Inputs.{sequence, input}
+use Rattle.inputs.specs.Inputs.{sequence, input}
 use Rattle.chains.specs.Record.{valueAt}
-use Rattle.nodes.specs.Blocks.{inputIn, placeOfKind}
+use Rattle.inputs.specs.Blocks.{inputIn, placeOfKind}
 use Rattle.chains.proofs.RecordLaws.{value-there}
-use Rattle.nodes.proofs.WordsBefore.{loud, defaulted-hushed, relations-hushed, rules-hushed, place-quiet, only-there}
-use Rattle.nodes.proofs.InputRead.{numberOf, input-read, itemsWords, blockWords, blocksWords, ItemsFit, BlockFits, BlocksFit}
+use Rattle.inputs.proofs.WordsBefore.{loud, defaulted-hushed, relations-hushed, rules-hushed, place-quiet, only-there}
+use Rattle.inputs.proofs.InputRead.{numberOf, input-read, itemsWords, blockWords, blocksWords, ItemsFit, BlockFits, BlocksFit}
 
 -- ---- the blocks themselves
 

@@ -3,7 +3,7 @@ use chains::record::value_at;
 use pack::kinds::Pack;
 ghost use mathlib.Core.Path.{_≡_};
 ghost use Prim.Native.Nat.{_≤_};
-ghost use Rattle.nodes.specs.Blocks.{seenAfter, inputNumber, inputIn, far, Near, SeenItems, NearBlock, SeenBlock, AfterBlock, SeenBlocks};
+ghost use Rattle.inputs.specs.Blocks.{seenAfter, inputNumber, inputIn, far, Near, SeenItems, NearBlock, SeenBlock, AfterBlock, SeenBlocks};
 
 // The declarations of a name, as one number: 0, the place of the only one, or SEVERAL; LACKING where a block has no sequence.
 pub struct Seen {}

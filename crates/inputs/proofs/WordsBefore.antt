@@ -13,8 +13,8 @@ use Rattle.pack.specs.Form.{among, wordsBy, Fine}
 use Rattle.pack.specs.Tree.{root}
 use Rattle.pack.specs.Pack.{newName, nameList, chain, member, derivation, optionalDerivation, relationTail, relation, rules, relations, defaultedName, defaulted}
 use Rattle.chains.proofs.Hushed.{Quiet, quiet-word, kind-word, Hushed, field-hushed, then-hushed, via-hushed, counted-hushed, tree-hushed}
-use Rattle.nodes.specs.Blocks.{placeOfKind}
-use Rattle.nodes.proofs.QuietForms.{fields-hushed, path-hushed, rule-hushed}
+use Rattle.inputs.specs.Blocks.{placeOfKind}
+use Rattle.inputs.proofs.QuietForms.{fields-hushed, path-hushed, rule-hushed}
 
 -- the kind that is looked for
 abbrev pub loud : ℕ → ℕ → Bool

@@ -1,11 +1,11 @@
--- `nodes::inputs::seen_items` meets its contract.
+-- `inputs::inputs::seen_items` meets its contract.
 use native.Mathlib.Omega.{arith}
 use Prim.Native.Nat.{_-_}
-use Rattle.nodes.proofs.InputWords.{Seeing, begin, at-near, next, done}
-use Rattle.nodes.specs.Blocks.{Near}
+use Rattle.inputs.proofs.InputWords.{Seeing, begin, at-near, next, done}
+use Rattle.inputs.specs.Blocks.{Near}
 use borrow.Author.Needs.{needs}
-use Rattle.nodes.proofs.inputs.seen_items.Statement.{statement}
-use Rattle.nodes.proofs.inputs.seen_items.Tie as tie
+use Rattle.inputs.proofs.inputs.seen_items.Statement.{statement}
+use Rattle.inputs.proofs.inputs.seen_items.Tie as tie
 
 abbrev Inv-loop : tie.InvT-loop
 Inv-loop pack first count name before seen₀ at₀ i₀ seen at i = (near : Near first count before) → Seeing pack name first count before near seen at i
