@@ -8,12 +8,12 @@ use crate::report;
 use crate::text::least;
 use crate::text::stands;
 use crate::words::read_words;
-use chains::all_kinds::all_kinds;
-use chains::kinds_of::kinds_of;
-use chains::lean::lean;
 use checking::check::refuse;
 use filtered::filtered::Filter;
 use filtered::filtered::filtered;
+use kinds::all_kinds::all_kinds;
+use kinds::kinds_of::kinds_of;
+use kinds::lean::lean;
 use pack::answer::Answer;
 use resolve::resolve::resolve;
 

@@ -13,7 +13,7 @@ use Rattle.pack.specs.Form.{among}
 use Rattle.pack.specs.Pack.{Relation, Pack}
 use Rattle.chains.specs.Chain.{Settled, nothing, own, All, walkAll, same}
 use Rattle.chains.specs.Kinds.{declared, kindStep, allKinds, ownAnswer}
-use Rattle.chains.specs.Operations.{placeOf}
+use Rattle.chains.specs.Places.{placeOf}
 use Rattle.chains.specs.Settle.{stepAt, settledIn, walkIn, walksIn, SettledAll}
 use Rattle.chains.proofs.MappedLaws.{AnswersMapped, answers-mapped}
 use Rattle.chains.proofs.KindLaws.{kinds-own}

@@ -1,10 +1,10 @@
 -- The parts of All kinds, of words that Check accepts.
-use Prim.Native.Nat.{ℕ, zero, suc, _+_, _-_, _*_, _%_, _<_, _≤_}
+use Prim.Native.Nat.{ℕ, zero, suc, _+_, _*_, _%_, _<_, _≤_}
 use native.Mathlib.Omega.{arith}
 use native.Mathlib.Nat.{mul-le-mul-right}
 use native.Mathlib.Numerals.{add-one}
 use mathlib.Core.Path.{_≡_, refl, ap, sym, _∙_, subst}
-use mathlib.Core.List.{List, [], _∷_, _++_, map}
+use mathlib.Core.List.{List, [], _∷_, _++_}
 use mathlib.Core.Bool.{true}
 use lib.ListN.{length, getD, length-append, length-map, length-replicate}
 use lib.Seq.{getD-at}
@@ -15,18 +15,17 @@ use Rattle.pack.specs.Form.{among}
 use Rattle.pack.specs.Pack.{Relation, Pack, WellFormed, yes, read, words}
 use Rattle.pack.proofs.PackLaws.{words-read, words-length}
 use Rattle.chains.specs.Kinds.{declared, allKinds, ownAnswer}
-use Rattle.chains.specs.Operations.{placeOf, allKindsWords}
+use Rattle.chains.specs.Places.{placeOf}
 use Rattle.chains.specs.Record.{Recorded}
 use Rattle.chains.specs.Declaration.{declarations}
-use Rattle.chains.specs.Settle.{Leading, Marked, OnPath, Walkable, WalkedHere, Settleable, SettledAll, placesIn, Placeable}
-use Rattle.chains.specs.AllKinds.{IsPack, Counted, Named, OwnPlace, Noted, KindsMarked, KindsLeft}
+use Rattle.chains.specs.Settle.{Leading, Marked, OnPath, Settleable, SettledAll, Placeable}
+use Rattle.chains.specs.AllKinds.{IsPack, Counted, Named, Noted, KindsMarked}
 use Rattle.chains.proofs.RelationScan.{RelationsFine, kept}
 use Rattle.chains.proofs.PackIndex.{zeros, zero-at, parts, split, opening, opening-length, relationsPart}
 use Rattle.chains.proofs.Names.{or-left, or-right}
-use Rattle.chains.proofs.KindLaws.{in-row, words-own}
 use Rattle.chains.proofs.DeclarationLaws.{recorded, declares-each}
 use Rattle.chains.proofs.PlaceBounds.{Indexes, indexes}
-use Rattle.chains.proofs.AllKindsLaws.{KindsFound, own-found, kinds-found}
+use Rattle.chains.proofs.AllKindsLaws.{KindsFound, kinds-found}
 
 -- ---- the number of relations
 
@@ -114,7 +113,7 @@ settleable-zeros table starts fuel names leading h l =
     }
 
 -- and those from the relations of a pack
-settleable-pack : (p : Pack) → WellFormed p → (table : List ℕ) → Indexes p table → Settleable table zeros (declared (p .relations)) 0 (suc (length (declared (p .relations))))
+pub settleable-pack : (p : Pack) → WellFormed p → (table : List ℕ) → Indexes p table → Settleable table zeros (declared (p .relations)) 0 (suc (length (declared (p .relations))))
 settleable-pack p w table says =
     let h = parts p w in
     let l : length (declared (p .relations)) ≡ length (p .relations) = length-map (p .relations) (λ (r : Relation). r .name) in
@@ -141,15 +140,15 @@ module _ {ws names starts : List ℕ} (c : IsPack ws) (noted : Noted ws names st
   pub its-recorded : Recorded starts
   its-recorded = recorded p fine starts (noted .placed p (c .reads))
 
-  its-index : Indexes p table
+  pub its-index : Indexes p table
   its-index =
       subst (λ (v : List ℕ). Indexes p (declarations v starts)) (its-words c)
       (indexes p fine (declarations (words p) starts) (declares-each p fine starts (noted .placed p (c .reads))))
 
-  its-names : names ≡ declared rs
+  pub its-names : names ≡ declared rs
   its-names = noted .named p (c .reads)
 
-  its-fuel : length names + 1 ≡ suc (length (declared rs))
+  pub its-fuel : length names + 1 ≡ suc (length (declared rs))
   its-fuel = add-one (length names) ∙ ap suc (ap length its-names)
 
   pub few-names : length names ≤ 512
@@ -168,21 +167,6 @@ module _ {ws names starts : List ℕ} (c : IsPack ws) (noted : Noted ws names st
         marked = λ q h. subst (λ (p : Pack). (n : ℕ) → among n (declared (p .relations)) ≡ true → getD marks n 0 ≡ 2 + placeOf p (ownAnswer (p .relations) n)) (it q h) (found .marked);
       }
 
-  -- one name
-  each-counted : {count : ℕ} → Counted ws count → count ≡ length names
-  each-counted k = k .relations p (c .reads) ∙ sym (length-map rs (λ (r : Relation). r .name)) ∙ sym (ap length its-names)
-
-  pub walkable-own : {count : ℕ} → Counted ws count → {name : ℕ} → name < 4096 → Walkable table zeros 0 name (count + 1)
-  walkable-own k h =
-      let s = settleable-pack p fine table its-index in
-      record { name = h; leading = s .leading; marked = s .marked; long = s .long; room = omega (arith, few-names, each-counted k) }
-
-  pub own-place : {count : ℕ} → Counted ws count → {name r steps : ℕ} {marks : List ℕ} → WalkedHere table zeros 0 name (count + 1) r marks steps → OwnPlace ws name r
-  own-place {count} k {name} {r} w =
-      let e : r ≡ placeOf p (ownAnswer rs name) =
-      w .answers [] (settleable-pack p fine table its-index .idle) ∙ rw (each-counted k, its-fuel) (own-found p table its-index name) in
-      record { says = λ q h. e ∙ ap (λ (p : Pack). placeOf p (ownAnswer (p .relations) name)) (same-pack ws (c .reads) h) }
-
 -- ---- the places of marked names
 
 -- names of a list are among it
@@ -190,10 +174,6 @@ among-at : (l : List ℕ) (j : ℕ) → j < length l → among (getD l j 0) l �
 among-at [] j h = absurd (omega arith)
 among-at (n ∷ l) zero h = or-left (among n l) (eq-eqb n n refl)
 among-at (n ∷ l) (suc j) h = or-right (eqb (getD l j 0) n) (among-at l j (omega arith))
-
-map-names : {B : Type 0} (f : ℕ → B) (rs : List Relation) → map f (declared rs) ≡ map (λ (r : Relation). f (r .name)) rs
-map-names f [] = refl
-map-names f (r ∷ rs) = ap (λ (l : List _). f (r .name) ∷ l) (map-names f rs)
 
 module _ {ws names marks : List ℕ} {steps : ℕ} (c : IsPack ws) (m : KindsMarked ws steps names marks) where
   pub placeable : Placeable marks names
@@ -204,18 +184,6 @@ module _ {ws names marks : List ℕ} {steps : ℕ} (c : IsPack ws) (m : KindsMar
         names-below = names-below (p .names) (parts p (is-fine c) .most) [] (p .relations) (parts p (is-fine c) .relations-fine);
         settled = λ j h. (let e = m .marked p (c .reads) (getD (declared (p .relations)) j 0) (among-at (declared (p .relations)) j h) in omega arith);
       })
-
-  places-are : (p : Pack) → read ws ≡ yes p → placesIn marks names ≡ allKindsWords p
-  unfolding placesIn
-  places-are p h =
-      let rs : List Relation = p .relations in
-      rw (m .named p h)
-      (map-names (λ n. getD marks n 0 - 2) rs
-      ∙ in-row (λ n. getD marks n 0 - 2) (λ n. placeOf p (ownAnswer rs n)) rs (λ n i. (let e = m .marked p h n i in omega arith))
-      ∙ sym (words-own p))
-
-  pub kinds-left : {out : List ℕ} → out ≡ placesIn marks names → KindsLeft ws steps out
-  kinds-left e = record { counts = m .counts; holds = λ p h. e ∙ places-are p h }
 
 -- ---- a checked pack has few relations
 

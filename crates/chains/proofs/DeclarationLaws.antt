@@ -14,7 +14,7 @@ use Rattle.pack.specs.Form.{count, listOrNone}
 use Rattle.pack.specs.Pack.{Hop, Derivation, Relation, Pack, WellFormed, words}
 use Rattle.chains.specs.Chain.{end, next, mapped}
 use Rattle.chains.specs.Kinds.{list21, inherits, plain, derived, declares, find, readAt, kindStep}
-use Rattle.chains.specs.Operations.{startOf, firstRelation, countPlace, placeOf}
+use Rattle.chains.specs.Places.{startOf, firstRelation, countPlace, placeOf}
 use Rattle.chains.specs.Record.{valueAt, kindCount, flagAt, slotsPlace, entityCount, Recorded}
 use Rattle.chains.specs.Declaration.{coded, placed, declarationAt, inheritedIn, derivedIn, declarationIn, declarations}
 use Rattle.chains.specs.Settle.{ReadOne}

@@ -15,7 +15,7 @@ use Rattle.pack.specs.Dealt.{nil, cons, swap, trans, InAnyOrder}
 use Rattle.chains.specs.Chain.{next, Distinct, OnlyDeclaredLead, same}
 use Rattle.chains.specs.Kinds.{find, readAt, kindStep, declared, Answer, allKinds, ownAnswer, undeclaredSources, listIn, namesOf, kindsOf}
 use Rattle.chains.proofs.Names.{apart, or-left, or-right, shuffled-map, shuffled-distinct}
-use Rattle.chains.specs.Operations.{placeOf, settledOf, allKindsWords}
+use Rattle.chains.specs.Places.{placeOf, settledOf, allKindsWords}
 use Rattle.chains.proofs.Outside.{outside-is}
 use Rattle.chains.proofs.ChainLaws.{settled-own, steps-sum, walks-shuffled}
 

@@ -14,7 +14,7 @@ use Rattle.pack.specs.Pack.{Hop, Derivation, Relation, Pack, WellFormed, newNam
 use Rattle.pack.specs.Tree.{root}
 use Rattle.chains.specs.Chain.{Step, end, next, nothing, walk, own, same}
 use Rattle.chains.specs.Kinds.{Which, list9, list21, Answer, find, readAt, kindStep, declared, ownAnswer, listOf, namesOf, kindsOf}
-use Rattle.chains.specs.Operations.{relationWords, startOf, firstRelation, hops, countPlace, placeOf, namesAt, allKindsWords}
+use Rattle.chains.specs.Places.{relationWords, startOf, firstRelation, hops, countPlace, placeOf, namesAt, allKindsWords}
 use Rattle.chains.proofs.KindLaws.{in-row, words-own}
 use Rattle.chains.proofs.RelationScan.{relationsWords, RelationsFine}
 use Rattle.chains.proofs.PackIndex.{parts, split, opening, opening-length, relationsPart, find-name, each-way}

@@ -14,7 +14,7 @@ use Rattle.pack.specs.Form.{among, allowedHere, wordsAll, FineAll, count, items
 use Rattle.pack.specs.Pack.{Hop, Derivation, Relation, Edition, undated, firstKind, above, newName, nextUsed, relation, rule, defaultedName, defaulted, relations, rules, blocks, records, inner, layout, Pack, total, words, WellFormed}
 use Rattle.chains.specs.Chain.{Step, end, next, mapped}
 use Rattle.chains.specs.Kinds.{Which, list9, list21, Answer, from, inherits, derived, declares, find}
-use Rattle.chains.specs.Operations.{relationWords, startOf, firstRelation}
+use Rattle.chains.specs.Places.{relationWords, startOf, firstRelation}
 use Rattle.pack.proofs.PackLaws.{words-length}
 use Rattle.chains.proofs.Names.{neither}
 use Rattle.chains.proofs.RelationScan.{RelationsFine, relationsWords, Kept, kept}

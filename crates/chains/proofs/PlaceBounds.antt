@@ -14,7 +14,7 @@ use Rattle.pack.specs.Form.{among, allowedHere, says, count, items, Fine}
 use Rattle.pack.specs.Pack.{Hop, Derivation, Relation, Pack, WellFormed, nameList, path, chain, derivation, optionalDerivation, relationTail, relation}
 use Rattle.chains.specs.Chain.{Step, end, next, mapped}
 use Rattle.chains.specs.Kinds.{Which, list9, list21, Answer, from, find, readAt, kindStep}
-use Rattle.chains.specs.Operations.{firstRelation, hops, countPlace, placeOf}
+use Rattle.chains.specs.Places.{firstRelation, hops, countPlace, placeOf}
 use Rattle.chains.specs.Declaration.{coded}
 use Rattle.chains.specs.Settle.{stepAt, Leading}
 use Rattle.chains.proofs.Names.{apart}

@@ -13,7 +13,7 @@ use Rattle.pack.specs.Table.{pick, kindOf, wordOf, valueOf, judgment}
 use Rattle.pack.specs.Form.{listOrNone, count, items, repeats, wordsBy, Fine}
 use Rattle.pack.specs.Tree.{tree, root}
 use Rattle.pack.specs.Pack.{Hop, Derivation, Relation, relation, newName, relationTail, nameList, optionalDerivation, path, derivation, member}
-use Rattle.chains.specs.Operations.{relationWords, hops}
+use Rattle.chains.specs.Places.{relationWords, hops}
 use Rattle.chains.specs.Record.{valueAt, kindCount, flagAt, slotsPlace, entityCount, predicateAt, nodesIn, recordEnd}
 use Rattle.chains.proofs.Hushed.{Quiet, tree-hushed}
 use Rattle.chains.proofs.RelationScan.{Fitting, Kept, kept}

@@ -14,7 +14,7 @@ use Rattle.pack.specs.Table.{pick, kindOf, wordOf}
 use Rattle.pack.specs.Form.{among, wordsBy}
 use Rattle.pack.specs.Pack.{Relation, newName, relation, Pack, words}
 use Rattle.chains.specs.Kinds.{find, declared}
-use Rattle.chains.specs.Operations.{relationWords, startOf, firstRelation, relationsEnd}
+use Rattle.chains.specs.Places.{relationWords, startOf, firstRelation, relationsEnd}
 use Rattle.chains.specs.Record.{valueAt, kindCount, flagAt, predicateAt, nodesIn, recordEnd}
 use Rattle.chains.specs.AllKinds.{KindsAsked, placeIn, recordOf, Noted, RulesAt}
 use Rattle.chains.proofs.Names.{or-right}

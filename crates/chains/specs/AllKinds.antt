@@ -2,14 +2,13 @@
 use Prim.Native.Nat.{ℕ, _+_}
 use mathlib.Core.Path.{_≡_}
 use mathlib.Core.List.{List}
-use mathlib.Core.Bool.{Bool, true}
+use mathlib.Core.Bool.{true}
 use mathlib.Core.Option.{Option, none, some}
 use lib.ListN.{length, getD}
 use Rattle.pack.specs.Form.{among}
 use Rattle.pack.specs.Pack.{Relation, Pack, yes, read}
 use Rattle.chains.specs.Kinds.{find, declared, allKinds, ownAnswer}
-use Rattle.chains.specs.Reach.{leans}
-use Rattle.chains.specs.Operations.{startOf, firstRelation, relationsEnd, placeOf, allKindsWords}
+use Rattle.chains.specs.Places.{startOf, firstRelation, relationsEnd, placeOf}
 
 -- the words are those of a pack
 pub record IsPack (ws : List ℕ) : Type 0 where
@@ -23,14 +22,6 @@ pub record Counted (ws : List ℕ) (count : ℕ) : Type 0 where
 -- the number of names
 pub record Named (ws : List ℕ) (n : ℕ) : Type 0 where
   pub names : (p : Pack) → read ws ≡ yes p → n ≡ p .names
-
--- the place of the list that settles a name
-pub record OwnPlace (ws : List ℕ) (name place : ℕ) : Type 0 where
-  pub says : (p : Pack) → read ws ≡ yes p → place ≡ placeOf p (ownAnswer (p .relations) name)
-
--- whether sources lead from a name to another
-pub record Leaning (ws : List ℕ) (a b : ℕ) (r : Bool) : Type 0 where
-  pub says : (p : Pack) → read ws ≡ yes p → r ≡ leans (p .relations) a b
 
 -- a slice with one word for each relation
 pub record KindsAsked (ws out : List ℕ) : Type 0 where
@@ -59,8 +50,3 @@ pub record KindsMarked (ws : List ℕ) (steps : ℕ) (names marks : List ℕ) : 
   pub counts : (p : Pack) → read ws ≡ yes p → steps ≡ allKinds (p .relations) .steps
   pub named : (p : Pack) → read ws ≡ yes p → names ≡ declared (p .relations)
   pub marked : (p : Pack) → read ws ≡ yes p → (n : ℕ) → among n (declared (p .relations)) ≡ true → getD marks n 0 ≡ 2 + placeOf p (ownAnswer (p .relations) n)
-
--- the places, and the number of declarations read
-pub record KindsLeft (ws : List ℕ) (steps : ℕ) (out : List ℕ) : Type 0 where
-  pub counts : (p : Pack) → read ws ≡ yes p → steps ≡ allKinds (p .relations) .steps
-  pub holds : (p : Pack) → read ws ≡ yes p → out ≡ allKindsWords p

@@ -9,7 +9,8 @@ use Rattle.pack.specs.Table as table
 use Rattle.pack.specs.Pack.{Relation}
 use Rattle.chains.specs.Chain.{Step, end, next, mapped}
 use Rattle.chains.specs.Kinds.{Answer, declares}
-use Rattle.chains.specs.Operations.{countPlace, tableFrom}
+use Rattle.chains.specs.Places.{countPlace}
+use Rattle.chains.specs.ByName.{tableFrom}
 use Rattle.chains.specs.Record.{valueAt, kindCount, flagAt, slotsPlace, entityCount}
 
 -- a declaration as one number: the place where its list is counted, 0 for no kinds, or 65536 and the name that it leads on to

@@ -1,9 +1,10 @@
 pub mod Chain
 pub mod Kinds
 pub mod Reach
-pub mod Operations
+pub mod Places
+pub mod Answers
+pub mod ByName
 pub mod Record
 pub mod Declaration
 pub mod Settle
 pub mod AllKinds
-pub mod Sources

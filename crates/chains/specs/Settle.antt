@@ -1,7 +1,7 @@
 -- The chain walk over a table by name: answers are places, and marks say which names are settled or on the path.
 use Prim.Native.Nat.{ℕ, _+_, _-_, _*_, _<_, _≤_}
 use mathlib.Core.Path.{_≡_}
-use mathlib.Core.List.{List, [], map}
+use mathlib.Core.List.{List, []}
 use mathlib.Core.Option.{none, some}
 use lib.ListN.{length, getD}
 use lib.Dec.{ltb, eqb}
@@ -75,10 +75,6 @@ pub record SettledAll (table marks starts : List ℕ) (steps fuel : ℕ) (marks�
   pub counts : steps′ ≡ walksIn table fuel starts (settledIn marks) steps .steps
   pub marked : Marked marks′
   pub long : length marks′ ≡ 4096
-
--- each name's settled place
-unfoldable pub placesIn : List ℕ → List ℕ → List ℕ
-placesIn marks names = map (λ n. getD marks n 0 - 2) names
 
 -- every name of a list is settled
 pub record Placeable (marks names : List ℕ) : Type 0 where

@@ -3,7 +3,7 @@ use pack::answer::Answer;
 use pack::answer::Refusal;
 use pack::kinds::Pack;
 ghost use mathlib.Core.Path.{_≡_};
-ghost use Rattle.chains.specs.Operations.{unknown};
+ghost use Rattle.chains.specs.Answers.{unknown};
 ghost use Rattle.chains.specs.AllKinds.{IsPack, Named, Counted};
 
 // N of a checked pack.

@@ -2,11 +2,10 @@
 // Marks by name say what is known: unseen, on the path of the walk that is going on, or settled.
 use crate::declaration::Declaration;
 use crate::declaration::declared;
-ghost use mathlib.Core.Path.{_≡_};
-ghost use Prim.Native.Nat.{_+_, _<_};
+ghost use Prim.Native.Nat.{_<_};
 ghost use Rattle.chains.specs.Record.{Recorded};
 ghost use Rattle.chains.specs.Declaration.{declarations};
-ghost use Rattle.chains.specs.Settle.{ReadOne, Walkable, WalkedHere, Settleable, SettledAll, Placeable, placesIn};
+ghost use Rattle.chains.specs.Settle.{ReadOne, Walkable, WalkedHere, Settleable, SettledAll};
 
 pub struct Mark {}
 
@@ -83,19 +82,6 @@ pub fn settle_all(
     let mut j: usize = 0;
     while j < starts.len() {
         walk(pack, records, marks, steps, starts[j] as usize, fuel);
-        j += 1;
-    }
-}
-
-// Each name of a slice gives way to the place of its list.
-pub fn places(marks: &[u32; 4096], out: &mut [u32])
-    requires { ⌜ Placeable (now marks) (now out) ⌝ }
-    ensures { λ r. ⌜ now (out .exit) ≡ placesIn (now (marks .entry)) (now (out .entry)) ⌝ }
-{
-    let mut j: usize = 0;
-    while j < out.len() {
-        let n = out[j] as usize;
-        out[j] = marks[n] - Mark::SETTLED;
         j += 1;
     }
 }

@@ -12,12 +12,12 @@ use Rattle.pack.specs.Pack.{Pack}
 use Rattle.pack.specs.Operations.{noRoom, checkAnswer}
 use Rattle.pack.proofs.Refusals.{Within}
 use Rattle.filtered.specs.declared.filtered.Filter.{Filter}
-use Rattle.chains.specs.Operations.{writeAnswer, Answered}
+use Rattle.chains.specs.Answers.{writeAnswer, Answered}
 use Rattle.filtered.specs.FilteredTables.{says, filterWords, filterAnswer, filterBuffer}
 use Rattle.chains.specs.AllKinds.{IsPack, Named}
 use Rattle.filtered.specs.Said.{FilterAsked, FilterLeft}
 use Rattle.chains.proofs.FillLaws.{table-length}
-use Rattle.chains.proofs.OperationLaws.{made-refused, made-room, made-done, front-length}
+use Rattle.chains.proofs.AnswerLaws.{made-refused, made-room, made-done, front-length}
 use Rattle.chains.proofs.RefusalNumbers.{refuses, NoRoom, writing-refuses}
 
 abbrev noSteps : Pack → ℕ

@@ -15,7 +15,7 @@ use Rattle.pack.specs.Table as table
 use Rattle.pack.specs.Form.{among}
 use Rattle.chains.specs.Chain.{end, next, mapped, Settled, nothing, All, walkAll, own, same}
 use Rattle.filtered.specs.Filtered.{innerAt, upTo, innerStep}
-use Rattle.chains.specs.Operations.{tableFrom}
+use Rattle.chains.specs.ByName.{tableFrom}
 use Rattle.chains.specs.Settle.{stepAt, Leading, settledIn, walksIn, Settleable, SettledAll}
 use Rattle.filtered.specs.Said.{directOf, innerEntry, entriesIn, plainly, directIn, Directed, answered, InnerMarked}
 use Rattle.chains.proofs.Names.{or-left, or-right}

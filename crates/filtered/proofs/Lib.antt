@@ -7,4 +7,3 @@ pub mod KindBounds
 pub mod InnerLaws
 pub mod SaysLaws
 pub mod FilterLaws
-pub mod DealtChains

@@ -17,7 +17,8 @@ use Rattle.filtered.specs.declared.filtered.Filter.the-variants.{Direct,
 use Rattle.chains.specs.Chain.{Step, end, own, same}
 use Rattle.chains.specs.Reach.{any}
 use Rattle.filtered.specs.Filtered.{taken, single, direct, alias, namesEntity, isNil, unresolved, innerAt, upTo, innerStep, innermost}
-use Rattle.chains.specs.Operations.{yesNo, tableFrom}
+use Rattle.chains.specs.Answers.{yesNo}
+use Rattle.chains.specs.ByName.{tableFrom}
 use Rattle.filtered.specs.FilteredTables.{orNone, says, filterWords}
 use Rattle.filtered.specs.Taking.{several, known, Known}
 use Rattle.filtered.specs.Said.{directOf, aliasOf, unresolvedOf, innerOf, saidIn, directIn, Directed, answered, InnerMarked, InnerFor, FilterAsked, FilterLeft}

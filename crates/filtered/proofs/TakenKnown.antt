@@ -16,7 +16,7 @@ use Rattle.chains.specs.Kinds.{find, declared, ownAnswer, kindsOf}
 use Rattle.chains.specs.Reach.{any}
 use Rattle.filtered.specs.Filtered as filtered
 use Rattle.filtered.specs.Filtered.{kindAt, listed, takenFrom, taken, namesEntity}
-use Rattle.chains.specs.Operations.{placeOf, namesAt}
+use Rattle.chains.specs.Places.{placeOf, namesAt}
 use Rattle.chains.specs.Record.{valueAt, flagAt, slotsPlace}
 use Rattle.chains.specs.AllKinds.{IsPack, Noted, KindsMarked}
 use Rattle.filtered.specs.Taking.{several, known, namedAfter, takenAfter, takeAt, takenBy, kindMarked, takenIn, Takeable, Filled}

@@ -13,7 +13,7 @@ use Rattle.pack.specs.Table.{pick, valueOf}
 use Rattle.filtered.specs.declared.taking.Kind.{Kind}
 use Rattle.filtered.specs.declared.taking.Kind.the-variants.{Is, Unknown}
 use Rattle.filtered.specs.Filtered.{kindAt}
-use Rattle.chains.specs.Operations.{namesAt}
+use Rattle.chains.specs.Places.{namesAt}
 use Rattle.chains.specs.Record.{valueAt, flagAt, slotsPlace}
 use Rattle.filtered.specs.Taking.{kindIn, Small, KindFound, several, namedAfter, takenAfter, takeAt, takenBy, kindMarked, takenIn, Takeable}
 

@@ -10,7 +10,7 @@ use Rattle.pack.specs.Tree as trees
 use Rattle.pack.specs.Pack.{Hop, Relation}
 use Rattle.chains.specs.Chain.{walk, own, walksFrom}
 use Rattle.chains.specs.Kinds.{find, kindStep, namesOf, allKinds, kindsOf, declared}
-use Rattle.chains.specs.Operations.{settledOf}
+use Rattle.chains.specs.Places.{settledOf}
 use Rattle.filtered.specs.Filtered.{innermostBy}
 
 -- a relation without derivation, and one with a source, a path and list 21

@@ -9,7 +9,8 @@ use Rattle.pack.specs.Operations.{answer, buffer}
 use Rattle.filtered.specs.declared.filtered.Filter.{Filter}
 use Rattle.filtered.specs.declared.filtered.Filter.the-variants.{Direct, Innermost, Alias, Unresolved}
 use Rattle.filtered.specs.Filtered.{direct, alias, unresolved, innermost}
-use Rattle.chains.specs.Operations.{writeAnswer, writeBuffer, yesNo, tableFrom}
+use Rattle.chains.specs.Answers.{writeAnswer, writeBuffer, yesNo}
+use Rattle.chains.specs.ByName.{tableFrom}
 
 abbrev pub orNone : Option ℕ → ℕ
 orNone none = table.none

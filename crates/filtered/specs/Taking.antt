@@ -12,7 +12,7 @@ use Rattle.filtered.specs.declared.taking.Kind.{Kind}
 use Rattle.filtered.specs.declared.taking.Kind.the-variants.{Is, Unknown}
 use Rattle.chains.specs.Reach.{any}
 use Rattle.filtered.specs.Filtered.{kindAt, taken, namesEntity}
-use Rattle.chains.specs.Operations.{namesAt}
+use Rattle.chains.specs.Places.{namesAt}
 use Rattle.chains.specs.Record.{valueAt, flagAt, slotsPlace, Recorded}
 use Rattle.chains.specs.AllKinds.{Noted, KindsMarked}
 

@@ -13,7 +13,8 @@ ghost use mathlib.Core.Path.{_≡_};
 ghost use mathlib.Core.List.{_++_};
 ghost use Prim.Native.Nat.{_<_, _≤_};
 ghost use lib.ListN.{length, drop, replicate};
-ghost use Rattle.chains.specs.Operations.{tableFrom, Answered};
+ghost use Rattle.chains.specs.ByName.{tableFrom};
+ghost use Rattle.chains.specs.Answers.{Answered};
 ghost use Rattle.filtered.specs.FilteredTables.{filterAnswer, filterBuffer};
 ghost use Rattle.filtered.specs.Said.{directOf, aliasOf, unresolvedOf, innerEntry, innerOf, said, saidIn, entriesIn, plainly, Directed, InnerMarked, InnerFor, FilterAsked, FilterLeft, KnownName};
 

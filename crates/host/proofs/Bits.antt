@@ -19,7 +19,9 @@ use Rattle.pack.proofs.Refusals.{read-numbers}
 use Rattle.chains.specs.Chain.{Step, end, next, same, withNext, outside}
 use Rattle.chains.specs.Kinds as kinds
 use Rattle.chains.specs.Kinds.{kindStep, declared, ownAnswer, allKinds}
-use Rattle.chains.specs.Operations.{placeOf, writeAnswer, allKindsWords, allKindsAnswer, unknown, kindsOfAnswer, yesNo, leanAnswer}
+use Rattle.chains.specs.Places.{placeOf, allKindsWords}
+use Rattle.chains.specs.Answers.{writeAnswer, unknown, yesNo}
+use Rattle.kinds.specs.Operations.{allKindsAnswer, kindsOfAnswer, leanAnswer}
 use Rattle.filtered.specs.FilteredTables.{filterWords, filterAnswer}
 use Rattle.chains.specs.Reach.{leans}
 use Rattle.filtered.specs.declared.filtered.Filter.{Filter}

@@ -17,7 +17,9 @@ use Rattle.pack.specs.Pack.{Pack, Reading, yes, refuse, read, total, words}
 use Rattle.pack.specs.Operations.{answer, buffer, noRoom, checkAnswer, rewriteAnswer, rewriteBuffer}
 use Rattle.pack.proofs.PackLaws.{words-length, words-read}
 use Rattle.chains.specs.Kinds.{allKinds}
-use Rattle.chains.specs.Operations.{writeAnswer, writeBuffer, allKindsWords, allKindsAnswer, allKindsBuffer, kindsOfAnswer, leanAnswer}
+use Rattle.chains.specs.Answers.{writeAnswer, writeBuffer}
+use Rattle.chains.specs.Places.{allKindsWords}
+use Rattle.kinds.specs.Operations.{allKindsAnswer, allKindsBuffer, kindsOfAnswer, leanAnswer}
 use Rattle.filtered.specs.FilteredTables.{says, filterWords, filterAnswer, filterBuffer}
 use Rattle.filtered.specs.declared.filtered.Filter.{Filter}
 use Rattle.chains.proofs.PackIndex.{parts}

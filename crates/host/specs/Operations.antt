@@ -5,7 +5,7 @@ use mathlib.Core.List.{List}
 use lib.ListN.{length}
 use Rattle.pack.specs.declared.answer.Answer.{Answer}
 use Rattle.pack.specs.Operations.{checkAnswer, rewriteAnswer, rewriteBuffer}
-use Rattle.chains.specs.Operations.{allKindsAnswer, allKindsBuffer, kindsOfAnswer, leanAnswer}
+use Rattle.kinds.specs.Operations.{allKindsAnswer, allKindsBuffer, kindsOfAnswer, leanAnswer}
 use Rattle.filtered.specs.FilteredTables.{filterAnswer, filterBuffer}
 use Rattle.resolve.specs.Operations.{resolveAnswer, resolveBuffer}
 use Rattle.host.specs.declared.operations.Question.{Question}

@@ -16,7 +16,7 @@ use Rattle.pack.proofs.PackLaws.{words-read}
 use Rattle.chains.specs.Kinds.{find, declared, kindsOf, ownAnswer}
 use Rattle.filtered.specs.Filtered.{takenFrom, taken, single, direct}
 use Rattle.filtered.specs.Filtered as filtered
-use Rattle.chains.specs.Operations.{startOf, firstRelation, placeOf, namesAt}
+use Rattle.chains.specs.Places.{startOf, firstRelation, placeOf, namesAt}
 use Rattle.chains.specs.AllKinds.{Noted, KindsMarked}
 use Rattle.filtered.specs.Taking.{Known}
 use Rattle.filtered.specs.Said.{directIn}

@@ -10,7 +10,7 @@ use lib.Dec.{eqb}
 use borrow.Author.Tests.{eq-eqb, ne-eqb}
 use Rattle.filtered.specs.declared.taking.Kind.{Kind}
 use Rattle.filtered.specs.declared.taking.Kind.the-variants as kind
-use Rattle.chains.specs.Operations.{namesAt}
+use Rattle.chains.specs.Places.{namesAt}
 use Rattle.filtered.specs.Filtered.{kindAt}
 use Rattle.filtered.specs.Taking.{KindFound, kindIn, Small}
 use Rattle.nodes.specs.declared.direction.Membership as direction

@@ -15,7 +15,7 @@ use Rattle.pack.specs.Tree.{Tree, Forest, node, more}
 use Rattle.pack.specs.Tree as trees
 use Rattle.pack.specs.Pack.{Item, Block, Derivation, Relation, Body, Rule, Pack}
 use Rattle.chains.specs.Reach.{any}
-use Rattle.chains.specs.Operations.{relationWords, firstRelation}
+use Rattle.chains.specs.Places.{relationWords, firstRelation}
 use Rattle.nodes.specs.Direction.{Membership, turn}
 use Rattle.nodes.specs.Direction as direction
 use Rattle.inputs.specs.Inputs.{ofOrigin, noSequence, declarations, owned, input}

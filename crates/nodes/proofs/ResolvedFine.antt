@@ -13,7 +13,7 @@ use Rattle.pack.specs.Pack.{Derivation, Relation, Body, Rule, Pack, WellFormed,
 use Rattle.chains.specs.Kinds.{find, kindsOf, ownAnswer, namesOf, listIn, Which, list9, list21}
 use Rattle.chains.specs.Kinds as kinds
 use Rattle.filtered.specs.Filtered.{kindAt}
-use Rattle.chains.specs.Operations.{relationWords}
+use Rattle.chains.specs.Places.{relationWords}
 use Rattle.chains.proofs.RelationScan.{RelationsFine}
 use Rattle.chains.proofs.PackIndex.{parts, find-kept}
 use Rattle.nodes.specs.Tables.{Derived, derivedBy, derivedAt, pair, typedBy, typedAt, tables}

@@ -8,7 +8,7 @@ use mathlib.Core.Option.{none, some}
 use lib.ListN.{length, getD, set}
 use lib.Dec.{eqb}
 use Rattle.pack.specs.Table.{pick, valueOf, wordOf}
-use Rattle.chains.specs.Operations.{namesAt}
+use Rattle.chains.specs.Places.{namesAt}
 use Rattle.nodes.specs.declared.direction.Direction.{Direction}
 use Rattle.nodes.specs.declared.direction.Direction.the-variants.{Turned, Open}
 use Rattle.nodes.specs.Tables.{Derived, Tables}

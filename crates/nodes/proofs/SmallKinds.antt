@@ -8,7 +8,7 @@ use mathlib.Core.Option.{Option, none, some}
 use lib.ListN.{length, getD, take, drop}
 use lib.Dec.{eqb, ltb}
 use Rattle.pack.specs.Table.{pick, valueOf}
-use Rattle.chains.specs.Operations.{namesAt}
+use Rattle.chains.specs.Places.{namesAt}
 use Rattle.filtered.proofs.KindBounds.{Below}
 use Rattle.nodes.specs.declared.direction.Direction.{Direction}
 use Rattle.nodes.specs.declared.direction.Direction.the-variants.{Turned, Open}

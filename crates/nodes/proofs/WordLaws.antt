@@ -13,7 +13,8 @@ use Rattle.pack.specs.Table.{pick}
 use Rattle.filtered.specs.declared.taking.Kind.{Kind}
 use Rattle.filtered.specs.declared.taking.Kind.the-variants as kind
 use Rattle.filtered.specs.Filtered.{kindAt}
-use Rattle.chains.specs.Operations.{namesAt, tableFrom}
+use Rattle.chains.specs.Places.{namesAt}
+use Rattle.chains.specs.ByName.{tableFrom}
 use Rattle.filtered.specs.Taking.{kindIn, KindFound}
 use Rattle.filtered.specs.Said.{directOf, directIn}
 use Rattle.chains.proofs.FillLaws.{Filling}

@@ -14,7 +14,7 @@ use Rattle.pack.specs.Pack.{Derivation, Relation, Body, Rule, Pack, rule}
 use Rattle.chains.specs.Kinds.{kindsOf}
 use Rattle.filtered.specs.Filtered.{kindAt}
 use Rattle.chains.specs.Reach.{any}
-use Rattle.chains.specs.Operations.{relationWords, startOf, firstRelation, relationsEnd, hops}
+use Rattle.chains.specs.Places.{relationWords, startOf, firstRelation, relationsEnd, hops}
 use Rattle.nodes.specs.Tables.{Derived, Tables, tables}
 use Rattle.nodes.specs.Direction.{kindOrZero, membership}
 use Rattle.inputs.specs.Inputs.{input}

@@ -8,7 +8,7 @@ use lib.ListN.{getD}
 use lib.Dec.{eqb, ltb}
 use Rattle.pack.specs.Table.{pick}
 use Rattle.pack.specs.Table as table
-use Rattle.chains.specs.Operations.{namesAt}
+use Rattle.chains.specs.Places.{namesAt}
 use Rattle.chains.specs.Record.{valueAt, kindCount, flagAt, slotsPlace}
 use Rattle.filtered.specs.Filtered.{kindAt}
 use Rattle.filtered.specs.Said.{directIn}

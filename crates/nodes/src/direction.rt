@@ -11,7 +11,7 @@ use pack::kinds::Pack;
 ghost use mathlib.Core.Path.{_≡_};
 ghost use mathlib.Core.List.{[], _∷_};
 ghost use Prim.Native.Nat.{_<_, _≤_};
-ghost use Rattle.chains.specs.Operations.{namesAt};
+ghost use Rattle.chains.specs.Places.{namesAt};
 ghost use Rattle.nodes.specs.Direction.{bearing, orElse, kindOrZero, matched, towards, turn, between, tested};
 ghost use Rattle.nodes.specs.Words.{typedIn, directBy, tablesIn, membershipOf, membershipIn, MembershipFits, MemberTurned};
 ghost use Rattle.chains.specs.Record.{flagAt, Recorded};

@@ -13,7 +13,7 @@ use Rattle.pack.specs.Dealt.{InAnyOrder, Dealt}
 use Rattle.chains.specs.Chain.{Distinct}
 use Rattle.chains.specs.Kinds.{find, declared, kindsOf}
 use Rattle.chains.specs.Reach.{any}
-use Rattle.chains.specs.Operations.{firstRelation}
+use Rattle.chains.specs.Places.{firstRelation}
 use Rattle.chains.proofs.Names.{shuffled-any, shuffled-map}
 use Rattle.chains.proofs.KindLaws.{kinds-dealt, distinct-names}
 use Rattle.filtered.proofs.FilteredLaws.{filtered-dealt}

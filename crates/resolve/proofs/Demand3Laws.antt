@@ -17,10 +17,11 @@ use Rattle.pack.proofs.PackLaws.{words-read}
 use Rattle.pack.proofs.DealtLaws.{dealt-total, dealt-again, dealt-checked}
 use Rattle.chains.specs.Kinds.{list21, listOf, find, allKinds, ownAnswer, kindsOf}
 use Rattle.filtered.specs.Filtered.{kindAt}
-use Rattle.chains.specs.Operations.{placeOf, namesAt, firstRelation, allKindsWords, allKindsBuffer}
+use Rattle.chains.specs.Places.{placeOf, namesAt, firstRelation, allKindsWords}
+use Rattle.kinds.specs.Operations.{allKindsBuffer}
 use Rattle.chains.proofs.KindLaws.{kinds-dealt, distinct-names, words-own, words-count, kinds-steps}
 use Rattle.chains.proofs.ListAt.{place-holds}
-use Rattle.filtered.proofs.DealtChains.{all-kinds-steps, chains-dealt}
+use Rattle.resolve.proofs.DealtChains.{all-kinds-steps, chains-dealt}
 use Rattle.nodes.specs.Tables.{Derived, derivedBy, derivedAt, tables}
 use Rattle.nodes.specs.Turning.{Outcome, done, refused, andThen, mapDone, result}
 use Rattle.nodes.specs.Resolving.{defaultedEqual, equalRefusal, resolveRules, resolveRelation, resolveRelations, empty, unlike, passedOver, stampedWith, stampBy, stampDerived, stamp, firstRule, resolveRecords, resolved}

@@ -17,7 +17,7 @@ use Rattle.pack.specs.Pack.{Relation, Rule, Pack, WellFormed, yes, read, words,
 use Rattle.pack.specs.Operations.{noRoom}
 use Rattle.pack.proofs.PackLaws.{words-read, words-length}
 use Rattle.chains.specs.Kinds.{allKinds}
-use Rattle.chains.specs.Operations.{relationWords, firstRelation}
+use Rattle.chains.specs.Places.{relationWords, firstRelation}
 use Rattle.chains.proofs.RelationScan.{RelationsFine}
 use Rattle.chains.proofs.PackIndex.{parts, zeros}
 use Rattle.chains.proofs.CheckedLaws.{same-pack}

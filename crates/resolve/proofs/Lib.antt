@@ -4,6 +4,7 @@ pub mod PlaceFree
 pub mod ResolveNumbers
 pub mod DealtResolving
 pub mod ResolvedPack
+pub mod DealtChains
 pub mod Demand3Laws
 pub mod WriteLaws
 pub mod WrittenPack

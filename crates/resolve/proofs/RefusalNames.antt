@@ -14,7 +14,7 @@ use Rattle.pack.specs.Pack.{Derivation, Relation, Body, Rule, Pack, WellFormed,
 use Rattle.pack.proofs.PackLaws.{words-length}
 use Rattle.chains.specs.Kinds.{list9, find, kindsOf}
 use Rattle.filtered.specs.Filtered.{kindAt}
-use Rattle.chains.specs.Operations.{relationWords, startOf, firstRelation}
+use Rattle.chains.specs.Places.{relationWords, startOf, firstRelation}
 use Rattle.filtered.proofs.KindBounds.{Below, BelowAll, tail-below, kinds-below}
 use Rattle.chains.proofs.RelationScan.{kept}
 use Rattle.chains.proofs.PackIndex.{parts, find-name, find-kept, start-within, opening, relationsPart, split, opening-length}

@@ -18,7 +18,8 @@ use Rattle.pack.specs.Operations.{answer, checkAnswer}
 use Rattle.checking.proofs.OperationLaws.{turned-away}
 use Rattle.pack.proofs.PackLaws.{words-read}
 use Rattle.chains.specs.Kinds.{find, kindsOf, allKinds}
-use Rattle.chains.specs.Operations.{firstRelation, startOf, Answered}
+use Rattle.chains.specs.Places.{firstRelation, startOf}
+use Rattle.chains.specs.Answers.{Answered}
 use Rattle.chains.specs.AllKinds.{IsPack, Counted, RulesAt}
 use Rattle.chains.proofs.CheckedLaws.{same-pack, short-checked, few-counted}
 use Rattle.chains.proofs.PackIndex.{parts, find-name, find-kept}

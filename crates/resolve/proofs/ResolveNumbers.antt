@@ -13,7 +13,7 @@ use Rattle.pack.specs.Pack.{Relation, Rule, Pack, Reading, yes, refuse, read, t
 use Rattle.pack.specs.Operations.{answer, noRoom}
 use Rattle.pack.proofs.Refusals.{Within, read-numbers}
 use Rattle.chains.specs.Kinds.{allKinds}
-use Rattle.chains.specs.Operations.{firstRelation}
+use Rattle.chains.specs.Places.{firstRelation}
 use Rattle.nodes.specs.Turning.{Outcome, done, refused, andThen, mapDone, InRange}
 use Rattle.nodes.specs.Tables.{tables}
 use Rattle.nodes.specs.Resolving.{resolveRules, resolveRelations, defaultedEqual, equalRefusal, firstRule, resolveRecords, resolved}

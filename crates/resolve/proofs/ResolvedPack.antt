@@ -8,7 +8,7 @@ use lib.ListN.{length, length-append, length-map}
 use Rattle.pack.specs.Form.{count, items, says, wordsBy, Fine}
 use Rattle.pack.specs.Pack.{Relation, Rule, Pack, WellFormed, yes, read, words, total, toRow, defaulted, relations, rules, blocks, records, inner}
 use Rattle.pack.proofs.PackLaws.{read-words}
-use Rattle.chains.specs.Operations.{firstRelation}
+use Rattle.chains.specs.Places.{firstRelation}
 use Rattle.chains.proofs.RelationScan.{RelationsFine}
 use Rattle.nodes.specs.Tables.{tables}
 use Rattle.nodes.specs.Turning.{done, refused}

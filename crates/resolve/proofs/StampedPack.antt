@@ -9,7 +9,7 @@ use Rattle.pack.specs.Table.{pick, wordOf}
 use Rattle.pack.specs.Form.{among, wordsBy, Fine}
 use Rattle.pack.specs.Pack.{Relation, Pack, WellFormed, yes, read, newName, relation}
 use Rattle.chains.specs.Kinds.{declared, kindsOf}
-use Rattle.chains.specs.Operations.{relationWords, namesAt}
+use Rattle.chains.specs.Places.{relationWords, namesAt}
 use Rattle.chains.proofs.RelationScan.{RelationsFine, kept}
 use Rattle.nodes.specs.Turning.{done}
 use Rattle.nodes.specs.Resolving.{atomNames, stamp, resolveRelation}

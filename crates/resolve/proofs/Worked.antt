@@ -11,7 +11,7 @@ use Rattle.pack.specs.Pack.{Relation, Rule, Pack, undated, relation, newName, r
 use Rattle.chains.specs.Chain.{walk, own}
 use Rattle.chains.specs.Kinds.{find, kindStep, kindsOf}
 use Rattle.filtered.specs.Filtered.{taken, direct}
-use Rattle.chains.specs.Operations.{startOf}
+use Rattle.chains.specs.Places.{startOf}
 use Rattle.filtered.proofs.Worked.{Worked, worked}
 use Rattle.nodes.specs.Tables.{tables}
 use Rattle.nodes.specs.Direction.{turn}

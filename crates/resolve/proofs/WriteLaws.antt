@@ -8,7 +8,8 @@ use lib.Seq.{drop-cons, take-at, take-suc-set, drop-append-le, length-take-le}
 use borrow.Rule.Slice.PartMut.{midOf, putMid, postOf, same-len-mid, mid-len}
 use borrow.Author.Tests.{ne-eqb}
 use Rattle.pack.specs.Table.{valueOf, wordOf}
-use Rattle.chains.specs.Operations.{namesAt, tableFrom}
+use Rattle.chains.specs.Places.{namesAt}
+use Rattle.chains.specs.ByName.{tableFrom}
 use Rattle.chains.proofs.FillLaws.{Filling, done}
 use Rattle.chains.specs.Record.{valueAt, kindCount}
 use Rattle.stamping.specs.Stamping.{namesOr, Lists}

@@ -15,7 +15,7 @@ use Rattle.pack.specs.Table.{pick, wordOf}
 use Rattle.pack.specs.Form.{among, count, items, wordsBy, Fine}
 use Rattle.pack.specs.Pack.{Derivation, Relation, Pack, newName, nameList, relationTail, relation, defaulted, total, words}
 use Rattle.pack.proofs.PackLaws.{words-length}
-use Rattle.chains.specs.Operations.{namesAt, relationWords}
+use Rattle.chains.specs.Places.{namesAt, relationWords}
 use Rattle.chains.proofs.ListAt.{nameWords, list-words, early, late, option-words, InWords}
 use Rattle.chains.proofs.RelationScan.{RelationsFine}
 use Rattle.chains.proofs.PackIndex.{parts}

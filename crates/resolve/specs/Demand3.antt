@@ -10,7 +10,8 @@ use Rattle.pack.specs.declared.answer.Answer.the-variants.{Given, Refused}
 use Rattle.pack.specs.Pack.{Relation, Rule, Pack, total, words}
 use Rattle.pack.specs.Dealt.{Checked, Dealt}
 use Rattle.chains.specs.Kinds.{list21, listOf, undeclaredSources, kindsOf}
-use Rattle.chains.specs.Operations.{namesAt, allKindsAnswer, allKindsBuffer}
+use Rattle.chains.specs.Places.{namesAt}
+use Rattle.kinds.specs.Operations.{allKindsAnswer, allKindsBuffer}
 use Rattle.nodes.specs.Tables.{Derived, tables}
 use Rattle.nodes.specs.Turning.{Outcome, done, InRange, result}
 use Rattle.nodes.specs.Resolving.{resolveRule, resolveRelation, stamp, resolved}

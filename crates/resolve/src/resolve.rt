@@ -11,7 +11,7 @@ use trees::trees::fill_tables;
 use trees::trees::trees;
 ghost use mathlib.Core.Path.{_≡_};
 ghost use Rattle.chains.specs.AllKinds.{IsPack};
-ghost use Rattle.chains.specs.Operations.{Answered};
+ghost use Rattle.chains.specs.Answers.{Answered};
 ghost use Rattle.resolve.specs.Operations.{resolveAnswer, resolveBuffer};
 ghost use Rattle.trees.specs.Passes.{TreesAsked};
 ghost use Rattle.resolve.specs.Finish.{PackCame, ResolveAsked};

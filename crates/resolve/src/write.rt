@@ -11,7 +11,7 @@ ghost use mathlib.Core.List.{_++_, map};
 ghost use Prim.Native.Nat.{_+_, _≤_};
 ghost use lib.ListN.{length};
 ghost use Rattle.pack.specs.Table.{wordOf};
-ghost use Rattle.chains.specs.Operations.{namesAt};
+ghost use Rattle.chains.specs.Places.{namesAt};
 ghost use Rattle.stamping.specs.Stamping.{namesOr, Lists};
 ghost use Rattle.resolve.specs.Writing.{fromTo, listWords, putFor, Put, Room, WriteAsked, WriteCame};
 

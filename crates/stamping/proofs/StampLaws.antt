@@ -14,7 +14,7 @@ use Rattle.pack.specs.Tree.{tree, root}
 use Rattle.pack.specs.Pack.{Derivation, Relation, Pack, newName, relation, derivation, member, relationTail}
 use Rattle.chains.specs.Kinds.{kindsOf}
 use Rattle.filtered.specs.Filtered.{kindAt}
-use Rattle.chains.specs.Operations.{namesAt}
+use Rattle.chains.specs.Places.{namesAt}
 use Rattle.chains.proofs.RelationScan.{kept}
 use Rattle.chains.proofs.ListAt.{InWords}
 use Rattle.nodes.specs.Turning.{treeWords}

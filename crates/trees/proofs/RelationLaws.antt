@@ -16,7 +16,7 @@ use Rattle.pack.specs.Pack.{Derivation, Relation, Pack, WellFormed, yes, read, 
 use Rattle.pack.proofs.PackLaws.{words-read}
 use Rattle.chains.specs.Kinds.{kindsOf}
 use Rattle.filtered.specs.Filtered.{kindAt}
-use Rattle.chains.specs.Operations.{relationWords, namesAt}
+use Rattle.chains.specs.Places.{relationWords, namesAt}
 use Rattle.chains.proofs.RelationScan.{Kept, kept}
 use Rattle.chains.proofs.ListAt.{nameWords, list-words, path-words, early, late, derived-fine, option-words, InWords}
 use Rattle.chains.proofs.CheckedLaws.{same-pack}

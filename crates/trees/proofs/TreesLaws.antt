@@ -11,7 +11,7 @@ use Rattle.pack.specs.Table.{wordOf}
 use Rattle.pack.specs.Form.{count, wordsBy, Fine}
 use Rattle.pack.specs.Pack.{Relation, Rule, Pack, WellFormed, yes, read, words, rule, blocks, defaulted, total}
 use Rattle.pack.proofs.PackLaws.{words-read, words-length}
-use Rattle.chains.specs.Operations.{relationWords, firstRelation, namesAt, placeOf}
+use Rattle.chains.specs.Places.{relationWords, firstRelation, namesAt, placeOf}
 use Rattle.chains.specs.Kinds.{ownAnswer}
 use Rattle.chains.specs.AllKinds.{RulesAt}
 use Rattle.chains.proofs.PackIndex.{parts}

@@ -11,7 +11,7 @@ use Rattle.pack.specs.Table.{wordOf}
 use Rattle.pack.specs.Form.{among, wordsAll, FineAll, count, items, wordsBy, Fine}
 use Rattle.pack.specs.Pack.{Relation, Rule, Pack, WellFormed, toRow, newName, relation, relations, rule, rules, blocks, defaulted, defaultedName, above, records, inner, layout, total, words}
 use Rattle.chains.specs.Kinds.{declared}
-use Rattle.chains.specs.Operations.{relationWords, firstRelation, relationsEnd}
+use Rattle.chains.specs.Places.{relationWords, firstRelation, relationsEnd}
 use Rattle.chains.proofs.RelationScan.{relationsWords, RelationsFine}
 use Rattle.chains.proofs.PackIndex.{parts}
 use Rattle.nodes.specs.Turning.{Outcome, andThen, mapDone}

@@ -11,7 +11,7 @@ use Rattle.pack.specs.Table.{wordOf}
 use Rattle.pack.specs.Form.{among, Fine}
 use Rattle.pack.specs.Pack.{Relation, Body, Rule, Pack, yes, read, words, body, rule, relation}
 use Rattle.chains.specs.Kinds.{declared, kindsOf, allKinds}
-use Rattle.chains.specs.Operations.{relationWords, firstRelation, namesAt}
+use Rattle.chains.specs.Places.{relationWords, firstRelation, namesAt}
 use Rattle.chains.specs.AllKinds.{IsPack, Noted, RulesAt, KindsMarked}
 use Rattle.filtered.specs.Taking.{Known}
 use Rattle.nodes.specs.Turning.{Outcome, done, refused, andThen, mapDone, treeWords}

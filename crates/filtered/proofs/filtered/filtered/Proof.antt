@@ -1,6 +1,6 @@
 -- `filtered::filtered::filtered` meets its contract.
 use native.Mathlib.Omega.{arith}
-use Rattle.chains.proofs.OperationLaws.{checked}
+use Rattle.chains.proofs.AnswerLaws.{checked}
 use Rattle.filtered.proofs.FilterLaws.{filter-refused, filter-room, filter-asked, filter-done}
 use borrow.Author.Needs.{needs}
 use Rattle.filtered.proofs.filtered.filtered.Statement.{statement}

@@ -2,7 +2,7 @@
 use native.Mathlib.Omega.{arith}
 use mathlib.Core.Path.{refl}
 use Rattle.chains.proofs.CheckedLaws.{few-counted}
-use Rattle.chains.proofs.OperationLaws.{kinds-asked}
+use Rattle.chains.proofs.AnswerLaws.{kinds-asked}
 use borrow.Author.Needs.{needs}
 use Rattle.filtered.proofs.taking.take_kinds.Statement.{statement}
 use Rattle.filtered.proofs.taking.take_kinds.Tie as tie

@@ -1,7 +1,7 @@
 -- `resolve::resolve::resolve` meets its contract: either copy has room for the words.
 use native.Mathlib.Omega.{arith}
 use Rattle.chains.proofs.CheckedLaws.{short-checked}
-use Rattle.chains.proofs.OperationLaws.{checked}
+use Rattle.chains.proofs.AnswerLaws.{checked}
 use Rattle.resolve.proofs.ResolveLaws.{in-asked, resolve-refused}
 use borrow.Author.Needs.{needs}
 use Rattle.resolve.proofs.resolve.resolve.Statement.{statement}

@@ -1,6 +1,6 @@
 -- `resolve::write::put_relation` meets its contract.
 use native.Mathlib.Omega.{arith}
-use Rattle.chains.specs.Operations.{namesAt}
+use Rattle.chains.specs.Places.{namesAt}
 use Rattle.stamping.specs.Stamping.{namesOr}
 use Rattle.resolve.proofs.WriteLaws.{one-room, one-put, first-room, then-room, both-put}
 use borrow.Author.Needs.{needs}

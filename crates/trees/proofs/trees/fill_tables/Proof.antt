@@ -1,7 +1,7 @@
 -- `trees::trees::fill_tables` meets its contract.
 use native.Mathlib.Omega.{arith}
 use Rattle.chains.proofs.CheckedLaws.{few-counted}
-use Rattle.chains.proofs.OperationLaws.{kinds-asked}
+use Rattle.chains.proofs.AnswerLaws.{kinds-asked}
 use borrow.Author.Needs.{needs}
 use Rattle.trees.proofs.trees.fill_tables.Statement.{statement}
 use Rattle.trees.proofs.trees.fill_tables.Tie as tie

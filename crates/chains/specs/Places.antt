@@ -1,0 +1,61 @@
+-- Where relations and their lists of kinds stand in the words of a pack.
+use Prim.Native.Nat.{ℕ, suc, _+_, _*_}
+use mathlib.Core.List.{List, [], _∷_, map}
+use mathlib.Core.Bool.{false}
+use mathlib.Core.Option.{Option, none, some}
+use lib.ListN.{length, getD, take, drop}
+use lib.Dec.{eqb}
+use Rattle.pack.specs.Table.{pick, valueOf}
+use Rattle.pack.specs.Form.{wordsBy}
+use Rattle.pack.specs.Pack.{Hop, Relation, relation, Pack}
+use Rattle.chains.specs.Kinds.{Which, list9, list21, find, allKinds}
+use Rattle.chains.specs.Kinds as kinds
+
+-- the words of a relation
+abbrev pub relationWords : ℕ → Relation → List ℕ
+relationWords n r = wordsBy (relation n (λ v. false)) r
+
+-- the place where the record of a name starts, from the place where the first of the list starts
+unfoldable pub startOf : ℕ → ℕ → ℕ → List Relation → ℕ
+startOf n name at [] = at
+startOf n name at (r ∷ rs) = pick (eqb name (r .name)) at (startOf n name (at + length (relationWords n r)) rs)
+
+-- the first relation starts after 1, 2, 3 with the defaulted names, and 5
+abbrev pub firstRelation : Pack → ℕ
+firstRelation p = 4 + length (p .defaulted)
+
+-- where the relations of a list end, from the place where the first starts
+abbrev pub relationsEnd : ℕ → ℕ → List Relation → ℕ
+relationsEnd n at [] = at
+relationsEnd n at (r ∷ rs) = relationsEnd n (at + length (relationWords n r)) rs
+
+abbrev pub hops : Option (List Hop) → ℕ
+hops none = 0
+hops (some l) = length l
+
+-- the count word of list 9 stands after 6, 7 and 8; that of list 21 after 6 to 8, 9 with its kinds, 11, 12, 13 with its steps, and 17 to 20
+abbrev pub countPlace : Which → Relation → ℕ
+countPlace list9 r = 3
+countPlace list21 r = elim (r .derivation) [ none ↦ 0 | some d ↦ 4 + length (r .slotKinds) + 3 + 3 * hops (d .path) + 4 ]
+
+abbrev countIn : Option Relation → Which → ℕ
+countIn none w = 0
+countIn (some r) w = countPlace w r
+
+-- "the place of the settled list's count word, or 0 for none"
+unfoldable pub placeOf : Pack → kinds.Answer → ℕ
+placeOf p none = 0
+placeOf p (some s) =
+    startOf (p .names) (s .owner) (firstRelation p) (p .relations) + countIn (find (s .owner) (p .relations)) (s .which)
+
+-- the names of the list whose count word stands at a place; at 0 there are no kinds
+unfoldable pub namesAt : List ℕ → ℕ → Option (List ℕ)
+namesAt ws place = pick (eqb place 0) none (some (map valueOf (take (valueOf (getD ws place 0)) (drop (suc place) ws))))
+
+-- what is settled for a name, in All kinds
+abbrev pub settledOf : Option kinds.Answer → kinds.Answer
+settledOf none = none
+settledOf (some a) = a
+
+unfoldable pub allKindsWords : Pack → List ℕ
+allKindsWords p = map (λ (r : Relation). placeOf p (settledOf (allKinds (p .relations) .settled (r .name)))) (p .relations)

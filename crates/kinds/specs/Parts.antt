@@ -1,0 +1,27 @@
+-- What the parts of the operations promise each other, of words that Check accepts.
+use Prim.Native.Nat.{ℕ, _-_}
+use mathlib.Core.Path.{_≡_}
+use mathlib.Core.List.{List, map}
+use mathlib.Core.Bool.{Bool}
+use lib.ListN.{getD}
+use Rattle.pack.specs.Pack.{Pack, yes, read}
+use Rattle.chains.specs.Kinds.{allKinds, ownAnswer}
+use Rattle.chains.specs.Reach.{leans}
+use Rattle.chains.specs.Places.{placeOf, allKindsWords}
+
+-- each name's settled place
+unfoldable pub placesIn : List ℕ → List ℕ → List ℕ
+placesIn marks names = map (λ n. getD marks n 0 - 2) names
+
+-- the places, and the number of declarations read
+pub record KindsLeft (ws : List ℕ) (steps : ℕ) (out : List ℕ) : Type 0 where
+  pub counts : (p : Pack) → read ws ≡ yes p → steps ≡ allKinds (p .relations) .steps
+  pub holds : (p : Pack) → read ws ≡ yes p → out ≡ allKindsWords p
+
+-- the place of the list that settles a name
+pub record OwnPlace (ws : List ℕ) (name place : ℕ) : Type 0 where
+  pub says : (p : Pack) → read ws ≡ yes p → place ≡ placeOf p (ownAnswer (p .relations) name)
+
+-- whether sources lead from a name to another
+pub record Leaning (ws : List ℕ) (a b : ℕ) (r : Bool) : Type 0 where
+  pub says : (p : Pack) → read ws ≡ yes p → r ≡ leans (p .relations) a b

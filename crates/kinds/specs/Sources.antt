@@ -1,0 +1,24 @@
+-- The sources (12) of relations, read at their records.
+use Prim.Native.Nat.{ℕ, _+_, _-_, _≤_}
+use mathlib.Core.List.{List, [], _∷_}
+use lib.ListN.{getD}
+use lib.Dec.{eqb}
+use Rattle.pack.specs.Table.{pick}
+use Rattle.pack.specs.Table as table
+use Rattle.chains.specs.Record.{valueAt, kindCount, flagAt}
+
+-- of the relation whose record starts at a place: the name and one, 0 for none; at 0 there is none
+unfoldable pub sourceIn : List ℕ → ℕ → ℕ
+sourceIn ws start =
+    pick (eqb start 0) 0
+    (pick (eqb (flagAt ws start) 1)
+    (pick (eqb (valueAt ws (start + 4 + kindCount ws start + 1)) table.none) 0 (valueAt ws (start + 4 + kindCount ws start + 1) + 1))
+    0)
+
+-- of a name, whose record starts where a table says
+unfoldable pub sourcesIn : List ℕ → List ℕ → ℕ → List ℕ
+sourcesIn ws records n = pick (eqb (sourceIn ws (getD records n 0)) 0) [] ((sourceIn ws (getD records n 0) - 1) ∷ [])
+
+-- they are names below 4,096
+unfoldable pub Sourced : List ℕ → List ℕ → Type 0
+Sourced ws records = (n : ℕ) → sourceIn ws (getD records n 0) ≤ 4096

@@ -1,0 +1,65 @@
+-- The operations on chains over a pack dealt out again; and All kinds' steps as a sum.
+use Prim.Native.Nat.{ℕ, _+_, _≤_}
+use mathlib.Core.Path.{_≡_, refl, ap, sym, _∙_, fun-ext}
+use mathlib.Core.List.{List}
+use lib.ListN.{length}
+use borrow.Author.Tests.{le-leb}
+use Rattle.pack.specs.declared.answer.Answer.the-variants.{Given}
+use Rattle.pack.specs.Pack.{Pack, yes, read}
+use Rattle.pack.specs.Dealt.{Dealt}
+use Rattle.pack.proofs.PackLaws.{words-read}
+use Rattle.pack.proofs.DealtLaws.{shuffled-length}
+use Rattle.chains.specs.Kinds.{declared, undeclaredSources, ownAnswer, kindsOf}
+use Rattle.chains.specs.Places.{placeOf, namesAt, allKindsWords}
+use Rattle.kinds.specs.Operations.{allKindsAnswer, leanAnswer}
+use Rattle.chains.specs.ByName.{tableFrom}
+use Rattle.filtered.specs.FilteredTables.{says, filterWords, filterAnswer, filterBuffer}
+use Rattle.filtered.specs.declared.filtered.Filter.{Filter}
+use Rattle.filtered.specs.declared.filtered.Filter.the-variants.{Direct, Innermost, Alias, Unresolved}
+use Rattle.chains.specs.Chain.{Distinct}
+use Rattle.kinds.proofs.LeanLaws.{leans-dealt}
+use Rattle.filtered.proofs.FilteredLaws.{filtered-dealt}
+use Rattle.chains.proofs.ListAt.{place-holds}
+use Rattle.chains.proofs.KindLaws.{kinds-dealt, kinds-steps, distinct-names, words-count}
+
+-- "the step count is an exact sum": the relations, and the undeclared sources that inheriting relations name, each once
+pub all-kinds-steps : (ws : List ℕ) (p : Pack) → read ws ≡ yes p → (room : ℕ) → length (p .relations) ≤ room
+    → allKindsAnswer ws room ≡ Given (length (p .relations)) (length (p .relations) + length (undeclaredSources (p .relations)))
+unfolding allKindsAnswer
+all-kinds-steps ws p h room r =
+    simp (h, words-count p, le-leb (length (p .relations)) room r, kinds-steps (p .relations) (distinct-names p (words-read ws p h .fine)))
+
+filter-alike : (p q : Pack) → Distinct (declared (p .relations)) → Dealt p q → (f : Filter) (e : ℕ) → says f p e ≡ says f q e
+filter-alike p q u d Direct e = rw (filtered-dealt (d .relations) u .directs e) refl
+filter-alike p q u d Innermost e = rw (d .names, filtered-dealt (d .relations) u .innermosts (q .names) e) refl
+filter-alike p q u d Alias e = rw (filtered-dealt (d .relations) u .aliases e) refl
+filter-alike p q u d Unresolved e = rw (filtered-dealt (d .relations) u .unresolveds e) refl
+
+-- what a pack and one dealt out of it have alike
+pub record DealtAlike (ws vs : List ℕ) (p q : Pack) : Type 0 where
+  -- All kinds: the answer with its steps; the places are those of the owners' records, and at them stand the same names
+  pub all-kinds : (room : ℕ) → allKindsAnswer ws room ≡ allKindsAnswer vs room
+  pub own-kinds : (n : ℕ) → namesAt ws (placeOf p (ownAnswer (p .relations) n)) ≡ namesAt vs (placeOf q (ownAnswer (q .relations) n))
+  pub owners : (n : ℕ) → ownAnswer (p .relations) n ≡ ownAnswer (q .relations) n
+  pub lean : (a b : ℕ) → leanAnswer ws a b ≡ leanAnswer vs a b
+  pub filters : (f : Filter) (room : ℕ) → filterAnswer f ws room ≡ filterAnswer f vs room
+  pub tables : (f : Filter) (lent : List ℕ) → filterBuffer f ws lent ≡ filterBuffer f vs lent
+
+pub chains-dealt : (ws vs : List ℕ) (p q : Pack) → read ws ≡ yes p → read vs ≡ yes q → Dealt p q → DealtAlike ws vs p q
+unfolding allKindsAnswer leanAnswer filterAnswer filterBuffer
+chains-dealt ws vs p q h k d =
+    let u = distinct-names p (words-read ws p h .fine) in
+    let a = kinds-dealt (d .relations) u in
+    let l : length (allKindsWords p) ≡ length (allKindsWords q) = words-count p ∙ shuffled-length (d .relations) ∙ sym (words-count q) in
+    let t : (f : Filter) → filterWords f p ≡ filterWords f q = λ f. ap (λ (g : ℕ → ℕ). tableFrom g 0 (p .names)) (fun-ext (filter-alike p q u d f)) ∙ ap (tableFrom (says f q) 0) (d .names) in
+    record {
+      all-kinds = λ room. simp (h, k, l, a .steps);
+      own-kinds = λ n. kinds-at ws p h n ∙ a .kinds n ∙ sym (kinds-at vs q k n);
+      owners = a .own-answers;
+      lean = λ x y. simp (h, k, d .names, leans-dealt (d .relations) u x y);
+      filters = λ f room. simp (h, k, t f);
+      tables = λ f lent. simp (h, k, t f);
+    }
+  where
+    kinds-at : (ws : List ℕ) (p : Pack) → read ws ≡ yes p → (n : ℕ) → namesAt ws (placeOf p (ownAnswer (p .relations) n)) ≡ kindsOf (p .relations) n
+    kinds-at ws p h n = let r = words-read ws p h in rw (← r .same) (place-holds p (r .fine) n)
