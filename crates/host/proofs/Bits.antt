@@ -1,7 +1,7 @@
--- No answer is too large for its bits: the number that a function of the host answers gives the operation's answer back.
-use Prim.Native.Nat.{ℕ, _-_, _^_, _<_, _≤_}
+-- No answer is too large for its bits: the number that a function of the host answers gives the operation's answer back (`answers-again` of wire, over bytes by `over-bytes-fits`).
+use Prim.Native.Nat.{ℕ, _^_, _<_, _≤_}
 use native.Mathlib.Omega.{arith}
-use mathlib.Core.Path.{_≡_, refl, sym, _∙_}
+use mathlib.Core.Path.{_≡_, refl}
 use mathlib.Core.Bool.{Bool, true, false, _||_, _&&_}
 use mathlib.Core.List.{List, [], _∷_}
 use mathlib.Core.Option.{none}
@@ -9,7 +9,7 @@ use lib.ListN.{length, length-map}
 use lib.Dec.{leb, ltb}
 use borrow.Author.Tests.{leb-true}
 use Rattle.pack.specs.declared.answer.Answer.{Answer}
-use Rattle.pack.specs.declared.answer.Answer.the-variants.{Given, Refused}
+use Rattle.pack.specs.declared.answer.Answer.the-variants.{Given}
 use Rattle.pack.specs.Table.{pick}
 use Rattle.pack.specs.Form.{among}
 use Rattle.pack.specs.Pack.{Relation, Pack, WellFormed, Reading, yes, refuse, read, total, words}
@@ -32,40 +32,8 @@ use Rattle.nodes.specs.Resolving.{resolved}
 use Rattle.resolve.specs.Operations.{givenOut, resolveAnswer}
 use Rattle.nodes.proofs.Numbers.{refused-number}
 use Rattle.resolve.proofs.RefusalNames.{Told, resolved-told}
-use Rattle.host.specs.Bytes.{encode, areWords, notWords, overBytes, wordsOf}
+use Rattle.wire.proofs.Faithful.{FitsBits}
 use Rattle.host.proofs.Writes.{few-words, few-places, few-names}
-use Rattle.host.proofs.Faithful.{parts-again}
-
-abbrev pub FitsBits : Answer → Type 0
-FitsBits (Given value steps) = (value < 2 ^ 32) × (steps < 2 ^ 12)
-FitsBits (Refused r) = (0 < r .number) × (r .number < 2 ^ 6) × (r .place < 2 ^ 14) × (r .name < 2 ^ 32) × (r .other < 2 ^ 12)
-
-same-refusal : {n p m o n′ p′ m′ o′ : ℕ} → n ≡ n′ → p ≡ p′ → m ≡ m′ → o ≡ o′
-    → Refused (record { number = n; place = p; name = m; other = o }) ≡ Refused (record { number = n′; place = p′; name = m′; other = o′ })
-same-refusal e f g h = cc
-
--- two answers with one number are one answer
-pub answers-again : (a b : Answer) → FitsBits a → FitsBits b → encode a ≡ encode b → a ≡ b
-answers-again (Given v s) (Given v′ s′) (f, g) (f′, g′) e =
-    let x = parts-again 0 0 v s (omega arith) (omega arith) f g in
-    let y = parts-again 0 0 v′ s′ (omega arith) (omega arith) f′ g′ in
-    let value : v ≡ v′ = sym (x .2) ∙ rw e (y .2) in
-    let steps : s ≡ s′ = sym (x .3) ∙ rw e (y .3) in
-    cc
-answers-again (Given v s) (Refused r) (f, g) (a, b, c, d, h) e =
-    let x = parts-again 0 0 v s (omega arith) (omega arith) f g in
-    let y = parts-again (r .number) (r .place) (r .name) (r .other) b c d h in
-    let number : 0 ≡ r .number = sym (x .0) ∙ rw e (y .0) in
-    absurd (omega arith)
-answers-again (Refused r) (Given v s) (a, b, c, d, h) (f, g) e =
-    let x = parts-again 0 0 v s (omega arith) (omega arith) f g in
-    let y = parts-again (r .number) (r .place) (r .name) (r .other) b c d h in
-    let number : r .number ≡ 0 = sym (y .0) ∙ rw e (x .0) in
-    absurd (omega arith)
-answers-again (Refused r) (Refused r′) (a, b, c, d, h) (a′, b′, c′, d′, h′) e =
-    let x = parts-again (r .number) (r .place) (r .name) (r .other) b c d h in
-    let y = parts-again (r′ .number) (r′ .place) (r′ .name) (r′ .other) b′ c′ d′ h′ in
-    same-refusal (sym (x .0) ∙ rw e (y .0)) (sym (x .1) ∙ rw e (y .1)) (sym (x .2) ∙ rw e (y .2)) (sym (x .3) ∙ rw e (y .3))
 
 -- Check's refusals, and what is answered for a pack
 reads : (ws : List ℕ) (f : Pack → Answer) → ((p : Pack) → read ws ≡ yes p → FitsBits (f p)) → FitsBits (answer (read ws) f)
@@ -177,12 +145,3 @@ lean-fits ws a b h k = reads ws _ (λ p e. go p (ltb a (p .names)) (ltb b (p .na
 pub filtered-fits : (f : Filter) (ws : List ℕ) (room : ℕ) → FitsBits (filterAnswer f ws room)
 unfolding filterAnswer
 filtered-fits f ws room = reads ws _ (λ p e. writes (filterWords f p) 0 room (omega (arith, few-names f ws p e)) (omega arith))
-
--- and so from bytes
-pub over-bytes-fits : (answer : List ℕ → Answer) → ((ws : List ℕ) → FitsBits (answer ws)) → (bytes : List ℕ) → FitsBits (overBytes answer bytes)
-unfolding overBytes
-over-bytes-fits answer h bytes = go (areWords (length bytes))
-  where
-    go : (b : Bool) → FitsBits (pick b (answer (wordsOf bytes)) notWords)
-    go true = h (wordsOf bytes)
-    go false = (omega arith, omega arith, omega arith, omega arith, omega arith)

@@ -1,6 +1,4 @@
 // The host's functions: a pack and an output as bytes, each answer as one number.
-mod answer;
-mod bytes;
 mod operations;
 
 use crate::operations::Question;
@@ -14,7 +12,7 @@ ghost use Rattle.chains.specs.Operations.{allKindsAnswer, allKindsBuffer, kinds
 ghost use Rattle.filtered.specs.FilteredTables.{filterAnswer, filterBuffer};
 ghost use Rattle.resolve.specs.Operations.{resolveAnswer, resolveBuffer};
 ghost use Rattle.filtered.specs.declared.filtered.Filter.the-variants.{Direct, Innermost, Alias, Unresolved};
-ghost use Rattle.host.specs.Bytes.{encode, overBytes, Gives};
+ghost use Rattle.wire.specs.Bytes.{encode, overBytes, Gives};
 
 // Check.
 #[no_mangle]

@@ -1,9 +1,5 @@
 // The operations over bytes: each loads the pack's words and answers by one number. Clearing large arrays would take longer
 // than the work on a small pack, of up to 256 words: it has small ones.
-use crate::answer::encode;
-use crate::answer::give;
-use crate::bytes::load;
-use crate::bytes::room;
 use chains::all_kinds::all_kinds;
 use chains::kinds_of::kinds_of;
 use chains::lean::lean;
@@ -14,9 +10,13 @@ use filtered::filtered::filtered;
 use pack::answer::Answer;
 use pack::kinds::Pack;
 use resolve::resolve::resolve;
+use wire::answer::encode;
+use wire::answer::give;
+use wire::bytes::load;
+use wire::bytes::room;
 ghost use mathlib.Core.Path.{_≡_};
 ghost use lib.ListN.{length};
-ghost use Rattle.host.specs.Bytes.{encode, overBytes, Gives, Holds, Tried};
+ghost use Rattle.wire.specs.Bytes.{encode, overBytes, Gives, Holds, Tried};
 ghost use Rattle.host.specs.Operations.{answerTo, answerOf, bufferOf, Ran};
 
 // The operations that only answer.

@@ -4,7 +4,7 @@ use mathlib.Core.Path.{sym}
 use lib.Seq.{length-take-le}
 use Rattle.host.specs.Operations.{answerTo}
 use Rattle.host.proofs.Writes.{asks-none}
-use Rattle.host.proofs.OverBytes.{answered}
+use Rattle.wire.proofs.OverBytes.{answered}
 use Rattle.host.proofs.operations.ask_in.Statement.{statement}
 use Rattle.host.proofs.operations.ask_in.Tie as tie
 

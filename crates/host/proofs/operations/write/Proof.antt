@@ -4,7 +4,7 @@ use mathlib.Core.Path.{refl, ap, _∙_}
 use mathlib.Core.Logic.{⊎-elim}
 use lib.ListN.{length}
 use Rattle.host.proofs.Writes.{writes}
-use Rattle.host.proofs.OverBytes.{given-short, given-long, kept-out}
+use Rattle.wire.proofs.OverBytes.{given-short, given-long, kept-out}
 use Rattle.host.proofs.operations.write.Statement.{statement}
 use Rattle.host.proofs.operations.write.Tie as tie
 

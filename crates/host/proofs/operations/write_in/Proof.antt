@@ -3,7 +3,7 @@ use borrow.Author.Needs.{needs}
 use mathlib.Core.Path.{sym}
 use lib.Seq.{length-take-le}
 use Rattle.host.proofs.Writes.{writes}
-use Rattle.host.proofs.OverBytes.{fits-out, tried}
+use Rattle.wire.proofs.OverBytes.{fits-out, tried}
 use Rattle.host.proofs.operations.write_in.Statement.{statement}
 use Rattle.host.proofs.operations.write_in.Tie as tie
 

@@ -1,13 +1,13 @@
--- `host::bytes::store` meets its contract: the bytes of the words stored, and then the bytes as they were.
+-- `wire::bytes::store` meets its contract: the bytes of the words stored, and then the bytes as they were.
 use native.Mathlib.Omega.{arith}
 use Prim.Native.Nat.{ℕ, _*_, _-_, _≤_}
 use mathlib.Core.Path.{_≡_, refl, _∙_}
 use mathlib.Core.List.{List, _++_}
 use lib.ListN.{length, take, drop}
-use Rattle.host.specs.Bytes.{bytesOf}
-use Rattle.host.proofs.ByteLaws.{store-turn}
-use Rattle.host.proofs.bytes.store.Statement.{statement}
-use Rattle.host.proofs.bytes.store.Tie as tie
+use Rattle.wire.specs.Bytes.{bytesOf}
+use Rattle.wire.proofs.ByteLaws.{store-turn}
+use Rattle.wire.proofs.bytes.store.Statement.{statement}
+use Rattle.wire.proofs.bytes.store.Tie as tie
 
 record Stored (words : List ℕ) (n : ℕ) (before out : List ℕ) (i : ℕ) : Type 0 where
   within : i ≤ n

@@ -1,8 +1,8 @@
--- `host::bytes::are_words` meets its contract: each way out of its test is a case of `areWords`.
+-- `wire::bytes::are_words` meets its contract: each way out of its test is a case of `areWords`.
 use borrow.Author.Needs.{needs}
 use borrow.Author.Tests.{eq-eqb, ne-eqb}
-use Rattle.host.proofs.bytes.are_words.Statement.{statement}
-use Rattle.host.proofs.bytes.are_words.Tie as tie
+use Rattle.wire.proofs.bytes.are_words.Statement.{statement}
+use Rattle.wire.proofs.bytes.are_words.Tie as tie
 
 mul-result : tie.Need-mul-result
 mul-result c = search needs

@@ -3,7 +3,7 @@ use crate::bytes::store;
 use pack::answer::Answer;
 ghost use mathlib.Core.Path.{_≡_};
 ghost use lib.ListN.{length};
-ghost use Rattle.host.specs.Bytes.{inBits, encode, outAfter, Fits};
+ghost use Rattle.wire.specs.Bytes.{inBits, encode, outAfter, Fits};
 
 // The number takes 6 bits, the place 14, the name 32 and the other 12.
 fn in_bits(number: u32, place: usize, name: u32, other: u32) -> u64

@@ -1,8 +1,8 @@
--- `host::answer::give` meets its contract, by the two kinds of answers.
+-- `wire::answer::give` meets its contract, by the two kinds of answers.
 use borrow.Author.Needs.{needs}
-use Rattle.host.specs.Bytes.{outAfter}
-use Rattle.host.proofs.answer.give.Statement.{statement}
-use Rattle.host.proofs.answer.give.Tie as tie
+use Rattle.wire.specs.Bytes.{outAfter}
+use Rattle.wire.proofs.answer.give.Statement.{statement}
+use Rattle.wire.proofs.answer.give.Tie as tie
 
 enum-known-a : tie.Need-enum-known-a
 enum-known-a c = search needs

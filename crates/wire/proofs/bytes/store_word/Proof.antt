@@ -1,10 +1,10 @@
--- `host::bytes::store_word` meets its contract: four stores in a row are the four bytes in place.
+-- `wire::bytes::store_word` meets its contract: four stores in a row are the four bytes in place.
 use borrow.Author.Needs.{needs}
 use native.Mathlib.Omega.{arith}
 use lib.ListN.{length-set}
-use Rattle.host.proofs.ByteLaws.{stored}
-use Rattle.host.proofs.bytes.store_word.Statement.{statement}
-use Rattle.host.proofs.bytes.store_word.Tie as tie
+use Rattle.wire.proofs.ByteLaws.{stored}
+use Rattle.wire.proofs.bytes.store_word.Statement.{statement}
+use Rattle.wire.proofs.bytes.store_word.Tie as tie
 
 cast-out : tie.Need-cast-out
 cast-out c = search needs

@@ -1,7 +1,7 @@
--- `host::answer::encode` meets its contract, by the two kinds of answers.
+-- `wire::answer::encode` meets its contract, by the two kinds of answers.
 use borrow.Author.Needs.{needs}
-use Rattle.host.proofs.answer.encode.Statement.{statement}
-use Rattle.host.proofs.answer.encode.Tie as tie
+use Rattle.wire.proofs.answer.encode.Statement.{statement}
+use Rattle.wire.proofs.answer.encode.Tie as tie
 
 enum-known-a : tie.Need-enum-known-a
 enum-known-a c = search needs

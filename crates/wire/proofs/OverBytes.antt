@@ -11,9 +11,9 @@ use borrow.Author.Tests.{leb-true, not-true, not-false}
 use Rattle.pack.specs.declared.answer.Answer.{Answer}
 use Rattle.pack.specs.declared.answer.Answer.the-variants.{Given, Refused}
 use Rattle.pack.specs.Table.{pick}
-use Rattle.host.specs.Bytes.{wordsOf, encode, areWords, notWords, overBytes, outAfter, outBytes, Gives, loadedOf, Loaded, Holds, Tried, Fits}
-use Rattle.host.proofs.ByteLaws.{words-length}
-use Rattle.host.proofs.Writes.{Within, Writes}
+use Rattle.wire.specs.Bytes.{wordsOf, encode, areWords, notWords, overBytes, outAfter, outBytes, Gives, loadedOf, Loaded, Holds, Tried, Fits}
+use Rattle.wire.proofs.ByteLaws.{words-length}
+use Rattle.wire.proofs.Room.{Within, Writes}
 
 -- what the test of the byte count tells
 yes-words : (count : ℕ) {t : Bool} → t ≡ areWords count → not t ≡ false → areWords count ≡ true

@@ -1,4 +1,4 @@
--- The host's functions: packs and outputs as bytes, each answer as one number.
+-- Packs and outputs as bytes, each answer as one number, as the host's functions have them.
 use Prim.Native.Nat.{ℕ, _+_, _*_, _/_, _%_, _^_, _≤_, min}
 use mathlib.Core.Path.{_≡_}
 use mathlib.Core.Bool.{Bool, _&&_}

@@ -1,15 +1,15 @@
--- `host::bytes::load` meets its contract: the words loaded and those of the bytes that are left are the words of all bytes.
+-- `wire::bytes::load` meets its contract: the words loaded and those of the bytes that are left are the words of all bytes.
 use borrow.Author.Needs.{needs}
 use native.Mathlib.Omega.{arith}
 use Prim.Native.Nat.{ℕ, _*_, _-_, _≤_}
 use mathlib.Core.Path.{_≡_, refl, sym, _∙_}
 use mathlib.Core.List.{List, _++_}
 use lib.ListN.{length, take, drop, length-set}
-use Rattle.host.specs.Bytes.{wordsOf}
-use Rattle.host.proofs.ByteLaws.{load-turn, load-done}
-use Rattle.host.proofs.OverBytes.{few, none-loaded, all-loaded}
-use Rattle.host.proofs.bytes.load.Statement.{statement}
-use Rattle.host.proofs.bytes.load.Tie as tie
+use Rattle.wire.specs.Bytes.{wordsOf}
+use Rattle.wire.proofs.ByteLaws.{load-turn, load-done}
+use Rattle.wire.proofs.OverBytes.{few, none-loaded, all-loaded}
+use Rattle.wire.proofs.bytes.load.Statement.{statement}
+use Rattle.wire.proofs.bytes.load.Tie as tie
 
 record Loading (bytes before : List ℕ) (n : ℕ) (words : List ℕ) (i : ℕ) : Type 0 where
   within : i ≤ n

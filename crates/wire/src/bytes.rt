@@ -4,7 +4,7 @@ ghost use mathlib.Core.Path.{_≡_};
 ghost use mathlib.Core.List.{_++_, [], _∷_};
 ghost use Prim.Native.Nat.{_+_, _*_, _/_, _≤_, min};
 ghost use lib.ListN.{length, take, drop};
-ghost use Rattle.host.specs.Bytes.{wordFrom, bytesOf, areWords, Holds, Loaded};
+ghost use Rattle.wire.specs.Bytes.{wordFrom, bytesOf, areWords, Holds, Loaded};
 
 // Whether so many bytes are words, and not more than a pack may have.
 fn are_words(count: usize) -> bool
