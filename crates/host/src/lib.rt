@@ -1,11 +1,9 @@
 // The host's functions: a pack and an output as bytes, each answer as one number.
-mod operations;
-
-use crate::operations::Question;
-use crate::operations::Writing;
-use crate::operations::ask;
-use crate::operations::write;
 use filtered::filtered::Filter;
+use over_bytes::operations::Question;
+use over_bytes::operations::Writing;
+use over_bytes::operations::ask;
+use over_bytes::operations::write;
 ghost use mathlib.Core.Path.{_≡_};
 ghost use Rattle.pack.specs.Operations.{checkAnswer, rewriteAnswer, rewriteBuffer};
 ghost use Rattle.chains.specs.Operations.{allKindsAnswer, allKindsBuffer, kindsOfAnswer, leanAnswer};

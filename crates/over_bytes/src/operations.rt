@@ -17,7 +17,7 @@ use wire::bytes::room;
 ghost use mathlib.Core.Path.{_≡_};
 ghost use lib.ListN.{length};
 ghost use Rattle.wire.specs.Bytes.{encode, overBytes, Gives, Holds, Tried};
-ghost use Rattle.host.specs.Operations.{answerTo, answerOf, bufferOf, Ran};
+ghost use Rattle.over_bytes.specs.Operations.{answerTo, answerOf, bufferOf, Ran};
 
 // The operations that only answer.
 pub enum Question {

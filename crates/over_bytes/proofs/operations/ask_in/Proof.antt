@@ -1,12 +1,12 @@
--- `host::operations::ask_in` meets its contract: the words loaded are answered for.
+-- `over_bytes::operations::ask_in` meets its contract: the words loaded are answered for.
 use borrow.Author.Needs.{needs}
 use mathlib.Core.Path.{sym}
 use lib.Seq.{length-take-le}
-use Rattle.host.specs.Operations.{answerTo}
-use Rattle.host.proofs.Writes.{asks-none}
+use Rattle.over_bytes.specs.Operations.{answerTo}
+use Rattle.over_bytes.proofs.Writes.{asks-none}
 use Rattle.wire.proofs.OverBytes.{answered}
-use Rattle.host.proofs.operations.ask_in.Statement.{statement}
-use Rattle.host.proofs.operations.ask_in.Tie as tie
+use Rattle.over_bytes.proofs.operations.ask_in.Statement.{statement}
+use Rattle.over_bytes.proofs.operations.ask_in.Tie as tie
 
 load-requires : tie.Need-load-requires
 load-requires c κs = search needs

@@ -33,7 +33,7 @@ use Rattle.resolve.specs.Operations.{givenOut, resolveAnswer}
 use Rattle.nodes.proofs.Numbers.{refused-number}
 use Rattle.resolve.proofs.RefusalNames.{Told, resolved-told}
 use Rattle.wire.proofs.Faithful.{FitsBits}
-use Rattle.host.proofs.Writes.{few-words, few-places, few-names}
+use Rattle.over_bytes.proofs.Writes.{few-words, few-places, few-names}
 
 -- Check's refusals, and what is answered for a pack
 reads : (ws : List ℕ) (f : Pack → Answer) → ((p : Pack) → read ws ≡ yes p → FitsBits (f p)) → FitsBits (answer (read ws) f)

@@ -8,10 +8,10 @@ use Rattle.pack.specs.Operations.{checkAnswer, rewriteAnswer, rewriteBuffer}
 use Rattle.chains.specs.Operations.{allKindsAnswer, allKindsBuffer, kindsOfAnswer, leanAnswer}
 use Rattle.filtered.specs.FilteredTables.{filterAnswer, filterBuffer}
 use Rattle.resolve.specs.Operations.{resolveAnswer, resolveBuffer}
-use Rattle.host.specs.declared.operations.Question.{Question}
-use Rattle.host.specs.declared.operations.Question.the-variants.{Check, KindsOf, Lean}
-use Rattle.host.specs.declared.operations.Writing.{Writing}
-use Rattle.host.specs.declared.operations.Writing.the-variants.{Rewrite, AllKinds, Filtered, Resolve}
+use Rattle.over_bytes.specs.declared.operations.Question.{Question}
+use Rattle.over_bytes.specs.declared.operations.Question.the-variants.{Check, KindsOf, Lean}
+use Rattle.over_bytes.specs.declared.operations.Writing.{Writing}
+use Rattle.over_bytes.specs.declared.operations.Writing.the-variants.{Rewrite, AllKinds, Filtered, Resolve}
 
 -- those that only answer
 abbrev pub answerTo : Question → List ℕ → Answer

@@ -1,7 +1,7 @@
--- `host::operations::run` meets its contract, by the operations that write.
+-- `over_bytes::operations::run` meets its contract, by the operations that write.
 use borrow.Author.Needs.{needs}
-use Rattle.host.proofs.operations.run.Statement.{statement}
-use Rattle.host.proofs.operations.run.Tie as tie
+use Rattle.over_bytes.proofs.operations.run.Statement.{statement}
+use Rattle.over_bytes.proofs.operations.run.Tie as tie
 
 enum-told : tie.Need-enum-told
 enum-told c = search needs

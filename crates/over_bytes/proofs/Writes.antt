@@ -24,11 +24,11 @@ use Rattle.nodes.specs.Resolving.{resolved}
 use Rattle.resolve.specs.Operations.{givenOut, writtenOut, resolveAnswer, resolveBuffer}
 use Rattle.wire.specs.Bytes.{notWords, outAfter}
 use Rattle.wire.proofs.Room.{Within, Writes, leb-min, leb-more, tested-more, tested-own, after-refusal}
-use Rattle.host.specs.declared.operations.Question.{Question}
-use Rattle.host.specs.declared.operations.Question.the-variants.{Check, KindsOf, Lean}
-use Rattle.host.specs.declared.operations.Writing.{Writing}
-use Rattle.host.specs.declared.operations.Writing.the-variants.{Rewrite, AllKinds, Filtered, Resolve}
-use Rattle.host.specs.Operations.{answerTo, answerOf, bufferOf}
+use Rattle.over_bytes.specs.declared.operations.Question.{Question}
+use Rattle.over_bytes.specs.declared.operations.Question.the-variants.{Check, KindsOf, Lean}
+use Rattle.over_bytes.specs.declared.operations.Writing.{Writing}
+use Rattle.over_bytes.specs.declared.operations.Writing.the-variants.{Rewrite, AllKinds, Filtered, Resolve}
+use Rattle.over_bytes.specs.Operations.{answerTo, answerOf, bufferOf}
 
 -- every operation reads the pack first
 pub none-refused : (f : Pack → Answer) → answer (read []) f ≡ notWords

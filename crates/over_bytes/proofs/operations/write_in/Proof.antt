@@ -1,11 +1,11 @@
--- `host::operations::write_in` meets its contract: the output is given what the operation writes.
+-- `over_bytes::operations::write_in` meets its contract: the output is given what the operation writes.
 use borrow.Author.Needs.{needs}
 use mathlib.Core.Path.{sym}
 use lib.Seq.{length-take-le}
-use Rattle.host.proofs.Writes.{writes}
+use Rattle.over_bytes.proofs.Writes.{writes}
 use Rattle.wire.proofs.OverBytes.{fits-out, tried}
-use Rattle.host.proofs.operations.write_in.Statement.{statement}
-use Rattle.host.proofs.operations.write_in.Tie as tie
+use Rattle.over_bytes.proofs.operations.write_in.Statement.{statement}
+use Rattle.over_bytes.proofs.operations.write_in.Tie as tie
 
 load-requires : tie.Need-load-requires
 load-requires c κs = search needs

@@ -1,7 +1,7 @@
--- `host::operations::answer_to` meets its contract, by the operations that only answer.
+-- `over_bytes::operations::answer_to` meets its contract, by the operations that only answer.
 use borrow.Author.Needs.{needs}
-use Rattle.host.proofs.operations.answer_to.Statement.{statement}
-use Rattle.host.proofs.operations.answer_to.Tie as tie
+use Rattle.over_bytes.proofs.operations.answer_to.Statement.{statement}
+use Rattle.over_bytes.proofs.operations.answer_to.Tie as tie
 
 enum-told : tie.Need-enum-told
 enum-told c = search needs

@@ -1,12 +1,12 @@
--- `host::operations::write` meets its contract: 16 in the short slice leaves the output as it was, and any other answer is the same with more room.
+-- `over_bytes::operations::write` meets its contract: 16 in the short slice leaves the output as it was, and any other answer is the same with more room.
 use borrow.Author.Needs.{needs}
 use mathlib.Core.Path.{refl, ap, _∙_}
 use mathlib.Core.Logic.{⊎-elim}
 use lib.ListN.{length}
-use Rattle.host.proofs.Writes.{writes}
+use Rattle.over_bytes.proofs.Writes.{writes}
 use Rattle.wire.proofs.OverBytes.{given-short, given-long, kept-out}
-use Rattle.host.proofs.operations.write.Statement.{statement}
-use Rattle.host.proofs.operations.write.Tie as tie
+use Rattle.over_bytes.proofs.operations.write.Statement.{statement}
+use Rattle.over_bytes.proofs.operations.write.Tie as tie
 
 slice-aggregate-write-in : tie.Need-slice-aggregate-write-in
 slice-aggregate-write-in c = search needs
