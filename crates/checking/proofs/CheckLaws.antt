@@ -1,6 +1,6 @@
 -- Laws of Check: what its tests and its reading come to.
 use Prim.Native.Nat.{ℕ, _≤_, _<_}
-use mathlib.Core.Path.{_≡_, ap, sym, _∙_}
+use mathlib.Core.Path.{_≡_, refl, ap, sym, _∙_}
 use mathlib.Core.List.{List}
 use lib.ListN.{length, drop-of-length-le}
 use lib.Seq.{drop-cons}
@@ -11,15 +11,21 @@ use Rattle.pack.specs.declared.answer.Answer.the-variants.{Refused as No}
 use Rattle.pack.specs.declared.cursor.Cursor.{Cursor}
 use Rattle.pack.specs.declared.cursor.Step.{Step}
 use Rattle.pack.specs.declared.cursor.Step.the-variants.{On, Refused}
+use Rattle.pack.specs.Table.{entryOf, table}
 use Rattle.pack.specs.Form.{Form, readBy}
 use Rattle.pack.specs.Pack.{undated, layout, complete, read}
-use Rattle.pack.specs.Steps.{stepOf, walk}
+use Rattle.pack.specs.Steps.{stepOf, walk, fieldStep}
 use Rattle.pack.specs.Operations.{answer, checkAnswer}
-use Rattle.pack.proofs.StepLaws.{went, step-no}
+use Rattle.pack.proofs.StepLaws.{went, step-no, field-fine, from-one}
 
 -- reading that starts at word 0
 pub from-start : {A : Type 0} (F : Form A) (ws : List ℕ) {at : ℕ} {x : Step} → at ≡ 0 → x ≡ walk F ws at → x ≡ walk F ws 0
 from-start F ws z h = h ∙ ap (λ (a : ℕ). walk F ws a) z
+
+-- the number of names that was read
+pub names-most : (n : ℕ) (ws : List ℕ) (at : ℕ) {x : Step} {v : ℕ} {k : Cursor} → x ≡ fieldStep n 2 ws at → x ≡ On v k → v ≤ 4096
+unfolding entryOf table
+names-most n ws at {v = v} e o = from-one n 2 4096 refl v (field-fine n 2 ws at e o .1) .1
 
 module _ (ws : List ℕ) where
   pub check-short : length ws < 6 → No (record { number = 1; place = 0; name = 0; other = 0 }) ≡ checkAnswer ws

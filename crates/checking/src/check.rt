@@ -1,11 +1,11 @@
 // Check: whether a slice of words is a pack.
-use crate::record::records;
 use pack::answer::Answer;
 use pack::answer::Refusal;
 use pack::cursor::Step;
 use pack::kinds::Pack;
 use pack::table::Rule;
 use pack::table::table;
+use records::record::records;
 ghost use mathlib.Core.Path.{_≡_};
 ghost use Prim.Native.Nat.{_≤_};
 ghost use lib.ListN.{length};

@@ -1,20 +1,16 @@
 // The host's functions: a pack and an output as bytes, each answer as one number.
-mod answer;
-mod bytes;
-mod operations;
-
-use crate::operations::Question;
-use crate::operations::Writing;
-use crate::operations::ask;
-use crate::operations::write;
 use filtered::filtered::Filter;
+use over_bytes::operations::Question;
+use over_bytes::operations::Writing;
+use over_bytes::operations::ask;
+use over_bytes::operations::write;
 ghost use mathlib.Core.Path.{_≡_};
 ghost use Rattle.pack.specs.Operations.{checkAnswer, rewriteAnswer, rewriteBuffer};
 ghost use Rattle.kinds.specs.Operations.{allKindsAnswer, allKindsBuffer, kindsOfAnswer, leanAnswer};
 ghost use Rattle.filtered.specs.FilteredTables.{filterAnswer, filterBuffer};
 ghost use Rattle.resolve.specs.Operations.{resolveAnswer, resolveBuffer};
 ghost use Rattle.filtered.specs.declared.filtered.Filter.the-variants.{Direct, Innermost, Alias, Unresolved};
-ghost use Rattle.host.specs.Bytes.{encode, overBytes, Gives};
+ghost use Rattle.wire.specs.Bytes.{encode, overBytes, Gives};
 
 // Check.
 #[no_mangle]

@@ -2,8 +2,7 @@
 use mathlib.Core.Path.{refl}
 use Rattle.pack.specs.Pack.{layout, inner}
 use Rattle.pack.proofs.StepLaws.{walks}
-use Rattle.checking.proofs.RecordLaws.{names-most}
-use Rattle.checking.proofs.CheckLaws.{from-start}
+use Rattle.checking.proofs.CheckLaws.{from-start, names-most}
 use Rattle.pack.specs.Table.{entryOf, table}
 use borrow.Author.Needs.{needs}
 use Rattle.checking.proofs.check.layout.Statement.{statement}

@@ -1,0 +1,2 @@
+// The operations over bytes.
+pub mod operations;

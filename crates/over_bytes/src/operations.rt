@@ -1,0 +1,105 @@
+// The operations over bytes: each loads the pack's words and answers by one number. Clearing large arrays would take longer
+// than the work on a small pack, of up to 256 words: it has small ones.
+use checking::check::check;
+use checking::rewrite::rewrite;
+use filtered::filtered::Filter;
+use filtered::filtered::filtered;
+use kinds::all_kinds::all_kinds;
+use kinds::kinds_of::kinds_of;
+use kinds::lean::lean;
+use pack::answer::Answer;
+use pack::kinds::Pack;
+use resolve::resolve::resolve;
+use wire::answer::encode;
+use wire::answer::give;
+use wire::bytes::load;
+use wire::bytes::room;
+ghost use mathlib.Core.Path.{_≡_};
+ghost use lib.ListN.{length};
+ghost use Rattle.wire.specs.Bytes.{encode, overBytes, Gives, Holds, Tried};
+ghost use Rattle.over_bytes.specs.Operations.{answerTo, answerOf, bufferOf, Ran};
+
+// The operations that only answer.
+pub enum Question {
+    Check,
+    KindsOf(u32),
+    Lean(u32, u32),
+}
+
+// The operations that write words.
+pub enum Writing {
+    Rewrite,
+    AllKinds,
+    Filtered(Filter),
+    Resolve,
+}
+
+fn answer_to(q: Question, words: &[u32]) -> Answer
+    ensures { λ r. ⌜ r ≡ answerTo q (now (words .entry)) ⌝ }
+{
+    match q {
+        Question::Check => check(words),
+        Question::KindsOf(name) => kinds_of(words, name),
+        Question::Lean(a, b) => lean(words, a, b),
+    }
+}
+
+// With a slice for the words of the pack.
+fn ask_in(q: Question, pack: &[u8], words: &mut [u32]) -> u64
+    requires { ⌜ Holds (length (now pack)) (length (now words)) ⌝ }
+    ensures { λ r. ⌜ r ≡ encode (overBytes (answerTo q) (now (pack .entry))) ⌝ }
+{
+    let n = load(pack, words);
+    encode(answer_to(q, &words[..n]))
+}
+
+pub fn ask(q: Question, pack: &[u8]) -> u64
+    ensures { λ r. ⌜ r ≡ encode (overBytes (answerTo q) (now (pack .entry))) ⌝ }
+{
+    if pack.len() <= 1024 {
+        let mut few = [0u32; 256];
+        return ask_in(q, pack, &mut few);
+    }
+    let mut words = [0u32; Pack::MOST_WORDS];
+    ask_in(q, pack, &mut words)
+}
+
+fn run(w: Writing, words: &[u32], out: &mut [u32]) -> Answer
+    ensures { λ r. ⌜ Ran w (now (words .entry)) (now (out .entry)) r (now (out .exit)) ⌝ }
+{
+    match w {
+        Writing::Rewrite => rewrite(words, out),
+        Writing::AllKinds => all_kinds(words, out),
+        Writing::Filtered(filter) => filtered(words, filter, out),
+        Writing::Resolve => resolve(words, out),
+    }
+}
+
+// With slices for the words of the pack and for those that are written, of which the output is given as many as are answered.
+fn write_in(w: Writing, pack: &[u8], words: &mut [u32], written: &mut [u32], out: &mut [u8]) -> u64
+    requires { ⌜ Holds (length (now pack)) (length (now words)) ⌝ }
+    ensures { λ r. ⌜ Tried (answerOf w) (bufferOf w) (now (pack .entry)) (length (now (written .entry))) (now (out .entry)) r (now (out .exit)) ⌝ }
+{
+    let n = load(pack, words);
+    let m = room(out.len(), written.len());
+    let a = run(w, &words[..n], &mut written[..m]);
+    give(a, written, out)
+}
+
+// No operation writes more than 8,192 words. What a small pack gives most often fits 1,024: only where that is refused for
+// want of room, by 16, it is run again.
+pub fn write(w: Writing, pack: &[u8], out: &mut [u8]) -> u64
+    ensures { λ r. ⌜ Gives (answerOf w) (bufferOf w) (now (pack .entry)) (now (out .entry)) r (now (out .exit)) ⌝ }
+{
+    if pack.len() <= 1024 {
+        let mut few = [0u32; 256];
+        let mut short = [0u32; 1024];
+        let r = write_in(w, pack, &mut few, &mut short, out);
+        if r != 16 {
+            return r;
+        }
+    }
+    let mut words = [0u32; Pack::MOST_WORDS];
+    let mut written = [0u32; Pack::MOST_WORDS];
+    write_in(w, pack, &mut words, &mut written, out)
+}

@@ -1,0 +1,5 @@
+pub mod ByteLaws
+pub mod Room
+pub mod OverBytes
+pub mod Faithful
+pub mod Cases

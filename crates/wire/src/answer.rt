@@ -1,0 +1,36 @@
+// Answers as one number.
+use crate::bytes::store;
+use pack::answer::Answer;
+ghost use mathlib.Core.Path.{_≡_};
+ghost use lib.ListN.{length};
+ghost use Rattle.wire.specs.Bytes.{inBits, encode, outAfter, Fits};
+
+// The number takes 6 bits, the place 14, the name 32 and the other 12.
+fn in_bits(number: u32, place: usize, name: u32, other: u32) -> u64
+    ensures { λ r. ⌜ r ≡ inBits number place name other ⌝ }
+{
+    let low = (number % 64) as u64 + (place % 16384) as u64 * 64;
+    low + name as u64 * 1048576 + (other % 4096) as u64 * 4503599627370496
+}
+
+pub fn encode(a: Answer) -> u64
+    ensures { λ r. ⌜ r ≡ encode a ⌝ }
+{
+    match a {
+        Answer::Given(value, steps) => in_bits(0, 0, value, steps),
+        Answer::Refused(r) => in_bits(r.number, r.place, r.name, r.other),
+    }
+}
+
+// An answer, with as many of the words as it says as bytes in the output.
+pub fn give(a: Answer, words: &[u32], out: &mut [u8]) -> u64
+    requires { ⌜ Fits a (length (now words)) (length (now out)) ⌝ }
+    ensures { λ r. ⌜ (r ≡ encode a) × (now (out .exit) ≡ outAfter a (now (words .entry)) (now (out .entry))) ⌝ }
+{
+    let Answer::Given(n, _) = a else {
+        return encode(a);
+    };
+    let len = n as usize;
+    store(words, len, out);
+    encode(a)
+}

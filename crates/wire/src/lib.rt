@@ -1,0 +1,3 @@
+// Words as bytes, and answers as one number.
+pub mod answer;
+pub mod bytes;
