@@ -4,6 +4,4 @@ pub mod PackLaws
 pub mod DealtLaws
 pub mod Examples
 pub mod StepLaws
-pub mod TreeLaws
-pub mod CodeLaws
 pub mod Refusals

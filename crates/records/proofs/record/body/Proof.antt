@@ -5,7 +5,7 @@ use Rattle.pack.specs.Pack.{body}
 use Rattle.pack.specs.Tree.{root}
 use Rattle.pack.proofs.StepLaws.{walks, by-via, by-value}
 use Rattle.records.proofs.RecordLaws.{body-sort}
-use Rattle.pack.proofs.CodeLaws.{field-within}
+use Rattle.reading.proofs.CodeLaws.{field-within}
 use Rattle.pack.specs.Table.{entryOf, table}
 use borrow.Author.Needs.{needs}
 use Rattle.records.proofs.record.body.Statement.{statement}

@@ -3,7 +3,7 @@ use mathlib.Core.Path.{refl}
 use Rattle.pack.specs.Pack.{member}
 use Rattle.pack.specs.Tree.{root}
 use Rattle.pack.proofs.StepLaws.{by-then, then-stop}
-use Rattle.pack.proofs.CodeLaws.{field-within, step-within}
+use Rattle.reading.proofs.CodeLaws.{field-within, step-within}
 use Rattle.pack.specs.Table.{entryOf, table}
 use borrow.Author.Needs.{needs}
 use Rattle.records.proofs.record.member.Statement.{statement}

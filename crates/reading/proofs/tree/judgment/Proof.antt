@@ -1,0 +1,18 @@
+-- `reading::tree::judgment` meets its contract.
+use mathlib.Core.Path.{_∙_}
+use Rattle.reading.proofs.CodeLaws.{tree-code}
+use borrow.Author.Needs.{needs}
+use Rattle.reading.proofs.tree.judgment.Statement.{statement}
+use Rattle.reading.proofs.tree.judgment.Tie as tie
+
+judgments-requires : tie.Need-judgments-requires
+judgments-requires c κs = search needs
+
+step-of-requires : tie.Need-step-of-requires
+step-of-requires c κs = tree-code _ _ _ _ _ (c .before .before .pre .0 .most) (c .before .before .pre .1) (c .judgments .ensures) .small
+
+returns : tie.Need-returns
+returns c = (c .step-of .ensures) ∙ tree-code _ _ _ _ _ (c .before .before .before .pre .0 .most) (c .before .before .before .pre .1) (c .before .judgments .ensures) .same
+
+pub judgment-spec : {M : Type 1} → statement M
+judgment-spec = tie.close (tie.spec judgments-requires step-of-requires returns)
