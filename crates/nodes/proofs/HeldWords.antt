@@ -1,13 +1,13 @@
 -- Sorts of nodes: a word of a pack is of such a sort just where it is the word of a node, so some word is if some tree holds such a node.
 use Prim.Native.Nat.{ℕ, zero, suc, _<_, _≤_}
 use native.Mathlib.Omega.{arith}
-use mathlib.Core.Path.{_≡_, refl, ap, sym, _∙_}
+use mathlib.Core.Path.{_≡_, refl, ap, sym, _∙_, subst}
 use mathlib.Core.List.{List, [], _∷_, _++_, append-nil}
 use mathlib.Core.Bool.{Bool, true, false, _||_}
 use mathlib.Core.Option.{none, some}
 use lib.ListN.{length}
-use lib.Dec.{eqb, leb}
-use borrow.Author.Tests.{eqb-true, leb-false}
+use lib.Dec.{eqb, ltb, leb}
+use borrow.Author.Tests.{eqb-true, leb-false, le-ltb}
 use Rattle.pack.specs.declared.table.Follows.{Follows}
 use Rattle.pack.specs.declared.table.Follows.the-variants.{Nothing, Counted, OneScalar, TwoScalars, Scalars, Patterns, Periods, OneJudgment, Judgments, Choice, Aggregate, OnlyRelated, Slots, Atom, Exists}
 use Rattle.pack.specs.Table.{pick, wordOf, kindOf, valueOf, entryOf, fieldsOf, childrenOf}
@@ -16,7 +16,7 @@ use Rattle.pack.specs.Tree.{Tree, Forest, node, more, ofForest, lastField, root
 use Rattle.pack.specs.Tree as trees
 use Rattle.pack.specs.Pack.{Relation, Body, Pack, WellFormed, newName, nameList, hop, path, chain, member, derivation, optionalDerivation, relationTail, relation, body, bodies, rule, item, blockItems, block, blocks, defaultedName, defaulted, relations, rules, records, inner, layout, total, words, firstKind, Edition, undated}
 use Rattle.chains.specs.Reach.{any}
-use Rattle.chains.proofs.Hushed.{Quiet, quiet-word, kind-word, Hushed, field-hushed, then-hushed, via-hushed, counted-hushed}
+use Rattle.chains.proofs.Hushed.{Quiet, quiet-word, kind-word, Hushed, field-hushed, then-hushed, via-hushed, counted-hushed, tree-hushed}
 use Rattle.nodes.specs.Turning.{Fields, fieldWords, treeWords, forestWords}
 use Rattle.nodes.specs.Resolving.{holds, held, inDerivation, inRule}
 use Rattle.nodes.proofs.KeepsForm.{FieldsFine, open-node, no-level}
@@ -76,6 +76,15 @@ only-field k (m ∷ ks) q e = go (eqb k m) refl (only-field k ks (q .1)) e
 word-fits : (turned : ℕ → ℕ) (n : ℕ) (w : ℕ × ℕ) → Fine (word turned n) w → (turned (w .0) ≡ 0) × (w .1 < 16777216)
 unfolding Fine
 word-fits turned n w h = (h .0, h .1 .0)
+
+-- ---- the words of a tree are of nodes
+
+-- the kinds of records
+abbrev pub low : ℕ → Bool
+low k = ltb k 64
+
+pub tree-nodes : (t : Tree) (n d sort : ℕ) → sort ≤ 1 → Fine (tree n d sort) t → Quiet low (treeWords t)
+tree-nodes t n d sort s f = subst (Quiet low) (tree-words t n d sort f) (tree-hushed low (λ k g. le-ltb k 64 g) n d sort s t f)
 
 -- ---- quiet words of records
 

@@ -2,22 +2,21 @@
 use Prim.Native.Nat.{ℕ, suc, _+_, _<_, _≤_}
 use native.Mathlib.Omega.{arith}
 use native.Mathlib.Numerals.{add-one}
-use mathlib.Core.Path.{_≡_, refl, ap, sym, _∙_, subst}
+use mathlib.Core.Path.{_≡_, refl, ap, sym, _∙_}
 use mathlib.Core.List.{List, [], _∷_, _++_}
 use mathlib.Core.Bool.{Bool, true, false, _||_, _&&_}
 use lib.ListN.{length, getD, drop, drop-of-length-le}
 use lib.Seq.{drop-cons, drop-at}
-use lib.Dec.{ltb, leb}
-use borrow.Author.Tests.{lt-leb, le-leb, le-ltb, ltb-false}
+use lib.Dec.{leb}
+use borrow.Author.Tests.{lt-leb, le-leb, ltb-false}
 use Rattle.pack.specs.Table.{pick, kindOf, valueOf}
 use Rattle.pack.specs.Form.{Fine}
 use Rattle.pack.specs.Tree.{Tree, tree}
-use Rattle.chains.proofs.Hushed.{Quiet, tree-hushed}
+use Rattle.chains.proofs.Hushed.{Quiet}
 use Rattle.nodes.specs.Turning.{treeWords}
 use Rattle.nodes.specs.Resolving.{holds, roleJudgment}
 use Rattle.stamping.specs.Stamping.{roleAmong, roleIn}
-use Rattle.nodes.proofs.TreeWords.{tree-words}
-use Rattle.nodes.proofs.HeldWords.{OfNodes, found, tree-found}
+use Rattle.nodes.proofs.HeldWords.{OfNodes, low, tree-nodes, found, tree-found}
 
 -- ---- one word
 
@@ -78,9 +77,6 @@ unfolding roleAmong
 role-ends [] h = refl
 role-ends (w ∷ ws) h = rw (lt-leb 64 (kindOf w) h) refl
 
-abbrev low : ℕ → Bool
-low k = ltb k 64
-
 role-words : (us rest : List ℕ) → Quiet low us → Ends rest → roleAmong (us ++ rest) ≡ found roleJudgment us
 unfolding roleAmong
 role-words [] rest q h = role-ends rest h
@@ -92,6 +88,5 @@ pub role-read : (ws before rest : List ℕ) (at n d sort : ℕ) (t : Tree) → w
     → roleIn ws at ≡ holds roleJudgment t
 unfolding roleIn
 role-read ws before rest at n d sort t e l s f h =
-    let q : Quiet low (treeWords t) = subst (Quiet low) (tree-words t n d sort f) (tree-hushed low (λ k g. le-ltb k 64 g) n d sort s t f) in
-    ap (λ (v : List ℕ). roleAmong (drop at v)) e ∙ ap roleAmong (drop-at before (treeWords t ++ rest) at l) ∙ role-words (treeWords t) rest q h
+    ap (λ (v : List ℕ). roleAmong (drop at v)) e ∙ ap roleAmong (drop-at before (treeWords t ++ rest) at l) ∙ role-words (treeWords t) rest (tree-nodes t n d sort s f) h
     ∙ tree-found roleJudgment roles-of-nodes t n d sort f

@@ -6,10 +6,11 @@ use mathlib.Core.List.{List, [], _∷_, _++_, append-assoc, append-nil}
 use mathlib.Core.Option.{Option, none, some}
 use lib.ListN.{length, getD, take, set, length-append, length-map, length-set}
 use lib.Seq.{take-all, take-suc, take-suc-set}
+use borrow.Author.Tests.{lt-leb}
 use Rattle.pack.specs.declared.answer.Answer.{Answer}
 use Rattle.pack.specs.declared.answer.Answer.the-variants.{Given, Refused}
 use Rattle.pack.specs.declared.answer.Refusal.{Refusal}
-use Rattle.pack.specs.Table.{wordOf, judgment}
+use Rattle.pack.specs.Table.{kindOf, wordOf, judgment}
 use Rattle.pack.specs.Form.{count, items, wordsBy, Fine}
 use Rattle.pack.specs.Tree.{Tree, root, tree}
 use Rattle.pack.specs.Pack.{Derivation, Relation, Pack, WellFormed, yes, read, newName, nameList, optionalDerivation, relationTail, relation, path, derivation, member}
@@ -24,10 +25,11 @@ use Rattle.nodes.specs.Direction.{Membership, membership, orElse, kindOrZero}
 use Rattle.nodes.specs.Turning.{Outcome, done, refused, mapDone, Citing, treeWords, size, resolveTree}
 use Rattle.nodes.specs.Resolving.{cites, predicatePlace, withPredicate, predicateBy, resolvePredicate, resolveDerivation, resolveRelation}
 use Rattle.nodes.specs.Words.{slotKindsIn}
-use Rattle.chains.specs.Record.{valueAt, kindCount, flagAt, slotsPlace, predicateAt}
+use Rattle.chains.specs.Record.{valueAt, kindCount, flagAt, slotsPlace, predicateAt, nodesIn}
 use Rattle.nodes.specs.Walk.{citingIn, TreeAsked, TreeTurned}
+use Rattle.trees.specs.Quiet.{quietEnd}
 use Rattle.trees.specs.Passes.{placesFrom}
-use Rattle.trees.specs.Passes.{RefusedAs, CameAt, CameFrom, AskedFrom, wordsOf, runBy, Many, Ready, Bodily, RelationKeeps, KindsReady, RelationAsked, RelationCame, RelationsAsked, RelationsCame}
+use Rattle.trees.specs.Passes.{RefusedAs, CameAt, CameFrom, AskedFrom, wordsOf, runBy, All, Many, Ready, Bodily, RelationKeeps, KindsReady, RelationAsked, RelationCame, RelationsAsked, RelationsCame}
 use Rattle.nodes.proofs.KeepsForm.{Good, tree-good}
 use Rattle.nodes.proofs.SlotLaws.{tables-fit-in}
 use Rattle.nodes.proofs.RefusalBounds.{MemberSmall}
@@ -37,7 +39,8 @@ use Rattle.nodes.proofs.SmallKinds.{names-small}
 use Rattle.nodes.proofs.ResolvedFine.{tail-derivation, tables-fit}
 use Rattle.nodes.proofs.PredicateLaws.{front, predicate-open}
 use Rattle.trees.proofs.ThereLaws.{there-inside, there-asked, there-went, there-stopped}
-use Rattle.trees.proofs.RunLaws.{RunGoing, run-begin, run-end, run-asked, run-next, run-stop}
+use Rattle.trees.proofs.RunLaws.{RunGoing, run-begin, run-end, run-asked, run-after, run-next, run-stop}
+use Rattle.trees.proofs.QuietLaws.{Rooted, tree-stays, quiet-within, stays-there, same-after}
 use Rattle.trees.proofs.ChildrenLaws.{part, back}
 
 -- ---- its words
@@ -214,6 +217,28 @@ module _ {ws records marks taken : List ℕ} {blocks count at : ℕ} {work : Lis
     pub predicate-asked : {entity : ℕ} → Bodily records blocks count entity work → TreeAsked records 32 judgment (part (predicateAt work at) work) (predicateAt work at) entity blocks count
     predicate-asked b = there-asked n 32 judgment (predicateAt work at) work few (d .predicate) the-head after (fine n few at work r i d e) (head-there n few at work r i d e) (head-stands n few at work r i d e) b
 
+    abbrev mk : Option Derivation → Relation
+    mk o = record { name = r .name; origin = r .origin; arity = r .arity; slotKinds = r .slotKinds; derivation = o }
+
+    relation-is : resolveRelation p at r ≡ mapDone mk (mapDone (λ t. some (withPredicate d t)) (resolvePredicate p at r d))
+    unfolding resolveRelation
+    relation-is = ap (λ (o : Option Derivation). mapDone mk (resolveDerivation p at r o)) e
+
+    pub its-root : Rooted n 32 judgment work (predicateAt work at) after
+    its-root = record { it = d .predicate; before = the-head; stands = head-stands n few at work r i d e; passed = head-there n few at work r i d e; fine = fine n few at work r i d e }
+
+    -- where no node has slots it stays as it is
+    pub predicate-quiet : nodesIn after ≡ 0 → {end : ℕ} → end ≡ quietEnd work (predicateAt work at) → (end ≡ 0 → ⊥) → CameAt (relationWords n) before after (at + length (relationWords n r)) (resolveRelation p at r) (Given end 0) work
+    unfolding its-root predicateBy
+    predicate-quiet z {end} is some-end =
+        let g = stays-there its-root (omega arith) z is some-end in
+        let it : resolveRelation p at r ≡ done r =
+        relation-is ∙ ap (λ (o : Outcome Tree). mapDone mk (mapDone (λ t. some (withPredicate d t)) o)) (tree-stays (cites p (r .name) (r .origin)) (d .predicate) (kindOrZero K (d .related)) (membership (kindAt K (d .current)) (kindAt K (d .related))) (at + predicatePlace r d) (g .0))
+        ∙ ap (λ (o : Option Derivation). done (mk o)) (sym e) in
+        let size : end ≡ at + length (relationWords n r) =
+        omega (arith, g .1, place-is n few at work r i d e, lead-long n r d, ap length (lead-words n r d e (fine n few at work r i d e)), length-append (lead n r d) (treeWords (d .predicate))) in
+        subst (λ (o : Outcome Relation). CameAt (relationWords n) before after (at + length (relationWords n r)) o (Given end 0) work) (sym it) (ap (λ (x : ℕ). Given x 0) size, stands)
+
     kinds-are : namesAt ws (getD marks (valueAt work at) 0 - 2) ≡ K
     kinds-are = ap (λ (m : ℕ). namesAt ws (getD marks m 0 - 2)) (name-there n few at work r i) ∙ settled .kinds p h (r .name) (keeps .known)
 
@@ -239,13 +264,6 @@ module _ {ws records marks taken : List ℕ} {blocks count at : ℕ} {work : Lis
           ap (λ (C : Citing). resolveTree C entity m (predicateAt work at) (d .predicate)) C-is ∙ ap (λ (x : ℕ). resolveTree (cites p (r .name) (r .origin)) x m (predicateAt work at) (d .predicate)) entity-is
           ∙ ap (λ (x : Membership). resolveTree (cites p (r .name) (r .origin)) (kindOrZero K (d .related)) x (predicateAt work at) (d .predicate)) m-is
           ∙ ap (λ (x : ℕ). resolveTree (cites p (r .name) (r .origin)) (kindOrZero K (d .related)) (membership (kindAt K (d .current)) (kindAt K (d .related))) x (d .predicate)) (place-is n few at work r i d e)
-
-      abbrev mk : Option Derivation → Relation
-      mk o = record { name = r .name; origin = r .origin; arity = r .arity; slotKinds = r .slotKinds; derivation = o }
-
-      relation-is : resolveRelation p at r ≡ mapDone mk (mapDone (λ t. some (withPredicate d t)) (resolvePredicate p at r d))
-      unfolding resolveRelation
-      relation-is = ap (λ (o : Option Derivation). mapDone mk (resolveDerivation p at r o)) e
 
       module _ {code : ℕ} {l : List ℕ} (w : TreeTurned ws records marks taken blocks count origin 32 judgment entity m (predicateAt work at) (part (predicateAt work at) work) code l) where
         pub predicate-went : code < 16777216 → CameAt (relationWords n) before after (at + length (relationWords n r)) (resolveRelation p at r) (Given (predicateAt work at + code) 0) (back (predicateAt work at) work l)
@@ -313,6 +331,27 @@ module _ {ws records marks taken : List ℕ} {blocks count at : ℕ} {work : Lis
         subst (λ (x : ℕ). TreeAsked records 32 judgment (part x work) x entity blocks count) (sym q)
         (predicate-asked (a .ready) (a .settled) (a .ready .pack) (a .ready .checked) it (a .asked .front) (a .asked .after) (a .asked .passed) (a .asked .keeps) (a .asked .stands) flag b)
 
+    asked-root : Rooted (a .ready .pack .names) 32 judgment work (predicateAt work at) (a .asked .after)
+    asked-root = its-root (a .ready) (a .settled) (a .ready .pack) (a .ready .checked) it (a .asked .front) (a .asked .after) (a .asked .passed) (a .asked .keeps) (a .asked .stands) flag
+
+    module _ {place end : ℕ} (place-is : place ≡ predicateAt work at) (end-is : end ≡ quietEnd work place) where
+      there : end ≡ quietEnd work (predicateAt work at)
+      there = end-is ∙ ap (quietEnd work) place-is
+
+      pub end-near : end ≤ 8192
+      end-near = let b = quiet-within asked-root in omega (arith, there, a .ready .short)
+
+      pub came-quiet : (end ≡ 0 → ⊥) → RelationCame ws at work (Given end 0) work
+      came-quiet some-end =
+          record {
+            each = λ p h. record {
+              each = λ r front after passed keeps stands.
+                  let root = its-root (a .ready) (a .settled) p h r front after passed keeps stands flag in
+                  let asked : Rooted (p .names) 32 judgment work (predicateAt work at) (a .asked .after) = subst (λ (q : Pack). Rooted (q .names) 32 judgment work (predicateAt work at) (a .asked .after)) (same-pack ws (a .ready .checked) h) asked-root in
+                  predicate-quiet (a .ready) (a .settled) p h r front after passed keeps stands flag (ap nodesIn (same-after root asked) ∙ a .ends) there some-end;
+            };
+          }
+
     module _ {name origin entity : ℕ} {m : Membership} {place code : ℕ} {l : List ℕ} (s : Reads ws marks work at name origin entity m place)
         (w : TreeTurned ws records marks taken blocks count origin 32 judgment entity m place (part place work) code l) where
       s-there : Reads ws marks work at name origin entity m (predicateAt work at)
@@ -379,6 +418,14 @@ relation-long p w at a b keeps e = go (a .derivation) refl (tail-derivation (p .
         let it : record { name = a .name; origin = a .origin; arity = a .arity; slotKinds = a .slotKinds; derivation = none } ≡ a = ap (λ (o : Option Derivation). record { name = a .name; origin = a .origin; arity = a .arity; slotKinds = a .slotKinds; derivation = o }) (sym q) in
         ap (λ (r : Relation). length (relationWords (p .names) r)) (sym same ∙ it)
     go (some d) q f e = let g = predicate-kept (p .names) (some d) d refl f in more d q g (resolvePredicate p at a d) refl e (predicate-sized p w at a d g)
+
+-- the words of relations begin with a name, which is no node
+records-end : (p : Pack) → p .names ≤ 4096 → (after : List ℕ) → nodesIn after ≡ 0 → (l : List Relation) → All (RelationKeeps p) l → nodesIn (wordsOf (relationWords (p .names)) l ++ after) ≡ 0
+unfolding relation newName wordsBy nodesIn
+records-end p most after e [] h = e
+records-end p most after e (r ∷ l) h =
+    let b = kept (p .names) (h .0 .used) r (h .0 .fine) .below in
+    rw (lt-leb 64 (kindOf (wordOf 6 (r .name))) (omega arith)) refl
 
 -- ---- their places
 
@@ -475,6 +522,7 @@ module _ {ws records marks taken : List ℕ} {blocks count many first : ℕ} {wo
           };
           settled = a .settled;
           asked = run-asked (relationWords (p .names)) by (RelationKeeps p) longs many first work₀ (g .going) h (a .asked);
+          ends = run-after (relationWords (p .names)) by (RelationKeeps p) longs many first work₀ (g .going) h (λ x. nodesIn x ≡ 0) (a .asked) (λ l keeps. records-end p (a .ready .most) (a .asked .after) (a .ends) l keeps);
         }
 
     module _ (h : 0 < k) {answer : Answer} {left : List ℕ} (c : RelationCame ws at work answer left) where

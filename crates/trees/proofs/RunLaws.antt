@@ -131,6 +131,19 @@ module _ {A : Type 0} (W : A → List ℕ) (resolve : ℕ → A → Outcome A) (
             let r = g .each (a .it) (a .front) (a .after) (a .passed) (a .keeps) (a .stands) in
             next-asked (r .rest) (r .many) (r .before) (a .after) (r .passed) (r .keeps) (r .stands)
 
+        -- the words after it are those of records, and then those after all
+        next-after : (E : List ℕ → Type 0) (l : List A) (e : length l ≡ k) (before after : List ℕ) (p : length before ≡ at) (h : All Keeps l) (s : work ≡ before ++ (wordsOf W l ++ after))
+            → ((m : List A) → All Keeps m → E (wordsOf W m ++ after)) → E (next-asked l e before after p h s .after)
+        unfolding next-asked
+        next-after E [] e before after p h s f = absurd (omega arith)
+        next-after E (a ∷ l) e before after p h s f = f l (h .1)
+
+        pub run-after : (E : List ℕ → Type 0) (a : AskedFrom (wordsOf W) (Many Keeps count) from work₀) → ((m : List A) → All Keeps m → E (wordsOf W m ++ a .after)) → E (run-asked a .after)
+        unfolding run-asked
+        run-after E a f =
+            let r = g .each (a .it) (a .front) (a .after) (a .passed) (a .keeps) (a .stands) in
+            next-after E (r .rest) (r .many) (r .before) (a .after) (r .passed) (r .keeps) (r .stands) f
+
         module _ {answer : Answer} {left : List ℕ} (c : CameFrom W resolve Keeps at work answer left) where
           came : (a : A) (l : List A) (before after : List ℕ) → length before ≡ at → Keeps a → work ≡ before ++ (wordsOf W (a ∷ l) ++ after)
               → CameAt W before (wordsOf W l ++ after) (at + length (W a)) (resolve at a) answer left

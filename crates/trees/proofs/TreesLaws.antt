@@ -4,10 +4,11 @@ use native.Mathlib.Omega.{arith}
 use mathlib.Core.Path.{_≡_, refl, ap, sym, _∙_, subst}
 use mathlib.Core.List.{List, [], _∷_, _++_, append-assoc}
 use lib.ListN.{length, getD, length-append}
+use borrow.Author.Tests.{lt-leb}
 use Rattle.pack.specs.declared.answer.Answer.{Answer}
 use Rattle.pack.specs.declared.answer.Answer.the-variants.{Given, Refused}
 use Rattle.pack.specs.declared.answer.Refusal.{Refusal}
-use Rattle.pack.specs.Table.{wordOf}
+use Rattle.pack.specs.Table.{kindOf, wordOf}
 use Rattle.pack.specs.Form.{count, wordsBy, Fine}
 use Rattle.pack.specs.Pack.{Relation, Rule, Pack, WellFormed, yes, read, words, rule, blocks, defaulted, total}
 use Rattle.pack.proofs.PackLaws.{words-read, words-length}
@@ -19,7 +20,7 @@ use Rattle.chains.proofs.ListAt.{place-holds}
 use Rattle.chains.proofs.CheckedLaws.{same-pack}
 use Rattle.nodes.specs.Turning.{Outcome, done, refused, andThen, mapDone}
 use Rattle.nodes.specs.Resolving.{ruleWords, resolveRule, resolveRules, resolveRelation, resolveRelations, firstRule}
-use Rattle.chains.specs.Record.{valueAt}
+use Rattle.chains.specs.Record.{valueAt, nodesIn}
 use Rattle.inputs.specs.Blocks.{placeOfKind}
 use Rattle.nodes.specs.Walk.{citingIn}
 use Rattle.trees.specs.Passes.{CameAt, AskedFrom, wordsOf, runBy, Many, Ready, KindsReady, RelationKeeps, RulesAsked, RulesCame, RelationsAsked, RelationsCame, withRecords, turned, CameWhole, placesIn, TreesCame, Tabled}
@@ -203,9 +204,13 @@ module _ {ws records marks taken : List ℕ} {steps : ℕ} (a : Tabled ws record
             asked-relations : AskedFrom R (Many (RelationKeeps p) count) (d + 4) left
             asked-relations = record { it = p .relations; front = front p; after = after; passed = relations-here; keeps = relations-there; stands = stands-relations }
 
+            relations-end : nodesIn after ≡ 0
+            unfolding nodesIn
+            relations-end = rw (lt-leb 64 (kindOf (wordOf 22 (length (p .rules)))) (let k = parts p w .rule-count in omega arith)) refl
+
             pub trees-relations : RelationsAsked ws records marks taken (b + 1) c count (d + 4) left
-            unfolding is-ready
-            trees-relations = record { ready = is-ready place value left-short; settled = settled; asked = asked-relations }
+            unfolding is-ready asked-relations
+            trees-relations = record { ready = is-ready place value left-short; settled = settled; asked = asked-relations; ends = relations-end }
 
             pub trees-room : (order : List ℕ) → ((q : Pack) → read ws ≡ yes q → length order ≡ length (q .relations)) → length order ≡ count
             trees-room order r = r p h ∙ sym (relations-many d-is count-is)

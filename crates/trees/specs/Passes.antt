@@ -17,7 +17,7 @@ use Rattle.filtered.specs.Taking.{Known}
 use Rattle.nodes.specs.Turning.{Outcome, done, refused, andThen, mapDone, treeWords}
 use Rattle.nodes.specs.Tables.{tables}
 use Rattle.nodes.specs.Resolving.{defaultedEqual, equalRefusal, cites, resolveBody, ruleWords, resolveRule, resolveRules, resolveRelation, resolveRelations, stamp, firstRule}
-use Rattle.chains.specs.Record.{Recorded}
+use Rattle.chains.specs.Record.{nodesIn, Recorded}
 use Rattle.nodes.specs.Walk.{citingIn, refusalCode}
 
 -- a refusal's code with the name of the citing rule or relation
@@ -135,10 +135,12 @@ pub record RelationKeeps (p : Pack) (r : Relation) : Type 0 where
 pub record KindsReady (ws marks : List ℕ) : Type 0 where
   pub kinds : (p : Pack) → read ws ≡ yes p → (m : ℕ) → among m (declared (p .relations)) ≡ true → namesAt ws (getD marks m 0 - 2) ≡ kindsOf (p .relations) m
 
+-- no words of nodes come after it
 pub record RelationAsked (ws records marks taken : List ℕ) (blocks count at : ℕ) (work : List ℕ) : Type 0 where
   pub ready : Ready ws records marks taken blocks count work
   pub settled : KindsReady ws marks
   pub asked : AskedFrom (relationWords (ready .pack .names)) (RelationKeeps (ready .pack)) at work
+  pub ends : nodesIn (asked .after) ≡ 0
 
 pub record RelationCame (ws : List ℕ) (at : ℕ) (work : List ℕ) (answer : Answer) (left : List ℕ) : Type 0 where
   pub each : (p : Pack) → read ws ≡ yes p → CameFrom (relationWords (p .names)) (λ at r. resolveRelation p at r) (RelationKeeps p) at work answer left
@@ -147,6 +149,7 @@ pub record RelationsAsked (ws records marks taken : List ℕ) (blocks count many
   pub ready : Ready ws records marks taken blocks count work
   pub settled : KindsReady ws marks
   pub asked : AskedFrom (wordsOf (relationWords (ready .pack .names))) (Many (RelationKeeps (ready .pack)) many) at work
+  pub ends : nodesIn (asked .after) ≡ 0
 
 -- their places are noted
 pub record RelationsCame (ws : List ℕ) (many at : ℕ) (work : List ℕ) (answer : Answer) (left order : List ℕ) : Type 0 where

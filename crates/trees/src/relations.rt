@@ -1,5 +1,6 @@
 // Relations, resolved where they stand in the words.
 use crate::bodies::refused;
+use crate::quiet::quiet_end;
 use crate::walk::tree;
 use chains::record::flag_at;
 use chains::record::kind_count;
@@ -15,11 +16,11 @@ use pack::answer::Answer;
 use pack::kinds::Pack;
 ghost use mathlib.Core.Path.{_≡_};
 ghost use lib.ListN.{length};
-ghost use Rattle.chains.specs.Record.{flagAt};
+ghost use Rattle.chains.specs.Record.{flagAt, predicateAt};
 ghost use Rattle.trees.specs.Passes.{RelationAsked, RelationCame, RelationsAsked, RelationsCame};
 
-// The predicate of a relation: its entity is the kind at the related slot, its membership that of both slots. The answer
-// is the place after it.
+// The predicate of a relation, which stands at a place: its entity is the kind at the related slot, its membership that
+// of both slots. The answer is the place after it.
 fn predicate(
     pack: &[u32],
     records: &[u32; 4096],
@@ -29,8 +30,9 @@ fn predicate(
     count: usize,
     work: &mut [u32],
     at: usize,
+    place: usize,
 ) -> Answer
-    requires { ⌜ RelationAsked (now pack) (now records) (now marks) (now taken) blocks count at (now work) × (flagAt (now work) at ≡ 1) ⌝ }
+    requires { ⌜ RelationAsked (now pack) (now records) (now marks) (now taken) blocks count at (now work) × (flagAt (now work) at ≡ 1) × (place ≡ predicateAt (now work) at) ⌝ }
     ensures { λ r. ⌜ RelationCame (now (pack .entry)) at (now (work .entry)) r (now (work .exit)) ⌝ }
 {
     let name = value_at(work, at);
@@ -39,7 +41,6 @@ fn predicate(
     let related = value_at(work, slots_place(work, at) + 1);
     let entity = kind_or_zero(pack, list, related);
     let m = membership_code(slot_kinds(pack, work, list, at));
-    let place = predicate_place(work, at);
     let code = tree(
         pack,
         records,
@@ -63,7 +64,7 @@ fn predicate(
     Answer::Given(place as u32 + code as u32, 0)
 }
 
-// A relation: its predicate, if it has a derivation.
+// A relation: its predicate, if it has a derivation. A predicate of which no node has slots stays as it is.
 fn relation(
     pack: &[u32],
     records: &[u32; 4096],
@@ -78,7 +79,12 @@ fn relation(
     ensures { λ r. ⌜ RelationCame (now (pack .entry)) at (now (work .entry)) r (now (work .exit)) ⌝ }
 {
     if flag_at(work, at) == 1 {
-        return predicate(pack, records, marks, taken, blocks, count, work, at);
+        let place = predicate_place(work, at);
+        let end = quiet_end(work, place);
+        if end == 0 {
+            return predicate(pack, records, marks, taken, blocks, count, work, at, place);
+        }
+        return Answer::Given(end as u32, 0);
     }
     Answer::Given((at + 5 + kind_count(work, at)) as u32, 0)
 }

@@ -39,26 +39,23 @@ slot-kinds-requires c κs = omega (arith, relation-inside ((c .before .before .b
 membership-code-requires : tie.Need-membership-code-requires
 membership-code-requires c κs = (c .slot-kinds) .ensures .1
 
-predicate-place-requires : tie.Need-predicate-place-requires
-predicate-place-requires c κs = omega (arith, relation-inside ((c .before .before .before .before .before .before .before .before .before .before .before .before .before .before .before .pre) .0), ((c .before .before .before .before .before .before .before .before .before .before .before .before .before .before .before .pre) .0 .ready .short))
-
 mul-tree : tie.Need-mul-tree
-mul-tree c = omega (arith, ((c .predicate-place) .ensures .1))
+mul-tree c = omega (arith, asked-inside ((c .before .before .before .before .before .before .before .before .before .before .before .before .before .before .pre) .0) ((c .before .before .before .before .before .before .before .before .before .before .before .before .before .before .pre) .1), ((c .before .before .before .before .before .before .before .before .before .before .before .before .before .before .pre) .2), ((c .before .before .before .before .before .before .before .before .before .before .before .before .before .before .pre) .0 .ready .short))
 
 sub-tree : tie.Need-sub-tree
-sub-tree c = omega (arith, asked-inside ((c .before .before .before .before .before .before .before .before .before .before .before .before .before .before .before .before .pre) .0) ((c .before .before .before .before .before .before .before .before .before .before .before .before .before .before .before .before .pre) .1), ((c .predicate-place) .ensures .0))
+sub-tree c = omega (arith, asked-inside ((c .before .before .before .before .before .before .before .before .before .before .before .before .before .before .pre) .0) ((c .before .before .before .before .before .before .before .before .before .before .before .before .before .before .pre) .1), ((c .before .before .before .before .before .before .before .before .before .before .before .before .before .before .pre) .2))
 
 part-tree-start : tie.Need-part-tree-start
-part-tree-start c = omega (arith, asked-inside ((c .before .before .before .before .before .before .before .before .before .before .before .before .before .before .before .before .pre) .0) ((c .before .before .before .before .before .before .before .before .before .before .before .before .before .before .before .before .pre) .1), ((c .predicate-place) .ensures .0))
+part-tree-start c = omega (arith, asked-inside ((c .before .before .before .before .before .before .before .before .before .before .before .before .before .before .pre) .0) ((c .before .before .before .before .before .before .before .before .before .before .before .before .before .before .pre) .1), ((c .before .before .before .before .before .before .before .before .before .before .before .before .before .before .pre) .2))
 
 part-tree-end : tie.Need-part-tree-end
 part-tree-end c = search needs
 
 cast-tree : tie.Need-cast-tree
-cast-tree c = omega (arith, ((c .before .predicate-place) .ensures .1))
+cast-tree c = omega (arith, asked-inside ((c .before .before .before .before .before .before .before .before .before .before .before .before .before .before .before .pre) .0) ((c .before .before .before .before .before .before .before .before .before .before .before .before .before .before .before .pre) .1), ((c .before .before .before .before .before .before .before .before .before .before .before .before .before .before .before .pre) .2), ((c .before .before .before .before .before .before .before .before .before .before .before .before .before .before .before .pre) .0 .ready .short))
 
 tree-requires : tie.Need-tree-requires
-tree-requires c κs = (asked-tree ((c .before .before .before .before .before .before .before .before .before .before .before .before .before .before .before .before .before .pre) .0) ((c .before .before .before .before .before .before .before .before .before .before .before .before .before .before .before .before .before .pre) .1) ((c .before .predicate-place) .ensures .0) (relation-bodily ((c .before .before .before .before .before .before .before .before .before .before .before .before .before .before .before .before .before .pre) .0) (entity-small _ _ _ ((c .before .before .before .before .before .before .kind-or-zero) .ensures))), omega arith)
+tree-requires c κs = (asked-tree ((c .before .before .before .before .before .before .before .before .before .before .before .before .before .before .before .pre) .0) ((c .before .before .before .before .before .before .before .before .before .before .before .before .before .before .before .pre) .1) ((c .before .before .before .before .before .before .before .before .before .before .before .before .before .before .before .pre) .2) (relation-bodily ((c .before .before .before .before .before .before .before .before .before .before .before .before .before .before .before .pre) .0) (entity-small _ _ _ ((c .before .before .before .before .kind-or-zero) .ensures))), omega arith)
 
 cast-if1 : tie.Need-cast-if1
 cast-if1 c = search needs
@@ -70,22 +67,22 @@ same-length : tie.Need-same-length
 same-length c = search needs
 
 returns : tie.Need-returns
-returns c = came-stopped ((c .before .before .before .before .before .before .before .before .before .before .before .before .before .before .before .before .before .before .before .before .before .before .pre) .0) ((c .before .before .before .before .before .before .before .before .before .before .before .before .before .before .before .before .before .before .before .before .before .before .pre) .1) (reads-of _ _ _ _ ((c .before .before .before .before .before .before .before .before .before .before .before .before .before .before .before .before .before .before .value-at) .ensures .0) ((c .before .before .before .before .before .before .before .before .before .before .before .before .before .before .before .before .value-at2) .ensures .0) ((c .before .before .before .before .before .before .before .before .before .before .before .before .before .before .before .place-of) .ensures) ((c .before .before .before .before .before .before .before .before .before .before .before .before .before .slots-place) .ensures .0) ((c .before .before .before .before .before .before .before .before .before .before .before .before .value-at3) .ensures .0) ((c .before .before .before .before .before .before .before .before .before .before .before .kind-or-zero) .ensures) ((c .before .before .before .before .before .before .before .before .membership-code) .ensures ∙ (c .before .before .before .before .before .before .before .before .before .slot-kinds) .ensures .0) ((c .before .before .before .before .before .before .predicate-place) .ensures .0)) ((c .before .before .before .before .tree) .ensures) (relation-bodily ((c .before .before .before .before .before .before .before .before .before .before .before .before .before .before .before .before .before .before .before .before .before .before .pre) .0) (entity-small _ _ _ ((c .before .before .before .before .before .before .before .before .before .before .before .kind-or-zero) .ensures))) ((c .before .if1) .taken) ((c .refused) .ensures)
+returns c = came-stopped ((c .before .before .before .before .before .before .before .before .before .before .before .before .before .before .before .before .before .before .before .before .pre) .0) ((c .before .before .before .before .before .before .before .before .before .before .before .before .before .before .before .before .before .before .before .before .pre) .1) (reads-of _ _ _ _ ((c .before .before .before .before .before .before .before .before .before .before .before .before .before .before .before .before .value-at) .ensures .0) ((c .before .before .before .before .before .before .before .before .before .before .before .before .before .before .value-at2) .ensures .0) ((c .before .before .before .before .before .before .before .before .before .before .before .before .before .place-of) .ensures) ((c .before .before .before .before .before .before .before .before .before .before .before .slots-place) .ensures .0) ((c .before .before .before .before .before .before .before .before .before .before .value-at3) .ensures .0) ((c .before .before .before .before .before .before .before .before .before .kind-or-zero) .ensures) ((c .before .before .before .before .before .before .membership-code) .ensures ∙ (c .before .before .before .before .before .before .before .slot-kinds) .ensures .0) ((c .before .before .before .before .before .before .before .before .before .before .before .before .before .before .before .before .before .before .before .before .pre) .2)) ((c .before .before .before .before .tree) .ensures) (relation-bodily ((c .before .before .before .before .before .before .before .before .before .before .before .before .before .before .before .before .before .before .before .before .pre) .0) (entity-small _ _ _ ((c .before .before .before .before .before .before .before .before .before .kind-or-zero) .ensures))) ((c .before .if1) .taken) ((c .refused) .ensures)
 
-cast-t36 : tie.Need-cast-t36
-cast-t36 c = omega (arith, ((c .before .before .before .before .before .predicate-place) .ensures .1))
+cast-t34 : tie.Need-cast-t34
+cast-t34 c = omega (arith, asked-inside ((c .before .before .before .before .before .before .before .before .before .before .before .before .before .before .before .before .before .before .before .pre) .0) ((c .before .before .before .before .before .before .before .before .before .before .before .before .before .before .before .before .before .before .before .pre) .1), ((c .before .before .before .before .before .before .before .before .before .before .before .before .before .before .before .before .before .before .before .pre) .2), ((c .before .before .before .before .before .before .before .before .before .before .before .before .before .before .before .before .before .before .before .pre) .0 .ready .short))
 
-cast-t39 : tie.Need-cast-t39
-cast-t39 c = search needs
+cast-t37 : tie.Need-cast-t37
+cast-t37 c = search needs
 
-add-t40 : tie.Need-add-t40
-add-t40 c = omega (arith, ((c .before .before .before .before .before .predicate-place) .ensures .1))
+add-t38 : tie.Need-add-t38
+add-t38 c = omega (arith, asked-inside ((c .before .before .before .before .before .before .before .before .before .before .before .before .before .before .before .before .before .before .before .pre) .0) ((c .before .before .before .before .before .before .before .before .before .before .before .before .before .before .before .before .before .before .before .pre) .1), ((c .before .before .before .before .before .before .before .before .before .before .before .before .before .before .before .before .before .before .before .pre) .2), ((c .before .before .before .before .before .before .before .before .before .before .before .before .before .before .before .before .before .before .before .pre) .0 .ready .short))
 
 same-length-2 : tie.Need-same-length-2
 same-length-2 c = search needs
 
 returns-2 : tie.Need-returns-2
-returns-2 c = came-went ((c .before .before .before .before .before .before .before .before .before .before .before .before .before .before .before .before .before .before .before .before .before .pre) .0) ((c .before .before .before .before .before .before .before .before .before .before .before .before .before .before .before .before .before .before .before .before .before .pre) .1) (reads-of _ _ _ _ ((c .before .before .before .before .before .before .before .before .before .before .before .before .before .before .before .before .before .value-at) .ensures .0) ((c .before .before .before .before .before .before .before .before .before .before .before .before .before .before .before .value-at2) .ensures .0) ((c .before .before .before .before .before .before .before .before .before .before .before .before .before .before .place-of) .ensures) ((c .before .before .before .before .before .before .before .before .before .before .before .before .slots-place) .ensures .0) ((c .before .before .before .before .before .before .before .before .before .before .before .value-at3) .ensures .0) ((c .before .before .before .before .before .before .before .before .before .before .kind-or-zero) .ensures) ((c .before .before .before .before .before .before .before .membership-code) .ensures ∙ (c .before .before .before .before .before .before .before .before .slot-kinds) .ensures .0) ((c .before .before .before .before .before .predicate-place) .ensures .0)) ((c .before .before .before .tree) .ensures) ((c .if1) .left)
+returns-2 c = came-went ((c .before .before .before .before .before .before .before .before .before .before .before .before .before .before .before .before .before .before .before .pre) .0) ((c .before .before .before .before .before .before .before .before .before .before .before .before .before .before .before .before .before .before .before .pre) .1) (reads-of _ _ _ _ ((c .before .before .before .before .before .before .before .before .before .before .before .before .before .before .before .value-at) .ensures .0) ((c .before .before .before .before .before .before .before .before .before .before .before .before .before .value-at2) .ensures .0) ((c .before .before .before .before .before .before .before .before .before .before .before .before .place-of) .ensures) ((c .before .before .before .before .before .before .before .before .before .before .slots-place) .ensures .0) ((c .before .before .before .before .before .before .before .before .before .value-at3) .ensures .0) ((c .before .before .before .before .before .before .before .before .kind-or-zero) .ensures) ((c .before .before .before .before .before .membership-code) .ensures ∙ (c .before .before .before .before .before .before .slot-kinds) .ensures .0) ((c .before .before .before .before .before .before .before .before .before .before .before .before .before .before .before .before .before .before .before .pre) .2)) ((c .before .before .before .tree) .ensures) ((c .if1) .left)
 
 pub predicate-spec : {M : Type 1} → statement M
 predicate-spec =
@@ -102,7 +99,6 @@ predicate-spec =
     kind-or-zero-requires
     slot-kinds-requires
     membership-code-requires
-    predicate-place-requires
     mul-tree
     sub-tree
     part-tree-start
@@ -113,8 +109,8 @@ predicate-spec =
     refused-requires
     same-length
     returns
-    cast-t36
-    cast-t39
-    add-t40
+    cast-t34
+    cast-t37
+    add-t38
     same-length-2
     returns-2)
