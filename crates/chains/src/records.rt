@@ -10,20 +10,13 @@ ghost use lib.ListN.{drop, replicate};
 ghost use Rattle.chains.specs.Record.{nodesIn, recordEnd};
 ghost use Rattle.chains.specs.AllKinds.{KindsAsked, Noted, RulesAt};
 
-// Kinds of words from the first of a node on.
-struct Node {}
-
-impl Node {
-    const FIRST: u32 = 64;
-}
-
 // The place after the words of nodes that stand from a place on.
 fn past_nodes(pack: &[u32], at: usize) -> usize
     ensures { λ r. ⌜ r ≡ at + nodesIn (drop at (now (pack .entry))) ⌝ }
 {
     let mut i = at;
     while i < pack.len() {
-        if pack[i] / Pack::VALUES < Node::FIRST {
+        if pack[i] / Pack::VALUES < Pack::FIRST_OF_TREES {
             return i;
         }
         i += 1;

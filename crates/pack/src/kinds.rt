@@ -122,8 +122,10 @@ impl Pack {
     pub const NO_TREE: u32 = 2;
 }
 
-// The kinds of tree nodes.
+// The kinds of tree nodes; the words of trees, fields among them, have kinds from FIRST_OF_TREES on.
 impl Pack {
+    pub const FIRST_OF_TREES: u32 = 64;
+
     pub const ONE_CHILD: u32 = 66;
 
     pub const TWO_CHILDREN: u32 = 67;
@@ -153,6 +155,8 @@ impl Pack {
     pub const RELATION_ATOM: u32 = 102;
 
     pub const EXISTS: u32 = 103;
+
+    pub const SAME_ENTITY: u32 = 104;
 }
 
 // The kinds of the fields of tree nodes.

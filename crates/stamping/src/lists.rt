@@ -16,15 +16,6 @@ ghost use Rattle.nodes.specs.Resolving.{roleJudgment};
 ghost use Rattle.chains.specs.Record.{Recorded};
 ghost use Rattle.stamping.specs.Stamping.{roleIn, unstamped, passedIn, unlikeIn, listFor, Lists, addedFor, Listed};
 
-// Kinds of nodes: the first, and the last of the judgments of roles.
-struct Node {}
-
-impl Node {
-    const FIRST: u32 = 64;
-
-    const SAME_ENTITY: u32 = 104;
-}
-
 // Whether a word is that of a judgment of roles.
 fn role_word(word: u32) -> bool
     ensures { λ r. ⌜ r ≡ roleJudgment (kindOf word) (valueOf word) ⌝ }
@@ -33,7 +24,7 @@ fn role_word(word: u32) -> bool
     if kind < Pack::RELATION_ATOM {
         return false;
     }
-    kind <= Node::SAME_ENTITY
+    kind <= Pack::SAME_ENTITY
 }
 
 // Whether the tree whose root stands at a place holds a judgment of roles.
@@ -43,7 +34,7 @@ fn role(work: &[u32], at: usize) -> bool
     let mut i = at;
     while i < work.len() {
         let w = work[i];
-        if w / Pack::VALUES < Node::FIRST {
+        if w / Pack::VALUES < Pack::FIRST_OF_TREES {
             return false;
         }
         if role_word(w) {

@@ -23,7 +23,7 @@ use Rattle.nodes.proofs.KeepsForm.{Good}
 use Rattle.nodes.proofs.TreeWords.{size-is, size-kept}
 use Rattle.trees.proofs.ThereLaws.{there-asked, there-went, there-stopped}
 use Rattle.trees.proofs.RunLaws.{RunGoing, run-begin, run-end, run-asked, run-next, run-stop}
-use Rattle.trees.proofs.ChildrenLaws.{part, back}
+use Rattle.walkers.proofs.ChildrenLaws.{part, back}
 
 -- ---- a code taken apart
 

@@ -1,9 +1,3 @@
-pub mod RowLaws
-pub mod ChildrenLaws
-pub mod PlainLaws
-pub mod AggregateLaws
-pub mod WalkerLaws
-pub mod JoinLaws
 pub mod RunLaws
 pub mod BodyLaws
 pub mod RuleLaws

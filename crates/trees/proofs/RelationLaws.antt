@@ -41,7 +41,7 @@ use Rattle.nodes.proofs.PredicateLaws.{front, predicate-open}
 use Rattle.trees.proofs.ThereLaws.{there-inside, there-asked, there-went, there-stopped}
 use Rattle.trees.proofs.RunLaws.{RunGoing, run-begin, run-end, run-asked, run-after, run-next, run-stop}
 use Rattle.trees.proofs.QuietLaws.{Rooted, tree-stays, quiet-within, stays-there, same-after}
-use Rattle.trees.proofs.ChildrenLaws.{part, back}
+use Rattle.walkers.proofs.ChildrenLaws.{part, back}
 
 -- ---- its words
 

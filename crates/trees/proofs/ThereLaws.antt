@@ -15,7 +15,7 @@ use Rattle.nodes.specs.Walk.{citingIn, Came, TreeAsked, TreeTurned}
 use Rattle.trees.specs.Passes.{RefusedAs, Bodily}
 use Rattle.nodes.proofs.TreeWords.{size-is}
 use Rattle.nodes.proofs.WalkLaws.{part-is, front-is}
-use Rattle.trees.proofs.ChildrenLaws.{part, back, part-drop, back-is}
+use Rattle.walkers.proofs.ChildrenLaws.{part, back, part-drop, back-is}
 use Rattle.nodes.proofs.CitingNames.{NamedBy, tree-named}
 use Rattle.nodes.proofs.RefusalBounds.{Refuses, MemberSmall, tree-refuses, citing-fits}
 

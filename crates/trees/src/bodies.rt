@@ -1,10 +1,10 @@
 // The bodies of a rule, resolved where they stand in the words.
-use crate::walk::tree;
 use nodes::direction::Code;
 use nodes::leaves::Cited;
 use pack::answer::Answer;
 use pack::answer::Refusal;
 use pack::kinds::Pack;
+use walkers::walk::tree;
 ghost use Prim.Native.Nat.{_≤_};
 ghost use Rattle.trees.specs.Passes.{RefusedAs, AskedFrom, bodyWords, BodyFine, Bodily, BodyCame, BodiesAsked, BodiesCame};
 

@@ -3,13 +3,6 @@ use pack::kinds::Pack;
 ghost use mathlib.Core.Path.{_≡_};
 ghost use Rattle.trees.specs.Quiet.{slotted, quietEnd};
 
-// The first kind of nodes.
-struct Node {}
-
-impl Node {
-    const FIRST: u32 = 64;
-}
-
 // Whether nodes of a kind have slots: aggregates, OnlyRelated and RelationMember.
 fn slotted(kind: u32) -> bool
     ensures { λ r. ⌜ r ≡ slotted kind ⌝ }
@@ -27,7 +20,7 @@ pub fn quiet_end(work: &[u32], at: usize) -> usize
     let mut i = at;
     while i < work.len() {
         let kind = work[i] / Pack::VALUES;
-        if kind < Node::FIRST {
+        if kind < Pack::FIRST_OF_TREES {
             return i;
         }
         if slotted(kind) {

@@ -1,7 +1,6 @@
 // Relations, resolved where they stand in the words.
 use crate::bodies::refused;
 use crate::quiet::quiet_end;
-use crate::walk::tree;
 use chains::record::flag_at;
 use chains::record::kind_count;
 use chains::record::predicate_place;
@@ -14,6 +13,7 @@ use nodes::equal::slot_kinds;
 use nodes::leaves::Cited;
 use pack::answer::Answer;
 use pack::kinds::Pack;
+use walkers::walk::tree;
 ghost use mathlib.Core.Path.{_≡_};
 ghost use lib.ListN.{length};
 ghost use Rattle.chains.specs.Record.{flagAt, predicateAt};

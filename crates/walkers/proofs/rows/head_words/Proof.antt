@@ -1,7 +1,7 @@
 use native.Mathlib.Omega.{arith}
-use Rattle.trees.proofs.RowLaws.{two-words, one-word, last-word}
-use Rattle.trees.proofs.rows.head_words.Statement.{statement}
-use Rattle.trees.proofs.rows.head_words.Tie as tie
+use Rattle.walkers.proofs.RowLaws.{two-words, one-word, last-word}
+use Rattle.walkers.proofs.rows.head_words.Statement.{statement}
+use Rattle.walkers.proofs.rows.head_words.Tie as tie
 
 returns : tie.Need-returns
 returns c = two-words _ (c .before .if1 .left) (c .if2 .taken)

@@ -15,13 +15,13 @@ use Rattle.nodes.specs.declared.direction.Membership as direction
 use Rattle.nodes.specs.Direction.{Membership}
 use Rattle.nodes.specs.Words.{membershipIn}
 use Rattle.nodes.specs.Turning.{Outcome, done, refused, Citing, treeWords, size, sizes, resolveTree}
-use Rattle.trees.specs.Rows.{joined, headWords}
+use Rattle.walkers.specs.Rows.{joined, headWords}
 use Rattle.nodes.specs.Walk.{citingIn, Came, TreeAsked, NodeAsked, RowAsked, TreeTurned, RowTurned, MemberWalked, OnlyWalked}
 use Rattle.nodes.proofs.KeepsForm.{no-level}
 use Rattle.nodes.proofs.NodeLaws.{headed}
-use Rattle.trees.proofs.JoinLaws.{Joining, sort-of}
-use Rattle.trees.proofs.RowLaws.{scalar-kind, scalar-joins, scalar-word, judgment-joins, judgment-kind}
-use Rattle.trees.proofs.ChildrenLaws.{part, back, part-drop, Going, going-end, going-inside, going-asked, going-next, going-refused, going-root, going-joins, rowCases, row-going, row-shown}
+use Rattle.walkers.proofs.JoinLaws.{Joining, sort-of}
+use Rattle.walkers.proofs.RowLaws.{scalar-kind, scalar-joins, scalar-word, judgment-joins, judgment-kind}
+use Rattle.walkers.proofs.ChildrenLaws.{part, back, part-drop, Going, going-end, going-inside, going-asked, going-next, going-refused, going-root, going-joins, rowCases, row-going, row-shown}
 
 word-of : (t : Tree) (after : List ℕ) → 0 < length (treeWords t ++ after)
 unfolding treeWords

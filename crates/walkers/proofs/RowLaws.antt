@@ -13,8 +13,8 @@ use Rattle.pack.specs.Table.{pick, scalar, judgment, entryOf, table, fieldsOf, 
 use Rattle.pack.proofs.Listed.{in-range}
 use Rattle.nodes.specs.Direction.{Membership}
 use Rattle.nodes.specs.Turning.{Citing, Fields, goes, stepBy}
-use Rattle.trees.specs.Rows.{joined, headWords}
-use Rattle.trees.proofs.JoinLaws.{Joining}
+use Rattle.walkers.specs.Rows.{joined, headWords}
+use Rattle.walkers.proofs.JoinLaws.{Joining}
 
 -- ---- how many join, by the kind
 

@@ -15,8 +15,8 @@ use Rattle.nodes.specs.Walk.{citingIn, Came, RowFine, TreeAsked, RowAsked, Tree
 use Rattle.nodes.proofs.KeepsForm.{FieldsFine, open-node, no-level}
 use Rattle.nodes.proofs.NodeLaws.{headed, fields-count}
 use Rattle.nodes.proofs.WalkLaws.{RowLeft, node-left}
-use Rattle.trees.proofs.ChildrenLaws.{part, back, Going, going-inside, going-asked, going-next, going-refused, tree-there, treeCases, tree-shown, one-asked, one-turned}
-use Rattle.trees.proofs.ChildrenLaws as children
+use Rattle.walkers.proofs.ChildrenLaws.{part, back, Going, going-inside, going-asked, going-next, going-refused, tree-there, treeCases, tree-shown, one-asked, one-turned}
+use Rattle.walkers.proofs.ChildrenLaws as children
 
 -- a kind without fields: the sorts of its children, and the memberships of the first and of the others
 pub record Bare (kind : ℕ) (sorts : ℕ → List ℕ) (first rest : Membership → Membership) : Type 0 where

@@ -23,7 +23,7 @@ use Rattle.nodes.proofs.StepWords.{aggregate-stepped}
 use Rattle.nodes.proofs.ShapeLaws.{Slotted, SlotForm, SlotTree, aggregate-form}
 use Rattle.nodes.proofs.NodeLaws.{slots-of, asked-slots, step-said, step-set, fields-count, long-node}
 use Rattle.nodes.proofs.WalkLaws.{RowLeft, node-left, StepSmall, node-refused}
-use Rattle.trees.proofs.ChildrenLaws.{part, back, Going, going-end, all-asked, all-done, all-refused, tree-there, treeCases, tree-shown}
+use Rattle.walkers.proofs.ChildrenLaws.{part, back, Going, going-end, all-asked, all-done, all-refused, tree-there, treeCases, tree-shown}
 
 -- the fields after the slots, and the flag, which is the last of them
 abbrev others : List (List ℕ)

@@ -1,7 +1,7 @@
 use borrow.Author.Needs.{needs}
-use Rattle.trees.proofs.RowLaws.{one-scalar, two-scalars, many-scalars, no-scalar, from-68}
-use Rattle.trees.proofs.rows.scalars_after.Statement.{statement}
-use Rattle.trees.proofs.rows.scalars_after.Tie as tie
+use Rattle.walkers.proofs.RowLaws.{one-scalar, two-scalars, many-scalars, no-scalar, from-68}
+use Rattle.walkers.proofs.rows.scalars_after.Statement.{statement}
+use Rattle.walkers.proofs.rows.scalars_after.Tie as tie
 
 returns : tie.Need-returns
 returns c = one-scalar _ _ (c .match .keys1)

@@ -1,9 +1,9 @@
 use native.Mathlib.Omega.{arith}
 use borrow.Author.Needs.{needs}
-use Rattle.trees.proofs.ChildrenLaws.{one-asked, one-turned}
-use Rattle.trees.proofs.WalkerLaws.{turned-as, asked-as}
-use Rattle.trees.proofs.walk.tree.Statement.{statement}
-use Rattle.trees.proofs.walk.tree.Tie as tie
+use Rattle.walkers.proofs.ChildrenLaws.{one-asked, one-turned}
+use Rattle.walkers.proofs.WalkerLaws.{turned-as, asked-as}
+use Rattle.walkers.proofs.walk.tree.Statement.{statement}
+use Rattle.walkers.proofs.walk.tree.Tie as tie
 
 scalars-requires : tie.Need-scalars-requires
 scalars-requires c κs = one-asked (asked-as ((c .before .if1) .taken) ((c .before .before .before .before .pre) .0))

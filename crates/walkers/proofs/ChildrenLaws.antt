@@ -12,11 +12,11 @@ use Rattle.pack.specs.Tree.{Tree, Forest, node, more, tree}
 use Rattle.pack.specs.Tree as trees
 use Rattle.nodes.specs.Direction.{Membership}
 use Rattle.nodes.specs.Turning.{Outcome, done, refused, andThen, mapDone, Citing, treeWords, forestWords, size, sizes, resolveTree, resolveForest}
-use Rattle.trees.specs.Rows.{joined, headWords}
+use Rattle.walkers.specs.Rows.{joined, headWords}
 use Rattle.nodes.specs.Walk.{citingIn, Came, Walked, CameRow, RowFine, RowThere, RowWalked, Standing, TreeAsked, RowAsked, TreeTurned, RowTurned}
 use Rattle.nodes.proofs.TreeWords.{sizes-are}
 use Rattle.nodes.proofs.WalkLaws.{RowLeft, part-is, row-begin, row-end, row-next, row-refused, row-there, row-all, row-all-refused}
-use Rattle.trees.proofs.JoinLaws.{Joining, row-joins, row-root}
+use Rattle.walkers.proofs.JoinLaws.{Joining, row-joins, row-root}
 
 -- the part of a slice from a word on, and the slice when the part is back
 abbrev pub part : ℕ → List ℕ → List ℕ

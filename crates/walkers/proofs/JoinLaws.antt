@@ -13,7 +13,7 @@ use Rattle.pack.specs.Tree.{Tree, Forest, node, more, heads, lastField, fields,
 use Rattle.pack.specs.Tree as trees
 use Rattle.nodes.specs.Direction.{Membership}
 use Rattle.nodes.specs.Turning.{Outcome, done, refused, andThen, mapDone, Citing, Fields, goes, stepBy, fieldWords, treeWords, forestWords, size, sizes, resolveTree, resolveForest}
-use Rattle.trees.specs.Rows.{joined, headWords}
+use Rattle.walkers.specs.Rows.{joined, headWords}
 use Rattle.nodes.specs.Walk.{RowFine}
 use Rattle.nodes.proofs.KeepsForm.{open-node, no-level}
 use Rattle.nodes.proofs.ShapeLaws.{head-fine}

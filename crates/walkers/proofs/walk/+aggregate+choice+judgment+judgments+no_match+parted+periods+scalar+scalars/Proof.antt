@@ -4,51 +4,51 @@ use mathlib.Core.Logic.{inl, inr, ⊎-elim}
 use mathlib.Core.Option.{none}
 use lib.ListN.{length}
 use borrow.Author.Needs.{needs}
-use Rattle.trees.proofs.RowLaws.{head-small}
-use Rattle.trees.proofs.PlainLaws.{compared-form, periods-form, choice-form, patterns-form, all-asked, all-done, all-refused, first-asked, first-refused, others-inside, others-long, others-asked, others-done, others-refused}
-use Rattle.trees.proofs.AggregateLaws.{aggregate-asked, aggregate-long, aggregate-stopped, aggregate-bare, where-asked, where-done, where-refused}
-use Rattle.trees.proofs.WalkerLaws.{has-word, has-level, node-of, member-turned, only-turned, parted-kind, third, is-compared, turned-some, Row, row-begins, row-ends, row-inside, row-asked, row-kind, row-goes, row-stops, scalars-join, judgments-plain, judgments-join}
+use Rattle.walkers.proofs.RowLaws.{head-small}
+use Rattle.walkers.proofs.PlainLaws.{compared-form, periods-form, choice-form, patterns-form, all-asked, all-done, all-refused, first-asked, first-refused, others-inside, others-long, others-asked, others-done, others-refused}
+use Rattle.walkers.proofs.AggregateLaws.{aggregate-asked, aggregate-long, aggregate-stopped, aggregate-bare, where-asked, where-done, where-refused}
+use Rattle.walkers.proofs.WalkerLaws.{has-word, has-level, node-of, member-turned, only-turned, parted-kind, third, is-compared, turned-some, Row, row-begins, row-ends, row-inside, row-asked, row-kind, row-goes, row-stops, scalars-join, judgments-plain, judgments-join}
 use Prim.Native.Nat.{ℕ, _+_, _-_, _*_, _%_, _<_}
 use borrow.Fn.Kinds.{In}
 use borrow.Fn.PlainCycle.{Measures, is, falls, and}
-use Rattle.trees.proofs.walk.aggregate.Reads as aggregate
-use Rattle.trees.proofs.walk.aggregate.Kinds as aggregate-kinds
-use Rattle.trees.proofs.walk.+aggregate+choice+judgment+judgments+no_match+parted+periods+scalar+scalars.Lts-aggregate as aggregate-lts
-use Rattle.trees.proofs.walk.choice.Reads as choice
-use Rattle.trees.proofs.walk.choice.Kinds as choice-kinds
-use Rattle.trees.proofs.walk.+aggregate+choice+judgment+judgments+no_match+parted+periods+scalar+scalars.Lts-choice as choice-lts
-use Rattle.trees.proofs.walk.judgment.Reads as judgment
-use Rattle.trees.proofs.walk.judgment.Kinds as judgment-kinds
-use Rattle.trees.proofs.walk.+aggregate+choice+judgment+judgments+no_match+parted+periods+scalar+scalars.Lts-judgment as judgment-lts
-use Rattle.trees.proofs.walk.judgments.Reads as judgments
-use Rattle.trees.proofs.walk.judgments.Kinds as judgments-kinds
-use Rattle.trees.proofs.walk.+aggregate+choice+judgment+judgments+no_match+parted+periods+scalar+scalars.Lts-judgments as judgments-lts
-use Rattle.trees.proofs.walk.no_match.Reads as no-match
-use Rattle.trees.proofs.walk.no_match.Kinds as no-match-kinds
-use Rattle.trees.proofs.walk.+aggregate+choice+judgment+judgments+no_match+parted+periods+scalar+scalars.Lts-no_match as no-match-lts
-use Rattle.trees.proofs.walk.parted.Reads as parted
-use Rattle.trees.proofs.walk.parted.Kinds as parted-kinds
-use Rattle.trees.proofs.walk.+aggregate+choice+judgment+judgments+no_match+parted+periods+scalar+scalars.Lts-parted as parted-lts
-use Rattle.trees.proofs.walk.periods.Reads as periods
-use Rattle.trees.proofs.walk.periods.Kinds as periods-kinds
-use Rattle.trees.proofs.walk.+aggregate+choice+judgment+judgments+no_match+parted+periods+scalar+scalars.Lts-periods as periods-lts
-use Rattle.trees.proofs.walk.scalar.Reads as scalar
-use Rattle.trees.proofs.walk.scalar.Kinds as scalar-kinds
-use Rattle.trees.proofs.walk.+aggregate+choice+judgment+judgments+no_match+parted+periods+scalar+scalars.Lts-scalar as scalar-lts
-use Rattle.trees.proofs.walk.scalars.Reads as scalars
-use Rattle.trees.proofs.walk.scalars.Kinds as scalars-kinds
-use Rattle.trees.proofs.walk.+aggregate+choice+judgment+judgments+no_match+parted+periods+scalar+scalars.Lts-scalars as scalars-lts
+use Rattle.walkers.proofs.walk.aggregate.Reads as aggregate
+use Rattle.walkers.proofs.walk.aggregate.Kinds as aggregate-kinds
+use Rattle.walkers.proofs.walk.+aggregate+choice+judgment+judgments+no_match+parted+periods+scalar+scalars.Lts-aggregate as aggregate-lts
+use Rattle.walkers.proofs.walk.choice.Reads as choice
+use Rattle.walkers.proofs.walk.choice.Kinds as choice-kinds
+use Rattle.walkers.proofs.walk.+aggregate+choice+judgment+judgments+no_match+parted+periods+scalar+scalars.Lts-choice as choice-lts
+use Rattle.walkers.proofs.walk.judgment.Reads as judgment
+use Rattle.walkers.proofs.walk.judgment.Kinds as judgment-kinds
+use Rattle.walkers.proofs.walk.+aggregate+choice+judgment+judgments+no_match+parted+periods+scalar+scalars.Lts-judgment as judgment-lts
+use Rattle.walkers.proofs.walk.judgments.Reads as judgments
+use Rattle.walkers.proofs.walk.judgments.Kinds as judgments-kinds
+use Rattle.walkers.proofs.walk.+aggregate+choice+judgment+judgments+no_match+parted+periods+scalar+scalars.Lts-judgments as judgments-lts
+use Rattle.walkers.proofs.walk.no_match.Reads as no-match
+use Rattle.walkers.proofs.walk.no_match.Kinds as no-match-kinds
+use Rattle.walkers.proofs.walk.+aggregate+choice+judgment+judgments+no_match+parted+periods+scalar+scalars.Lts-no_match as no-match-lts
+use Rattle.walkers.proofs.walk.parted.Reads as parted
+use Rattle.walkers.proofs.walk.parted.Kinds as parted-kinds
+use Rattle.walkers.proofs.walk.+aggregate+choice+judgment+judgments+no_match+parted+periods+scalar+scalars.Lts-parted as parted-lts
+use Rattle.walkers.proofs.walk.periods.Reads as periods
+use Rattle.walkers.proofs.walk.periods.Kinds as periods-kinds
+use Rattle.walkers.proofs.walk.+aggregate+choice+judgment+judgments+no_match+parted+periods+scalar+scalars.Lts-periods as periods-lts
+use Rattle.walkers.proofs.walk.scalar.Reads as scalar
+use Rattle.walkers.proofs.walk.scalar.Kinds as scalar-kinds
+use Rattle.walkers.proofs.walk.+aggregate+choice+judgment+judgments+no_match+parted+periods+scalar+scalars.Lts-scalar as scalar-lts
+use Rattle.walkers.proofs.walk.scalars.Reads as scalars
+use Rattle.walkers.proofs.walk.scalars.Kinds as scalars-kinds
+use Rattle.walkers.proofs.walk.+aggregate+choice+judgment+judgments+no_match+parted+periods+scalar+scalars.Lts-scalars as scalars-lts
 use Rattle.nodes.proofs.leaves.only_related.Reads as only-related-reads
 use Rattle.nodes.proofs.leaves.relation_member.Reads as relation-member-reads
-use Rattle.trees.proofs.rows.head_words.Reads as head-words-reads
-use Rattle.trees.proofs.rows.judgments_after.Reads as judgments-after-reads
-use Rattle.trees.proofs.rows.scalars_after.Reads as scalars-after-reads
+use Rattle.walkers.proofs.rows.head_words.Reads as head-words-reads
+use Rattle.walkers.proofs.rows.judgments_after.Reads as judgments-after-reads
+use Rattle.walkers.proofs.rows.scalars_after.Reads as scalars-after-reads
 use Rattle.nodes.proofs.slots.turn_node.Reads as turn-node-reads
 use Rattle.nodes.proofs.words.kind_of.Reads as kind-of-reads
-use Rattle.trees.proofs.walk.+aggregate+choice+judgment+judgments+no_match+parted+periods+scalar+scalars.{
+use Rattle.walkers.proofs.walk.+aggregate+choice+judgment+judgments+no_match+parted+periods+scalar+scalars.{
   statement,
 }
-use Rattle.trees.proofs.walk.+aggregate+choice+judgment+judgments+no_match+parted+periods+scalar+scalars.Tie.{
+use Rattle.walkers.proofs.walk.+aggregate+choice+judgment+judgments+no_match+parted+periods+scalar+scalars.Tie.{
   close,
 }
 

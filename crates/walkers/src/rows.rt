@@ -3,7 +3,7 @@ use pack::kinds::Pack;
 ghost use mathlib.Core.Path.{_≡_};
 ghost use Prim.Native.Nat.{_≤_};
 ghost use Rattle.pack.specs.Table.{kindOf, valueOf, entryOf};
-ghost use Rattle.trees.specs.Rows.{joined, headWords};
+ghost use Rattle.walkers.specs.Rows.{joined, headWords};
 
 // How many scalars follow the word of a leaf or of a plain scalar.
 pub fn scalars_after(word: u32) -> u32

@@ -1,8 +1,8 @@
 use native.Mathlib.Omega.{arith}
 use borrow.Author.Needs.{needs}
-use Rattle.trees.proofs.RowLaws.{one-judgment, many-judgments, no-judgment}
-use Rattle.trees.proofs.rows.judgments_after.Statement.{statement}
-use Rattle.trees.proofs.rows.judgments_after.Tie as tie
+use Rattle.walkers.proofs.RowLaws.{one-judgment, many-judgments, no-judgment}
+use Rattle.walkers.proofs.rows.judgments_after.Statement.{statement}
+use Rattle.walkers.proofs.rows.judgments_after.Tie as tie
 
 returns : tie.Need-returns
 returns c = one-judgment _ _ (c .match .keys1)
