@@ -247,7 +247,7 @@ abbrev pub Ends : List ℕ → Type 0
 Ends [] = Unit {0}
 Ends (w ∷ ws) = kindOf w < 64
 
-abbrev low : ℕ → Bool
+abbrev pub low : ℕ → Bool
 low k = ltb k 64
 
 nodes-end : (ws : List ℕ) → Ends ws → nodesIn ws ≡ 0

@@ -18,7 +18,7 @@ use Rattle.pack.specs.Tree as trees
 use Rattle.nodes.specs.declared.direction.Direction.{Direction}
 use Rattle.nodes.specs.declared.direction.Direction.the-variants.{Turned, Open}
 use Rattle.nodes.specs.Tables.{Derived, Tables}
-use Rattle.nodes.specs.Direction.{bearing, orElse, kindOrZero, matched, towards, turn, Membership, all, eachOnce, between, tested}
+use Rattle.nodes.specs.Direction.{bearing, orElse, kindOrZero, matched, towards, turn, Membership, all, eachOnce, tested}
 use Rattle.nodes.specs.Direction as direction
 use Rattle.nodes.specs.Turning.{Outcome, done, refused, andThen, mapDone, Citing, Fields, currentOf, relatedOf, withSlots, valueOfNode, Step, goes, stops, aggregate, allowedInput, onlyRelated, membershipTest, stepBy, size, sizes, atNode, resolveTree, resolveForest}
 use Rattle.inputs.specs.Blocks.{inputIn}

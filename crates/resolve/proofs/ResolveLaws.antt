@@ -1,5 +1,5 @@
 -- What Resolve answers and leaves, from its steps.
-use Prim.Native.Nat.{ℕ, _+_, _-_, _<_, _≤_}
+use Prim.Native.Nat.{ℕ, _-_, _<_, _≤_}
 use native.Mathlib.Omega.{arith}
 use mathlib.Core.Path.{_≡_, refl, ap, sym, _∙_, subst}
 use mathlib.Core.List.{List, [], _∷_, map}
@@ -21,7 +21,7 @@ use Rattle.chains.specs.Kinds.{find, kindsOf, allKinds}
 use Rattle.chains.specs.Places.{firstRelation, startOf}
 use Rattle.chains.specs.Answers.{Answered}
 use Rattle.chains.specs.AllKinds.{IsPack, Counted, RulesAt}
-use Rattle.chains.proofs.CheckedLaws.{same-pack, short-checked, few-counted}
+use Rattle.chains.proofs.CheckedLaws.{same-pack, few-counted}
 use Rattle.chains.proofs.PackIndex.{parts, find-name, find-kept}
 use Rattle.nodes.specs.Tables.{Tables, derivedAt, tables}
 use Rattle.nodes.specs.Turning.{Outcome, done, refused, andThen, mapDone}

@@ -21,7 +21,7 @@ use Rattle.nodes.proofs.KeepsForm.{Good}
 use Rattle.nodes.proofs.ResolvedFine.{Same, tail-of, with-tail, relation-good}
 use Rattle.trees.proofs.RunLaws.{RunPairs}
 use Rattle.trees.proofs.RelationLaws.{relation-long}
-use Rattle.stamping.proofs.RoleLaws.{Ends}
+use Rattle.chains.proofs.RecordLaws.{Ends}
 use Rattle.stamping.proofs.StampLaws.{stamped-by}
 
 -- ---- relations after their trees are resolved

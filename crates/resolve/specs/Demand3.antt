@@ -13,7 +13,7 @@ use Rattle.chains.specs.Kinds.{list21, listOf, undeclaredSources, kindsOf}
 use Rattle.chains.specs.Places.{namesAt}
 use Rattle.kinds.specs.Operations.{allKindsAnswer, allKindsBuffer}
 use Rattle.nodes.specs.Tables.{Derived, tables}
-use Rattle.nodes.specs.Turning.{Outcome, done, InRange, result}
+use Rattle.nodes.specs.Turning.{done, InRange, result}
 use Rattle.nodes.specs.Resolving.{resolveRule, resolveRelation, stamp, resolved}
 use Rattle.resolve.specs.Operations.{resolveAnswer, resolveBuffer}
 

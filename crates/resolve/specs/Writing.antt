@@ -7,7 +7,7 @@ use lib.ListN.{length, take, drop}
 use lib.Dec.{eqb}
 use Rattle.pack.specs.Table.{pick, wordOf}
 use Rattle.pack.specs.Pack.{Relation, Pack, WellFormed, words}
-use Rattle.chains.specs.Places.{relationWords, firstRelation}
+use Rattle.chains.specs.Places.{firstRelation}
 use Rattle.chains.specs.Record.{kindCount}
 use Rattle.trees.specs.Passes.{placesFrom}
 use Rattle.stamping.specs.Stamping.{StampedBy}

@@ -9,8 +9,6 @@ use pack::answer::Refusal;
 use pack::kinds::Pack;
 use trees::trees::fill_tables;
 use trees::trees::trees;
-ghost use mathlib.Core.Path.{_≡_};
-ghost use Rattle.chains.specs.AllKinds.{IsPack};
 ghost use Rattle.chains.specs.Answers.{Answered};
 ghost use Rattle.resolve.specs.Operations.{resolveAnswer, resolveBuffer};
 ghost use Rattle.trees.specs.Passes.{TreesAsked};

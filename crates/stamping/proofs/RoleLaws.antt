@@ -12,11 +12,12 @@ use borrow.Author.Tests.{lt-leb, le-leb, ltb-false}
 use Rattle.pack.specs.Table.{pick, kindOf, valueOf}
 use Rattle.pack.specs.Form.{Fine}
 use Rattle.pack.specs.Tree.{Tree, tree}
+use Rattle.chains.proofs.RecordLaws.{Ends, low}
 use Rattle.chains.proofs.Hushed.{Quiet}
 use Rattle.nodes.specs.Turning.{treeWords}
 use Rattle.nodes.specs.Resolving.{holds, roleJudgment}
 use Rattle.stamping.specs.Stamping.{roleAmong, roleIn}
-use Rattle.nodes.proofs.HeldWords.{OfNodes, low, tree-nodes, found, tree-found}
+use Rattle.nodes.proofs.HeldWords.{OfNodes, tree-nodes, found, tree-found}
 
 -- ---- one word
 
@@ -66,11 +67,6 @@ roles-of-nodes = record { low = λ k v h. below k (omega arith); fields = λ k v
   where
     below : (k : ℕ) → k < 102 → (leb 102 k && leb k 104) ≡ false
     below k h = rw (lt-leb 102 k h) refl
-
--- the words after a tree: none, or one that is no word of a tree
-abbrev pub Ends : List ℕ → Type 0
-Ends [] = Unit {0}
-Ends (w ∷ ws) = kindOf w < 64
 
 role-ends : (ws : List ℕ) → Ends ws → roleAmong ws ≡ false
 unfolding roleAmong

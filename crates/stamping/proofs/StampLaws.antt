@@ -1,29 +1,27 @@
 -- The list that the code finds for a relation is the one that stamping puts there.
-use Prim.Native.Nat.{ℕ, zero, suc, _+_, _-_, _%_, _<_, _≤_}
+use Prim.Native.Nat.{ℕ, zero, suc, _-_, _%_, _<_, _≤_}
 use native.Mathlib.Omega.{arith}
 use mathlib.Core.Path.{_≡_, refl, ap, _∙_}
-use mathlib.Core.List.{List, [], _∷_, _++_}
+use mathlib.Core.List.{List, [], _∷_}
 use mathlib.Core.Bool.{Bool, true, false, _||_, _&&_}
 use mathlib.Core.Option.{Option, none, some}
 use lib.ListN.{length, getD}
 use lib.Dec.{eqb}
 use borrow.Author.Tests.{ne-eqb}
-use Rattle.pack.specs.Table.{pick, wordOf, judgment}
-use Rattle.pack.specs.Form.{wordsBy, Fine}
-use Rattle.pack.specs.Tree.{tree, root}
-use Rattle.pack.specs.Pack.{Derivation, Relation, Pack, newName, relation, derivation, member, relationTail}
+use Rattle.pack.specs.Table.{pick, judgment}
+use Rattle.pack.specs.Form.{wordsBy}
+use Rattle.pack.specs.Pack.{Derivation, Relation, Pack, newName, relation, derivation}
 use Rattle.chains.specs.Kinds.{kindsOf}
 use Rattle.filtered.specs.Filtered.{kindAt}
 use Rattle.chains.specs.Places.{namesAt}
 use Rattle.chains.proofs.RelationScan.{kept}
 use Rattle.chains.proofs.ListAt.{InWords}
-use Rattle.nodes.specs.Turning.{treeWords}
 use Rattle.nodes.specs.Resolving.{holds, roleJudgment, atomNames, empty, unlike, stampedWith, stampBy, stampDerived, stamp}
-use Rattle.chains.specs.Record.{slotsPlace, entityCount, predicateAt}
+use Rattle.chains.specs.Record.{predicateAt}
 use Rattle.stamping.specs.Stamping.{StampedBy, as-it-is, with-kinds, roleIn, unstamped, passedIn, unlikeIn, nameAt, listFor}
-use Rattle.chains.proofs.RecordLaws.{value-there, counted, no-flag, a-flag, current-there, related-there, entities-there, its-fine, predicate-there}
+use Rattle.chains.proofs.RecordLaws.{Ends, value-there, counted, no-flag, a-flag, current-there, related-there, entities-there, its-fine, predicate-there}
 use Rattle.nodes.proofs.PredicateLaws.{front, predicate-open}
-use Rattle.stamping.proofs.RoleLaws.{Ends, role-read}
+use Rattle.stamping.proofs.RoleLaws.{role-read}
 
 -- ---- the predicate of a derivation
 

@@ -23,7 +23,8 @@ use Rattle.nodes.specs.Direction.{Membership}
 use Rattle.nodes.specs.Turning.{done, mapDone, Citing, Fields, Step, goes, stops, stepBy, treeWords, atNode, resolveTree, resolveForest, size}
 use Rattle.nodes.specs.Resolving.{holds, held}
 use Rattle.nodes.proofs.TreeWords.{tree-words}
-use Rattle.nodes.proofs.HeldWords.{OfNodes, low, tree-nodes, found, tree-found}
+use Rattle.chains.proofs.RecordLaws.{low}
+use Rattle.nodes.proofs.HeldWords.{OfNodes, tree-nodes, found, tree-found}
 use Rattle.trees.specs.Quiet.{slotted, quietFrom, quietEnd}
 
 -- ---- one kind

@@ -1,22 +1,21 @@
 -- What the passes over rules and relations promise each other: each record is resolved where it stands in the words.
 use Prim.Native.Nat.{ℕ, _+_, _-_, _<_, _≤_}
 use mathlib.Core.Path.{_≡_}
-use mathlib.Core.List.{List, [], _∷_, _++_, map}
+use mathlib.Core.List.{List, [], _∷_, _++_}
 use mathlib.Core.Bool.{Bool, true}
-use mathlib.Core.Option.{none, some}
 use lib.ListN.{length, getD}
 use Rattle.pack.specs.declared.answer.Answer.{Answer}
 use Rattle.pack.specs.declared.answer.Answer.the-variants.{Given, Refused}
 use Rattle.pack.specs.Table.{wordOf}
 use Rattle.pack.specs.Form.{among, Fine}
 use Rattle.pack.specs.Pack.{Relation, Body, Rule, Pack, yes, read, words, body, rule, relation}
-use Rattle.chains.specs.Kinds.{declared, kindsOf, allKinds}
+use Rattle.chains.specs.Kinds.{declared, kindsOf}
 use Rattle.chains.specs.Places.{relationWords, firstRelation, namesAt}
 use Rattle.chains.specs.AllKinds.{IsPack, Noted, RulesAt, KindsMarked}
 use Rattle.filtered.specs.Taking.{Known}
 use Rattle.nodes.specs.Turning.{Outcome, done, refused, andThen, mapDone, treeWords}
 use Rattle.nodes.specs.Tables.{tables}
-use Rattle.nodes.specs.Resolving.{defaultedEqual, equalRefusal, cites, resolveBody, ruleWords, resolveRule, resolveRules, resolveRelation, resolveRelations, stamp, firstRule}
+use Rattle.nodes.specs.Resolving.{cites, resolveBody, ruleWords, resolveRule, resolveRules, resolveRelation, resolveRelations, firstRule}
 use Rattle.chains.specs.Record.{nodesIn, Recorded}
 use Rattle.nodes.specs.Walk.{citingIn, refusalCode}
 

@@ -1,7 +1,6 @@
 -- `nodes::slots::only_node` meets its contract.
 use native.Mathlib.Omega.{arith}
 use lib.ListN.{length-set}
-use Rattle.nodes.proofs.SlotLaws.{three-words}
 use Rattle.nodes.proofs.OnlyWords.{stepped-open, stepped-allowed, stepped-refused, as-long}
 use borrow.Author.Needs.{needs}
 use Rattle.nodes.proofs.slots.only_node.Statement.{statement}

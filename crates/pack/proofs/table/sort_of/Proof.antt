@@ -1,5 +1,4 @@
 -- `pack::table::sort_of` meets its contract.
-use native.Mathlib.Omega.{arith}
 use mathlib.Core.Path.{ap}
 use borrow.Author.Needs.{needs}
 use Rattle.pack.specs.declared.table.Entry.{Entry}
