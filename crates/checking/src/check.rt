@@ -5,7 +5,7 @@ use pack::cursor::Step;
 use pack::kinds::Pack;
 use pack::table::Rule;
 use pack::table::table;
-use records::record::records;
+use records::all::records;
 ghost use mathlib.Core.Path.{_≡_};
 ghost use Prim.Native.Nat.{_≤_};
 ghost use lib.ListN.{length};
