@@ -5,8 +5,8 @@ use lib.ListN.{length}
 use Rattle.pack.specs.Table.{entryOf}
 use Rattle.pack.specs.Tree.{Tree, Forest, node, more}
 use Rattle.pack.specs.Tree as trees
-use Rattle.nodes.specs.Direction.{Membership}
-use Rattle.nodes.specs.Turning.{Outcome, done, refused, andThen, mapDone, Citing, Fields, Step, goes, stops, stepBy, size, atNode, resolveTree, resolveForest}
+use Rattle.directions.specs.Direction.{Membership}
+use Rattle.directions.specs.Turning.{Outcome, done, refused, andThen, mapDone, Citing, Fields, Step, goes, stops, stepBy, size, atNode, resolveTree, resolveForest}
 
 abbrev pub NamedBy : {A : Type 0} → ℕ → Outcome A → Type 0
 NamedBy n (done a) = Unit {0}

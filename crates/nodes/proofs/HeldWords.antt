@@ -18,8 +18,8 @@ use Rattle.pack.specs.Pack.{Relation, Body, Pack, WellFormed, newName, nameList
 use Rattle.chains.specs.Reach.{any}
 use Rattle.chains.proofs.RecordLaws.{low}
 use Rattle.chains.proofs.Hushed.{Quiet, quiet-word, kind-word, Hushed, field-hushed, then-hushed, via-hushed, counted-hushed, tree-hushed}
-use Rattle.nodes.specs.Turning.{Fields, fieldWords, treeWords, forestWords}
-use Rattle.nodes.specs.Resolving.{holds, held, inDerivation, inRule}
+use Rattle.directions.specs.Turning.{Fields, fieldWords, treeWords, forestWords}
+use Rattle.directions.specs.Resolving.{holds, held, inDerivation, inRule}
 use Rattle.nodes.proofs.KeepsForm.{FieldsFine, open-node, no-level}
 use Rattle.nodes.proofs.TreeWords.{tree-words}
 

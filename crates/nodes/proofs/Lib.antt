@@ -2,13 +2,8 @@ pub mod Numbers
 pub mod KeepsForm
 pub mod NodeLaws
 pub mod ResolvedFine
-pub mod WordLaws
-pub mod TablesLaws
-pub mod CheckedTables
 pub mod TreeWords
 pub mod SlotLaws
-pub mod EqualLaws
-pub mod DefaultedLaws
 pub mod OnlyWords
 pub mod WalkLaws
 pub mod ShapeLaws

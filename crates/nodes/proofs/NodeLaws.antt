@@ -13,11 +13,11 @@ use Rattle.pack.specs.Table.{pick, kindOf, valueOf, wordOf, entryOf, childrenOf
 use Rattle.pack.specs.Form.{Fine}
 use Rattle.pack.specs.Tree.{Tree, Forest, node, tree}
 use Rattle.pack.specs.Tree as trees
-use Rattle.nodes.specs.declared.direction.Direction.{Direction}
-use Rattle.nodes.specs.declared.direction.Direction.the-variants.{Turned, Open}
-use Rattle.nodes.specs.Direction.{turn, Membership}
-use Rattle.nodes.specs.Direction as direction
-use Rattle.nodes.specs.Turning.{Citing, Fields, stops, currentOf, relatedOf, withSlots, valueOfNode, allowedInput, onlyRelated, membershipTest, stepBy, fieldWords, treeWords, forestWords, size, resolveTree}
+use Rattle.directions.specs.declared.direction.Direction.{Direction}
+use Rattle.directions.specs.declared.direction.Direction.the-variants.{Turned, Open}
+use Rattle.directions.specs.Direction.{turn, Membership}
+use Rattle.directions.specs.Direction as direction
+use Rattle.directions.specs.Turning.{Citing, Fields, stops, currentOf, relatedOf, withSlots, valueOfNode, allowedInput, onlyRelated, membershipTest, stepBy, fieldWords, treeWords, forestWords, size, resolveTree}
 use Rattle.nodes.specs.Walk.{SlotNode, Stepped, stepCode, fieldsAfter, AnyFields, ValueFirst, MemberStepped, OnlyStepped, Came, Walked, RowFine, NodeAsked, TurnAsked, OnlyAsked, TwoSlots, MemberWalked, OnlyWalked}
 use Rattle.nodes.proofs.KeepsForm.{FieldsFine, open-node, no-level}
 use Rattle.nodes.proofs.ShapeLaws.{slot-node, SlotForm, member-form, only-form, head-fine, SlotTree, slot-tree}

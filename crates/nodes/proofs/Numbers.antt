@@ -16,14 +16,14 @@ use Rattle.pack.specs.Tree as trees
 use Rattle.pack.specs.Pack.{Item, Block, Derivation, Relation, Body, Rule, Pack}
 use Rattle.chains.specs.Reach.{any}
 use Rattle.chains.specs.Places.{relationWords, firstRelation}
-use Rattle.nodes.specs.Direction.{Membership, turn}
-use Rattle.nodes.specs.Direction as direction
+use Rattle.directions.specs.Direction.{Membership, turn}
+use Rattle.directions.specs.Direction as direction
 use Rattle.inputs.specs.Inputs.{ofOrigin, noSequence, declarations, owned, input}
-use Rattle.nodes.specs.Turning.{Outcome, done, refused, andThen, mapDone, Citing, Fields, currentOf, relatedOf, withSlots, valueOfNode, Step, goes, stops, aggregate, allowedInput, onlyRelated, membershipTest, stepBy, size, atNode, resolveTree, resolveForest, InRange}
-use Rattle.nodes.specs.declared.direction.Direction.{Direction}
-use Rattle.nodes.specs.declared.direction.Direction.the-variants.{Turned, Open}
-use Rattle.nodes.specs.Tables.{tables}
-use Rattle.nodes.specs.Resolving.{cites, predicatePlace, withPredicate, resolveBody, resolveBodies, bodySize, ruleBy, resolveRule, ruleWords, resolveRules, predicateBy, resolvePredicate, resolveDerivation, resolveRelation, resolveRelations, defaultedEqual, equalRefusal, firstRule, resolveRecords, resolved}
+use Rattle.directions.specs.Turning.{Outcome, done, refused, andThen, mapDone, Citing, Fields, currentOf, relatedOf, withSlots, valueOfNode, Step, goes, stops, aggregate, allowedInput, onlyRelated, membershipTest, stepBy, size, atNode, resolveTree, resolveForest, InRange}
+use Rattle.directions.specs.declared.direction.Direction.{Direction}
+use Rattle.directions.specs.declared.direction.Direction.the-variants.{Turned, Open}
+use Rattle.directions.specs.Tables.{tables}
+use Rattle.directions.specs.Resolving.{cites, predicatePlace, withPredicate, resolveBody, resolveBodies, bodySize, ruleBy, resolveRule, ruleWords, resolveRules, predicateBy, resolvePredicate, resolveDerivation, resolveRelation, resolveRelations, defaultedEqual, equalRefusal, firstRule, resolveRecords, resolved}
 
 abbrev pub Numbered : {A : Type 0} → Outcome A → Type 0
 Numbered (done a) = Unit {0}

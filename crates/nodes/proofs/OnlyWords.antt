@@ -9,12 +9,12 @@ use lib.ListN.{length, getD, set}
 use lib.Dec.{eqb}
 use borrow.Author.Tests.{ne-eqb}
 use Rattle.pack.specs.Table.{pick, kindOf, valueOf, wordOf}
-use Rattle.nodes.specs.declared.direction.Direction.{Direction}
-use Rattle.nodes.specs.declared.direction.Direction.the-variants.{Turned, Open}
-use Rattle.nodes.specs.Tables.{Tables}
-use Rattle.nodes.specs.Direction.{turn}
-use Rattle.nodes.specs.Turning.{Fields, stops, allowedInput, onlyRelated, stepBy, fieldWords}
-use Rattle.nodes.specs.Words.{tablesIn}
+use Rattle.directions.specs.declared.direction.Direction.{Direction}
+use Rattle.directions.specs.declared.direction.Direction.the-variants.{Turned, Open}
+use Rattle.directions.specs.Tables.{Tables}
+use Rattle.directions.specs.Direction.{turn}
+use Rattle.directions.specs.Turning.{Fields, stops, allowedInput, onlyRelated, stepBy, fieldWords}
+use Rattle.directions.specs.Words.{tablesIn}
 use Rattle.chains.specs.Record.{valueAt}
 use Rattle.inputs.specs.Blocks.{inputNumber, inputIn, seenBlocks}
 use Rattle.nodes.specs.Walk.{TwoSlots, refusalCode, slotsSet, kindCode, inputCode, onlyCode, onlyNumber, setIfNone, onlySet, OnlyOut, NodeTurned, orNot, citingIn, stepCode, fieldsAfter, SlotNode, ValueFirst, OnlyStepped}

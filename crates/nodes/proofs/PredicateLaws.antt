@@ -8,7 +8,7 @@ use Rattle.pack.specs.Pack.{Derivation, Relation}
 use Rattle.chains.proofs.ListAt.{InWords}
 use Rattle.chains.proofs.RecordLaws as record-laws
 use Rattle.chains.proofs.RecordLaws.{its-fine, before-predicate}
-use Rattle.nodes.specs.Turning.{treeWords}
+use Rattle.directions.specs.Turning.{treeWords}
 use Rattle.nodes.proofs.TreeWords.{tree-words}
 
 module _ (work : List ℕ) (start n : ℕ) (r : Relation) (i : InWords work start n r) (most : n ≤ 4096) (d : Derivation) (e : r .derivation ≡ some d) where

@@ -15,12 +15,12 @@ use Rattle.pack.specs.Table.{pick, table, entryOf, fieldsOf, childrenOf}
 use Rattle.pack.specs.Form.{only, allowedHere, Fine}
 use Rattle.pack.specs.Tree.{Tree, Forest, node, more, lastField, tree}
 use Rattle.pack.specs.Tree as trees
-use Rattle.nodes.specs.declared.direction.Direction.{Direction}
-use Rattle.nodes.specs.declared.direction.Direction.the-variants.{Turned, Open}
-use Rattle.nodes.specs.Tables.{Derived, Tables}
-use Rattle.nodes.specs.Direction.{bearing, orElse, kindOrZero, matched, towards, turn, Membership, all, eachOnce, tested}
-use Rattle.nodes.specs.Direction as direction
-use Rattle.nodes.specs.Turning.{Outcome, done, refused, andThen, mapDone, Citing, Fields, currentOf, relatedOf, withSlots, valueOfNode, Step, goes, stops, aggregate, allowedInput, onlyRelated, membershipTest, stepBy, size, sizes, atNode, resolveTree, resolveForest}
+use Rattle.directions.specs.declared.direction.Direction.{Direction}
+use Rattle.directions.specs.declared.direction.Direction.the-variants.{Turned, Open}
+use Rattle.directions.specs.Tables.{Derived, Tables}
+use Rattle.directions.specs.Direction.{bearing, orElse, kindOrZero, matched, towards, turn, Membership, all, eachOnce, tested}
+use Rattle.directions.specs.Direction as direction
+use Rattle.directions.specs.Turning.{Outcome, done, refused, andThen, mapDone, Citing, Fields, currentOf, relatedOf, withSlots, valueOfNode, Step, goes, stops, aggregate, allowedInput, onlyRelated, membershipTest, stepBy, size, sizes, atNode, resolveTree, resolveForest}
 use Rattle.inputs.specs.Blocks.{inputIn}
 use Rattle.nodes.specs.Walk.{orNot, citingIn, RowFine}
 use Rattle.nodes.proofs.KeepsForm.{FieldsFine, slotted, open-node, no-level}

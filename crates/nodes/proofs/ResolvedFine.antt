@@ -16,9 +16,9 @@ use Rattle.filtered.specs.Filtered.{kindAt}
 use Rattle.chains.specs.Places.{relationWords}
 use Rattle.chains.proofs.RelationScan.{RelationsFine}
 use Rattle.chains.proofs.PackIndex.{parts, find-kept}
-use Rattle.nodes.specs.Tables.{Derived, derivedBy, derivedAt, pair, typedBy, typedAt, tables}
-use Rattle.nodes.specs.Turning.{Citing, resolveTree}
-use Rattle.nodes.specs.Resolving.{cites, resolveBody, resolveBodies, bodySize, ruleBy, resolveRule, ruleWords, resolveRules, predicatePlace, withPredicate, predicateBy, resolvePredicate, resolveDerivation, resolveRelation, resolveRelations, empty, passedOver, unlike, orKinds, withEntities, stampedWith, stampBy, stampDerived, stamp}
+use Rattle.directions.specs.Tables.{Derived, derivedBy, derivedAt, pair, typedBy, typedAt, tables}
+use Rattle.directions.specs.Turning.{Citing, resolveTree}
+use Rattle.directions.specs.Resolving.{cites, resolveBody, resolveBodies, bodySize, ruleBy, resolveRule, ruleWords, resolveRules, predicatePlace, withPredicate, predicateBy, resolvePredicate, resolveDerivation, resolveRelation, resolveRelations, empty, passedOver, unlike, orKinds, withEntities, stampedWith, stampBy, stampDerived, stamp}
 use Rattle.nodes.proofs.KeepsForm.{Good, good-imp, map-good, then-good, TablesFit, tree-good}
 
 -- ---- the tables of a checked pack

@@ -12,7 +12,7 @@ use Rattle.pack.specs.Table.{wordOf, allowed, entryOf, table, fieldsOf, childre
 use Rattle.pack.specs.Form.{word, Fine, allowedHere}
 use Rattle.pack.specs.Tree.{Forest, node, heads, tree, lastField}
 use Rattle.pack.proofs.Listed.{in-range}
-use Rattle.nodes.specs.Turning.{Fields, fieldWords, treeWords, forestWords}
+use Rattle.directions.specs.Turning.{Fields, fieldWords, treeWords, forestWords}
 use Rattle.nodes.specs.Walk.{SlotNode, RowFine}
 use Rattle.nodes.proofs.KeepsForm.{FieldsFine, slotted, only-one, open-node, no-level}
 

@@ -9,11 +9,11 @@ use lib.ListN.{length, getD, set}
 use lib.Dec.{eqb}
 use Rattle.pack.specs.Table.{pick, valueOf, wordOf}
 use Rattle.chains.specs.Places.{namesAt}
-use Rattle.nodes.specs.declared.direction.Direction.{Direction}
-use Rattle.nodes.specs.declared.direction.Direction.the-variants.{Turned, Open}
-use Rattle.nodes.specs.Tables.{Derived, Tables}
-use Rattle.nodes.specs.Direction.{turn}
-use Rattle.nodes.specs.Words.{typedIn, derivedIn, tablesIn}
+use Rattle.directions.specs.declared.direction.Direction.{Direction}
+use Rattle.directions.specs.declared.direction.Direction.the-variants.{Turned, Open}
+use Rattle.directions.specs.Tables.{Derived, Tables}
+use Rattle.directions.specs.Direction.{turn}
+use Rattle.directions.specs.Words.{typedIn, derivedIn, tablesIn}
 use Rattle.chains.specs.Record.{valueAt, kindCount, flagAt, slotsPlace}
 use Rattle.nodes.specs.Walk.{TwoSlots, SlotsFit, SlotsSet, slotsSet, kindCode, NodeTurned}
 use Rattle.nodes.proofs.KeepsForm.{DirectionFits, TablesFit, turn-fits}

@@ -10,11 +10,11 @@ use lib.Dec.{eqb, ltb}
 use Rattle.pack.specs.Table.{pick, valueOf}
 use Rattle.chains.specs.Places.{namesAt}
 use Rattle.filtered.proofs.KindBounds.{Below}
-use Rattle.nodes.specs.declared.direction.Direction.{Direction}
-use Rattle.nodes.specs.declared.direction.Direction.the-variants.{Turned, Open}
-use Rattle.nodes.specs.Tables.{Derived, Tables}
-use Rattle.nodes.specs.Direction.{bearing, orElse, kindOrZero, matched, towards, turn}
-use Rattle.nodes.specs.Words.{typedIn, derivedIn, tablesIn}
+use Rattle.directions.specs.declared.direction.Direction.{Direction}
+use Rattle.directions.specs.declared.direction.Direction.the-variants.{Turned, Open}
+use Rattle.directions.specs.Tables.{Derived, Tables}
+use Rattle.directions.specs.Direction.{bearing, orElse, kindOrZero, matched, towards, turn}
+use Rattle.directions.specs.Words.{typedIn, derivedIn, tablesIn}
 use Rattle.chains.specs.Record.{valueAt, kindCount, flagAt, slotsPlace}
 use Rattle.nodes.proofs.SlotLaws.{value-small}
 

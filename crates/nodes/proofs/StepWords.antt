@@ -10,15 +10,15 @@ use Rattle.pack.specs.Pack.{Pack, yes, read}
 use Rattle.chains.specs.AllKinds.{Noted, KindsMarked}
 use Rattle.filtered.specs.Taking.{Known}
 use lib.ListN.{getD}
-use Rattle.nodes.specs.declared.direction.Direction.{Direction}
-use Rattle.nodes.specs.declared.direction.Direction.the-variants.{Turned, Open}
-use Rattle.nodes.specs.Tables.{Tables, tables}
-use Rattle.nodes.specs.Direction.{Membership, turn}
-use Rattle.nodes.specs.Direction as direction
+use Rattle.directions.specs.declared.direction.Direction.{Direction}
+use Rattle.directions.specs.declared.direction.Direction.the-variants.{Turned, Open}
+use Rattle.directions.specs.Tables.{Tables, tables}
+use Rattle.directions.specs.Direction.{Membership, turn}
+use Rattle.directions.specs.Direction as direction
 use Rattle.inputs.specs.Inputs.{input}
-use Rattle.nodes.specs.Turning.{Citing, Fields, aggregate, membershipTest, stepBy, fieldWords}
-use Rattle.nodes.specs.Resolving.{cites}
-use Rattle.nodes.specs.Words.{tablesIn, MemberTurned}
+use Rattle.directions.specs.Turning.{Citing, Fields, aggregate, membershipTest, stepBy, fieldWords}
+use Rattle.directions.specs.Resolving.{cites}
+use Rattle.directions.specs.Words.{tablesIn, MemberTurned}
 use Rattle.chains.specs.Record.{valueAt}
 use Rattle.inputs.specs.Blocks.{placeOfKind}
 use Rattle.nodes.specs.Walk.{TwoSlots, SlotsFit, SlotsSet, slotsSet, kindCode, testCode, NodeTurned, MemberStepped, orNot, citingIn, stepCode, fieldsAfter, SlotNode, AnyFields, Stepped}
@@ -26,7 +26,7 @@ use Rattle.nodes.proofs.KeepsForm.{member-fits}
 use Rattle.nodes.proofs.SlotLaws.{head-is, current-is, related-is, slots-fit-in, tables-fit-in}
 use Rattle.nodes.proofs.Numbers.{OfInput, input-numbered}
 use Rattle.inputs.proofs.InputRead.{numberOf}
-use Rattle.nodes.proofs.CheckedTables.{tables-are}
+use Rattle.directions.proofs.CheckedTables.{tables-are}
 use Rattle.inputs.proofs.BlocksStand.{reads-inputs}
 
 abbrev pub two-slots : {work : List ℕ} → SlotNode work → TwoSlots work

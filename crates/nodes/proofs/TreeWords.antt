@@ -13,11 +13,11 @@ use Rattle.pack.specs.Table.{pick, wordOf, entryOf, fieldsOf, childrenOf}
 use Rattle.pack.specs.Form.{only, wordsEach, FineEach, word, wordsBy, Fine}
 use Rattle.pack.specs.Tree.{Tree, Forest, node, more, ofForest, lastField, fields, follow, tree}
 use Rattle.pack.specs.Tree as trees
-use Rattle.nodes.specs.declared.direction.Direction.{Direction}
-use Rattle.nodes.specs.declared.direction.Direction.the-variants.{Turned, Open}
-use Rattle.nodes.specs.Direction.{turn, Membership}
-use Rattle.nodes.specs.Direction as direction
-use Rattle.nodes.specs.Turning.{mapDone, Citing, Fields, currentOf, relatedOf, withSlots, valueOfNode, Step, goes, stops, aggregate, allowedInput, onlyRelated, membershipTest, stepBy, fieldWords, treeWords, forestWords, size, sizes, atNode, resolveTree, resolveForest}
+use Rattle.directions.specs.declared.direction.Direction.{Direction}
+use Rattle.directions.specs.declared.direction.Direction.the-variants.{Turned, Open}
+use Rattle.directions.specs.Direction.{turn, Membership}
+use Rattle.directions.specs.Direction as direction
+use Rattle.directions.specs.Turning.{mapDone, Citing, Fields, currentOf, relatedOf, withSlots, valueOfNode, Step, goes, stops, aggregate, allowedInput, onlyRelated, membershipTest, stepBy, fieldWords, treeWords, forestWords, size, sizes, atNode, resolveTree, resolveForest}
 use Rattle.nodes.proofs.KeepsForm.{Good, map-good, then-good, FieldsFine, open-node, no-level}
 
 fields-words : (n : ℕ) (kss : List (List ℕ)) (fs : Fields) → FieldsFine n kss fs → wordsEach (λ ks a. wordsBy (word (only ks) n) a) kss fs ≡ fieldWords fs

@@ -9,8 +9,8 @@ use Rattle.pack.specs.Table.{wordOf, entryOf}
 use Rattle.pack.specs.Form.{Fine}
 use Rattle.pack.specs.Tree.{Tree, Forest, node, more, tree}
 use Rattle.pack.specs.Tree as trees
-use Rattle.nodes.specs.Direction.{Membership}
-use Rattle.nodes.specs.Turning.{Step, atNode, Outcome, done, refused, mapDone, Citing, Fields, goes, stops, stepBy, fieldWords, treeWords, forestWords, size, sizes, resolveTree, resolveForest}
+use Rattle.directions.specs.Direction.{Membership}
+use Rattle.directions.specs.Turning.{Step, atNode, Outcome, done, refused, mapDone, Citing, Fields, goes, stops, stepBy, fieldWords, treeWords, forestWords, size, sizes, resolveTree, resolveForest}
 use Rattle.nodes.specs.Walk.{refusalCode, stepCode, fieldsAfter, Came, Walked, CameRow, RowFine, RowThere, RowWalked}
 use Rattle.nodes.proofs.KeepsForm.{Good}
 use Rattle.nodes.proofs.TreeWords.{size-is, sizes-are, size-kept}

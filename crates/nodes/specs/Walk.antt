@@ -9,12 +9,12 @@ use Rattle.pack.specs.declared.table.Follows.the-variants.{OnlyRelated, Slots}
 use Rattle.pack.specs.Table.{pick, kindOf, valueOf, wordOf}
 use Rattle.pack.specs.Form.{FineEach, Fine}
 use Rattle.pack.specs.Tree.{Tree, Forest, ofForest, tree}
-use Rattle.nodes.specs.declared.direction.Direction.{Direction}
-use Rattle.nodes.specs.declared.direction.Direction.the-variants.{Turned, Open}
-use Rattle.nodes.specs.Tables.{Tables}
-use Rattle.nodes.specs.Direction.{turn, Membership}
-use Rattle.nodes.specs.Turning.{Outcome, done, refused, Citing, Fields, Step, goes, stops, stepBy, fieldWords, treeWords, forestWords, size, sizes, resolveTree, resolveForest}
-use Rattle.nodes.specs.Words.{tablesIn}
+use Rattle.directions.specs.declared.direction.Direction.{Direction}
+use Rattle.directions.specs.declared.direction.Direction.the-variants.{Turned, Open}
+use Rattle.directions.specs.Tables.{Tables}
+use Rattle.directions.specs.Direction.{turn, Membership}
+use Rattle.directions.specs.Turning.{Outcome, done, refused, Citing, Fields, Step, goes, stops, stepBy, fieldWords, treeWords, forestWords, size, sizes, resolveTree, resolveForest}
+use Rattle.directions.specs.Words.{tablesIn}
 use Rattle.chains.specs.Record.{Recorded}
 use Rattle.inputs.specs.Blocks.{inputIn}
 

@@ -3,7 +3,7 @@ use crate::slots::member_node;
 use crate::slots::only_node;
 use pack::kinds::Pack;
 ghost use Prim.Native.Nat.{_<_, _≤_};
-ghost use Rattle.nodes.specs.Words.{membershipIn};
+ghost use Rattle.directions.specs.Words.{membershipIn};
 ghost use Rattle.nodes.specs.Walk.{NodeAsked, MemberWalked, OnlyWalked};
 
 // The blocks and the origin of the citing rule or relation: where the first block stands and how many they are.

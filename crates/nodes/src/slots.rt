@@ -1,12 +1,12 @@
 // The slots of a node that stands at the front of a slice.
-use crate::direction::Direction;
-use crate::direction::member;
-use crate::direction::turn;
+use directions::direction::Direction;
+use directions::direction::member;
+use directions::direction::turn;
 use inputs::inputs::input;
 use pack::kinds::Pack;
 ghost use mathlib.Core.Path.{_≡_};
 ghost use Prim.Native.Nat.{_<_, _≤_};
-ghost use Rattle.nodes.specs.Words.{tablesIn, membershipIn};
+ghost use Rattle.directions.specs.Words.{tablesIn, membershipIn};
 ghost use Rattle.inputs.specs.Blocks.{inputIn};
 ghost use Rattle.nodes.specs.Walk.{TwoSlots, SlotsFit, SlotsSet, refusalCode, kindCode, testCode, TurnAsked, NodeTurned, MemberStepped, onlyNumber, OnlyAsked, OnlyStepped};
 

@@ -29,8 +29,8 @@ use Rattle.chains.proofs.KindLaws.{kinds-steps, distinct-names}
 use Rattle.chains.proofs.PackIndex.{parts}
 use Rattle.chains.proofs.PlaceBounds.{end-small}
 use Rattle.chains.proofs.ListAt.{own-holds}
-use Rattle.nodes.specs.Turning.{Outcome, done, refused}
-use Rattle.nodes.specs.Resolving.{resolved}
+use Rattle.directions.specs.Turning.{Outcome, done, refused}
+use Rattle.directions.specs.Resolving.{resolved}
 use Rattle.resolve.specs.Operations.{givenOut, resolveAnswer}
 use Rattle.nodes.proofs.Numbers.{refused-number}
 use Rattle.resolve.proofs.RefusalNames.{Told, resolved-told}

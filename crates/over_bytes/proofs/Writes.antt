@@ -21,8 +21,8 @@ use Rattle.filtered.specs.FilteredTables.{says, filterWords, filterAnswer, filt
 use Rattle.filtered.specs.declared.filtered.Filter.{Filter}
 use Rattle.chains.proofs.PackIndex.{parts}
 use Rattle.chains.proofs.FillLaws.{table-length}
-use Rattle.nodes.specs.Turning.{Outcome, done, refused}
-use Rattle.nodes.specs.Resolving.{resolved}
+use Rattle.directions.specs.Turning.{Outcome, done, refused}
+use Rattle.directions.specs.Resolving.{resolved}
 use Rattle.resolve.specs.Operations.{givenOut, writtenOut, resolveAnswer, resolveBuffer}
 use Rattle.wire.specs.Bytes.{notWords, outAfter}
 use Rattle.wire.proofs.Room.{Within, Writes, leb-min, leb-more, tested-more, tested-own, after-refusal}

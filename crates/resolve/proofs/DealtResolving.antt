@@ -17,9 +17,9 @@ use Rattle.chains.specs.Places.{firstRelation}
 use Rattle.chains.proofs.Names.{shuffled-any, shuffled-map}
 use Rattle.chains.proofs.KindLaws.{kinds-dealt, distinct-names}
 use Rattle.filtered.proofs.FilteredLaws.{filtered-dealt}
-use Rattle.nodes.specs.Tables.{derivedAt, typedAt, Tables, tables}
-use Rattle.nodes.specs.Turning.{Outcome, done, refused, andThen, mapDone, Citing, InRange, result}
-use Rattle.nodes.specs.Resolving.{cites, defaultedEqual, equalRefusal, ruleBy, resolveRule, resolveRules, predicateBy, withPredicate, resolveDerivation, resolveRelation, resolveRelations, holds, roleJudgment, atomOf, inDerivation, inRule, atomNames, empty, stampBy, stampDerived, stamp, firstRule, resolveRecords, resolved}
+use Rattle.directions.specs.Tables.{derivedAt, typedAt, Tables, tables}
+use Rattle.directions.specs.Turning.{Outcome, done, refused, andThen, mapDone, Citing, InRange, result}
+use Rattle.directions.specs.Resolving.{cites, defaultedEqual, equalRefusal, ruleBy, resolveRule, resolveRules, predicateBy, withPredicate, resolveDerivation, resolveRelation, resolveRelations, holds, roleJudgment, atomOf, inDerivation, inRule, atomNames, empty, stampBy, stampDerived, stamp, firstRule, resolveRecords, resolved}
 use Rattle.resolve.proofs.OutcomeLaws.{result-map, allDone, Alike, all-dealt}
 use Rattle.resolve.proofs.PlaceFree.{rules-each, relations-each}
 use Rattle.nodes.proofs.Numbers.{Numbered, rules-numbered, relations-numbered}

@@ -22,9 +22,9 @@ use Rattle.kinds.specs.Operations.{allKindsBuffer}
 use Rattle.chains.proofs.KindLaws.{kinds-dealt, distinct-names, words-own, words-count, kinds-steps}
 use Rattle.chains.proofs.ListAt.{place-holds}
 use Rattle.resolve.proofs.DealtChains.{all-kinds-steps, chains-dealt}
-use Rattle.nodes.specs.Tables.{Derived, derivedBy, derivedAt, tables}
-use Rattle.nodes.specs.Turning.{Outcome, done, refused, andThen, mapDone, result}
-use Rattle.nodes.specs.Resolving.{defaultedEqual, equalRefusal, resolveRules, resolveRelation, resolveRelations, empty, unlike, passedOver, stampedWith, stampBy, stampDerived, stamp, firstRule, resolveRecords, resolved}
+use Rattle.directions.specs.Tables.{Derived, derivedBy, derivedAt, tables}
+use Rattle.directions.specs.Turning.{Outcome, done, refused, andThen, mapDone, result}
+use Rattle.directions.specs.Resolving.{defaultedEqual, equalRefusal, resolveRules, resolveRelation, resolveRelations, empty, unlike, passedOver, stampedWith, stampBy, stampDerived, stamp, firstRule, resolveRecords, resolved}
 use Rattle.resolve.specs.Operations.{givenOut, writtenOut, resolveAnswer, resolveBuffer}
 use Rattle.resolve.specs.Demand3.{AnswersAlike, bothGiven, bothEqual, bothRoom, bothOpen, BuffersAlike, untouched, written, ruleOut, Each, nil, cons, ComesOut, KindsWritten, no-more, one-more, KindsUsed, stepSum, Demand3}
 use Rattle.resolve.proofs.OutcomeLaws.{bound, allDone}

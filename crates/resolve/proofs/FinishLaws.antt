@@ -21,8 +21,8 @@ use Rattle.chains.specs.Places.{relationWords, firstRelation}
 use Rattle.chains.proofs.RelationScan.{RelationsFine}
 use Rattle.chains.proofs.PackIndex.{parts, zeros}
 use Rattle.chains.proofs.CheckedLaws.{same-pack}
-use Rattle.nodes.specs.Turning.{Outcome, done, refused, andThen, mapDone}
-use Rattle.nodes.specs.Resolving.{stamp, ruleWords, resolveRule, resolveRules, resolveRelation, resolveRelations, firstRule}
+use Rattle.directions.specs.Turning.{Outcome, done, refused, andThen, mapDone}
+use Rattle.directions.specs.Resolving.{stamp, ruleWords, resolveRule, resolveRules, resolveRelation, resolveRelations, firstRule}
 use Rattle.chains.specs.Record.{Recorded}
 use Rattle.stamping.specs.Stamping.{atomsIn, listsFor, addedBy, Listed}
 use Rattle.resolve.specs.Writing.{Stamped, WriteAsked, WriteCame}

@@ -10,9 +10,9 @@ use Rattle.pack.specs.Tree as trees
 use Rattle.pack.specs.Pack.{Derivation, Relation, Body, Rule, Pack}
 use Rattle.chains.specs.Kinds.{kindsOf}
 use Rattle.chains.specs.Places.{relationWords}
-use Rattle.nodes.specs.Direction.{Membership}
-use Rattle.nodes.specs.Turning.{Outcome, andThen, mapDone, Citing, Step, goes, stops, stepBy, size, atNode, resolveTree, resolveForest, result}
-use Rattle.nodes.specs.Resolving.{cites, predicatePlace, withPredicate, resolveBody, resolveBodies, bodySize, ruleBy, resolveRule, ruleWords, resolveRules, predicateBy, resolvePredicate, resolveDerivation, resolveRelation, resolveRelations}
+use Rattle.directions.specs.Direction.{Membership}
+use Rattle.directions.specs.Turning.{Outcome, andThen, mapDone, Citing, Step, goes, stops, stepBy, size, atNode, resolveTree, resolveForest, result}
+use Rattle.directions.specs.Resolving.{cites, predicatePlace, withPredicate, resolveBody, resolveBodies, bodySize, ruleBy, resolveRule, ruleWords, resolveRules, predicateBy, resolvePredicate, resolveDerivation, resolveRelation, resolveRelations}
 use Rattle.resolve.proofs.OutcomeLaws.{bound, result-map, result-then, allDone}
 
 -- mapped and bound results of outcomes that have the same result

@@ -18,11 +18,11 @@ use Rattle.chains.specs.Places.{relationWords, startOf, firstRelation}
 use Rattle.filtered.proofs.KindBounds.{Below, BelowAll, tail-below, kinds-below}
 use Rattle.chains.proofs.RelationScan.{kept}
 use Rattle.chains.proofs.PackIndex.{parts, find-name, find-kept, start-within, opening, relationsPart, split, opening-length}
-use Rattle.nodes.specs.Direction.{Membership, kindOrZero, membership}
-use Rattle.nodes.specs.Tables.{Derived, derivedBy, derivedAt, pair, typedBy, typedAt, tables}
-use Rattle.nodes.specs.Turning.{Outcome, done, refused, andThen, mapDone, Citing, treeWords, size, resolveTree}
+use Rattle.directions.specs.Direction.{Membership, kindOrZero, membership}
+use Rattle.directions.specs.Tables.{Derived, derivedBy, derivedAt, pair, typedBy, typedAt, tables}
+use Rattle.directions.specs.Turning.{Outcome, done, refused, andThen, mapDone, Citing, treeWords, size, resolveTree}
 use Rattle.inputs.specs.Inputs.{input}
-use Rattle.nodes.specs.Resolving.{cites, defaultedEqual, equalRefusal, resolveBody, resolveRule, ruleWords, resolveRules, predicatePlace, predicateBy, resolvePredicate, resolveDerivation, resolveRelation, resolveRelations, firstRule, resolveRecords, resolved}
+use Rattle.directions.specs.Resolving.{cites, defaultedEqual, equalRefusal, resolveBody, resolveRule, ruleWords, resolveRules, predicatePlace, predicateBy, resolvePredicate, resolveDerivation, resolveRelation, resolveRelations, firstRule, resolveRecords, resolved}
 use Rattle.trees.specs.Passes.{wordsOf, runBy, All, bodyWords, RelationKeeps}
 use Rattle.nodes.proofs.Numbers.{OfInput, input-numbered}
 use Rattle.nodes.proofs.TreeWords.{size-is}

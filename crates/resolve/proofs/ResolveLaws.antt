@@ -23,16 +23,16 @@ use Rattle.chains.specs.Answers.{Answered}
 use Rattle.chains.specs.AllKinds.{IsPack, Counted, RulesAt}
 use Rattle.chains.proofs.CheckedLaws.{same-pack, few-counted}
 use Rattle.chains.proofs.PackIndex.{parts, find-name, find-kept}
-use Rattle.nodes.specs.Tables.{Tables, derivedAt, tables}
-use Rattle.nodes.specs.Turning.{Outcome, done, refused, andThen, mapDone}
-use Rattle.nodes.specs.Resolving.{equalKinds, defaultedEqual, equalRefusal, resolveRules, resolveRelations, stamp, firstRule, resolveRecords, resolved}
+use Rattle.directions.specs.Tables.{Tables, derivedAt, tables}
+use Rattle.directions.specs.Turning.{Outcome, done, refused, andThen, mapDone}
+use Rattle.directions.specs.Resolving.{equalKinds, defaultedEqual, equalRefusal, resolveRules, resolveRelations, stamp, firstRule, resolveRecords, resolved}
 use Rattle.resolve.specs.Operations.{givenOut, writtenOut, resolveAnswer, resolveBuffer}
-use Rattle.nodes.specs.Words.{derivedBy, tablesIn, firstEqual, DefaultedFit}
+use Rattle.directions.specs.Words.{derivedBy, tablesIn, firstEqual, DefaultedFit}
 use Rattle.chains.specs.Record.{valueAt, Recorded}
 use Rattle.trees.specs.Passes.{withRecords, turned, CameWhole, TreesCame, Tabled, TreesAsked}
 use Rattle.resolve.specs.Finish.{stampAll, unstamped, PackCame, ResolveAsked, FinishAsked, FinishCame}
-use Rattle.nodes.proofs.CheckedTables.{its-records, declared-at, derived-alike}
-use Rattle.nodes.proofs.DefaultedLaws.{orNone, defaulted-fit, first-equal-is}
+use Rattle.directions.proofs.CheckedTables.{its-records, declared-at, derived-alike}
+use Rattle.directions.proofs.DefaultedLaws.{orNone, defaulted-fit, first-equal-is}
 
 given-not-refused : {n x : ℕ} {r : Refusal} → Given n x ≡ Refused r → ⊥
 given-not-refused e = let z : _≡_ {A = ℕ} 0 1 = cc in omega arith

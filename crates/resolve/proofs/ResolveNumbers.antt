@@ -14,9 +14,9 @@ use Rattle.pack.specs.Operations.{answer, noRoom}
 use Rattle.pack.proofs.Refusals.{Within, read-numbers}
 use Rattle.chains.specs.Kinds.{allKinds}
 use Rattle.chains.specs.Places.{firstRelation}
-use Rattle.nodes.specs.Turning.{Outcome, done, refused, andThen, mapDone, InRange}
-use Rattle.nodes.specs.Tables.{tables}
-use Rattle.nodes.specs.Resolving.{resolveRules, resolveRelations, defaultedEqual, equalRefusal, firstRule, resolveRecords, resolved}
+use Rattle.directions.specs.Turning.{Outcome, done, refused, andThen, mapDone, InRange}
+use Rattle.directions.specs.Tables.{tables}
+use Rattle.directions.specs.Resolving.{resolveRules, resolveRelations, defaultedEqual, equalRefusal, firstRule, resolveRecords, resolved}
 use Rattle.resolve.specs.Operations.{givenOut, resolveAnswer}
 use Rattle.nodes.proofs.Numbers.{Numbered, rules-numbered, relations-numbered}
 

@@ -10,9 +10,9 @@ use Rattle.pack.specs.Pack.{Relation, Rule, Pack, WellFormed, yes, read, words,
 use Rattle.pack.proofs.PackLaws.{read-words}
 use Rattle.chains.specs.Places.{firstRelation}
 use Rattle.chains.proofs.RelationScan.{RelationsFine}
-use Rattle.nodes.specs.Tables.{tables}
-use Rattle.nodes.specs.Turning.{done, refused}
-use Rattle.nodes.specs.Resolving.{defaultedEqual, resolveRules, resolveRelations, equalRefusal, stamp, firstRule, resolveRecords, resolved}
+use Rattle.directions.specs.Tables.{tables}
+use Rattle.directions.specs.Turning.{done, refused}
+use Rattle.directions.specs.Resolving.{defaultedEqual, resolveRules, resolveRelations, equalRefusal, stamp, firstRule, resolveRecords, resolved}
 use Rattle.nodes.proofs.KeepsForm.{Good, map-good, then-good}
 use Rattle.nodes.proofs.ResolvedFine.{RulesFine, rules-good, relations-good}
 

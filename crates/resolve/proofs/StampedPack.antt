@@ -11,8 +11,8 @@ use Rattle.pack.specs.Pack.{Relation, Pack, WellFormed, yes, read, newName, rel
 use Rattle.chains.specs.Kinds.{declared, kindsOf}
 use Rattle.chains.specs.Places.{relationWords, namesAt}
 use Rattle.chains.proofs.RelationScan.{RelationsFine, kept}
-use Rattle.nodes.specs.Turning.{done}
-use Rattle.nodes.specs.Resolving.{atomNames, stamp, resolveRelation}
+use Rattle.directions.specs.Turning.{done}
+use Rattle.directions.specs.Resolving.{atomNames, stamp, resolveRelation}
 use Rattle.stamping.specs.Stamping.{StampedBy, listFor, listsFor}
 use Rattle.resolve.specs.Writing.{Stamped, no-more, one-more}
 use Rattle.trees.specs.Passes.{placesFrom}

@@ -13,12 +13,12 @@ use Rattle.chains.specs.Kinds.{find, kindStep, kindsOf}
 use Rattle.filtered.specs.Filtered.{taken, direct}
 use Rattle.chains.specs.Places.{startOf}
 use Rattle.filtered.proofs.Worked.{Worked, worked}
-use Rattle.nodes.specs.Tables.{tables}
-use Rattle.nodes.specs.Direction.{turn}
-use Rattle.nodes.specs.Direction as direction
+use Rattle.directions.specs.Tables.{tables}
+use Rattle.directions.specs.Direction.{turn}
+use Rattle.directions.specs.Direction as direction
 use Rattle.inputs.specs.Inputs.{input}
-use Rattle.nodes.specs.Turning.{Outcome, done, refused, stepBy, size, resolveTree}
-use Rattle.nodes.specs.Resolving.{defaultedEqual, resolveBodies, ruleBy, resolveRules, predicateBy, resolveRelation, resolveRelations, holds, atomNames, stamp, resolved}
+use Rattle.directions.specs.Turning.{Outcome, done, refused, stepBy, size, resolveTree}
+use Rattle.directions.specs.Resolving.{defaultedEqual, resolveBodies, ruleBy, resolveRules, predicateBy, resolveRelation, resolveRelations, holds, atomNames, stamp, resolved}
 
 -- a relation without derivation, and one of the name 6 that is derived
 abbrev plain : ℕ → List ℕ → Relation

@@ -19,7 +19,7 @@ use Rattle.chains.specs.Places.{namesAt, relationWords}
 use Rattle.chains.proofs.ListAt.{nameWords, list-words, early, late, option-words, InWords}
 use Rattle.chains.proofs.RelationScan.{RelationsFine}
 use Rattle.chains.proofs.PackIndex.{parts}
-use Rattle.nodes.specs.Resolving.{orKinds, withEntities, stampedWith}
+use Rattle.directions.specs.Resolving.{orKinds, withEntities, stampedWith}
 use Rattle.chains.specs.Record.{kindCount, slotsPlace}
 use Rattle.stamping.specs.Stamping.{StampedBy, as-it-is, with-kinds, namesOr, addedFor, addedBy}
 use Rattle.resolve.specs.Writing.{Stamped, no-more, one-more, withRelations, fromTo, listWords, putFor, Put, Room, WriteAsked}

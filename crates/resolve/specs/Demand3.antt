@@ -12,9 +12,9 @@ use Rattle.pack.specs.Dealt.{Checked, Dealt}
 use Rattle.chains.specs.Kinds.{list21, listOf, undeclaredSources, kindsOf}
 use Rattle.chains.specs.Places.{namesAt}
 use Rattle.kinds.specs.Operations.{allKindsAnswer, allKindsBuffer}
-use Rattle.nodes.specs.Tables.{Derived, tables}
-use Rattle.nodes.specs.Turning.{done, InRange, result}
-use Rattle.nodes.specs.Resolving.{resolveRule, resolveRelation, stamp, resolved}
+use Rattle.directions.specs.Tables.{Derived, tables}
+use Rattle.directions.specs.Turning.{done, InRange, result}
+use Rattle.directions.specs.Resolving.{resolveRule, resolveRelation, stamp, resolved}
 use Rattle.resolve.specs.Operations.{resolveAnswer, resolveBuffer}
 
 -- "both resolve or both refuse": with the same length and steps; by 9 with the same name; by 16; or each by one of 10 to 15

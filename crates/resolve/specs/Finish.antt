@@ -9,9 +9,9 @@ use Rattle.pack.specs.declared.answer.Answer.the-variants.{Given}
 use Rattle.pack.specs.Pack.{Pack, yes, read, words}
 use Rattle.chains.specs.Kinds.{allKinds}
 use Rattle.chains.specs.AllKinds.{IsPack}
-use Rattle.nodes.specs.Turning.{Outcome, done, refused}
-use Rattle.nodes.specs.Tables.{tables}
-use Rattle.nodes.specs.Resolving.{defaultedEqual, equalRefusal, stamp}
+use Rattle.directions.specs.Turning.{Outcome, done, refused}
+use Rattle.directions.specs.Tables.{tables}
+use Rattle.directions.specs.Resolving.{defaultedEqual, equalRefusal, stamp}
 use Rattle.resolve.specs.Operations.{givenOut, writtenOut}
 use Rattle.resolve.specs.Writing.{withRelations}
 use Rattle.trees.specs.Passes.{turned, CameWhole, placesIn, Tabled}

@@ -2,7 +2,7 @@
 use crate::finish::finish;
 use chains::header::relation_count;
 use checking::check::check;
-use nodes::equal::first_equal;
+use directions::equal::first_equal;
 use nodes::words::copy;
 use pack::answer::Answer;
 use pack::answer::Refusal;

@@ -14,7 +14,7 @@ use Rattle.pack.specs.Table.{pick, kindOf, valueOf}
 use Rattle.pack.specs.Pack.{Relation, Pack, yes, read}
 use Rattle.pack.proofs.PackLaws.{words-read}
 use Rattle.chains.specs.Reach.{any}
-use Rattle.nodes.specs.Resolving.{atomOf, inDerivation, inRule, atomNames}
+use Rattle.directions.specs.Resolving.{atomOf, inDerivation, inRule, atomNames}
 use Rattle.stamping.specs.Stamping.{atomAfter, atomsIn, NoAtoms}
 use Rattle.nodes.proofs.HeldWords.{OfNodes, found, pack-tells}
 

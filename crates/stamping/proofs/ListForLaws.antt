@@ -15,7 +15,7 @@ use Rattle.filtered.specs.declared.taking.Kind.the-variants as kind
 use Rattle.filtered.specs.Taking.{KindFound}
 use Rattle.chains.specs.Record.{valueAt, kindCount, flagAt, slotsPlace, entityCount, predicateAt}
 use Rattle.stamping.specs.Stamping.{roleIn, unstamped, passedIn, unlikeIn, nameAt, listFor, namesOr, Lists, addedFor, listsFor, addedBy, Listed}
-use Rattle.nodes.proofs.EqualLaws.{is-known, is-unknown}
+use Rattle.directions.proofs.EqualLaws.{is-known, is-unknown}
 
 -- ---- list 21
 

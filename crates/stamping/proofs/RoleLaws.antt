@@ -14,8 +14,8 @@ use Rattle.pack.specs.Form.{Fine}
 use Rattle.pack.specs.Tree.{Tree, tree}
 use Rattle.chains.proofs.RecordLaws.{Ends, low}
 use Rattle.chains.proofs.Hushed.{Quiet}
-use Rattle.nodes.specs.Turning.{treeWords}
-use Rattle.nodes.specs.Resolving.{holds, roleJudgment}
+use Rattle.directions.specs.Turning.{treeWords}
+use Rattle.directions.specs.Resolving.{holds, roleJudgment}
 use Rattle.stamping.specs.Stamping.{roleAmong, roleIn}
 use Rattle.nodes.proofs.HeldWords.{OfNodes, tree-nodes, found, tree-found}
 

@@ -16,7 +16,7 @@ use Rattle.filtered.specs.Filtered.{kindAt}
 use Rattle.chains.specs.Places.{namesAt}
 use Rattle.chains.proofs.RelationScan.{kept}
 use Rattle.chains.proofs.ListAt.{InWords}
-use Rattle.nodes.specs.Resolving.{holds, roleJudgment, atomNames, empty, unlike, stampedWith, stampBy, stampDerived, stamp}
+use Rattle.directions.specs.Resolving.{holds, roleJudgment, atomNames, empty, unlike, stampedWith, stampBy, stampDerived, stamp}
 use Rattle.chains.specs.Record.{predicateAt}
 use Rattle.stamping.specs.Stamping.{StampedBy, as-it-is, with-kinds, roleIn, unstamped, passedIn, unlikeIn, nameAt, listFor}
 use Rattle.chains.proofs.RecordLaws.{Ends, value-there, counted, no-flag, a-flag, current-there, related-there, entities-there, its-fine, predicate-there}

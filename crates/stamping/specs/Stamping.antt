@@ -11,7 +11,7 @@ use Rattle.pack.specs.Pack.{Derivation, Relation}
 use Rattle.filtered.specs.Filtered.{kindAt}
 use Rattle.chains.specs.Places.{namesAt}
 use Rattle.chains.specs.Record.{valueAt, kindCount, flagAt, slotsPlace, entityCount, predicateAt}
-use Rattle.nodes.specs.Resolving.{roleJudgment, unlike, stampedWith}
+use Rattle.directions.specs.Resolving.{roleJudgment, unlike, stampedWith}
 
 pub data StampedBy (ws : List ℕ) (list : ℕ) (r : Relation) : Relation → Type 0 where
   as-it-is : list ≡ 0 → StampedBy ws list r r

@@ -12,7 +12,7 @@ ghost use mathlib.Core.Path.{_≡_};
 ghost use Prim.Native.Nat.{_<_, _≤_};
 ghost use lib.ListN.{length};
 ghost use Rattle.pack.specs.Table.{kindOf, valueOf};
-ghost use Rattle.nodes.specs.Resolving.{roleJudgment};
+ghost use Rattle.directions.specs.Resolving.{roleJudgment};
 ghost use Rattle.chains.specs.Record.{Recorded};
 ghost use Rattle.stamping.specs.Stamping.{roleIn, unstamped, passedIn, unlikeIn, listFor, Lists, addedFor, Listed};
 

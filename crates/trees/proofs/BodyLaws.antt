@@ -15,8 +15,8 @@ use Rattle.pack.specs.Table.{valueOf, wordOf, table, entryOf}
 use Rattle.pack.specs.Form.{Fine, allowedHere}
 use Rattle.pack.specs.Tree.{Tree, root, tree}
 use Rattle.pack.specs.Pack.{Body, body}
-use Rattle.nodes.specs.Turning.{Outcome, done, refused, mapDone, Citing, treeWords, size, resolveTree}
-use Rattle.nodes.specs.Resolving.{resolveBody}
+use Rattle.directions.specs.Turning.{Outcome, done, refused, mapDone, Citing, treeWords, size, resolveTree}
+use Rattle.directions.specs.Resolving.{resolveBody}
 use Rattle.nodes.specs.Walk.{citingIn, TreeAsked, TreeTurned}
 use Rattle.trees.specs.Passes.{RefusedAs, CameAt, AskedFrom, wordsOf, bodyWords, BodyFine, Bodily, BodyCame, BodiesAsked, BodiesCame}
 use Rattle.nodes.proofs.KeepsForm.{Good}

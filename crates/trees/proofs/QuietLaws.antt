@@ -19,9 +19,9 @@ use Rattle.pack.proofs.FormLaws.{lawful}
 use Rattle.pack.proofs.Listed.{in-range}
 use Rattle.chains.specs.Record.{nodesIn}
 use Rattle.chains.proofs.Hushed.{Quiet}
-use Rattle.nodes.specs.Direction.{Membership}
-use Rattle.nodes.specs.Turning.{done, mapDone, Citing, Fields, Step, goes, stops, stepBy, treeWords, atNode, resolveTree, resolveForest, size}
-use Rattle.nodes.specs.Resolving.{holds, held}
+use Rattle.directions.specs.Direction.{Membership}
+use Rattle.directions.specs.Turning.{done, mapDone, Citing, Fields, Step, goes, stops, stepBy, treeWords, atNode, resolveTree, resolveForest, size}
+use Rattle.directions.specs.Resolving.{holds, held}
 use Rattle.nodes.proofs.TreeWords.{tree-words}
 use Rattle.chains.proofs.RecordLaws.{low}
 use Rattle.nodes.proofs.HeldWords.{OfNodes, tree-nodes, found, tree-found}

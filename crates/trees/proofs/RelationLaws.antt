@@ -21,10 +21,10 @@ use Rattle.chains.specs.Places.{relationWords, namesAt}
 use Rattle.chains.proofs.RelationScan.{Kept, kept}
 use Rattle.chains.proofs.ListAt.{nameWords, list-words, path-words, early, late, derived-fine, option-words, InWords}
 use Rattle.chains.proofs.CheckedLaws.{same-pack}
-use Rattle.nodes.specs.Direction.{Membership, membership, orElse, kindOrZero}
-use Rattle.nodes.specs.Turning.{Outcome, done, refused, mapDone, Citing, treeWords, size, resolveTree}
-use Rattle.nodes.specs.Resolving.{cites, predicatePlace, withPredicate, predicateBy, resolvePredicate, resolveDerivation, resolveRelation}
-use Rattle.nodes.specs.Words.{slotKindsIn}
+use Rattle.directions.specs.Direction.{Membership, membership, orElse, kindOrZero}
+use Rattle.directions.specs.Turning.{Outcome, done, refused, mapDone, Citing, treeWords, size, resolveTree}
+use Rattle.directions.specs.Resolving.{cites, predicatePlace, withPredicate, predicateBy, resolvePredicate, resolveDerivation, resolveRelation}
+use Rattle.directions.specs.Words.{slotKindsIn}
 use Rattle.chains.specs.Record.{valueAt, kindCount, flagAt, slotsPlace, predicateAt, nodesIn}
 use Rattle.nodes.specs.Walk.{citingIn, TreeAsked, TreeTurned}
 use Rattle.trees.specs.Quiet.{quietEnd}

@@ -14,8 +14,8 @@ use Rattle.pack.specs.Pack.{Body, Rule, Pack, WellFormed, yes, read, body, bodi
 use Rattle.pack.proofs.PackLaws.{words-read}
 use Rattle.chains.proofs.PackIndex.{parts as packed}
 use Rattle.chains.proofs.CheckedLaws.{same-pack}
-use Rattle.nodes.specs.Turning.{Outcome, done, refused, andThen, mapDone, Citing}
-use Rattle.nodes.specs.Resolving.{cites, resolveBody, resolveBodies, bodySize, ruleBy, resolveRule, ruleWords}
+use Rattle.directions.specs.Turning.{Outcome, done, refused, andThen, mapDone, Citing}
+use Rattle.directions.specs.Resolving.{cites, resolveBody, resolveBodies, bodySize, ruleBy, resolveRule, ruleWords}
 use Rattle.chains.specs.Record.{valueAt}
 use Rattle.nodes.specs.Walk.{citingIn}
 use Rattle.trees.specs.Passes.{CameAt, CameFrom, wordsOf, runBy, All, Many, bodyWords, BodyFine, Bodily, BodiesAsked, BodiesCame, RuleAsked, RuleCame, RulesAsked, RulesCame}

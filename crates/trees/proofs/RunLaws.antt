@@ -7,7 +7,7 @@ use lib.ListN.{length, length-append}
 use Rattle.pack.specs.declared.answer.Answer.{Answer}
 use Rattle.pack.specs.declared.answer.Answer.the-variants.{Given, Refused}
 use Rattle.pack.specs.declared.answer.Refusal.{Refusal}
-use Rattle.nodes.specs.Turning.{Outcome, done, refused, andThen, mapDone}
+use Rattle.directions.specs.Turning.{Outcome, done, refused, andThen, mapDone}
 use Rattle.trees.specs.Passes.{CameAt, CameFrom, AskedFrom, wordsOf, runBy, All, Many}
 
 given-words : {m n x y : ℕ} → Given m x ≡ Given n y → m ≡ n

@@ -9,8 +9,8 @@ use Rattle.pack.specs.declared.answer.Answer.the-variants.{Refused}
 use Rattle.pack.specs.declared.answer.Refusal.{Refusal}
 use Rattle.pack.specs.Form.{Fine}
 use Rattle.pack.specs.Tree.{Tree, tree}
-use Rattle.nodes.specs.Direction.{Membership}
-use Rattle.nodes.specs.Turning.{Outcome, done, refused, Citing, treeWords, size, resolveTree}
+use Rattle.directions.specs.Direction.{Membership}
+use Rattle.directions.specs.Turning.{Outcome, done, refused, Citing, treeWords, size, resolveTree}
 use Rattle.nodes.specs.Walk.{citingIn, Came, TreeAsked, TreeTurned}
 use Rattle.trees.specs.Passes.{RefusedAs, Bodily}
 use Rattle.nodes.proofs.TreeWords.{size-is}

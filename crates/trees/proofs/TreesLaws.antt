@@ -18,14 +18,14 @@ use Rattle.chains.specs.AllKinds.{RulesAt}
 use Rattle.chains.proofs.PackIndex.{parts}
 use Rattle.chains.proofs.ListAt.{place-holds}
 use Rattle.chains.proofs.CheckedLaws.{same-pack}
-use Rattle.nodes.specs.Turning.{Outcome, done, refused, andThen, mapDone}
-use Rattle.nodes.specs.Resolving.{ruleWords, resolveRule, resolveRules, resolveRelation, resolveRelations, firstRule}
+use Rattle.directions.specs.Turning.{Outcome, done, refused, andThen, mapDone}
+use Rattle.directions.specs.Resolving.{ruleWords, resolveRule, resolveRules, resolveRelation, resolveRelations, firstRule}
 use Rattle.chains.specs.Record.{valueAt, nodesIn}
 use Rattle.inputs.specs.Blocks.{placeOfKind}
 use Rattle.nodes.specs.Walk.{citingIn}
 use Rattle.trees.specs.Passes.{CameAt, AskedFrom, wordsOf, runBy, Many, Ready, KindsReady, RelationKeeps, RulesAsked, RulesCame, RelationsAsked, RelationsCame, withRecords, turned, CameWhole, placesIn, TreesCame, Tabled}
 use Rattle.trees.specs.Passes.{placesFrom}
-use Rattle.nodes.proofs.CheckedTables.{its-records}
+use Rattle.directions.proofs.CheckedTables.{its-records}
 use Rattle.nodes.proofs.StepWords.{citing-is}
 use Rattle.chains.proofs.RecordLaws.{value-there}
 use Rattle.inputs.proofs.BlocksStand.{reads-inputs}

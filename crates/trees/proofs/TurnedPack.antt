@@ -14,8 +14,8 @@ use Rattle.chains.specs.Kinds.{declared}
 use Rattle.chains.specs.Places.{relationWords, firstRelation, relationsEnd}
 use Rattle.chains.proofs.RelationScan.{relationsWords, RelationsFine}
 use Rattle.chains.proofs.PackIndex.{parts}
-use Rattle.nodes.specs.Turning.{Outcome, andThen, mapDone}
-use Rattle.nodes.specs.Resolving.{ruleWords, resolveRule, resolveRules, resolveRelation, resolveRelations, firstRule}
+use Rattle.directions.specs.Turning.{Outcome, andThen, mapDone}
+use Rattle.directions.specs.Resolving.{ruleWords, resolveRule, resolveRules, resolveRelation, resolveRelations, firstRule}
 use Rattle.trees.specs.Passes.{wordsOf, runBy, All, Many, RelationKeeps, withRecords}
 use Rattle.inputs.proofs.BlocksStand.{first-kind}
 

@@ -13,9 +13,9 @@ use Rattle.chains.specs.Kinds.{declared, kindsOf}
 use Rattle.chains.specs.Places.{relationWords, firstRelation, namesAt}
 use Rattle.chains.specs.AllKinds.{IsPack, Noted, RulesAt, KindsMarked}
 use Rattle.filtered.specs.Taking.{Known}
-use Rattle.nodes.specs.Turning.{Outcome, done, refused, andThen, mapDone, treeWords}
-use Rattle.nodes.specs.Tables.{tables}
-use Rattle.nodes.specs.Resolving.{cites, resolveBody, ruleWords, resolveRule, resolveRules, resolveRelation, resolveRelations, firstRule}
+use Rattle.directions.specs.Turning.{Outcome, done, refused, andThen, mapDone, treeWords}
+use Rattle.directions.specs.Tables.{tables}
+use Rattle.directions.specs.Resolving.{cites, resolveBody, ruleWords, resolveRule, resolveRules, resolveRelation, resolveRelations, firstRule}
 use Rattle.chains.specs.Record.{nodesIn, Recorded}
 use Rattle.nodes.specs.Walk.{citingIn, refusalCode}
 

@@ -1,5 +1,5 @@
 // The bodies of a rule, resolved where they stand in the words.
-use nodes::direction::Code;
+use directions::direction::Code;
 use nodes::leaves::Cited;
 use pack::answer::Answer;
 use pack::answer::Refusal;

@@ -10,11 +10,11 @@ use Rattle.pack.specs.declared.table.Follows.the-variants.{Aggregate}
 use Rattle.pack.specs.Table.{kindOf, valueOf, wordOf, scalar, judgment, entryOf, childrenOf}
 use Rattle.pack.specs.Form.{Fine}
 use Rattle.pack.specs.Tree.{Tree, Forest, node, tree, lastField}
-use Rattle.nodes.specs.declared.direction.Direction.{Direction}
-use Rattle.nodes.specs.declared.direction.Direction.the-variants.{Turned, Open}
-use Rattle.nodes.specs.Direction.{turn, Membership}
-use Rattle.nodes.specs.Turning.{Citing, Fields, currentOf, relatedOf, Step, goes, aggregate, stepBy, fieldWords, treeWords, forestWords, size, resolveTree}
-use Rattle.nodes.specs.Words.{tablesIn}
+use Rattle.directions.specs.declared.direction.Direction.{Direction}
+use Rattle.directions.specs.declared.direction.Direction.the-variants.{Turned, Open}
+use Rattle.directions.specs.Direction.{turn, Membership}
+use Rattle.directions.specs.Turning.{Citing, Fields, currentOf, relatedOf, Step, goes, aggregate, stepBy, fieldWords, treeWords, forestWords, size, resolveTree}
+use Rattle.directions.specs.Words.{tablesIn}
 use Rattle.nodes.specs.Walk.{NodeTurned, citingIn, stepCode, AnyFields, Stepped, fieldsAfter, Came, RowFine, TurnAsked, TreeAsked, RowAsked, TreeTurned, RowTurned}
 use Rattle.nodes.proofs.KeepsForm.{FieldFine, FieldsFine}
 use Rattle.nodes.proofs.TreeWords.{StepLong, step-long}

@@ -10,8 +10,8 @@ use Rattle.pack.specs.Table.{kindOf, valueOf, entryOf}
 use Rattle.pack.specs.Form.{Fine}
 use Rattle.pack.specs.Tree.{Tree, Forest, node, more, tree}
 use Rattle.pack.specs.Tree as trees
-use Rattle.nodes.specs.Direction.{Membership}
-use Rattle.nodes.specs.Turning.{Outcome, done, refused, andThen, mapDone, Citing, treeWords, forestWords, size, sizes, resolveTree, resolveForest}
+use Rattle.directions.specs.Direction.{Membership}
+use Rattle.directions.specs.Turning.{Outcome, done, refused, andThen, mapDone, Citing, treeWords, forestWords, size, sizes, resolveTree, resolveForest}
 use Rattle.walkers.specs.Rows.{joined, headWords}
 use Rattle.nodes.specs.Walk.{citingIn, Came, Walked, CameRow, RowFine, RowThere, RowWalked, Standing, TreeAsked, RowAsked, TreeTurned, RowTurned}
 use Rattle.nodes.proofs.TreeWords.{sizes-are}

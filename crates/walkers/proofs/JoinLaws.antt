@@ -11,8 +11,8 @@ use Rattle.pack.specs.Table.{pick, kindOf, valueOf, wordOf, entryOf, fieldsOf, 
 use Rattle.pack.specs.Form.{Fine}
 use Rattle.pack.specs.Tree.{Tree, Forest, node, more, heads, lastField, fields, follow, tree}
 use Rattle.pack.specs.Tree as trees
-use Rattle.nodes.specs.Direction.{Membership}
-use Rattle.nodes.specs.Turning.{Outcome, done, refused, andThen, mapDone, Citing, Fields, goes, stepBy, fieldWords, treeWords, forestWords, size, sizes, resolveTree, resolveForest}
+use Rattle.directions.specs.Direction.{Membership}
+use Rattle.directions.specs.Turning.{Outcome, done, refused, andThen, mapDone, Citing, Fields, goes, stepBy, fieldWords, treeWords, forestWords, size, sizes, resolveTree, resolveForest}
 use Rattle.walkers.specs.Rows.{joined, headWords}
 use Rattle.nodes.specs.Walk.{RowFine}
 use Rattle.nodes.proofs.KeepsForm.{open-node, no-level}

@@ -9,8 +9,8 @@ use lib.ListN.{length, getD, replicate}
 use Rattle.pack.specs.Table.{kindOf, valueOf, wordOf, scalar, judgment, entryOf, table, fieldsOf, childrenOf}
 use Rattle.pack.specs.Form.{Fine}
 use Rattle.pack.specs.Tree.{Tree, Forest, node, tree, lastField}
-use Rattle.nodes.specs.Direction.{Membership}
-use Rattle.nodes.specs.Turning.{Citing, Fields, goes, stepBy, fieldWords, treeWords, forestWords, size, resolveTree}
+use Rattle.directions.specs.Direction.{Membership}
+use Rattle.directions.specs.Turning.{Citing, Fields, goes, stepBy, fieldWords, treeWords, forestWords, size, resolveTree}
 use Rattle.nodes.specs.Walk.{citingIn, Came, RowFine, TreeAsked, RowAsked, TreeTurned, RowTurned}
 use Rattle.nodes.proofs.KeepsForm.{FieldsFine, open-node, no-level}
 use Rattle.nodes.proofs.NodeLaws.{headed, fields-count}

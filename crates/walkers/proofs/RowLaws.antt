@@ -11,8 +11,8 @@ use Rattle.pack.specs.declared.table.Follows.{Follows}
 use Rattle.pack.specs.declared.table.Follows.the-variants.{Nothing, Counted, OneScalar, TwoScalars, Scalars, Patterns, Periods, OneJudgment, Judgments, Choice, Aggregate, OnlyRelated, Slots, Atom, Exists}
 use Rattle.pack.specs.Table.{pick, scalar, judgment, entryOf, table, fieldsOf, childrenOf}
 use Rattle.pack.proofs.Listed.{in-range}
-use Rattle.nodes.specs.Direction.{Membership}
-use Rattle.nodes.specs.Turning.{Citing, Fields, goes, stepBy}
+use Rattle.directions.specs.Direction.{Membership}
+use Rattle.directions.specs.Turning.{Citing, Fields, goes, stepBy}
 use Rattle.walkers.specs.Rows.{joined, headWords}
 use Rattle.walkers.proofs.JoinLaws.{Joining}
 

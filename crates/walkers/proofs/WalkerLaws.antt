@@ -11,10 +11,10 @@ use Rattle.pack.specs.Table.{kindOf, valueOf, entryOf, scalar, judgment}
 use Rattle.pack.specs.Form.{Fine}
 use Rattle.pack.specs.Tree.{Tree, node, tree}
 use Rattle.nodes.specs.declared.leaves.Cited.{Cited}
-use Rattle.nodes.specs.declared.direction.Membership as direction
-use Rattle.nodes.specs.Direction.{Membership}
-use Rattle.nodes.specs.Words.{membershipIn}
-use Rattle.nodes.specs.Turning.{Outcome, done, refused, Citing, treeWords, size, sizes, resolveTree}
+use Rattle.directions.specs.declared.direction.Membership as direction
+use Rattle.directions.specs.Direction.{Membership}
+use Rattle.directions.specs.Words.{membershipIn}
+use Rattle.directions.specs.Turning.{Outcome, done, refused, Citing, treeWords, size, sizes, resolveTree}
 use Rattle.walkers.specs.Rows.{joined, headWords}
 use Rattle.nodes.specs.Walk.{citingIn, Came, TreeAsked, NodeAsked, RowAsked, TreeTurned, RowTurned, MemberWalked, OnlyWalked}
 use Rattle.nodes.proofs.KeepsForm.{no-level}

@@ -4,7 +4,7 @@
 use crate::rows::head_words;
 use crate::rows::judgments_after;
 use crate::rows::scalars_after;
-use nodes::direction::Code;
+use directions::direction::Code;
 use nodes::leaves::Cited;
 use nodes::leaves::only_related;
 use nodes::leaves::relation_member;
@@ -16,7 +16,7 @@ ghost use mathlib.Core.Logic.{_⊎_};
 ghost use Prim.Native.Nat.{_<_, _≤_};
 ghost use lib.ListN.{getD};
 ghost use Rattle.pack.specs.Table.{kindOf};
-ghost use Rattle.nodes.specs.Words.{membershipIn};
+ghost use Rattle.directions.specs.Words.{membershipIn};
 ghost use Rattle.nodes.specs.Walk.{TreeAsked, RowAsked, TreeTurned, RowTurned};
 
 // A row of scalars.

@@ -4,7 +4,7 @@ use mathlib.Core.Path.{refl}
 use lib.ListN.{length, getD}
 use borrow.Author.Needs.{needs}
 use Rattle.chains.proofs.FillLaws.{Filling, begin, next}
-use Rattle.nodes.proofs.WordLaws.{copied}
+use Rattle.directions.proofs.WordLaws.{copied}
 use Rattle.nodes.proofs.words.copy.Statement.{statement}
 use Rattle.nodes.proofs.words.copy.Tie as tie
 

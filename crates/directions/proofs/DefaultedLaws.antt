@@ -1,0 +1,103 @@
+-- The first defaulted name with equal kinds is that of a checked pack.
+use Prim.Native.Nat.{ℕ, zero, suc, _+_, _<_, _≤_}
+use native.Mathlib.Omega.{arith}
+use mathlib.Core.Path.{_≡_, refl, ap, sym, _∙_}
+use mathlib.Core.List.{List, [], _∷_, _++_, append-assoc}
+use mathlib.Core.Bool.{Bool, true, false}
+use mathlib.Core.Option.{Option, none, some}
+use lib.ListN.{length, getD, length-append}
+use lib.Seq.{getD-at}
+use borrow.Author.Tests.{ltb-true}
+use Rattle.pack.specs.Table.{pick, valueOf, wordOf, entryOf, table}
+use Rattle.pack.specs.Table as tables
+use Rattle.pack.specs.Form.{Fine, FineAll, wordsAll, wordsBy, allowedHere}
+use Rattle.pack.specs.Pack.{Pack, yes, read, total, defaultedName, above}
+use Rattle.pack.proofs.PackLaws.{words-read}
+use Rattle.chains.proofs.PackIndex.{Parts, parts, split, relationsPart}
+use Rattle.directions.specs.Tables.{Tables}
+use Rattle.directions.specs.Resolving.{equalKinds, defaultedEqual}
+use Rattle.directions.specs.Words.{derivedBy, equalIn, firstEqual, DefaultedFit}
+use Rattle.chains.specs.Record.{valueAt}
+
+-- a name, or the number for none
+abbrev pub orNone : Option ℕ → ℕ
+orNone none = tables.none
+orNone (some n) = n
+
+below-names : (n v : ℕ) → allowedHere n 4 v ≡ true → v < n
+unfolding allowedHere entryOf table
+below-names n v e = ltb-true v n e
+
+module _ (ws : List ℕ) (n : ℕ) (most : n ≤ 4096) where
+  abbrev NamesFine : ℕ → List ℕ → Type 0
+  NamesFine low ns = FineAll above (λ low v. Fine (defaultedName n low) v) low ns
+
+  abbrev nameWords : ℕ → List ℕ → List ℕ
+  nameWords low ns = wordsAll above (λ low v. wordsBy (defaultedName n low) v) low ns
+
+  name-at : (front rest : List ℕ) (v at : ℕ) → v < 16777216 → at ≡ length front → ws ≡ front ++ (wordOf 4 v ∷ rest) → valueAt ws at ≡ v
+  unfolding valueAt
+  name-at front rest v at h e s = ap (λ (l : List ℕ). valueOf (getD l at 0)) s ∙ ap valueOf (getD-at front (wordOf 4 v) rest 0 at (sym e)) ∙ omega arith
+
+  after : (front rest : List ℕ) (w : ℕ) → ws ≡ front ++ (w ∷ rest) → ws ≡ (front ++ (w ∷ [])) ++ rest
+  after front rest w s = s ∙ sym (append-assoc front (w ∷ []) rest)
+
+  front-length : (front : List ℕ) (w at : ℕ) → at ≡ length front → at + 1 ≡ length (front ++ (w ∷ []))
+  front-length front w at e = let l = length-append front (w ∷ []) in omega arith
+
+  names-fit : (ns : List ℕ) (low : ℕ) (front rest : List ℕ) (at : ℕ) → at ≡ length front → NamesFine low ns → ws ≡ front ++ (nameWords low ns ++ rest)
+      → (i : ℕ) → i < length ns → valueAt ws (at + i) < 4096
+  unfolding defaultedName Fine wordsBy
+  names-fit [] low front rest at e f s i h = absurd (omega arith)
+  names-fit (v ∷ ns) low front rest at e f s zero h =
+      let q = name-at front (nameWords (above low v) ns ++ rest) v (at + 0) (f .0 .0 .0) (omega arith) s in
+      rw q (omega (arith, below-names n v (f .0 .0 .1)))
+  names-fit (v ∷ ns) low front rest at e f s (suc i) h =
+      let q = names-fit ns (above low v) (front ++ (wordOf 4 v ∷ [])) rest (at + 1) (front-length front (wordOf 4 v) at e) (f .1) (after front (nameWords (above low v) ns ++ rest) (wordOf 4 v) s) i (omega arith) in
+      let p : at + suc i ≡ at + 1 + i = omega arith in
+      rw p q
+
+  module _ (records marks : List ℕ) (T : Tables) (same : (m : ℕ) → derivedBy ws records marks m ≡ T .derived m) where
+    equal-is : (m : ℕ) → equalIn ws records marks m ≡ equalKinds (T .derived m)
+    unfolding equalIn
+    equal-is m = ap equalKinds (same m)
+
+    pick-is : (b : Bool) (v : ℕ) (o : Option ℕ) → pick b v (orNone o) ≡ orNone (pick b (some v) o)
+    pick-is true v o = refl
+    pick-is false v o = refl
+
+    first-is : (ns : List ℕ) (low : ℕ) (front rest : List ℕ) (at : ℕ) → at ≡ length front → NamesFine low ns → ws ≡ front ++ (nameWords low ns ++ rest)
+        → firstEqual ws records marks at (length ns) ≡ orNone (defaultedEqual T ns)
+    unfolding defaultedName Fine wordsBy firstEqual defaultedEqual
+    first-is [] low front rest at e f s = refl
+    first-is (v ∷ ns) low front rest at e f s =
+        let q = name-at front (nameWords (above low v) ns ++ rest) v at (f .0 .0 .0) e s in
+        let r = first-is ns (above low v) (front ++ (wordOf 4 v ∷ [])) rest (at + 1) (front-length front (wordOf 4 v) at e) (f .1) (after front (nameWords (above low v) ns ++ rest) (wordOf 4 v) s) in
+        rw (q, equal-is v, r) (pick-is (equalKinds (T .derived v)) v (defaultedEqual T ns))
+
+-- ---- of a checked pack
+
+module _ (ws : List ℕ) (p : Pack) (h : read ws ≡ yes p) where
+  abbrev front : List ℕ
+  front = wordOf 1 (total p) ∷ wordOf 2 (p .names) ∷ wordOf 3 (length (p .defaulted)) ∷ []
+
+  abbrev rest : List ℕ
+  rest = wordOf 5 (length (p .relations)) ∷ (relationsPart p ++ (wordOf 22 (length (p .rules)) ∷ split p .more))
+
+  its : Parts p
+  its = parts p (words-read ws p h .fine)
+
+  stands : ws ≡ front ++ (nameWords ws (p .names) (its .most) 0 (p .defaulted) ++ rest)
+  stands = sym (words-read ws p h .same) ∙ split p .same
+
+  count-is : valueAt ws 2 ≡ length (p .defaulted)
+  unfolding valueAt
+  count-is = ap (λ (l : List ℕ). valueOf (getD l 2 0)) stands ∙ omega (arith, its .defaulted-count)
+
+  pub defaulted-fit : DefaultedFit ws
+  defaulted-fit = record { each = λ i g. names-fit ws (p .names) (its .most) (p .defaulted) 0 front rest 3 refl (its .defaulted-fine) stands i (rw count-is at g) }
+
+  pub first-equal-is : (records marks : List ℕ) (T : Tables) → ((m : ℕ) → derivedBy ws records marks m ≡ T .derived m)
+      → firstEqual ws records marks 3 (valueAt ws 2) ≡ orNone (defaultedEqual T (p .defaulted))
+  first-equal-is records marks T same =
+      ap (firstEqual ws records marks 3) count-is ∙ first-is ws (p .names) (its .most) records marks T same (p .defaulted) 0 front rest 3 refl (its .defaulted-fine) stands

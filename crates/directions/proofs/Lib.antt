@@ -1,0 +1,5 @@
+pub mod WordLaws
+pub mod TablesLaws
+pub mod CheckedTables
+pub mod EqualLaws
+pub mod DefaultedLaws

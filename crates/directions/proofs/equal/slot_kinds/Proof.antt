@@ -1,0 +1,65 @@
+-- `directions::equal::slot_kinds` meets its contract.
+use Rattle.directions.proofs.EqualLaws.{first-unknown, second-unknown, both-known, both-small}
+use borrow.Author.Needs.{needs}
+use Rattle.directions.proofs.equal.slot_kinds.Statement.{statement}
+use Rattle.directions.proofs.equal.slot_kinds.Tie as tie
+
+slots-place-requires : tie.Need-slots-place-requires
+slots-place-requires c κs = search needs
+
+value-at-requires : tie.Need-value-at-requires
+value-at-requires c κs = search needs
+
+kind-at-requires : tie.Need-kind-at-requires
+kind-at-requires c κs = search needs
+
+enum-known-c : tie.Need-enum-known-c
+enum-known-c c = search needs
+
+enum-told : tie.Need-enum-told
+enum-told c = search needs
+
+returns : tie.Need-returns
+returns c = (first-unknown _ _ _ _ ((c .before .before .before .before .slots-place) .ensures .0) ((c .before .before .before .value-at) .ensures .0) ((c .before .before .kind-at) .ensures) ((c .enum-told) .given .1), tt)
+
+add-value-at : tie.Need-add-value-at
+add-value-at c = search needs
+
+value-at-requires-2 : tie.Need-value-at-requires-2
+value-at-requires-2 c κs = search needs
+
+kind-at-requires-2 : tie.Need-kind-at-requires-2
+kind-at-requires-2 c κs = search needs
+
+enum-known-r : tie.Need-enum-known-r
+enum-known-r c = search needs
+
+enum-told-2 : tie.Need-enum-told-2
+enum-told-2 c = search needs
+
+returns-2 : tie.Need-returns-2
+returns-2 c = (second-unknown _ _ _ _ ((c .before .before .before .before .before .before .before .before .before .slots-place) .ensures .0) ((c .before .before .before .before .before .before .before .before .value-at) .ensures .0) ((c .before .before .before .before .before .before .before .kind-at) .ensures) ((c .before .before .before .before .before .c) .given .1) ((c .before .before .before .value-at2) .ensures .0) ((c .before .before .kind-at2) .ensures) ((c .enum-told2) .given .1), tt)
+
+returns-3 : tie.Need-returns-3
+returns-3 c = (
+  both-known _ _ _ _ ((c .before .before .before .before .before .before .before .before .before .before .slots-place) .ensures .0) ((c .before .before .before .before .before .before .before .before .before .value-at) .ensures .0) ((c .before .before .before .before .before .before .before .before .kind-at) .ensures) ((c .before .before .before .before .before .before .c) .given .1) ((c .before .before .before .before .value-at2) .ensures .0) ((c .before .before .before .kind-at2) .ensures) ((c .before .r) .given .1),
+  both-small _ _ _ _ ((c .before .before .before .before .before .before .before .before .before .before .slots-place) .ensures .0) ((c .before .before .before .before .before .before .before .before .before .value-at) .ensures .0) ((c .before .before .before .before .before .before .before .before .kind-at) .ensures) ((c .before .before .before .before .before .before .c) .given .1) ((c .before .before .before .before .value-at2) .ensures .0) ((c .before .before .before .kind-at2) .ensures) ((c .before .r) .given .1),
+)
+
+pub slot-kinds-spec : {M : Type 1} → statement M
+slot-kinds-spec =
+    tie.close
+    (tie.spec
+    slots-place-requires
+    value-at-requires
+    kind-at-requires
+    enum-known-c
+    enum-told
+    returns
+    add-value-at
+    value-at-requires-2
+    kind-at-requires-2
+    enum-known-r
+    enum-told-2
+    returns-2
+    returns-3)

@@ -1,0 +1,5 @@
+pub mod Tables
+pub mod Direction
+pub mod Turning
+pub mod Resolving
+pub mod Words
