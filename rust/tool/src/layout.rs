@@ -247,7 +247,8 @@ impl Printer<'_> {
     /// Whether the children of a node stand in parentheses behind its head, also if there are none.
     fn in_parentheses(tree: &Tree) -> bool {
         matches!(tree.kind, 68..=70 | 97..=99)
-            || !tree.children.is_empty() && !matches!(tree.kind, nodes::IF..=nodes::NO_MATCH | nodes::COUNT..=nodes::SINGLE)
+            || !tree.children.is_empty()
+                && !matches!(tree.kind, nodes::IF..=nodes::NO_MATCH | nodes::COUNT..=nodes::SINGLE)
     }
 
     fn flat(&self, tree: &Tree) -> String {

@@ -167,7 +167,10 @@ impl Lexer<'_> {
         let word = self.run().to_string();
         let end = self.at;
         if word.len() > LONGEST {
-            return bad(Span { start, end }, format!("a name has at most {LONGEST} bytes; this one has {}", word.len()));
+            return bad(
+                Span { start, end },
+                format!("a name has at most {LONGEST} bytes; this one has {}", word.len()),
+            );
         }
         Ok(Sort::Word(word))
     }

@@ -71,7 +71,8 @@ fn numbered(text: &Text) -> (Naming, Vec<u32>, u32) {
         return (Naming::Numbers, numbers, highest + 1);
     }
     let texts: Vec<Vec<u8>> = texts.into_iter().map(<[u8]>::to_vec).collect();
-    let number = |key: &Key| text_of(key).and_then(|t| texts.binary_search_by(|x| x.as_slice().cmp(t)).ok()).unwrap_or(0);
+    let number =
+        |key: &Key| text_of(key).and_then(|t| texts.binary_search_by(|x| x.as_slice().cmp(t)).ok()).unwrap_or(0);
     let numbers = text.names.iter().map(|(key, _)| number(key) as u32).collect();
     let count = texts.len() as u32;
     (Naming::Texts(texts), numbers, count)

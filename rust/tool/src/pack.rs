@@ -2,6 +2,7 @@
 
 pub const NONE: u32 = cogunwa::NONE;
 
+#[derive(Clone)]
 pub struct Pack {
     pub names: u32,
     pub defaulted: Vec<u32>,
@@ -10,6 +11,7 @@ pub struct Pack {
     pub blocks: Vec<Block>,
 }
 
+#[derive(Clone)]
 pub struct Relation {
     pub place: usize,
     pub name: u32,
@@ -20,12 +22,14 @@ pub struct Relation {
     pub derivation: Option<Derivation>,
 }
 
+#[derive(Clone)]
 pub struct List {
     /// Of the count word.
     pub place: usize,
     pub names: Vec<u32>,
 }
 
+#[derive(Clone)]
 pub struct Derivation {
     /// Of the flag.
     pub place: usize,
@@ -40,6 +44,7 @@ pub struct Derivation {
     pub predicate: Tree,
 }
 
+#[derive(Clone)]
 pub struct Step {
     pub relation: u32,
     pub slots: Slots,
@@ -51,6 +56,7 @@ pub struct Slots {
     pub related: u32,
 }
 
+#[derive(Clone)]
 pub struct Rule {
     pub place: usize,
     pub name: u32,
@@ -59,6 +65,7 @@ pub struct Rule {
     pub bodies: Vec<Body>,
 }
 
+#[derive(Clone)]
 pub struct Body {
     /// Of the word that says which sort the tree is.
     pub place: usize,
@@ -66,6 +73,7 @@ pub struct Body {
     pub tree: Tree,
 }
 
+#[derive(Clone)]
 pub struct Tree {
     pub place: usize,
     pub kind: u8,
@@ -84,6 +92,7 @@ pub struct Asked {
     pub name: u32,
 }
 
+#[derive(Clone)]
 pub struct Block {
     pub place: usize,
     pub origin: Option<u32>,
@@ -91,6 +100,7 @@ pub struct Block {
     pub items: Option<Vec<Item>>,
 }
 
+#[derive(Clone)]
 pub struct Item {
     pub place: usize,
     pub name: Option<u32>,

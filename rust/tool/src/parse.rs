@@ -175,7 +175,8 @@ impl Parser {
     fn name(&mut self, what: &str) -> Parsed<(usize, Span)> {
         let key = match &self.token().sort {
             Sort::Word(word) if crate::words::is_reserved(word) => {
-                let message = format!("expected {what}, found the word `{word}`; a name that reads so is written in quotes");
+                let message =
+                    format!("expected {what}, found the word `{word}`; a name that reads so is written in quotes");
                 return bad(self.span(), message);
             }
             Sort::Word(word) => Key::Text(word.clone().into_bytes()),
@@ -287,14 +288,21 @@ impl Parser {
                 _ => self.expected("`relation`, `rule`, `inputs` or the end of the text"),
             };
         };
-        let first = if relations { "relation" } else if rules { "rule" } else { "block of inputs" };
+        let first = if relations {
+            "relation"
+        } else if rules {
+            "rule"
+        } else {
+            "block of inputs"
+        };
         let message = match word.as_str() {
             "let" | "unused" | "defaulted" => format!("`{word}` stands before the first {first}"),
             "relation" if rules => "a relation stands before the first rule".into(),
             "relation" | "rule" if blocks => format!("a {word} stands before the first block of inputs"),
             "pack" => "`pack` stands once, at the beginning".into(),
             _ => {
-                let meant = nearest(word, STATEMENTS.into_iter()).map_or(String::new(), |w| format!("; is `{w}` meant?"));
+                let meant =
+                    nearest(word, STATEMENTS.into_iter()).map_or(String::new(), |w| format!("; is `{w}` meant?"));
                 let due = match (relations, rules, blocks) {
                     (_, _, true) => "`item`, `inputs` or the end of the text",
                     (_, true, _) => "`scalar`, `judgment`, `rule`, `inputs` or the end of the text",

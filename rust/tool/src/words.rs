@@ -4,9 +4,35 @@ use crate::nodes;
 
 /// Those that begin a statement or a clause, or stand in one.
 const CLAUSES: [&str; 29] = [
-    "pack", "let", "unused", "defaulted", "relation", "origin", "arity", "from", "path", "slots", "entity", "member",
-    "kinds", "where", "rule", "for", "scalar", "judgment", "inputs", "item", "of", "boolean", "no", "sequence", "none",
-    "then", "else", "in", "input",
+    "pack",
+    "let",
+    "unused",
+    "defaulted",
+    "relation",
+    "origin",
+    "arity",
+    "from",
+    "path",
+    "slots",
+    "entity",
+    "member",
+    "kinds",
+    "where",
+    "rule",
+    "for",
+    "scalar",
+    "judgment",
+    "inputs",
+    "item",
+    "of",
+    "boolean",
+    "no",
+    "sequence",
+    "none",
+    "then",
+    "else",
+    "in",
+    "input",
 ];
 
 /// Whether a word belongs to the text form, so that a name which reads the same is written in quotes.

@@ -76,7 +76,22 @@ pub fn texts(c: &mut Chance, count: u32) -> Vec<Vec<u8>> {
 }
 
 const ODD: [&str; 16] = [
-    "relation", "none", "@7", "7", "->", "a b", "\"", "\\", "#", "#x", "x#", "a#b#c", "é", "\u{202E}", "line\nend", "leaf",
+    "relation",
+    "none",
+    "@7",
+    "7",
+    "->",
+    "a b",
+    "\"",
+    "\\",
+    "#",
+    "#x",
+    "x#",
+    "a#b#c",
+    "é",
+    "\u{202E}",
+    "line\nend",
+    "leaf",
 ];
 
 fn text(c: &mut Chance) -> Vec<u8> {
