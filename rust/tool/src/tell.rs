@@ -53,7 +53,7 @@ pub fn because(accepted: &Accepted, facts: &Facts, reason: &Reason) -> String {
         Why::NoneBears { .. } if !reason.entity.known => {
             format!("{}, so no slot of {} can bear it", unknown(reason.entity.from), listed())
         }
-        Why::NoneBears { kind } => format!("no slot of {} bears {}", listed(), bears(kind)),
+        Why::NoneBears { kind } => format!("no slot of {} bears {}{}", listed(), bears(kind), untaken(facts, kind)),
         Why::Undeclared => format!("the pack has no relation {relation}"),
         Why::NoKinds => format!("{relation} lists no kinds, so its slots cannot be told apart"),
         Why::NotTwo { count } => format!("{relation} lists {count} kinds {}; only a pair is turned", listed()),
@@ -82,6 +82,16 @@ pub fn because(accepted: &Accepted, facts: &Facts, reason: &Reason) -> String {
             format!("{sentence}, but {}", asked_for(refusal.number, &show(asked.name)))
         }
         _ => format!("{sentence}: the direction is open"),
+    }
+}
+
+/// What derivations say of an entity that stands for no kind but itself.
+fn untaken(facts: &Facts, entity: u32) -> &'static str {
+    let said = |table: &[bool]| table.get(entity as usize).copied().unwrap_or(false);
+    match facts.direct(entity) {
+        None if said(&facts.tables.alias) => "; the derivations that name it as their entity do not agree on one kind",
+        None if said(&facts.tables.unresolved) => "; the derivations that name it as their entity give it no kind",
+        _ => "",
     }
 }
 

@@ -1,0 +1,322 @@
+//! The picture as SVG. Letters are of one width, so that boxes are as wide as their texts in every viewer.
+
+use super::grid::{Cell, Grid, grid};
+use super::{Colour, Drawing, Drawn, Mark, Sort};
+use std::fmt::Write;
+
+const LETTER: f64 = 7.3;
+const LINE: f64 = 17.0;
+const HEAD: f64 = 26.0;
+const PAD: f64 = 10.0;
+const MARGIN: f64 = 24.0;
+/// How wide a lane is without arrows, and how much each arrow adds.
+const LANE: f64 = 46.0;
+const GAP: f64 = 30.0;
+const ARROW: f64 = 7.0;
+/// No text is wider, in letters.
+const WIDEST: usize = 64;
+
+/// Writes the picture; with `alone` it has its title and a background of its own.
+pub fn write(drawing: &Drawing, alone: bool) -> String {
+    let plan = Plan::new(drawing, alone);
+    let (width, height) = plan.size(drawing, alone);
+    let mut out = format!(
+        "<svg xmlns=\"http://www.w3.org/2000/svg\" viewBox=\"0 0 {width:.0} {height:.0}\" width=\"{width:.0}\" height=\"{height:.0}\" \
+         font-family=\"DejaVu Sans Mono, Menlo, Consolas, monospace\" font-size=\"12\" role=\"img\">\n"
+    );
+    out.push_str(STYLE);
+    if alone {
+        _ = writeln!(out, "<title>{}</title>", escaped(&drawing.title));
+        _ = writeln!(out, "<rect width=\"{width:.0}\" height=\"{height:.0}\" fill=\"#ffffff\"/>");
+        _ = writeln!(
+            out,
+            "<text x=\"{MARGIN}\" y=\"{MARGIN}\" font-weight=\"bold\">{}</text>",
+            escaped(&drawing.title)
+        );
+    }
+    for (i, arrow) in drawing.arrows.iter().enumerate() {
+        out.push_str(&plan.arrow(i, arrow.sort));
+    }
+    for (i, drawn) in drawing.boxes.iter().enumerate() {
+        out.push_str(&plan.drawn(i, drawn));
+    }
+    out.push_str(&key(plan.bottom));
+    out.push_str("</svg>\n");
+    out
+}
+
+const STYLE: &str = "<defs>\
+<marker id=\"to\" viewBox=\"0 0 10 10\" refX=\"9\" refY=\"5\" markerWidth=\"8\" markerHeight=\"8\" orient=\"auto\"><path d=\"M0 0L10 5L0 10z\" fill=\"#334155\"/></marker>\
+<marker id=\"round\" viewBox=\"0 0 10 10\" refX=\"9\" refY=\"5\" markerWidth=\"5\" markerHeight=\"5\" orient=\"auto\"><path d=\"M0 0L10 5L0 10z\" fill=\"#7e22ce\"/></marker>\
+</defs>\n";
+
+/// A text that can stand in XML. Names are shown without control characters.
+pub fn escaped(text: &str) -> String {
+    let mut out = String::new();
+    for c in text.chars() {
+        match c {
+            '&' => out.push_str("&amp;"),
+            '<' => out.push_str("&lt;"),
+            '>' => out.push_str("&gt;"),
+            '"' => out.push_str("&quot;"),
+            c if c.is_control() && c != '\n' => out.push('\u{FFFD}'),
+            c => out.push(c),
+        }
+    }
+    out
+}
+
+/// Letters of East Asian scripts are as wide as two.
+fn letters(text: &str) -> usize {
+    let wide = |c: char| matches!(c as u32, 0x1100..=0x115F | 0x2E80..=0xA4CF | 0xAC00..=0xD7A3 | 0xF900..=0xFAFF | 0xFE30..=0xFE4F | 0xFF00..=0xFF60 | 0x20000..=0x3FFFF);
+    text.chars().map(|c| if wide(c) { 2 } else { 1 }).sum()
+}
+
+/// A text, its middle left out where it is too long.
+fn short(text: &str) -> String {
+    if letters(text) <= WIDEST {
+        return text.to_string();
+    }
+    let part = |letters_left: usize, chars: &mut dyn Iterator<Item = char>| {
+        let mut left = letters_left;
+        chars
+            .take_while(|&c| {
+                let width = letters(c.encode_utf8(&mut [0; 4]));
+                let fits = width <= left;
+                left = left.saturating_sub(width);
+                fits
+            })
+            .collect::<Vec<char>>()
+    };
+    let first = part(WIDEST / 2 + 8, &mut text.chars());
+    let mut last = part(WIDEST / 2 - 10, &mut text.chars().rev());
+    last.reverse();
+    first.into_iter().chain("..".chars()).chain(last).collect()
+}
+
+/// Where everything stands, in points.
+struct Plan {
+    grid: Grid,
+    /// The left edge of each column and the upper edge of each row.
+    x: Vec<f64>,
+    y: Vec<f64>,
+    widths: Vec<f64>,
+    heights: Vec<f64>,
+    /// For each arrow outside the trees: its turn in the lanes that it takes.
+    turns: Vec<Option<(usize, usize)>>,
+    ends: Vec<(usize, usize)>,
+    bottom: f64,
+}
+
+impl Plan {
+    fn new(drawing: &Drawing, alone: bool) -> Plan {
+        let grid = grid(drawing);
+        let widest =
+            |d: &Drawn| d.lines.iter().map(|l| letters(&short(&l.text))).chain([letters(&short(&d.title))]).max();
+        let widths: Vec<f64> =
+            drawing.boxes.iter().map(|d| widest(d).unwrap_or(0) as f64 * LETTER + 2.0 * PAD).collect();
+        let heights: Vec<f64> = drawing.boxes.iter().map(|d| HEAD + 8.0 + d.lines.len() as f64 * LINE).collect();
+        let ends: Vec<(usize, usize)> = drawing.arrows.iter().map(|arrow| (arrow.from, arrow.to)).collect();
+
+        // Arrows outside the trees leave below their box and come in from the right: a turn in the lane below the row and
+        // one in the lane right of the column.
+        let (mut below, mut beside) = (vec![0; grid.rows + 1], vec![0; grid.columns + 1]);
+        let mut turns = vec![];
+        for (i, arrow) in drawing.arrows.iter().enumerate() {
+            let branch = grid.branch[arrow.from] == Some(i);
+            turns.push(if branch {
+                None
+            } else {
+                let (row, column) = (grid.cells[arrow.from].row + 1, grid.cells[arrow.to].column + 1);
+                below[row] += 1;
+                beside[column] += 1;
+                Some((below[row] - 1, beside[column] - 1))
+            });
+        }
+        let size = |cells: &[Cell], pick: fn(&Cell) -> usize, sizes: &[f64], at: usize| {
+            cells.iter().zip(sizes).filter(|(cell, _)| pick(cell) == at).map(|(_, &size)| size).fold(0.0, f64::max)
+        };
+        let mut x = vec![];
+        let mut at = MARGIN + 16.0;
+        for (column, &arrows) in beside.iter().enumerate() {
+            at += if column == 0 { 0.0 } else { LANE + ARROW * arrows as f64 };
+            x.push(at);
+            at += size(&grid.cells, |cell| cell.column, &widths, column);
+        }
+        let mut y = vec![];
+        let mut at = MARGIN + if alone { 20.0 } else { 0.0 };
+        for (row, &arrows) in below.iter().enumerate() {
+            at += if row == 0 { 0.0 } else { GAP + ARROW * arrows as f64 };
+            y.push(at);
+            at += size(&grid.cells, |cell| cell.row, &heights, row);
+        }
+        let bottom = at + 10.0;
+        Plan { grid, x, y, widths, heights, turns, ends, bottom }
+    }
+
+    fn size(&self, drawing: &Drawing, alone: bool) -> (f64, f64) {
+        let right = self.x.last().copied().unwrap_or(0.0);
+        let title = if alone { letters(&drawing.title) as f64 * LETTER } else { 0.0 };
+        (right.max(title).max(KEY_WIDTH) + 2.0 * MARGIN, self.bottom + KEY_HEIGHT + MARGIN)
+    }
+
+    /// The left and upper edge of a box.
+    fn corner(&self, i: usize) -> (f64, f64) {
+        let Cell { column, row } = self.grid.cells[i];
+        (self.x[column], self.y[row])
+    }
+
+    fn arrow(&self, i: usize, sort: Sort) -> String {
+        let (from, to) = self.ends[i];
+        let points = match self.turns[i] {
+            Some(turn) => self.around(from, to, turn),
+            None if sort == Sort::Ring => self.round(from, to),
+            None => self.branch(from, to, sort),
+        };
+        let path: Vec<String> = points.iter().map(|(x, y)| format!("{x:.1} {y:.1}")).collect();
+        let look = match sort {
+            Sort::Source => "stroke=\"#334155\" stroke-width=\"1.5\" marker-end=\"url(#to)\"",
+            Sort::Ring => "stroke=\"#7e22ce\" stroke-width=\"3\" marker-end=\"url(#round)\"",
+            Sort::Path => "stroke=\"#334155\" stroke-width=\"1.5\" stroke-dasharray=\"6 4\" marker-end=\"url(#to)\"",
+        };
+        format!("<path d=\"M{}\" fill=\"none\" stroke-linejoin=\"round\" {look}/>\n", path.join("L"))
+    }
+
+    /// From the left of a box to the right of its source, one column before; along a path a little beside that.
+    fn branch(&self, from: usize, to: usize, sort: Sort) -> Vec<(f64, f64)> {
+        let ((x, y), (to_x, to_y)) = (self.corner(from), self.corner(to));
+        let aside = if sort == Sort::Path { 7.0 } else { 0.0 };
+        let (y, to_y) = (y + HEAD / 2.0 + aside, to_y + HEAD / 2.0 + aside);
+        let lane = x - 18.0 - 1.4 * aside;
+        vec![(x, y), (lane, y), (lane, to_y), (to_x + self.widths[to], to_y)]
+    }
+
+    /// Down to the next member of a ring, or back up to the first along the left.
+    fn round(&self, from: usize, to: usize) -> Vec<(f64, f64)> {
+        let ((x, y), (to_x, to_y)) = (self.corner(from), self.corner(to));
+        if to_y > y {
+            return vec![(x + 26.0, y + self.heights[from]), (to_x + 26.0, to_y)];
+        }
+        let lane = x - 16.0;
+        vec![
+            (x, y + HEAD / 2.0 + 10.0),
+            (lane, y + HEAD / 2.0 + 10.0),
+            (lane, to_y + HEAD / 2.0 - 5.0),
+            (to_x, to_y + HEAD / 2.0 - 5.0),
+        ]
+    }
+
+    /// Out below the box, along the lane below its row, and in from the right.
+    fn around(&self, from: usize, to: usize, (below, beside): (usize, usize)) -> Vec<(f64, f64)> {
+        let ((x, y), (to_x, to_y)) = (self.corner(from), self.corner(to));
+        let start = x + (60.0 + 9.0 * below as f64).min(self.widths[from] - 8.0);
+        let right = to_x + self.widths[to];
+        let column = self.grid.cells[to].column;
+        let lane_x = self.x[column] + self.column_width(column) + 12.0 + ARROW * beside as f64;
+        let lane_y = self.y[self.grid.cells[from].row + 1] - 10.0 - ARROW * below as f64;
+        let end = to_y + (HEAD + 4.0 + 6.0 * beside as f64).min(self.heights[to] - 6.0);
+        vec![(start, y + self.heights[from]), (start, lane_y), (lane_x, lane_y), (lane_x, end), (right, end)]
+    }
+
+    fn column_width(&self, column: usize) -> f64 {
+        let cells = self.grid.cells.iter().zip(&self.widths);
+        cells.filter(|(cell, _)| cell.column == column).map(|(_, &width)| width).fold(0.0, f64::max)
+    }
+
+    fn drawn(&self, i: usize, drawn: &Drawn) -> String {
+        let ((x, y), width, height) = (self.corner(i), self.widths[i], self.heights[i]);
+        let (fill, edge) = match drawn.colour {
+            Colour::Own => ("#dbeafe", ""),
+            Colour::Inherited => ("#dcfce7", ""),
+            Colour::NoKinds => ("#e2e8f0", ""),
+            Colour::Undeclared => ("#ffffff", " stroke-dasharray=\"2 3\""),
+        };
+        let mut out = format!("<g><title>{}</title>\n", escaped(&drawn.title));
+        _ = writeln!(
+            out,
+            "<rect x=\"{x:.1}\" y=\"{y:.1}\" width=\"{width:.1}\" height=\"{height:.1}\" rx=\"5\" fill=\"#ffffff\" stroke=\"#334155\"{edge}/>"
+        );
+        _ = writeln!(
+            out,
+            "<path d=\"M{x:.1} {:.1}v-{:.1}a5 5 0 0 1 5 -5h{:.1}a5 5 0 0 1 5 5v{:.1}z\" fill=\"{fill}\" stroke=\"#334155\"{edge}/>",
+            y + HEAD,
+            HEAD - 5.0,
+            width - 10.0,
+            HEAD - 5.0
+        );
+        _ = writeln!(
+            out,
+            "<text x=\"{:.1}\" y=\"{:.1}\" font-weight=\"bold\">{}</text>",
+            x + PAD,
+            y + 17.0,
+            escaped(&short(&drawn.title))
+        );
+        for (k, line) in drawn.lines.iter().enumerate() {
+            let top = y + HEAD + 4.0 + k as f64 * LINE;
+            let (ground, ink) = match line.mark {
+                Mark::Plain => ("", "#0f172a"),
+                Mark::Kept => ("#fde68a", "#451a03"),
+                Mark::Refused => ("#fecaca", "#7f1d1d"),
+            };
+            if !ground.is_empty() {
+                _ = writeln!(
+                    out,
+                    "<rect x=\"{:.1}\" y=\"{top:.1}\" width=\"{:.1}\" height=\"{LINE:.1}\" fill=\"{ground}\"/>",
+                    x + 1.0,
+                    width - 2.0
+                );
+            }
+            _ = writeln!(
+                out,
+                "<text x=\"{:.1}\" y=\"{:.1}\" fill=\"{ink}\">{}</text>",
+                x + PAD,
+                top + 12.5,
+                escaped(&short(&line.text))
+            );
+        }
+        out.push_str("</g>\n");
+        out
+    }
+}
+
+const KEY_WIDTH: f64 = 830.0;
+const KEY_HEIGHT: f64 = 46.0;
+
+/// What the lines and colours mean.
+fn key(y: f64) -> String {
+    let mut out = format!("<g transform=\"translate({MARGIN} {:.1})\">\n", y + 12.0);
+    let arrows = [
+        (0.0, "stroke=\"#334155\" stroke-width=\"1.5\" marker-end=\"url(#to)\"", "comes from its source"),
+        (270.0, "stroke=\"#7e22ce\" stroke-width=\"3\" marker-end=\"url(#round)\"", "a ring of sources: no kinds"),
+        (
+            560.0,
+            "stroke=\"#334155\" stroke-width=\"1.5\" stroke-dasharray=\"6 4\" marker-end=\"url(#to)\"",
+            "a step of its path: no kinds",
+        ),
+    ];
+    for (x, look, text) in arrows {
+        _ = writeln!(
+            out,
+            "<path d=\"M{x} 8H{}\" fill=\"none\" {look}/><text x=\"{}\" y=\"12\">{text}</text>",
+            x + 36.0,
+            x + 44.0
+        );
+    }
+    let boxes = [
+        (0.0, "#dbeafe", "", "lists its kinds"),
+        (170.0, "#dcfce7", "", "inherits its kinds"),
+        (350.0, "#e2e8f0", "", "has no kinds"),
+        (500.0, "#ffffff", " stroke-dasharray=\"2 3\"", "not declared"),
+        (640.0, "#fde68a", "", "kept"),
+        (720.0, "#fecaca", "", "refused"),
+    ];
+    for (x, fill, edge, text) in boxes {
+        _ = writeln!(
+            out,
+            "<rect x=\"{x}\" y=\"26\" width=\"18\" height=\"14\" fill=\"{fill}\" stroke=\"#334155\"{edge}/><text x=\"{}\" y=\"37\">{text}</text>",
+            x + 26.0
+        );
+    }
+    out.push_str("</g>\n");
+    out
+}
