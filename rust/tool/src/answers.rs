@@ -6,6 +6,7 @@ use crate::chains::whose;
 use crate::commands::given;
 use crate::facts::Facts;
 use crate::held::{facts, find};
+use crate::names::Naming;
 use crate::pack::Pack;
 use crate::rows::rows;
 use crate::trouble::{Outcome, Trouble, disagreement, refused, unusable};
@@ -151,7 +152,8 @@ fn no_name(accepted: &Accepted, name: &str, refusal: cogunwa::Refusal) -> Troubl
     if refusal.number != 17 {
         return disagreement(format!("a name is refused by {refusal}"));
     }
-    let names: Vec<String> = (0..accepted.pack.names).map(|name| accepted.show(name)).collect();
+    let by_text = matches!(accepted.input.naming, Naming::Texts(_));
+    let names: Vec<String> = (0..accepted.pack.names).filter(|_| by_text).map(|name| accepted.show(name)).collect();
     let meant = nearest(name, names.iter().map(String::as_str)).map_or(String::new(), |w| format!("; is {w} meant?"));
     refused(format!("{}: refused: {name} is not one of the pack's names{meant}\n  refusal 17", accepted.input.file))
 }

@@ -60,14 +60,18 @@ fn way(facts: &Facts, accepted: &Accepted, name: u32) -> (Vec<u32>, End) {
 fn no_kinds(accepted: &Accepted, facts: &Facts, relation: &Relation) -> String {
     let (names, end) = way(facts, accepted, relation.name);
     let show = |name: u32| accepted.show(name);
-    let subject =
-        |name: u32| if name == relation.name { "it".to_string() } else { format!("its source {}", show(name)) };
+    let source = relation.derivation.as_ref().and_then(|d| d.source);
+    let subject = |name: u32| match name {
+        _ if name == relation.name => "it".to_string(),
+        _ if Some(name) == source => format!("its source {}", show(name)),
+        _ => format!("{}, which its sources lead to,", show(name)),
+    };
     match end {
         End::List => "none".into(),
         End::Path(name) => format!("{} has a path, and a path gives no kinds", subject(name)),
         End::NoSource(name) => format!("{} lists none and has no source", subject(name)),
         End::NothingListed(name) => format!("{} lists none", subject(name)),
-        End::Undeclared(name) => format!("its source {} is not declared", show(name)),
+        End::Undeclared(name) => format!("{} is not declared", subject(name)),
         End::Ring(first) => {
             let ring = names.iter().skip_while(|&&name| name != first).chain([&first]);
             let ring = ring.map(|&name| show(name)).collect::<Vec<_>>().join(" from ");

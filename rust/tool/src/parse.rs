@@ -436,10 +436,7 @@ impl Parser {
         self.path(from)?;
 
         let (start, place) = (self.at, self.here());
-        if !self.sees("slots") {
-            return self.expected("`path` or `slots` after `from`");
-        }
-        self.pass();
+        self.word("slots", "and the slots of the derivation")?;
         self.slots(17, "the current slot, a number")?;
         self.range(place, start);
 
@@ -659,12 +656,12 @@ impl Parser {
             let close = self.span();
             if !self.more(count == 0, what)? {
                 return match due {
-                    Some(due) if due != count => bad(close, format!("expected {due} in `{head}`, found {count}")),
+                    Some(due) if due != count => bad(close, format!("{}, found {count}", takes(head, due, judgment))),
                     _ => Ok(count),
                 };
             }
             if due == Some(count) {
-                return bad(self.span(), format!("expected `)`: `{head}` has {count} here"));
+                return bad(self.span(), format!("expected `)`: {}", takes(head, count, judgment)));
             }
             self.tree(judgment, depth + 1)?;
             count += 1;
@@ -738,4 +735,10 @@ impl Parser {
             }
         }
     }
+}
+
+/// How many children a node takes.
+fn takes(head: &str, count: u32, judgment: bool) -> String {
+    let sort = if judgment { "judgment" } else { "scalar" };
+    format!("`{head}` takes {count} {sort}{}", if count == 1 { "" } else { "s" })
 }

@@ -6,12 +6,13 @@ use crate::input::{Form, Input};
 use crate::layout::slots_text;
 use crate::nodes;
 use crate::pack::{NONE, Relation, Tree};
+use crate::point::line_and_column;
 use crate::read::{Due, Record, due};
 use cogunwa::Refusal;
 
 /// What Check refuses.
 pub fn unaccepted(input: &Input, refusal: Refusal) -> String {
-    let place = if refusal.number == 1 { 8192 } else { refusal.place };
+    let place = if refusal.number == 1 { first_too_many(input) } else { refusal.place };
     let due = due(&input.words, refusal.place);
     let message = format!("refused: {}", check_message(input, refusal, due.as_ref()));
     let ended = input.form != Form::Bytes && place >= input.spans.len();
@@ -20,9 +21,15 @@ pub fn unaccepted(input: &Input, refusal: Refusal) -> String {
         None if ended && refusal.number == 3 => at_end(input, &message),
         None => among_words(input, refusal, &message),
     };
-    let record = due.filter(|_| refusal.number != 1).and_then(|due| record(input, due.record));
+    let record = due.filter(|_| !matches!(refusal.number, 1 | 7)).and_then(|due| record(input, due.record));
     let record = record.map_or(String::new(), |record| format!("in {record}; "));
     format!("{shown}\n  {record}refusal {}", refusal.number)
+}
+
+/// The word with which a pack becomes too long; in a text the last one before it that stands for a part of its own.
+fn first_too_many(input: &Input) -> usize {
+    let head = input.spans.first();
+    (0..=8192).rev().find(|&place| input.form == Form::Hex || input.spans.get(place) != head).unwrap_or(8192)
 }
 
 /// Hexadecimal words that end too early: the last of them is pointed at.
@@ -70,14 +77,20 @@ fn check_message(input: &Input, refusal: Refusal, due: Option<&Due>) -> String {
         3 => format!("the pack ends after {place} words, where {what} is due"),
         4 => not_allowed(input, kind, value),
         5 => "this node is nested 33 deep; trees are at most 32 deep, where trees included".into(),
-        6 => format!(
-            "the defaulted name {} does not stand above the one before; each stands once",
-            input.naming.show(value)
-        ),
-        7 => format!("the relation {} is declared a second time", input.naming.show(refusal.name)),
+        6 if input.form == Form::Text => format!("{} is named as defaulted a second time", input.naming.show(value)),
+        6 => format!("the defaulted name {} does not stand above the one before", input.naming.show(value)),
+        7 => {
+            format!("the relation {} is declared a second time{}", input.naming.show(refusal.name), before(input, word))
+        }
         8 => format!("{} words are left over after the last block of inputs", input.words.len() - place),
         _ => refusal.to_string(),
     }
+}
+
+/// Where a word stands for the first time.
+fn before(input: &Input, word: u32) -> String {
+    let span = input.words.iter().position(|&w| w == word).and_then(|place| input.spans.get(place));
+    span.map_or(String::new(), |span| format!(", after line {}", line_and_column(&input.content, span.start).0))
 }
 
 /// Refusal 4, by the kind of the word.
@@ -211,25 +224,17 @@ fn times_declared(accepted: &Accepted, refusal: Refusal) -> String {
 }
 
 fn owner_message(accepted: &Accepted, facts: &Facts, tree: &Tree, asks: &str, input: &str) -> (String, String) {
-    let related = related_kind(accepted, facts, tree);
-    let owner = match related {
-        Some(kind) => format!("the related slot bears {}", accepted.show(kind)),
-        None => "the kind of the related slot is not known".into(),
-    };
-    (
-        format!("{asks}, which belongs to another entity: {owner}"),
-        format!("declare {input} for the entity that stands in the related slot"),
-    )
-}
-
-/// The kind that a node's related slot has, which owns the input that is asked for.
-fn related_kind(accepted: &Accepted, facts: &Facts, tree: &Tree) -> Option<u32> {
-    let findings = crate::why::reasons(&accepted.pack, facts);
-    let reason = findings.iter().find(|reason| reason.tree.place == tree.place)?;
-    let relation = facts.find(&accepted.pack, tree.value)?;
-    match &relation.derivation {
-        Some(_) => facts.kind_at(tree.value, reason.slots.related),
-        None if relation.kinds.names.len() == 2 => relation.kinds.names.get(reason.slots.related as usize).copied(),
-        None => None,
+    let reasons = crate::why::reasons(&accepted.pack, facts);
+    let related = reasons.iter().find(|reason| reason.tree.place == tree.place).and_then(|reason| reason.related);
+    match related.filter(|&kind| kind != 0) {
+        Some(kind) => {
+            let kind = accepted.show(kind);
+            let message = format!("{asks}, which belongs to another entity than {kind}, the kind of the related slot");
+            (message, format!("declare {input} for {kind}"))
+        }
+        None => (
+            format!("{asks}, and the kind of the related slot, which must own it, is not known"),
+            format!("is {} the relation that is meant? Its slots need kinds", accepted.show(tree.value)),
+        ),
     }
 }

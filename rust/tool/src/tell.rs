@@ -79,7 +79,7 @@ pub fn because(accepted: &Accepted, facts: &Facts, reason: &Reason) -> String {
     let Some(refusal) = reason.refused else { return sentence };
     match reason.tree.asks {
         Some(asked) if refusal.number != 10 => {
-            format!("{sentence}, but {}", asked_for(refusal.number, &show(asked.name)))
+            format!("{sentence}, but {}", asked_for(accepted, reason, refusal.number, &show(asked.name)))
         }
         _ => format!("{sentence}: the direction is open"),
     }
@@ -95,13 +95,16 @@ fn untaken(facts: &Facts, entity: u32) -> &'static str {
     }
 }
 
-fn asked_for(number: u32, name: &str) -> String {
+fn asked_for(accepted: &Accepted, reason: &Reason, number: u32, name: &str) -> String {
     match number {
         11 => format!("{name} is derived, and only an input may be asked for"),
         12 => format!("{name} is looked for in a block of inputs that is no sequence"),
         13 => format!("{name} is not declared exactly once among the inputs of this origin"),
         14 => format!("{name} is not declared as boolean"),
-        _ => format!("{name} does not belong to the kind of the related slot"),
+        _ => match reason.related.filter(|&kind| kind != 0) {
+            Some(kind) => format!("{name} belongs to another entity than {}, the related kind", accepted.show(kind)),
+            None => format!("nobody can own {name}: the related kind is not known"),
+        },
     }
 }
 
@@ -117,7 +120,7 @@ fn borne(accepted: &Accepted, entity: Entity, kind: u32) -> String {
         return format!("{shown}, {role}");
     }
     let role = role.strip_prefix("which ").map_or_else(|| role.to_string(), |role| format!("what {role}"));
-    format!("{shown}, which {} stands for ({role})", accepted.show(entity.name))
+    format!("{shown}, which {}, {role}, stands for", accepted.show(entity.name))
 }
 
 fn unknown(from: From) -> &'static str {

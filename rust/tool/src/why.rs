@@ -14,6 +14,8 @@ pub struct Reason<'a> {
     pub why: Why,
     /// The slots that it runs by; those that were written where it is kept or refused.
     pub slots: Slots,
+    /// The kind at the related slot, if it is known.
+    pub related: Option<u32>,
     pub refused: Option<Refusal>,
 }
 
@@ -155,7 +157,7 @@ impl<'a> Walk<'a, '_> {
             };
             let kind = self.related_kind(tree.value, slots);
             let refused = self.refused(tree, why, entity, kind.unwrap_or(0));
-            self.out.push(Reason { citing: self.citing, tree, entity, why, slots, refused });
+            self.out.push(Reason { citing: self.citing, tree, entity, why, slots, related: kind, refused });
             if refused.is_some() {
                 return;
             }
