@@ -93,11 +93,11 @@ pub const COMMANDS: &[Command] = &[
             NAMES,
         ],
         summary: "why each node runs the way it does",
-        about: "Says of each node that has slots which way it runs, and why: of the whole pack, or of one rule or relation.\n\
-                  turned      its slots were set another way than they were written\n\
-                  as written  its slots were set, and were written so\n\
-                  KEPT        nothing tells which way it runs, and what was written stays: look at these\n\
-                  REFUSED     its direction is open, or what it asks for is not there\n\
+        about: "Says of each node that has slots which way it runs, and why: of the whole pack, or of one rule or relation.\n\n\
+                \x20 turned      its slots were set another way than they were written\n\
+                \x20 as written  its slots were set, and were written so\n\
+                \x20 KEPT        nothing tells which way it runs, and what was written stays: look at these\n\
+                \x20 REFUSED     its direction is open, or what it asks for is not there\n\n\
                 The reasons are worked out from the pack and held to what the library resolved.",
         run: answers::why,
     },

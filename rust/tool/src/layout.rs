@@ -264,13 +264,32 @@ impl Printer<'_> {
         }
     }
 
+    /// Whether a comment stands before one of these tokens.
+    fn commented(&self, start: usize, end: usize) -> bool {
+        self.comments[self.next..].iter().any(|c| start <= c.before && c.before < end)
+    }
+
+    /// Whether a comment stays within a tree that is written on several lines. One that stands in the part before the
+    /// first child goes above that line.
+    fn holds_comment(&self, tree: &Tree) -> bool {
+        let Some(first) = tree.children.first() else { return false };
+        let end = self.range(tree.place).1;
+        let (child, child_end) = self.range(first.place);
+        match tree.kind {
+            nodes::IF => self.holds_comment(first) || self.commented(child_end, end),
+            nodes::NO_MATCH if tree.children.len() == 1 => self.holds_comment(first),
+            nodes::NO_MATCH => self.holds_comment(first) || self.commented(child_end + 2, end),
+            nodes::COUNT..=nodes::SINGLE => self.commented(child.saturating_sub(1), end),
+            _ => self.commented(child, end),
+        }
+    }
+
     /// A tree on one line if it fits there and no comment stands within it; otherwise its children on lines of their own.
     fn tree(&mut self, tree: &Tree, spot: Spot) {
         let end = self.range(tree.place).1;
-        let within = |c: &Comment| spot.start < c.before && c.before < end;
-        let commented = self.comments[self.next..].iter().any(within);
         let flat = format!("{}{}{}", spot.before, self.flat(tree), spot.after);
-        if tree.children.is_empty() || !commented && spot.indent + flat.chars().count() <= WIDTH {
+        let fits = spot.indent + flat.chars().count() <= WIDTH;
+        if tree.children.is_empty() || fits && !self.holds_comment(tree) {
             return self.line(spot.indent, &flat, (spot.start, end + spot.more));
         }
         match tree.kind {
