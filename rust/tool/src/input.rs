@@ -86,10 +86,10 @@ fn form_of(bytes: &[u8]) -> Form {
     if bytes.iter().any(|&b| b < b' ' && !b"\t\n\r\x0C".contains(&b)) {
         return Form::Bytes;
     }
-    let start = bytes.iter().position(|b| !b.is_ascii_whitespace()).unwrap_or(0);
-    let first: Vec<u8> = bytes[start..].iter().copied().take_while(|b| !b.is_ascii_whitespace()).collect();
-    let digits = first.len() == 8 && first.iter().all(u8::is_ascii_hexdigit);
-    if digits { Form::Hex } else { Form::Text }
+    let parts = bytes.split(|&b| b == b'\n').map(|line| line.split(|&b| b == b'#').next().unwrap_or(line));
+    let first = parts.flat_map(|line| line.split(u8::is_ascii_whitespace)).find(|part| !part.is_empty());
+    let digits = |part: &[u8]| part.len() == 8 && part.iter().all(u8::is_ascii_hexdigit);
+    if first.is_some_and(digits) { Form::Hex } else { Form::Text }
 }
 
 fn text_of(file: &str, bytes: Vec<u8>) -> Outcome<String> {
@@ -109,7 +109,9 @@ fn from_bytes(file: &str, bytes: Vec<u8>) -> Input {
 
 fn from_hex(file: &str, content: String) -> Outcome<Input> {
     let (mut words, mut spans) = (vec![], vec![]);
-    for part in content.split_ascii_whitespace() {
+    // `#` begins a comment, to the end of its line.
+    let lines = content.lines().map(|line| line.split('#').next().unwrap_or(line));
+    for part in lines.flat_map(str::split_ascii_whitespace) {
         let start = part.as_ptr() as usize - content.as_ptr() as usize;
         let span = Span { start, end: start + part.len() };
         let plain = part.len() == 8 && part.bytes().all(|b| b.is_ascii_hexdigit());
