@@ -209,16 +209,22 @@ fn candidates(pack: &Pack) -> BTreeSet<u32> {
     derivations.flat_map(|d| d.source.into_iter().chain(d.path.iter().flatten().map(|step| step.relation))).collect()
 }
 
-/// A row for each relation that leans on something.
+/// A row for each relation that leans on something. Large packs take many questions, so several threads ask them.
 pub fn leans_rows(accepted: &Accepted) -> Outcome<Vec<Vec<String>>> {
-    let mut out = vec![];
-    for relation in accepted.pack.relations.iter().filter(|r| r.derivation.is_some()) {
-        let (found, said) = leant_on(accepted, relation.name)?;
-        if !found.is_empty() {
-            out.push(vec![accepted.show(relation.name), "leans on".into(), said]);
-        }
-    }
-    Ok(out)
+    let names: Vec<u32> = accepted.pack.relations.iter().filter(|r| r.derivation.is_some()).map(|r| r.name).collect();
+    let row = |name: u32| {
+        let (found, said) = leant_on(accepted, name)?;
+        Ok::<_, Trouble>((!found.is_empty()).then(|| vec![accepted.show(name), "leans on".into(), said]))
+    };
+    let rows = |names: &[u32]| names.iter().map(|&name| row(name)).collect::<Outcome<Vec<_>>>();
+    let threads = std::thread::available_parallelism().map_or(1, usize::from);
+    let parts = std::thread::scope(|scope| {
+        let chunks = names.chunks(names.len().div_ceil(threads).max(16));
+        let asked: Vec<_> = chunks.map(|chunk| scope.spawn(|| rows(chunk))).collect();
+        let failed = |_| Err(disagreement("a thread that asks the library has failed"));
+        asked.into_iter().map(|thread| thread.join().unwrap_or_else(failed)).collect::<Outcome<Vec<_>>>()
+    })?;
+    Ok(parts.into_iter().flatten().flatten().collect())
 }
 
 // ---- tables

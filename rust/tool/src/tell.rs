@@ -39,33 +39,55 @@ pub fn node(accepted: &Accepted, reason: &Reason) -> String {
 
 /// Why a node runs the way it does.
 pub fn because(accepted: &Accepted, facts: &Facts, reason: &Reason) -> String {
-    let show = |name: u32| accepted.show(name);
-    let relation = show(reason.tree.value);
-    let bears = |kind: u32| borne(accepted, reason.entity, kind);
-    let listed = || match facts.find(&accepted.pack, reason.tree.value) {
-        Some(relation) => accepted.input.naming.list(&relation.kinds.names),
-        None => "()".into(),
+    let sentence = match reason.tree.kind {
+        nodes::MEMBER => member_sentence(accepted, facts, reason),
+        _ => aggregate_sentence(accepted, facts, reason),
     };
-    let sentence = match reason.why {
-        Why::Derived => "the relation is derived and supplies its own slots".into(),
+    let Some(refusal) = reason.refused else { return sentence };
+    match reason.tree.asks {
+        Some(asked) if refusal.number != 10 => {
+            format!("{sentence}, but {}", asked_for(accepted, reason, refusal.number, &accepted.show(asked.name)))
+        }
+        _ => format!("{sentence}: the direction is open"),
+    }
+}
+
+/// The kinds that the relation of a node lists.
+fn listed(accepted: &Accepted, facts: &Facts, reason: &Reason) -> String {
+    let relation = facts.find(&accepted.pack, reason.tree.value);
+    accepted.input.naming.list(relation.map_or(&[], |relation| &relation.kinds.names))
+}
+
+fn aggregate_sentence(accepted: &Accepted, facts: &Facts, reason: &Reason) -> String {
+    let relation = accepted.show(reason.tree.value);
+    let listed = || listed(accepted, facts, reason);
+    let bears = |kind: u32| borne(accepted, reason.entity, kind);
+    match reason.why {
         Why::OneBears { slot, kind } => format!("slot {slot} alone bears {}", bears(kind)),
         Why::BothBear { kind } => format!("both slots of {relation} bear {}", bears(kind)),
         Why::NoneBears { .. } if !reason.entity.known => {
             format!("{}, so no slot of {} can bear it", unknown(reason.entity.from), listed())
         }
-        Why::NoneBears { kind } => format!("no slot of {} bears {}{}", listed(), bears(kind), untaken(facts, kind)),
-        Why::Undeclared => format!("the pack has no relation {relation}"),
-        Why::NoKinds => format!("{relation} lists no kinds, so its slots cannot be told apart"),
-        Why::NotTwo { count } => format!("{relation} lists {count} kinds {}; only a pair is turned", listed()),
+        Why::NoneBears { kind } => {
+            format!("no slot of {} bears {}{}", listed(), bears(kind), untaken(facts, reason.entity.name))
+        }
+        _ => relation_sentence(accepted, facts, reason),
+    }
+}
+
+fn member_sentence(accepted: &Accepted, facts: &Facts, reason: &Reason) -> String {
+    let show = |name: u32| accepted.show(name);
+    let listed = || listed(accepted, facts, reason);
+    match reason.why {
         Why::Members { current, related } => {
-            let (c, r) = (reason.slots.current, reason.slots.related);
+            let (slot, other) = (reason.slots.current, reason.slots.related);
+            let [current, related] = [current, related].map(show);
             format!(
-                "slot {c} alone bears {}, the current kind, and slot {r} alone {}, the related one",
-                show(current),
-                show(related)
+                "slot {slot} alone bears {current}, the current kind, and slot {other} alone {related}, the related one"
             )
         }
         Why::AlikeOpen { kind } => {
+            let relation = show(reason.tree.value);
             format!("current and related kind are both {}, and so are both slots of {relation}", show(kind))
         }
         Why::AlikeKept { kind } => {
@@ -75,13 +97,20 @@ pub fn because(accepted: &Accepted, facts: &Facts, reason: &Reason) -> String {
             format!("{} does not bear {} and {} in one slot each", listed(), show(current), show(related))
         }
         Why::NoMembership(lost) => lost_in(lost).into(),
-    };
-    let Some(refusal) = reason.refused else { return sentence };
-    match reason.tree.asks {
-        Some(asked) if refusal.number != 10 => {
-            format!("{sentence}, but {}", asked_for(accepted, reason, refusal.number, &show(asked.name)))
+        _ => relation_sentence(accepted, facts, reason),
+    }
+}
+
+/// What the relation itself says, whatever runs over it.
+fn relation_sentence(accepted: &Accepted, facts: &Facts, reason: &Reason) -> String {
+    let relation = accepted.show(reason.tree.value);
+    match reason.why {
+        Why::Undeclared => format!("the pack has no relation {relation}"),
+        Why::NoKinds => format!("{relation} lists no kinds, so its slots cannot be told apart"),
+        Why::NotTwo { count } => {
+            format!("{relation} lists {count} kinds {}; only a pair is turned", listed(accepted, facts, reason))
         }
-        _ => format!("{sentence}: the direction is open"),
+        _ => "the relation is derived and supplies its own slots".into(),
     }
 }
 

@@ -16,9 +16,12 @@ struct Rect {
     height: f64,
 }
 
+/// Where a text begins, and how many letters it has.
+type Text = (f64, f64, usize);
+
 /// The boxes, each with its texts, and the arrows as the points they run through.
 struct Picture {
-    boxes: Vec<(Rect, Vec<(f64, f64, usize)>)>,
+    boxes: Vec<(Rect, Vec<Text>)>,
     arrows: Vec<Vec<(f64, f64)>>,
 }
 

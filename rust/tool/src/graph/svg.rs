@@ -1,7 +1,7 @@
 //! The picture as SVG. Letters are of one width, so that boxes are as wide as their texts in every viewer.
 
 use super::grid::{Cell, Grid, grid};
-use super::{Colour, Drawing, Drawn, Mark, Sort};
+use super::{Colour, Drawing, Drawn, Line, Mark, Sort};
 use std::fmt::Write;
 
 const LETTER: f64 = 7.3;
@@ -108,6 +108,50 @@ struct Plan {
     bottom: f64,
 }
 
+/// Arrows outside the trees leave below their box and come in from the right: each has a turn in the lane below its row
+/// and one in the lane right of the column.
+struct Lanes {
+    turns: Vec<Option<(usize, usize)>>,
+    /// How many arrows each lane has.
+    below: Vec<usize>,
+    beside: Vec<usize>,
+}
+
+impl Lanes {
+    fn new(drawing: &Drawing, grid: &Grid) -> Lanes {
+        let mut lanes = Lanes { turns: vec![], below: vec![0; grid.rows + 1], beside: vec![0; grid.columns + 1] };
+        for (i, arrow) in drawing.arrows.iter().enumerate() {
+            if grid.branch[arrow.from] == Some(i) {
+                lanes.turns.push(None);
+                continue;
+            }
+            let below = &mut lanes.below[grid.cells[arrow.from].row + 1];
+            let beside = &mut lanes.beside[grid.cells[arrow.to].column + 1];
+            lanes.turns.push(Some((*below, *beside)));
+            *below += 1;
+            *beside += 1;
+        }
+        lanes
+    }
+}
+
+/// The largest of the sizes of some boxes.
+fn largest(cells: &[Cell], sizes: &[f64], which: impl Fn(&Cell) -> bool) -> f64 {
+    cells.iter().zip(sizes).filter(|(cell, _)| which(cell)).map(|(_, &size)| size).fold(0.0, f64::max)
+}
+
+/// Where columns or rows begin, with lanes between them that are as wide as their arrows need; and where the last ends.
+fn edges(first: f64, lane: f64, arrows: &[usize], size: impl Fn(usize) -> f64) -> (Vec<f64>, f64) {
+    let mut at = first;
+    let mut edges = vec![];
+    for (i, &arrows) in arrows.iter().enumerate() {
+        at += if i == 0 { 0.0 } else { lane + ARROW * arrows as f64 };
+        edges.push(at);
+        at += size(i);
+    }
+    (edges, at)
+}
+
 impl Plan {
     fn new(drawing: &Drawing, alone: bool) -> Plan {
         let grid = grid(drawing);
@@ -118,40 +162,12 @@ impl Plan {
         let heights: Vec<f64> = drawing.boxes.iter().map(|d| HEAD + 8.0 + d.lines.len() as f64 * LINE).collect();
         let ends: Vec<(usize, usize)> = drawing.arrows.iter().map(|arrow| (arrow.from, arrow.to)).collect();
 
-        // Arrows outside the trees leave below their box and come in from the right: a turn in the lane below the row and
-        // one in the lane right of the column.
-        let (mut below, mut beside) = (vec![0; grid.rows + 1], vec![0; grid.columns + 1]);
-        let mut turns = vec![];
-        for (i, arrow) in drawing.arrows.iter().enumerate() {
-            let branch = grid.branch[arrow.from] == Some(i);
-            turns.push(if branch {
-                None
-            } else {
-                let (row, column) = (grid.cells[arrow.from].row + 1, grid.cells[arrow.to].column + 1);
-                below[row] += 1;
-                beside[column] += 1;
-                Some((below[row] - 1, beside[column] - 1))
-            });
-        }
-        let size = |cells: &[Cell], pick: fn(&Cell) -> usize, sizes: &[f64], at: usize| {
-            cells.iter().zip(sizes).filter(|(cell, _)| pick(cell) == at).map(|(_, &size)| size).fold(0.0, f64::max)
-        };
-        let mut x = vec![];
-        let mut at = MARGIN + 16.0;
-        for (column, &arrows) in beside.iter().enumerate() {
-            at += if column == 0 { 0.0 } else { LANE + ARROW * arrows as f64 };
-            x.push(at);
-            at += size(&grid.cells, |cell| cell.column, &widths, column);
-        }
-        let mut y = vec![];
-        let mut at = MARGIN + if alone { 20.0 } else { 0.0 };
-        for (row, &arrows) in below.iter().enumerate() {
-            at += if row == 0 { 0.0 } else { GAP + ARROW * arrows as f64 };
-            y.push(at);
-            at += size(&grid.cells, |cell| cell.row, &heights, row);
-        }
-        let bottom = at + 10.0;
-        Plan { grid, x, y, widths, heights, turns, ends, bottom }
+        let lanes = Lanes::new(drawing, &grid);
+        let column = |at: usize| largest(&grid.cells, &widths, |cell| cell.column == at);
+        let (x, _) = edges(MARGIN + 16.0, LANE, &lanes.beside, column);
+        let row = |at: usize| largest(&grid.cells, &heights, |cell| cell.row == at);
+        let (y, bottom) = edges(MARGIN + if alone { 20.0 } else { 0.0 }, GAP, &lanes.below, row);
+        Plan { grid, x, y, widths, heights, turns: lanes.turns, ends, bottom: bottom + 10.0 }
     }
 
     fn size(&self, drawing: &Drawing, alone: bool) -> (f64, f64) {
@@ -219,8 +235,7 @@ impl Plan {
     }
 
     fn column_width(&self, column: usize) -> f64 {
-        let cells = self.grid.cells.iter().zip(&self.widths);
-        cells.filter(|(cell, _)| cell.column == column).map(|(_, &width)| width).fold(0.0, f64::max)
+        largest(&self.grid.cells, &self.widths, |cell| cell.column == column)
     }
 
     fn drawn(&self, i: usize, drawn: &Drawn) -> String {
@@ -252,31 +267,31 @@ impl Plan {
             escaped(&short(&drawn.title))
         );
         for (k, line) in drawn.lines.iter().enumerate() {
-            let top = y + HEAD + 4.0 + k as f64 * LINE;
-            let (ground, ink) = match line.mark {
-                Mark::Plain => ("", "#0f172a"),
-                Mark::Kept => ("#fde68a", "#451a03"),
-                Mark::Refused => ("#fecaca", "#7f1d1d"),
-            };
-            if !ground.is_empty() {
-                _ = writeln!(
-                    out,
-                    "<rect x=\"{:.1}\" y=\"{top:.1}\" width=\"{:.1}\" height=\"{LINE:.1}\" fill=\"{ground}\"/>",
-                    x + 1.0,
-                    width - 2.0
-                );
-            }
-            _ = writeln!(
-                out,
-                "<text x=\"{:.1}\" y=\"{:.1}\" fill=\"{ink}\">{}</text>",
-                x + PAD,
-                top + 12.5,
-                escaped(&short(&line.text))
-            );
+            out.push_str(&line_of(line, x, y + HEAD + 4.0 + k as f64 * LINE, width));
         }
         out.push_str("</g>\n");
         out
     }
+}
+
+/// A line of a box, on a ground of its own where it is marked.
+fn line_of(line: &Line, x: f64, y: f64, width: f64) -> String {
+    let (ground, ink) = match line.mark {
+        Mark::Plain => ("", "#0f172a"),
+        Mark::Kept => ("#fde68a", "#451a03"),
+        Mark::Refused => ("#fecaca", "#7f1d1d"),
+    };
+    let mut out = String::new();
+    if !ground.is_empty() {
+        let (x, width) = (x + 1.0, width - 2.0);
+        _ = writeln!(
+            out,
+            "<rect x=\"{x:.1}\" y=\"{y:.1}\" width=\"{width:.1}\" height=\"{LINE:.1}\" fill=\"{ground}\"/>"
+        );
+    }
+    let (x, y, text) = (x + PAD, y + 12.5, escaped(&short(&line.text)));
+    _ = writeln!(out, "<text x=\"{x:.1}\" y=\"{y:.1}\" fill=\"{ink}\">{text}</text>");
+    out
 }
 
 const KEY_WIDTH: f64 = 830.0;
