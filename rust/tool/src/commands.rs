@@ -179,7 +179,10 @@ fn run_make(args: &Args) -> Outcome<Done> {
 }
 
 pub fn write_file(file: &str, bytes: &[u8]) -> Outcome<()> {
-    std::fs::write(file, bytes).map_err(|error| unusable(format!("{file}: {}", crate::input::in_words(&error))))
+    std::fs::write(file, bytes).map_err(|error| match error.kind() {
+        std::io::ErrorKind::NotFound => unusable(format!("{file}: there is no such folder to write to")),
+        _ => unusable(format!("{file}: {}", crate::input::in_words(&error))),
+    })
 }
 
 fn run_list(args: &Args) -> Outcome<Done> {

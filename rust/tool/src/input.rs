@@ -42,6 +42,9 @@ pub fn load(file: &str, names: Option<&str>) -> Outcome<Input> {
         let due = "expected a text that begins with `pack`, a pack's bytes, or hexadecimal words";
         return Err(unusable(format!("{shown}: this is empty; {due}")));
     }
+    if bytes.starts_with(&[0xFF, 0xFE]) || bytes.starts_with(&[0xFE, 0xFF]) {
+        return Err(unusable(format!("{shown}: this is a text in UTF-16; save it in UTF-8")));
+    }
     let mut input = match form_of(&bytes) {
         Form::Bytes => from_bytes(shown, bytes),
         Form::Hex => from_hex(shown, text_of(shown, bytes)?)?,
@@ -81,9 +84,9 @@ pub fn in_words(error: &io::Error) -> String {
     }
 }
 
-/// The first word of every pack has bytes that no text has.
+/// The first word of every pack has a byte 0, which no text has.
 fn form_of(bytes: &[u8]) -> Form {
-    if bytes.iter().any(|&b| b < b' ' && !b"\t\n\r\x0C".contains(&b)) {
+    if bytes.contains(&0) {
         return Form::Bytes;
     }
     let parts = bytes.split(|&b| b == b'\n').map(|line| line.split(|&b| b == b'#').next().unwrap_or(line));

@@ -20,7 +20,8 @@ pub fn pointed(file: &str, text: &str, span: Span, message: &str) -> String {
     let whole = text[start..].split('\n').next().unwrap_or("").trim_end().trim_start_matches('\u{FEFF}');
     let length = text.get(span.start..span.end).map_or(1, |part| part.split('\n').next().unwrap_or("").chars().count());
     let first = (column - 1).saturating_sub(ASIDE);
-    let shown: String = whole.chars().skip(first).take(2 * ASIDE).collect();
+    let harmless = |c: char| if c.is_control() && c != '\t' { '\u{FFFD}' } else { c };
+    let shown: String = whole.chars().skip(first).take(2 * ASIDE).map(harmless).collect();
     let (cut, more) =
         (if first > 0 { ".." } else { "" }, if whole.chars().count() > first + 2 * ASIDE { ".." } else { "" });
     let tab_or_blank = |c: char| if c == '\t' { '\t' } else { ' ' };

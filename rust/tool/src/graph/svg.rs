@@ -302,11 +302,11 @@ fn key(y: f64) -> String {
     let mut out = format!("<g transform=\"translate({MARGIN} {:.1})\">\n", y + 12.0);
     let arrows = [
         (0.0, "stroke=\"#334155\" stroke-width=\"1.5\" marker-end=\"url(#to)\"", "comes from its source"),
-        (270.0, "stroke=\"#7e22ce\" stroke-width=\"3\" marker-end=\"url(#round)\"", "a ring of sources: no kinds"),
+        (270.0, "stroke=\"#7e22ce\" stroke-width=\"3\" marker-end=\"url(#round)\"", "a ring of sources"),
         (
             560.0,
             "stroke=\"#334155\" stroke-width=\"1.5\" stroke-dasharray=\"6 4\" marker-end=\"url(#to)\"",
-            "a step of its path: no kinds",
+            "a step of its path",
         ),
     ];
     for (x, look, text) in arrows {
