@@ -104,13 +104,15 @@ fn text_of(file: &str, bytes: Vec<u8>) -> Outcome<String> {
     })
 }
 
-fn from_bytes(file: &str, bytes: Vec<u8>) -> Input {
+/// A pack that comes as bytes.
+pub fn from_bytes(file: &str, bytes: Vec<u8>) -> Input {
     let words = cogunwa::words_of(&bytes);
     let (content, spans) = (String::new(), vec![]);
     Input { file: file.into(), form: Form::Bytes, bytes, words, naming: Naming::Numbers, content, spans, made: None }
 }
 
-fn from_hex(file: &str, content: String) -> Outcome<Input> {
+/// A pack that comes as hexadecimal words.
+pub fn from_hex(file: &str, content: String) -> Outcome<Input> {
     let (mut words, mut spans) = (vec![], vec![]);
     // `#` begins a comment, to the end of its line.
     let lines = content.lines().map(|line| line.split('#').next().unwrap_or(line));
@@ -129,7 +131,8 @@ fn from_hex(file: &str, content: String) -> Outcome<Input> {
     Ok(Input { file: file.into(), form: Form::Hex, bytes, words, naming, content, spans, made: None })
 }
 
-fn from_text(file: &str, content: String) -> Outcome<Input> {
+/// A pack that comes as text.
+pub fn from_text(file: &str, content: String) -> Outcome<Input> {
     let made = make(&content).map_err(|b| unusable(pointed(file, &content, b.span, &b.message)))?;
     let (words, spans, naming) = (made.words.clone(), made.spans.clone(), made.naming.clone());
     let (file, bytes, made) = (file.to_string(), cogunwa::bytes_of(&words), Some(made));

@@ -28,16 +28,6 @@ pub fn layout(pack: &Pack, naming: &Naming, made: Option<&Made>) -> String {
     printer.out
 }
 
-/// A node on one line, without comments.
-pub fn node_text(tree: &Tree, naming: &Naming, made: Option<&Made>) -> String {
-    Printer { naming, made, comments: &[], next: 0, out: String::new() }.flat(tree)
-}
-
-/// The head of a node on one line: what stands before its children.
-pub fn head_text(tree: &Tree, naming: &Naming, made: Option<&Made>) -> String {
-    Printer { naming, made, comments: &[], next: 0, out: String::new() }.head(tree)
-}
-
 pub fn slots_text(slots: Slots) -> String {
     format!("{}->{}", slots.current, slots.related)
 }

@@ -71,7 +71,7 @@ figure { margin: .5em 0; overflow-x: auto; }
 figure svg { max-width: 100%; height: auto; }
 pre { margin: 0; white-space: pre-wrap; overflow-wrap: anywhere; }
 pre .n { display: inline-block; width: 3.5em; color: #666; user-select: none; }
-@media print { body { margin: 0; max-width: none; padding: 0; } * { print-color-adjust: exact; -webkit-print-color-adjust: exact; } }
+@media print { body { margin: 0; max-width: none; padding: 0; } figure svg { max-height: 170mm; width: auto; } * { print-color-adjust: exact; -webkit-print-color-adjust: exact; } }
 ";
 
 fn section(out: &mut String, title: &str, about: &str) {

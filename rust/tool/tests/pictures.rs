@@ -5,8 +5,7 @@ use cases::Chance;
 use cogunwa_tool::accepted::accept;
 use cogunwa_tool::graph::picture;
 use cogunwa_tool::held::{facts, find};
-use cogunwa_tool::input::{Form, Input};
-use cogunwa_tool::names::Naming;
+use cogunwa_tool::input::from_bytes;
 
 #[derive(Clone, Copy, Debug)]
 struct Rect {
@@ -70,19 +69,7 @@ fn meet(a: Rect, b: Rect) -> bool {
 }
 
 fn look(name: &str, words: &[u32]) -> (usize, usize) {
-    let (bytes, naming) = (cogunwa::bytes_of(words), Naming::Numbers);
-    let (content, spans) = (String::new(), vec![]);
-    let input = Input {
-        file: "pack".into(),
-        form: Form::Bytes,
-        bytes,
-        words: words.to_vec(),
-        naming,
-        content,
-        spans,
-        made: None,
-    };
-    let Ok(accepted) = accept(input) else { return (0, 0) };
+    let Ok(accepted) = accept(from_bytes("pack", cogunwa::bytes_of(words))) else { return (0, 0) };
     let facts = facts(&accepted).unwrap();
     let svg = picture(&accepted, &find(&accepted, &facts).unwrap());
     let Picture { boxes, arrows } = read_picture(&svg);

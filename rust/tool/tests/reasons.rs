@@ -7,27 +7,14 @@ use cogunwa_tool::accepted::{Accepted, accept};
 use cogunwa_tool::answers::why_lines;
 use cogunwa_tool::commands::resolved_text;
 use cogunwa_tool::held::{compare, facts, find};
-use cogunwa_tool::input::{Form, Input};
-use cogunwa_tool::names::Naming;
+use cogunwa_tool::input::{from_bytes, from_text};
 use cogunwa_tool::pack::Slots;
 use cogunwa_tool::why::{Becomes, Reason};
 use cogunwa_tool::{say, tell};
 use std::collections::BTreeMap;
 
 fn accepted(words: &[u32]) -> Option<Accepted> {
-    let (bytes, naming) = (cogunwa::bytes_of(words), Naming::Numbers);
-    let file = "pack".to_string();
-    let input = Input {
-        file,
-        form: Form::Bytes,
-        bytes,
-        words: words.to_vec(),
-        naming,
-        content: String::new(),
-        spans: vec![],
-        made: None,
-    };
-    accept(input).ok()
+    accept(from_bytes("pack", cogunwa::bytes_of(words))).ok()
 }
 
 /// What was met, by how often: outcomes of nodes, refusals and stamped relations.
@@ -62,6 +49,7 @@ fn hold(name: &str, words: &[u32], met: &mut Met) {
     match &found.resolved {
         Ok(resolved) => {
             met.add("resolved");
+            as_text(&accepted.text, &resolved.words);
             resolved_text(&accepted, resolved).unwrap_or_else(|t| panic!("{}", fail(t.message)));
             let turned = all.iter().filter(|r| r.becomes() == Becomes::Turned).count();
             assert_eq!(tell::changes(&accepted, &found).len(), turned + found.stamped.len(), "{name}");
@@ -75,6 +63,20 @@ fn hold(name: &str, words: &[u32], met: &mut Met) {
             );
         }
     }
+}
+
+/// The same pack as text: it resolves to a text that makes the same words, and that text changes no more.
+fn as_text(text: &str, words: &[u32]) {
+    let resolve = |text: &str| {
+        let accepted = accept(from_text("text", text.into()).ok().unwrap()).ok().unwrap();
+        let facts = facts(&accepted).ok().unwrap();
+        let found = find(&accepted, &facts).ok().unwrap();
+        let resolved = found.resolved.as_ref().unwrap();
+        assert_eq!(resolved.words, words);
+        (resolved_text(&accepted, resolved).ok().unwrap(), tell::changes(&accepted, &found).len())
+    };
+    let (once, _) = resolve(text);
+    assert_eq!(resolve(&once), (once.clone(), 0));
 }
 
 #[test]

@@ -3,7 +3,7 @@ mod cases;
 
 use cases::Chance;
 use cogunwa_tool::accepted::accept;
-use cogunwa_tool::input::{Form, Input};
+use cogunwa_tool::input::{from_bytes, from_hex};
 use cogunwa_tool::layout::layout;
 use cogunwa_tool::lex::{Token, lex};
 use cogunwa_tool::make::{Made, make};
@@ -145,14 +145,6 @@ fn damaged(text: &str, c: &mut Chance) -> String {
     out
 }
 
-fn input(words: &[u32], form: Form) -> Input {
-    let hex = words.iter().map(|word| format!("{word:08X}\n")).collect::<String>();
-    let spans = (0..words.len()).map(|i| cogunwa_tool::lex::Span { start: 9 * i, end: 9 * i + 8 });
-    let (content, spans) = if form == Form::Hex { (hex, spans.collect()) } else { (String::new(), vec![]) };
-    let (bytes, naming) = (cogunwa::bytes_of(words), Naming::Numbers);
-    Input { file: "pack".into(), form, bytes, words: words.to_vec(), naming, content, spans, made: None }
-}
-
 /// Every refused pack of the list, and packs damaged by chance: refused in words, with the library's number.
 #[test]
 fn refused_words() {
@@ -172,8 +164,9 @@ fn refused_words() {
     }
     for words in refused {
         let Err(refusal) = cogunwa::check(&cogunwa::bytes_of(&words)) else { continue };
-        for form in [Form::Hex, Form::Bytes] {
-            let trouble = accept(input(&words, form)).err().expect("a refusal");
+        let hex = words.iter().map(|word| format!("{word:08X}\n")).collect::<String>();
+        for input in [from_hex("pack", hex).ok().unwrap(), from_bytes("pack", cogunwa::bytes_of(&words))] {
+            let trouble = accept(input).err().expect("a refusal");
             assert_eq!(trouble.code, 1);
             assert!(trouble.message.ends_with(&format!("refusal {}", refusal.number)), "{}", trouble.message);
             assert!(
