@@ -197,17 +197,17 @@ fn run_fmt(args: &Args) -> Outcome<Done> {
 
 fn run_check(args: &Args) -> Outcome<Done> {
     let accepted = given(args)?;
+    Ok(Done::text(format!("{}: accepted: {}\n", accepted.input.file, counts(&accepted))))
+}
+
+/// How much there is in a pack.
+pub fn counts(accepted: &Accepted) -> String {
     let Pack { names, relations, rules, blocks, .. } = &accepted.pack;
-    let counted = |count: usize, one: &str, many: &str| format!("{count} {}", if count == 1 { one } else { many });
-    Ok(Done::text(format!(
-        "{}: accepted: {}, {}, {}, {}, {}\n",
-        accepted.input.file,
-        counted(accepted.input.words.len(), "word", "words"),
-        counted(*names as usize, "name", "names"),
-        counted(relations.len(), "relation", "relations"),
-        counted(rules.len(), "rule", "rules"),
-        counted(blocks.len(), "block of inputs", "blocks of inputs"),
-    )))
+    let counted = |count: usize, one: &str| format!("{count} {one}{}", if count == 1 { "" } else { "s" });
+    let blocks = format!("{} of inputs", counted(blocks.len(), "block"));
+    let words = counted(accepted.input.words.len(), "word");
+    let names = counted(*names as usize, "name");
+    [words, names, counted(relations.len(), "relation"), counted(rules.len(), "rule"), blocks].join(", ")
 }
 
 fn run_resolve(args: &Args) -> Outcome<Done> {
