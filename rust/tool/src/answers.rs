@@ -128,7 +128,7 @@ pub fn kinds(args: &Args) -> Outcome<Done> {
     Ok(Done::text(format!("{shown}  {kinds}  {}\n", whose(&accepted, &facts, relation))))
 }
 
-pub fn kinds_rows(accepted: &Accepted, facts: &Facts) -> Vec<Vec<String>> {
+fn kinds_rows(accepted: &Accepted, facts: &Facts) -> Vec<Vec<String>> {
     let row = |relation: &crate::pack::Relation| {
         let kinds = facts.kinds(relation.name).map_or("none".into(), |kinds| accepted.input.naming.list(kinds));
         vec![accepted.show(relation.name), kinds, whose(accepted, facts, relation)]

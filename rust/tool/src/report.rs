@@ -1,12 +1,13 @@
 //! One page for the course: the pack, its picture, why each node runs the way it does, kinds, leans and tables.
 
 use crate::accepted::Accepted;
-use crate::answers::{TABLES, kinds_rows, leans_rows, tables_rows};
+use crate::answers::{TABLES, leans_rows, tables_rows};
 use crate::args::{Args, Done};
-use crate::commands::given;
+use crate::chains::whose;
+use crate::commands::{counts, given};
 use crate::graph::{escaped, picture};
 use crate::held::{Findings, facts, find};
-use crate::layout::slots_text;
+use crate::pack::Relation;
 use crate::trouble::Outcome;
 use crate::why::{Becomes, Reason};
 use crate::{say, tell};
@@ -30,14 +31,8 @@ fn page(accepted: &Accepted, found: &Findings) -> Outcome<String> {
     _ = writeln!(out, "<figure>{}</figure>", picture(accepted, found));
     section(&mut out, "Why each node runs the way it does", KEY);
     why_table(&mut out, accepted, found);
-    section(
-        &mut out,
-        "The page",
-        "For each relation its current and related slot and the kinds of its slots, in record order.",
-    );
+    section(&mut out, "The page", "Each relation with its slots and kinds, in record order, and whose kinds they are.");
     page_table(&mut out, accepted, found);
-    section(&mut out, "Whose kinds they are", "The kinds that each relation has, and in whose record the list stands.");
-    table(&mut out, &["relation", "kinds", "whose"], &kinds_rows(accepted, found.facts));
     section(&mut out, "Leans", "Which relations lean on which names.");
     table(&mut out, &["relation", "", "on"], &leans_rows(accepted)?);
     section(&mut out, "Entities", "What each entity that derivations name stands for.");
@@ -80,16 +75,7 @@ fn section(out: &mut String, title: &str, about: &str) {
 
 /// What Resolve made of the pack.
 fn summary(out: &mut String, accepted: &Accepted, found: &Findings) {
-    let pack = &accepted.pack;
-    _ = writeln!(
-        out,
-        "<p>{} words, {} names, {} relations, {} rules, {} blocks of inputs.</p>",
-        accepted.input.words.len(),
-        pack.names,
-        pack.relations.len(),
-        pack.rules.len(),
-        pack.blocks.len()
-    );
+    _ = writeln!(out, "<p>{}.</p>", counts(accepted));
     let resolved = match &found.resolved {
         Ok(resolved) => resolved,
         Err(refusal) => {
@@ -143,12 +129,15 @@ fn why_cells(accepted: &Accepted, found: &Findings, reason: &Reason) -> [String;
 
 /// Slots and kinds of each relation; a dash where there is none.
 fn page_table(out: &mut String, accepted: &Accepted, found: &Findings) {
-    let row = |relation: &crate::pack::Relation| {
-        let slots = relation.derivation.as_ref().map_or("-".into(), |d| slots_text(d.slots));
+    let row = |relation: &Relation| {
+        let slots =
+            relation.derivation.as_ref().map(|d| [d.slots.current, d.slots.related].map(|slot| slot.to_string()));
+        let [current, related] = slots.unwrap_or_else(|| ["-".into(), "-".into()]);
         let kinds = found.facts.kinds(relation.name).map_or("-".into(), |kinds| accepted.input.naming.joined(kinds));
-        vec![accepted.show(relation.name), slots, kinds]
+        vec![accepted.show(relation.name), current, related, kinds, whose(accepted, found.facts, relation)]
     };
-    table(out, &["relation", "slots", "kinds"], &accepted.pack.relations.iter().map(row).collect::<Vec<_>>());
+    let rows: Vec<Vec<String>> = accepted.pack.relations.iter().map(row).collect();
+    table(out, &["relation", "current slot", "related slot", "kinds", "whose kinds"], &rows);
 }
 
 fn table(out: &mut String, heads: &[&str], rows: &[Vec<String>]) {
