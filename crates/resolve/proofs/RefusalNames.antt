@@ -137,14 +137,14 @@ module _ (p : Pack) (w : WellFormed p) where
           let q : record { current = b .current; related = b .related; kinds = kindsOf (p .relations) m } ≡ d = cc in
           subst (λ (x : Derived). Small 4096 (x .kinds)) q (kinds-small m)
 
-  tables-below : KindsBelow 4096 (tables (p .names) (p .relations))
+  tables-below : KindsBelow 4096 (tables (p .relations))
   unfolding tables
   tables-below = record { typed = λ m. all-small (typedAt (find m (p .relations))) (typed-below m (find m (p .relations)) refl); derived = λ m d e. derived-small m (find m (p .relations)) d e }
 
   cites-fits : (name origin : ℕ) → CitingFits 4096 (cites p name origin)
   cites-fits name origin =
       record {
-        kinds = turn-below 4096 (omega arith) (tables (p .names) (p .relations)) tables-below;
+        kinds = turn-below 4096 (omega arith) (tables (p .relations)) tables-below;
         inputs = λ owner m number e. small-number (input (p .blocks) origin owner m) (input-numbered (p .blocks) origin owner m) number e;
       }
 
@@ -220,10 +220,10 @@ module _ (p : Pack) (w : WellFormed p) where
       let b = length-append (relationsPart p) rest in
       omega (arith, opening-length p, words-length p, w .most)
 
-  equal-told : (m : ℕ) → defaultedEqual (tables (p .names) (p .relations)) (p .defaulted) ≡ some m → Told {A = Pack} 8192 (refused (equalRefusal p m))
+  equal-told : (m : ℕ) → defaultedEqual (tables (p .relations)) (p .defaulted) ≡ some m → Told {A = Pack} 8192 (refused (equalRefusal p m))
   unfolding tables
   equal-told m e =
-      let its = declared-of (kindsOf (p .relations) m) (find m (p .relations)) (equal-named (tables (p .names) (p .relations)) (p .defaulted) m e) in
+      let its = declared-of (kindsOf (p .relations) m) (find m (p .relations)) (equal-named (tables (p .relations)) (p .defaulted) m e) in
       let k = find-kept n m [] (p .relations) (its .0) (parts p w .relations-fine) (its .1) .1 in
       let q = find-name (p .relations) m (its .0) (its .1) in
       let start : startOf n m (firstRelation p) (p .relations) < 8192 = omega (arith, relations-before, start-within n m (firstRelation p) [] (p .relations)) in
@@ -231,12 +231,12 @@ module _ (p : Pack) (w : WellFormed p) where
 
   pub resolved-told : Told 8192 (resolved p)
   unfolding resolved
-  resolved-told = go (defaultedEqual (tables (p .names) (p .relations)) (p .defaulted)) refl
+  resolved-told = go (defaultedEqual (tables (p .relations)) (p .defaulted)) refl
     where
       top : total p ≤ 8192
       top = w .most
 
-      go : (o : Option ℕ) → defaultedEqual (tables (p .names) (p .relations)) (p .defaulted) ≡ o → Told {A = Pack} 8192 (elim o [ some m ↦ refused (equalRefusal p m) | none ↦ resolveRecords p ])
+      go : (o : Option ℕ) → defaultedEqual (tables (p .relations)) (p .defaulted) ≡ o → Told {A = Pack} 8192 (elim o [ some m ↦ refused (equalRefusal p m) | none ↦ resolveRecords p ])
       go (some m) e = equal-told m e
       go none e =
           then-told 8192 (resolveRules p (firstRule p) (p .rules)) _ (told-below _ 8192 (omega (arith, rules-inside, top)) (resolveRules p (firstRule p) (p .rules)) rules-told)

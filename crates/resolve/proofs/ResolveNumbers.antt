@@ -48,5 +48,5 @@ resolve-numbers ws room r e = go (read ws) refl e
         (rules-numbered p (firstRule p) (p .rules)) (relations-numbered p (firstRelation p) (p .relations)) q
 
     go : (m : Reading) → read ws ≡ m → answer m (λ p. givenOut (allKinds (p .relations) .steps) room (resolved p)) ≡ Refused r → ResolveRefuses r
-    go (yes p) h q = defaults p (defaultedEqual (tables (p .names) (p .relations)) (p .defaulted)) q
+    go (yes p) h q = defaults p (defaultedEqual (tables (p .relations)) (p .defaulted)) q
     go (refuse s) h q = let u : s ≡ r = cc in checks (read-numbers ws r (h ∙ ap refuse u))
