@@ -111,13 +111,13 @@ relations-room p w =
 
 -- ---- places
 
--- what holds of each way in which a declaration goes holds of the declaration
-module _ (P : Step Answer → Type 0) (n : ℕ) (nowhere : P (end none)) (nine : P (from n list9)) where
-  pub each-way : (ks : List ℕ) (o : Option Derivation) → ((d : Derivation) → o ≡ some d → P (from n list21))
+-- what holds of each way in which a declaration goes holds of the declaration; a list that settles it is not empty
+module _ (P : Step Answer → Type 0) (n : ℕ) (nowhere : P (end none)) where
+  pub each-way-listed : (ks : List ℕ) (o : Option Derivation) → (0 < length ks → P (from n list9)) → ((d : Derivation) → o ≡ some d → 0 < length (d .slotEntities) → P (from n list21))
       → ((d : Derivation) → o ≡ some d → eqb (d .source) table.none ≡ false → P (next (d .source))) → P (declares n ks o)
-  each-way [] none twentyOne leads = nowhere
-  each-way (k ∷ ks) none twentyOne leads = nine
-  each-way ks (some d) twentyOne leads = go (d .slotEntities) ks
+  each-way-listed [] none nine twentyOne leads = nowhere
+  each-way-listed (k ∷ ks) none nine twentyOne leads = nine (omega arith)
+  each-way-listed ks (some d) nine twentyOne leads = go (d .slotEntities) (twentyOne d refl) ks nine
     where
       sourced : (c : Bool) → eqb (d .source) table.none ≡ c → P (pick c (end none) (next (d .source)))
       sourced true e = nowhere
@@ -127,10 +127,14 @@ module _ (P : Step Answer → Type 0) (n : ℕ) (nowhere : P (end none)) (nine :
       pathed none = sourced (eqb (d .source) table.none) refl
       pathed (some l) = nowhere
 
-      go : (es ks : List ℕ) → P (derived n d es ks)
-      go (e ∷ es) ks = twentyOne d refl
-      go [] (k ∷ ks) = nine
-      go [] [] = pathed (d .path)
+      go : (es : List ℕ) → (0 < length es → P (from n list21)) → (ks : List ℕ) → (0 < length ks → P (from n list9)) → P (derived n d es ks)
+      go (e ∷ es) own ks nine = own (omega arith)
+      go [] own (k ∷ ks) nine = nine (omega arith)
+      go [] own [] nine = pathed (d .path)
+
+  pub each-way : P (from n list9) → (ks : List ℕ) (o : Option Derivation) → ((d : Derivation) → o ≡ some d → P (from n list21))
+      → ((d : Derivation) → o ≡ some d → eqb (d .source) table.none ≡ false → P (next (d .source))) → P (declares n ks o)
+  each-way nine ks o twentyOne leads = each-way-listed ks o (λ h. nine) (λ d e h. twentyOne d e) leads
 
 -- a declaration's answers are those of its own relation
 pub mapped-alike : {S : Type 0} (g h : Answer → S) (n : ℕ) → g none ≡ h none → ((w : Which) → g (some (record { owner = n; which = w })) ≡ h (some (record { owner = n; which = w })))
