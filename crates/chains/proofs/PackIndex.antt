@@ -26,13 +26,13 @@ unfolding defaultedName wordsBy
 defaulted-length n [] low = refl
 defaulted-length n (d ∷ ds) low = ap suc (defaulted-length n ds (above low d))
 
-both : (a b : Bool) → (a && b) ≡ true → b ≡ true
-both true b e = e
+both : (a b : Bool) → (a && b) ≡ true → (a ≡ true) × (b ≡ true)
+both true b e = (refl, e)
 both false b e = let z : _≡_ {A = ℕ} 0 1 = cc in absurd (omega arith)
 
-names-most : (v : ℕ) → allowedHere 0 2 v ≡ true → v ≤ 4096
+names-bounds : (v : ℕ) → allowedHere 0 2 v ≡ true → (1 ≤ v) × (v ≤ 4096)
 unfolding allowedHere entryOf table
-names-most v e = leb-true v 4096 (both (leb 1 v) (leb v 4096) e)
+names-bounds v e = let h = both (leb 1 v) (leb v 4096) e in (leb-true 1 v (h .0), leb-true v 4096 (h .1))
 
 relations-most : (n v : ℕ) → allowedHere n 5 v ≡ true → v ≤ 512
 unfolding allowedHere entryOf table
@@ -65,6 +65,7 @@ split p =
 -- what is known of a checked pack's parts
 pub record Parts (p : Pack) : Type 0 where
   pub names : p .names < 16777216
+  pub least : 1 ≤ p .names
   pub most : p .names ≤ 4096
   pub defaulted-count : length (p .defaulted) < 16777216
   pub defaulted-fine : FineAll above (λ low v. Fine (defaultedName (p .names) low) v) 0 (p .defaulted)
@@ -79,7 +80,8 @@ parts p w =
     let f = w .parts in
     record {
       names = f .0 .0;
-      most = names-most (p .names) (f .0 .1);
+      least = names-bounds (p .names) (f .0 .1) .0;
+      most = names-bounds (p .names) (f .0 .1) .1;
       defaulted-count = f .1 .0 .0 .0;
       defaulted-fine = f .1 .0 .2;
       relation-count = f .1 .1 .0 .0 .0;
