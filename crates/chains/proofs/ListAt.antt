@@ -14,7 +14,7 @@ use Rattle.pack.specs.Pack.{Hop, Derivation, Relation, Pack, WellFormed, newNam
 use Rattle.pack.specs.Tree.{root}
 use Rattle.chains.specs.Chain.{Step, end, next, nothing, walk, own, same}
 use Rattle.chains.specs.Kinds.{Which, list9, list21, countKind, Source, Answer, find, readAt, kindStep, declared, ownAnswer, listOf, namesOf, kindsOf}
-use Rattle.chains.specs.Places.{relationWords, startOf, firstRelation, hops, countPlace, placeOf, namesAt, OwnersList, allKindsWords}
+use Rattle.chains.specs.Places.{relationWords, startOf, firstRelation, hops, countPlace, placeOf, namesAt, OwnersList, allKindsWords, SettledAt, AllSettledAt}
 use Rattle.chains.proofs.KindLaws.{in-row, words-own}
 use Rattle.chains.proofs.RelationScan.{relationsWords, RelationsFine}
 use Rattle.chains.proofs.PackIndex.{parts, split, opening, opening-length, relationsPart, find-name, each-way-listed}
@@ -248,10 +248,8 @@ module _ (p : Pack) (w : WellFormed p) where
   abbrev rs : List Relation
   rs = p .relations
 
-  -- a list that is the owner's own, or the place 0
   abbrev Holds : Answer → Type 0
-  Holds none = placeOf p none ≡ 0
-  Holds (some s) = OwnersList (words p) rs (placeOf p (some s)) s
+  Holds a = SettledAt (words p) rs a (placeOf p a)
 
   none-holds : Holds none
   unfolding placeOf
@@ -307,6 +305,14 @@ module _ (p : Pack) (w : WellFormed p) where
   -- at the place of a name's kinds stands the owner's own list
   pub settled-place : (n : ℕ) (s : Source) → ownAnswer rs n ≡ some s → OwnersList (words p) rs (placeOf p (some s)) s
   settled-place n s e = subst Holds e (walk-end n)
+
+  -- in record order: so it is at each place that All kinds writes
+  pub all-settled : AllSettledAt (words p) rs rs (allKindsWords p)
+  all-settled = rw (words-own p) (each rs)
+    where
+      each : (l : List Relation) → AllSettledAt (words p) rs l (map (λ (r : Relation). placeOf p (ownAnswer rs (r .name))) l)
+      each [] = refl
+      each (r ∷ l) = (walk-end (r .name), each l)
 
   -- the names at the place of a name's own walk are its kinds, and at 0 it has none
   pub place-holds : (n : ℕ) → namesAt (words p) (placeOf p (ownAnswer rs n)) ≡ kindsOf rs n

@@ -9,7 +9,7 @@ use lib.Dec.{eqb}
 use Rattle.pack.specs.Table.{pick, valueOf, wordOf}
 use Rattle.pack.specs.Form.{wordsBy}
 use Rattle.pack.specs.Pack.{Hop, Relation, relation, Pack}
-use Rattle.chains.specs.Kinds.{Which, list9, list21, countKind, Source, find, allKinds, listOf}
+use Rattle.chains.specs.Kinds.{Which, list9, list21, countKind, Source, find, allKinds, ownAnswer, listOf}
 use Rattle.chains.specs.Kinds as kinds
 
 -- the words of a relation
@@ -69,3 +69,14 @@ settledOf (some a) = a
 
 unfoldable pub allKindsWords : Pack → List ℕ
 allKindsWords p = map (λ (r : Relation). placeOf p (settledOf (allKinds (p .relations) .settled (r .name)))) (p .relations)
+
+-- "the place of the settled list's count word, or 0 for none": so stands at a place what an answer says
+abbrev pub SettledAt : List ℕ → List Relation → kinds.Answer → ℕ → Type 0
+SettledAt ws rs none place = place ≡ 0
+SettledAt ws rs (some s) place = OwnersList ws rs place s
+
+-- "per relation in record order": for each of some relations, a place of what its own walk answers
+abbrev pub AllSettledAt : List ℕ → List Relation → List Relation → List ℕ → Type 0
+AllSettledAt ws rs [] places = places ≡ []
+AllSettledAt ws rs (r ∷ more) [] = ⊥
+AllSettledAt ws rs (r ∷ more) (place ∷ places) = SettledAt ws rs (ownAnswer rs (r .name)) place × AllSettledAt ws rs more places
