@@ -1,5 +1,5 @@
 -- Every operation refuses by 01's numbers alone, and a refusal changes nothing that is lent: on words, over bytes, and in the number that the host's function answers.
-use Prim.Native.Nat.{ℕ, zero, suc, _+_, _/_, _%_, _^_, _<_, _≤_}
+use Prim.Native.Nat.{ℕ, zero, suc, _+_, _/_, _<_, _≤_}
 use native.Mathlib.Omega.{arith}
 use mathlib.Core.Path.{_≡_, refl, ap, sym, _∙_}
 use mathlib.Core.Bool.{Bool, true, false, _||_, _&&_}
@@ -28,7 +28,7 @@ use Rattle.directions.specs.Turning.{Outcome, done, refused}
 use Rattle.directions.specs.Resolving.{resolved}
 use Rattle.resolve.specs.Operations.{givenOut, writtenOut, resolveAnswer, resolveBuffer}
 use Rattle.resolve.proofs.ResolveNumbers.{ResolveRefuses, checks, equal-kinds, open-direction, no-room, resolve-numbers}
-use Rattle.wire.specs.Bytes.{wordsOf, inBits, encode, areWords, notWords, overBytes, outAfter, inRoom, outBytes, Gives}
+use Rattle.wire.specs.Bytes.{wordsOf, encode, areWords, notWords, overBytes, outAfter, inRoom}
 use Rattle.over_bytes.specs.declared.operations.Question.{Question}
 use Rattle.over_bytes.specs.declared.operations.Question.the-variants.{Check, KindsOf, Lean}
 use Rattle.over_bytes.specs.declared.operations.Writing.{Writing}
@@ -132,9 +132,17 @@ given-number v s = omega arith
 refused-number : (r : Refusal) → r .number < 64 → numberIn (encode (Refused r)) ≡ r .number
 refused-number r h = omega arith
 
-host-number : (numbers : List ℕ) → allBelow 64 numbers ≡ true → (a : Answer) → ((r : Refusal) → a ≡ Refused r → Among (r .number) numbers) → NoneOrAmong (numberIn (encode a)) numbers
-host-number numbers low (Given v s) h = inl (given-number v s)
-host-number numbers low (Refused r) h = let a = h r refl in inr (rw (refused-number r (among-below 64 numbers low (r .number) a)) a)
+-- an answer that refuses by some numbers
+module _ (numbers : List ℕ) (low : allBelow 64 numbers ≡ true) (a : Answer) (h : (r : Refusal) → a ≡ Refused r → Among (r .number) numbers) where
+  host-tells : (r : Refusal) → a ≡ Refused r → numberIn (encode a) ≡ r .number
+  host-tells r e = ap (λ (b : Answer). numberIn (encode b)) e ∙ refused-number r (among-below 64 numbers low (r .number) (h r e))
+
+  host-number : NoneOrAmong (numberIn (encode a)) numbers
+  host-number = go a refl
+    where
+      go : (b : Answer) → a ≡ b → NoneOrAmong (numberIn (encode a)) numbers
+      go (Given v s) e = inl (ap (λ (b : Answer). numberIn (encode b)) e ∙ given-number v s)
+      go (Refused r) e = inr (rw (host-tells r e) (h r e))
 
 to-low : (q : Question) → (allBelow 64 (numbersTo q) ≡ true) × Among 1 (numbersTo q)
 to-low Check = (refl, refl)
@@ -193,23 +201,33 @@ after-number (Refused s) written out h = refl
 
 pub every-question : (q : Question) → QuestionRefuses q
 every-question q =
-    let over = over-numbers (numbersTo q) (answerTo q) (to-numbers q) (to-low q .1) in
     record {
       words-numbers = to-numbers q;
       bytes-numbers = over;
       host-numbers = λ bytes n e. rw e (host-number (numbersTo q) (to-low q .0) (overBytes (answerTo q) bytes) (over bytes));
+      host-tells = λ bytes n e. rw e (host-tells (numbersTo q) (to-low q .0) (overBytes (answerTo q) bytes) (over bytes));
     }
+  where
+    over : (bytes : List ℕ) (r : Refusal) → overBytes (answerTo q) bytes ≡ Refused r → Among (r .number) (numbersTo q)
+    over = over-numbers (numbersTo q) (answerTo q) (to-numbers q) (to-low q .1)
 
 pub every-writing : (w : Writing) → WritingRefuses w
 every-writing w =
-    let over : (bytes out : List ℕ) (r : Refusal) → inRoom (answerOf w) (length out) bytes ≡ Refused r → Among (r .number) (numbersOf w) =
-    λ bytes out. over-numbers (numbersOf w) (λ ws. answerOf w ws (length out / 4)) (λ ws. of-numbers w ws (length out / 4)) (of-low w .1) bytes in
     record {
       words-numbers = of-numbers w;
       bytes-numbers = over;
-      host-numbers = λ bytes out n after g. rw (g .answers) (host-number (numbersOf w) (of-low w .0) (inRoom (answerOf w) (length out) bytes) (over bytes out));
+      host-numbers = λ bytes out n after g. rw (g .answers) (host-number (numbersOf w) (of-low w .0) (answered bytes out) (over bytes out));
+      host-tells = λ bytes out n after g. rw (g .answers) (host-tells (numbersOf w) (of-low w .0) (answered bytes out) (over bytes out));
       words-kept = refusal-keeps w;
-      bytes-kept = λ bytes out r e. after-refused (inRoom (answerOf w) (length out) bytes) (bufferOf w (wordsOf bytes) (wordsOf out)) out r e;
-      host-kept = λ bytes out n after g h.
-          g .leaves ∙ after-number (inRoom (answerOf w) (length out) bytes) (bufferOf w (wordsOf bytes) (wordsOf out)) out (λ z. h (ap numberIn (g .answers) ∙ z));
+      bytes-kept = λ bytes out n after g r e. g .leaves ∙ after-refused (answered bytes out) (written bytes out) out r e;
+      host-kept = λ bytes out n after g h. g .leaves ∙ after-number (answered bytes out) (written bytes out) out (λ z. h (ap numberIn (g .answers) ∙ z));
     }
+  where
+    answered : List ℕ → List ℕ → Answer
+    answered bytes out = inRoom (answerOf w) (length out) bytes
+
+    written : List ℕ → List ℕ → List ℕ
+    written bytes out = bufferOf w (wordsOf bytes) (wordsOf out)
+
+    over : (bytes out : List ℕ) (r : Refusal) → answered bytes out ≡ Refused r → Among (r .number) (numbersOf w)
+    over bytes out = over-numbers (numbersOf w) (λ ws. answerOf w ws (length out / 4)) (λ ws. of-numbers w ws (length out / 4)) (of-low w .1) bytes
