@@ -15,10 +15,10 @@ use Rattle.pack.specs.Dealt.{Checked, Dealt}
 use Rattle.pack.proofs.PackLaws.{words-read}
 use Rattle.pack.proofs.DealtLaws.{dealt-total, dealt-again, dealt-checked}
 use Rattle.chains.specs.Kinds.{allKinds, ownAnswer, kindsOf}
-use Rattle.chains.specs.Places.{placeOf, namesAt, allKindsWords}
+use Rattle.chains.specs.Places.{placeOf, namesAt, allKindsWords, SettledAt}
 use Rattle.kinds.specs.Operations.{allKindsAnswer, allKindsBuffer}
 use Rattle.chains.proofs.KindLaws.{kinds-dealt, distinct-names, words-own, words-count, kinds-steps}
-use Rattle.chains.proofs.ListAt.{place-holds}
+use Rattle.chains.proofs.ListAt.{walk-end, place-holds}
 use Rattle.resolve.proofs.DealtChains.{chains-dealt}
 use Rattle.directions.specs.Turning.{Outcome, done, refused}
 use Rattle.directions.specs.Resolving.{resolved}
@@ -63,10 +63,13 @@ module _ (p q : Pack) (w : WellFormed p) (d : Dealt p q) (steps : ℕ) (lent len
 kinds-at : (ws : List ℕ) (p : Pack) → read ws ≡ yes p → (n : ℕ) → namesAt ws (placeOf p (ownAnswer (p .relations) n)) ≡ kindsOf (p .relations) n
 kinds-at ws p h n = let r = words-read ws p h in rw (← r .same) (place-holds p (r .fine) n)
 
+settled-at : (ws : List ℕ) (p : Pack) → read ws ≡ yes p → (n : ℕ) → SettledAt ws (p .relations) (ownAnswer (p .relations) n) (placeOf p (ownAnswer (p .relations) n))
+settled-at ws p h n = let r = words-read ws p h in rw (← r .same) (walk-end p (r .fine) n)
+
 kinds-row : (ws : List ℕ) (p : Pack) → read ws ≡ yes p → (l : List Relation) (rest : List ℕ)
     → KindsWritten ws (p .relations) l (map (λ (r : Relation). placeOf p (ownAnswer (p .relations) (r .name))) l ++ rest)
 kinds-row ws p h [] rest = no-more
-kinds-row ws p h (r ∷ l) rest = one-more (kinds-at ws p h (r .name)) (kinds-row ws p h l rest)
+kinds-row ws p h (r ∷ l) rest = one-more (kinds-at ws p h (r .name)) (settled-at ws p h (r .name)) (kinds-row ws p h l rest)
 
 module _ (ws : List ℕ) (p : Pack) (h : read ws ≡ yes p) (room n steps : ℕ) where
   -- where All kinds answers there is room for a word for each relation, and the steps are those of all walks

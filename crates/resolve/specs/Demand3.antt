@@ -11,8 +11,8 @@ use Rattle.pack.specs.declared.answer.Answer.the-variants.{Given, Refused}
 use Rattle.pack.specs.Pack.{Derivation, Relation, Rule, Block, Pack, total, words}
 use Rattle.pack.specs.Operations.{wordsAndSteps}
 use Rattle.pack.specs.Dealt.{Checked, Shuffled, InAnyOrder, SameBlock}
-use Rattle.chains.specs.Kinds.{list21, listOf, find, undeclaredSources, kindsOf}
-use Rattle.chains.specs.Places.{namesAt}
+use Rattle.chains.specs.Kinds.{list21, listOf, find, undeclaredSources, ownAnswer, kindsOf}
+use Rattle.chains.specs.Places.{namesAt, SettledAt}
 use Rattle.kinds.specs.Operations.{allKindsAnswer, allKindsBuffer}
 use Rattle.filtered.specs.Filtered.{kindAt}
 use Rattle.directions.specs.Tables.{Derived, tables}
@@ -84,10 +84,11 @@ pub data ResolveAlike (p q : Pack) (lent lent′ : List ℕ) : Answer → List �
 -- ---- kinds
 
 -- "A relation's kinds are the names, in order, of the list at the place that All kinds, where it answers, writes for it, none at 0": one word for each
--- relation of a list, and there the kinds of its own walk among the relations `rs`
+-- relation of a list, and there the kinds of its own walk among the relations `rs`: the own list of the relation at which the walk ends, counted by a 9 or a 21
 pub data KindsWritten (ws : List ℕ) (rs : List Relation) : List Relation → List ℕ → Type 0 where
   no-more : {rest : List ℕ} → KindsWritten ws rs [] rest
-  one-more : {r : Relation} {l : List Relation} {place : ℕ} {out : List ℕ} → namesAt ws place ≡ kindsOf rs (r .name) → KindsWritten ws rs l out → KindsWritten ws rs (r ∷ l) (place ∷ out)
+  one-more : {r : Relation} {l : List Relation} {place : ℕ} {out : List ℕ} → namesAt ws place ≡ kindsOf rs (r .name) → SettledAt ws rs (ownAnswer rs (r .name)) place → KindsWritten ws rs l out
+      → KindsWritten ws rs (r ∷ l) (place ∷ out)
 
 -- the derived relation of a name, whose slots bear kinds of its own walk
 pub record Bears (p : Pack) (n : ℕ) : Type 0 where
