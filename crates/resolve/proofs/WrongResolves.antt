@@ -25,7 +25,7 @@ use Rattle.inputs.specs.Inputs.{input}
 use Rattle.directions.specs.Turning.{done, stepBy, size, resolveTree}
 use Rattle.directions.specs.Resolving.{defaultedEqual, resolveBodies, ruleBy, resolveRules, predicateBy, resolveRelation, resolveRelations, holds, atomNames, stamp, resolved}
 use Rattle.resolve.specs.Demand3.{Left, ResolveAlike, bothResolve, bothEqual, bothRoom, bothOpen}
-use Rattle.resolve.specs.Starred.{plain, nothing, counting, derived, ruled, packed}
+use Rattle.resolve.specs.Starred.{withoutDerivation, saysNothing, counting, withDerivation, ruled, packed}
 use Rattle.resolve.proofs.ComingOut.{comes-out, comes-one}
 
 -- ---- nothing else is left
@@ -52,7 +52,7 @@ module _ (p right wrong : Pack) (h : resolved p ≡ done right) (at is should : 
 
 -- A1, and with a derived relation that is stamped, and with a block
 abbrev membership : Relation
-membership = plain 5 (1 ∷ 2 ∷ [])
+membership = withoutDerivation 5 (1 ∷ 2 ∷ [])
 
 abbrev turnedRule : ℕ → ℕ → List Rule
 turnedRule c r = ruled 2 (counting c r)
@@ -69,10 +69,10 @@ copied = packed [] (membership ∷ []) (turnedRule 7 9)
 
 -- lists stamped, slots left
 abbrev unstamped : Pack
-unstamped = packed [] (membership ∷ derived 6 (1 ∷ 2 ∷ []) [] 0 5 3 nothing ∷ []) (turnedRule 7 9)
+unstamped = packed [] (membership ∷ withDerivation 6 (1 ∷ 2 ∷ []) [] 0 5 3 saysNothing ∷ []) (turnedRule 7 9)
 
 abbrev onlyStamped : Pack
-onlyStamped = packed [] (membership ∷ derived 6 (1 ∷ 2 ∷ []) (1 ∷ 2 ∷ []) 0 5 3 nothing ∷ []) (turnedRule 7 9)
+onlyStamped = packed [] (membership ∷ withDerivation 6 (1 ∷ 2 ∷ []) (1 ∷ 2 ∷ []) 0 5 3 saysNothing ∷ []) (turnedRule 7 9)
 
 -- blocks dropped
 abbrev blocked : Pack
@@ -92,6 +92,6 @@ wrong-ones =
     record {
       input-copied = λ q lent lent′ after′ b steps a. refuted copied (packed [] (membership ∷ []) (turnedRule 1 0)) copied refl 18 (wordOf 80 7) (wordOf 80 1) (λ lent. refl) (λ lent. refl) (λ e. omega arith) a;
       slots-left = λ q lent lent′ after′ b steps a.
-          refuted unstamped (packed [] (membership ∷ derived 6 (1 ∷ 2 ∷ []) (1 ∷ 2 ∷ []) 0 5 3 nothing ∷ []) (turnedRule 1 0)) onlyStamped refl 35 (wordOf 80 7) (wordOf 80 1) (λ lent. refl) (λ lent. refl) (λ e. omega arith) a;
+          refuted unstamped (packed [] (membership ∷ withDerivation 6 (1 ∷ 2 ∷ []) (1 ∷ 2 ∷ []) 0 5 3 saysNothing ∷ []) (turnedRule 1 0)) onlyStamped refl 35 (wordOf 80 7) (wordOf 80 1) (λ lent. refl) (λ lent. refl) (λ e. omega arith) a;
       blocks-dropped = λ q lent lent′ after′ b steps a. refuted blocked (withBlocks dropped (record { origin = tables256.none; items = some [] } ∷ [])) dropped refl 0 (wordOf 1 23) (wordOf 1 25) (λ lent. refl) (λ lent. refl) (λ e. omega arith) a;
     }

@@ -98,23 +98,23 @@ pub record Bears (p : Pack) (n : ℕ) : Type 0 where
   pub derived : relation .derivation ≡ some derivation
 
 -- the kind that the derived relation of a name has at a slot
-abbrev pub kindOf : Pack → ℕ → ℕ → Option ℕ
-kindOf p n slot = kindAt (kindsOf (p .relations) n) slot
+abbrev pub kindBorne : Pack → ℕ → ℕ → Option ℕ
+kindBorne p n slot = kindAt (kindsOf (p .relations) n) slot
 
 -- an entity takes one kind: some derivation with this entity has it at its current slot, and none has another there
 pub record TakesOne (p : Pack) (e k : ℕ) : Type 0 where
   pub name : ℕ
   pub by : Bears p name
   pub with-entity : by .derivation .entity ≡ e
-  pub takes : kindOf p name (by .derivation .current) ≡ some k
-  pub only : (n j : ℕ) (b : Bears p n) → b .derivation .entity ≡ e → kindOf p n (b .derivation .current) ≡ some j → j ≡ k
+  pub takes : kindBorne p name (by .derivation .current) ≡ some k
+  pub only : (n j : ℕ) (b : Bears p n) → b .derivation .entity ≡ e → kindBorne p n (b .derivation .current) ≡ some j → j ≡ k
 
 -- a relation of a name with the same kind at both slots
 pub record EqualKinds (p : Pack) (n : ℕ) : Type 0 where
   pub by : Bears p n
   pub kind : ℕ
-  pub current : kindOf p n (by .derivation .current) ≡ some kind
-  pub related : kindOf p n (by .derivation .related) ≡ some kind
+  pub current : kindBorne p n (by .derivation .current) ≡ some kind
+  pub related : kindBorne p n (by .derivation .related) ≡ some kind
 
 -- the lists of a relation and of what comes out of it: as they stood; or list 21 has become the kinds, and list 9 too where it was empty
 pub data ListsLeft (p : Pack) (r out : Relation) : Type 0 where
@@ -130,7 +130,7 @@ pub record KindsUsed (ws : List ℕ) (p : Pack) : Type 0 where
   -- a predicate's entity and membership
   pub predicate : (at : ℕ) (r : Relation) (d : Derivation)
       → resolvePredicate p at r d
-      ≡ resolveTree (cites p (r .name) (r .origin)) (kindOrZero (kindsOf (p .relations) (r .name)) (d .related)) (membership (kindOf p (r .name) (d .current)) (kindOf p (r .name) (d .related)))
+      ≡ resolveTree (cites p (r .name) (r .origin)) (kindOrZero (kindsOf (p .relations) (r .name)) (d .related)) (membership (kindBorne p (r .name) (d .current)) (kindBorne p (r .name) (d .related)))
       (at + predicatePlace r d) (d .predicate)
   -- a refusal by 9
   pub refused-by-9 : (room : ℕ) (r : Refusal) → resolveAnswer ws room ≡ Refused r → r .number ≡ 9 → EqualKinds p (r .name)
