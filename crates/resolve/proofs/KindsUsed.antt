@@ -1,5 +1,5 @@
 -- Whatever in Resolve looks at kinds looks at those of the own walk.
-use Prim.Native.Nat.{ℕ, _≤_}
+use Prim.Native.Nat.{ℕ, _<_}
 use native.Mathlib.Omega.{arith}
 use mathlib.Core.Path.{_≡_, refl, ap, sym, _∙_, subst}
 use mathlib.Core.List.{List, [], _∷_, _++_}
@@ -7,7 +7,7 @@ use mathlib.Core.Bool.{Bool, true, false, not, _||_, _&&_}
 use mathlib.Core.Logic.{_⊎_, inl, inr}
 use mathlib.Core.Option.{Option, none, some, Option·map}
 use lib.Dec.{eqb, leb}
-use borrow.Author.Tests.{eq-eqb, ne-eqb, eqb-true, not-false}
+use borrow.Author.Tests.{eq-eqb, ne-eqb, eqb-true, not-true}
 use Rattle.pack.specs.declared.answer.Refusal.{Refusal}
 use Rattle.pack.specs.declared.answer.Answer.the-variants.{Given, Refused}
 use Rattle.pack.specs.Table.{pick}
@@ -20,15 +20,15 @@ use Rattle.pack.proofs.PackLaws.{words-read}
 use Rattle.chains.specs.Kinds.{list21, listOf, find, allKinds, kindsOf}
 use Rattle.chains.specs.Reach.{any}
 use Rattle.chains.specs.Places.{firstRelation}
-use Rattle.chains.proofs.Names.{apart, or-cases, or-left, or-right, among-append, any-of}
-use Rattle.chains.proofs.PackIndex.{find-name, EachFound, all-found}
+use Rattle.chains.proofs.Names.{apart, or-cases, or-left, or-right, among-append, any-of, of-any}
+use Rattle.chains.proofs.PackIndex.{parts, EachFound, all-found}
 use Rattle.filtered.specs.Filtered.{kindAt, listed, entityIs, takes, takenFrom, taken, single, direct}
 use Rattle.directions.specs.Tables.{Derived, Tables, derivedBy, derivedAt, tables}
 use Rattle.directions.specs.Turning.{Outcome, done, refused, andThen, mapDone, result}
 use Rattle.directions.specs.Resolving.{sameKind, equalKinds, defaultedEqual, equalRefusal, resolveRules, predicateBy, resolvePredicate, resolveDerivation, resolveRelation, withPredicate, resolveRelations, empty, unlike, passedOver, orKinds, stampedWith, stampBy, stampDerived, stamp, firstRule, resolveRecords, resolved}
 use Rattle.nodes.proofs.Numbers.{Numbered, rules-numbered, relations-numbered}
 use Rattle.resolve.specs.Operations.{givenOut, resolveAnswer}
-use Rattle.resolve.specs.Demand3.{relationOut, Bears, TakesOne, EqualKinds, ListsLeft, as-they-stood, stamped, KindsUsed}
+use Rattle.resolve.specs.Demand3.{relationOut, DerivedRelation, TakesOne, EqualKinds, ListsLeft, as-they-stood, stamped, KindsUsed}
 use Rattle.resolve.proofs.ResolveLaws.{equal-named}
 
 -- ---- the table of derived relations
@@ -62,6 +62,21 @@ single-only (x ∷ l) k e = go (any (λ y. not (eqb y x)) l) refl e
         let s : x ≡ k = cc in
         (or-left (among k l) (eq-eqb k x (sym s)), λ j h. first j a (or-cases (eqb j x) (among j l) h) ∙ s)
 
+-- and a list with no other element has it as its one
+single-is : (l : List ℕ) (k : ℕ) → among k l ≡ true → ((j : ℕ) → among j l ≡ true → j ≡ k) → single l ≡ some k
+single-is [] k h only = let z : _≡_ {A = ℕ} 0 1 = cc in absurd (omega arith)
+single-is (x ∷ l) k h only = go (any (λ y. not (eqb y x)) l) refl
+  where
+    first : x ≡ k
+    first = only x (or-left (among x l) (eq-eqb x x refl))
+
+    go : (b : Bool) → any (λ y. not (eqb y x)) l ≡ b → pick b none (some x) ≡ some k
+    go true a =
+        let o = of-any (λ y. not (eqb y x)) l a in
+        let s : o .0 ≡ x = only (o .0) (or-right (eqb (o .0) x) (o .1)) ∙ sym first in
+        apart (eq-eqb (o .0) x s) (not-true (eqb (o .0) x) (o .2))
+    go false a = ap some first
+
 -- a field that names an entity is a name, and the entity
 names-it : (field e : ℕ) → entityIs field e ≡ true → (field ≡ e) × (eqb field table.none ≡ false)
 names-it field e q = go (eqb field table.none) refl q
@@ -77,7 +92,7 @@ module _ (p : Pack) (e : ℕ) where
   -- the relation and derivation by which an entity takes a kind
   record By (k : ℕ) : Type 0 where
     name : ℕ
-    bears : Bears p name
+    bears : DerivedRelation p name
     entity : entityIs (bears .derivation .entity) e ≡ true
     kind : kindAt (kindsOf rs name) (bears .derivation .current) ≡ some k
 
@@ -139,6 +154,15 @@ module _ (p : Pack) (e : ℕ) where
     where
       again : {field : ℕ} (other : ℕ) → other ≡ e → field ≡ e → eqb field table.none ≡ false → entityIs other e ≡ true
       again {field} other i f n = let m : field ≡ other = f ∙ sym i in let z : eqb other table.none ≡ false = subst (λ (x : ℕ). eqb x table.none ≡ false) m n in rw z (eq-eqb other e i)
+
+  takes-back : (k : ℕ) → WellFormed p → e < p .names → TakesOne p e k → direct rs e ≡ some k
+  unfolding direct taken
+  takes-back k w low t =
+      let name : eqb e table.none ≡ false = ne-eqb e table.none (λ z. (let m = parts p w .most in omega arith)) in
+      let its : (j n : ℕ) (b : DerivedRelation p n) → b .derivation .entity ≡ e → kindAt (kindsOf rs n) (b .derivation .current) ≡ some j → By j = λ j n b i q.
+      record { name = n; bears = b; entity = rw (i, name) (eq-eqb e e refl); kind = q } in
+      single-is (takenFrom rs e rs) k (to-taken k (its k (t .name) (t .by) (t .with-entity) (t .takes)) rs (t .by .declared))
+      (λ j h. (let b = from-some j rs (all-found p w) h in t .only (b .name) j (b .bears) (names-it (b .bears .derivation .entity) e (b .entity) .0) (b .kind)))
 
 -- ---- 9
 
@@ -234,6 +258,7 @@ kinds-used ws p h =
     record {
       derived = λ n d e. derived-kinds (kindsOf (p .relations) n) (find n (p .relations)) d e;
       direct = λ e. takes-one p e (words-read ws p h .fine);
+      direct-back = λ e k. takes-back p e k (words-read ws p h .fine);
       predicate = λ at r d. refl;
       refused-by-9 = refused-9 ws p h;
       lists = lists-left p;

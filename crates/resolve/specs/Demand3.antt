@@ -1,6 +1,6 @@
 -- Demand 3: order never matters. What holds of a checked pack and of one dealt out of it, said of what the operations answer and of what they leave in the
 -- buffers. The record at the end has the demand's sentences in order.
-use Prim.Native.Nat.{ℕ, _+_}
+use Prim.Native.Nat.{ℕ, _+_, _<_}
 use mathlib.Core.Path.{_≡_}
 use mathlib.Core.List.{List, [], _∷_, _++_}
 use mathlib.Core.Option.{Option, none, some, Option·map}
@@ -90,28 +90,28 @@ pub data KindsWritten (ws : List ℕ) (rs : List Relation) : List Relation → L
   one-more : {r : Relation} {l : List Relation} {place : ℕ} {out : List ℕ} → namesAt ws place ≡ kindsOf rs (r .name) → SettledAt ws rs (ownAnswer rs (r .name)) place → KindsWritten ws rs l out
       → KindsWritten ws rs (r ∷ l) (place ∷ out)
 
--- the derived relation of a name, whose slots bear kinds of its own walk
-pub record Bears (p : Pack) (n : ℕ) : Type 0 where
+-- the relation of a name, and its derivation
+pub record DerivedRelation (p : Pack) (n : ℕ) : Type 0 where
   pub relation : Relation
   pub declared : find n (p .relations) ≡ some relation
   pub derivation : Derivation
   pub derived : relation .derivation ≡ some derivation
 
--- the kind that the derived relation of a name has at a slot
+-- the kind at a slot of the relation of a name, by its own walk
 abbrev pub kindBorne : Pack → ℕ → ℕ → Option ℕ
 kindBorne p n slot = kindAt (kindsOf (p .relations) n) slot
 
 -- an entity takes one kind: some derivation with this entity has it at its current slot, and none has another there
 pub record TakesOne (p : Pack) (e k : ℕ) : Type 0 where
   pub name : ℕ
-  pub by : Bears p name
+  pub by : DerivedRelation p name
   pub with-entity : by .derivation .entity ≡ e
   pub takes : kindBorne p name (by .derivation .current) ≡ some k
-  pub only : (n j : ℕ) (b : Bears p n) → b .derivation .entity ≡ e → kindBorne p n (b .derivation .current) ≡ some j → j ≡ k
+  pub only : (n j : ℕ) (b : DerivedRelation p n) → b .derivation .entity ≡ e → kindBorne p n (b .derivation .current) ≡ some j → j ≡ k
 
 -- a relation of a name with the same kind at both slots
 pub record EqualKinds (p : Pack) (n : ℕ) : Type 0 where
-  pub by : Bears p n
+  pub by : DerivedRelation p n
   pub kind : ℕ
   pub current : kindBorne p n (by .derivation .current) ≡ some kind
   pub related : kindBorne p n (by .derivation .related) ≡ some kind
@@ -125,8 +125,9 @@ pub data ListsLeft (p : Pack) (r out : Relation) : Type 0 where
 pub record KindsUsed (ws : List ℕ) (p : Pack) : Type 0 where
   -- the table of derived relations, by which aggregates and membership tests go
   pub derived : (n : ℕ) (d : Derived) → tables (p .relations) .derived n ≡ some d → d .kinds ≡ kindsOf (p .relations) n
-  -- the table by which an entity is matched
+  -- the table by which an entity is matched: just where it takes one kind
   pub direct : (e k : ℕ) → tables (p .relations) .direct e ≡ some k → TakesOne p e k
+  pub direct-back : (e k : ℕ) → e < p .names → TakesOne p e k → tables (p .relations) .direct e ≡ some k
   -- a predicate's entity and membership
   pub predicate : (at : ℕ) (r : Relation) (d : Derivation)
       → resolvePredicate p at r d
