@@ -1,43 +1,55 @@
-//! Every operation fits into 256 KiB of stack, on trees as deep as they can be.
+//! The stack that a call takes, measured over the packs that take most of it, is within the constant that says so.
 mod packs;
-#[allow(dead_code)]
-mod plain;
 
-use cogunwa::{all_kinds, bytes_of, check, innermost, resolve, rewrite};
+use cogunwa::{all_kinds, bytes_of, check, direct, innermost, kinds_of, lean, resolve, rewrite, words_of};
+use packs::{NONE, Words};
+use std::hint::black_box;
 
-/// A pack with one rule: sums whose where trees compare a sum, as deep as a tree can be.
-fn nested_sums() -> Vec<u32> {
-    let word = |kind: u32, value: u32| kind << 24 | value;
-    let mut tree = vec![word(64, 0)];
-    // two levels each: the sum, and the comparison in its where tree
-    for _ in 0..15 {
-        let mut sum = vec![word(75, 2), word(80, 5), word(81, 6), word(86, 0), word(83, 1), word(96, 0)];
-        sum.append(&mut tree);
-        sum.push(word(64, 0));
-        tree = sum;
-    }
-    let mut words = vec![word(1, 0), word(2, 4), word(3, 0), word(5, 1)];
-    words.extend([word(6, 2), word(7, 0), word(8, 2), word(9, 2), word(10, 1), word(10, 3), word(11, 0)]);
-    words.extend([word(22, 1), word(23, 0), word(24, 0), word(25, 3), word(26, 1), word(27, 0)]);
-    words.append(&mut tree);
-    words.push(word(28, 0));
-    words[0] = word(1, words.len() as u32);
-    words
+/// More than any call takes: as much is painted.
+const PAINTED: usize = 1 << 20;
+/// What is painted, and what a call hardly writes.
+const PAINT: u8 = 0xA5;
+
+/// How many bytes of stack the call writes below its caller's.
+#[inline(never)]
+fn depth_of(call: &dyn Fn()) -> usize {
+    let mark = 0u8;
+    // Leaves what is between this frame and the paint to the calls that paint.
+    let top = black_box(&mark as *const u8 as usize) - 1024;
+    paint(top);
+    call();
+    let bottom = top - PAINTED;
+    // SAFETY: as in `paint`.
+    let kept = (bottom..top).take_while(|&at| unsafe { (at as *const u8).read_volatile() } == PAINT).count();
+    assert!(kept > 0, "a call took all that was painted");
+    PAINTED - kept + 1024
 }
 
+#[inline(never)]
+fn paint(top: usize) {
+    for at in top - PAINTED..top {
+        // SAFETY: the bytes below the frames in use belong to this thread's stack, which is larger (`measured`), and
+        // hold nothing.
+        unsafe { (at as *mut u8).write_volatile(PAINT) };
+    }
+}
+
+fn main_test() {}
+
 #[test]
-fn within_256_kib() {
-    let all = [bytes_of(&packs::household()), bytes_of(&packs::deep(84)), bytes_of(&nested_sums())];
+fn measure() {
+    main_test();
+    let packs = worst();
     std::thread::Builder::new()
-        .stack_size(256 * 1024)
+        .stack_size(2 * PAINTED)
         .spawn(move || {
-            for pack in all {
-                let mut out = vec![0; 32_768];
-                assert_eq!(check(&pack), Ok(()));
-                assert_eq!(rewrite(&pack, &mut out), Ok(pack.len() / 4));
-                assert!(all_kinds(&pack, &mut out).is_ok());
-                assert!(innermost(&pack, &mut out).is_ok());
-                assert!(resolve(&pack, &mut out).is_ok());
+            for (what, words) in packs {
+                let pack = bytes_of(&words);
+                let mut row = vec![];
+                for (name, op) in OPERATIONS {
+                    row.push((name, depth_of(&|| op(&pack))));
+                }
+                println!("{what} ({} words, check {:?}, resolve {:?}): {row:?}", words.len(), check(&pack), resolve(&pack, &mut vec![0; 32768]).map(|w| w.words));
             }
         })
         .unwrap()
@@ -45,13 +57,69 @@ fn within_256_kib() {
         .unwrap();
 }
 
-#[test]
-fn the_deepest_sum_is_turned() {
-    let words = nested_sums();
-    let mut out = vec![0; 32_768];
-    let written = resolve(&bytes_of(&words), &mut out).unwrap();
-    let result = cogunwa::words_of(&out[..4 * written.words]);
-    // the outermost runs from kind 3, which stands in slot 1, the next from kind 1, in slot 0, and so on
-    let slots: Vec<_> = result.iter().filter(|&&w| w >> 24 == 80).map(|w| w & 0xFF_FFFF).collect();
-    assert_eq!(slots, (0..15).map(|i| u32::from(i % 2 == 0)).collect::<Vec<_>>());
+type Operation = fn(&[u8]);
+
+const OPERATIONS: [(&str, Operation); 8] = [
+    ("check", |p| _ = black_box(check(p))),
+    ("rewrite", |p| _ = black_box(rewrite(p, &mut vec![0; 32768]))),
+    ("resolve", |p| _ = black_box(resolve(p, &mut vec![0; 32768]))),
+    ("all_kinds", |p| _ = black_box(all_kinds(p, &mut vec![0; 32768]))),
+    ("kinds_of", |p| _ = black_box(kinds_of(p, 1))),
+    ("lean", |p| _ = black_box(lean(p, 511, 0))),
+    ("direct", |p| _ = black_box(direct(p, &mut vec![0; 32768]))),
+    ("innermost", |p| _ = black_box(innermost(p, &mut vec![0; 32768]))),
+];
+
+fn worst() -> Vec<(String, Vec<u32>)> {
+    let mut all: Vec<(String, Vec<u32>)> = vec![
+        ("household".into(), packs::household()),
+        ("deep".into(), packs::deep(84)),
+        ("flat".into(), packs::flat(96)),
+        ("chain up".into(), chain(true)),
+        ("chain down".into(), chain(false)),
+        ("largest".into(), packs::of_length(8192)),
+        ("rules".into(), many_rules()),
+    ];
+    for (what, tree) in [("ones", 66u8), ("nomatch", 72), ("periods", 73), ("if", 71), ("wheres", 75), ("not", 100), ("exists", 103)] {
+        all.push((what.into(), nested(tree)));
+    }
+    all
+}
+
+fn nested(kind: u8) -> Vec<u32> {
+    let mut w = Words::start(4096);
+    w.put(3, 0).put(5, 1).all(&[(6, 9), (7, NONE), (8, 2), (9, 2), (10, 1), (10, 2), (11, 0)]);
+    w.put(22, 1).all(&[(23, 5), (24, NONE), (25, 1), (26, 1), (27, (kind >= 96).into())]);
+    match kind {
+        66 => { for _ in 0..31 { w.put(66, 0); } w.put(64, 0); }
+        72 => { for _ in 0..31 { w.put(72, 1).put(64, 0); } w.put(64, 0); }
+        73 => { for _ in 0..31 { w.put(73, 0); } w.put(64, 0); }
+        71 => { for _ in 0..31 { w.put(71, 0).put(104, 0).put(64, 0); } w.put(64, 0); }
+        75 => { for _ in 0..15 { w.all(&[(75, 9), (80, 1), (81, 0), (86, 3), (83, 1)]).put(96, 2).put(64, 0); } w.all(&[(75, 9), (80, 1), (81, 0), (86, 3), (83, 1)]).put(104, 0); }
+        100 => { for _ in 0..31 { w.put(100, 0); } w.put(104, 0); }
+        _ => { for _ in 0..31 { w.put(103, 9).put(85, 0); } w.put(104, 0); }
+    }
+    w.put(28, 0);
+    w.done()
+}
+
+fn many_rules() -> Vec<u32> {
+    let mut w = Words::start(4096);
+    w.put(3, 0).put(5, 0).put(22, 1024);
+    for r in 0..1024 {
+        w.all(&[(23, r), (24, NONE), (25, 0), (26, 1), (27, 0), (64, 0)]);
+    }
+    w.put(28, 0);
+    w.done()
+}
+
+fn chain(up: bool) -> Vec<u32> {
+    let mut w = Words::start(4096);
+    w.put(3, 0).put(5, 512);
+    for name in 0..512 {
+        let source = if up { name + 1 } else { (name + 511) % 512 };
+        w.all(&[(6, name), (7, NONE), (8, 2), (9, 0), (11, 1), (12, source), (13, NONE), (17, 0), (18, 1), (19, name), (20, NONE), (21, 0), (104, 0)]);
+    }
+    w.put(22, 0).put(28, 0);
+    w.done()
 }
