@@ -2,9 +2,9 @@
  *
  *   cc examples/link.c $(pkg-config --cflags --libs cogunwa) -o link
  *
- * or without installing anything, from the repository's folder, after `rt staticlib host`:
+ * or from the repository's folder, without installing anything:
  *
- *   cc -Iinclude examples/link.c target/staticlib/libhost.a -o target/link
+ *   cc -Iinclude examples/link.c $(bash tools/install --archive) -o target/link
  */
 #include <stdio.h>
 #include <string.h>

@@ -24,8 +24,8 @@ fn main() {
     }
     // Documentation and checks do not link, so this is no error yet.
     println!(
-        "cargo:warning=There is no libcogunwa.a or libhost.a in {}: `rt staticlib host` writes it, and COGUNWA_LIB_DIR \
-         names another folder. Without it only `cargo doc` and `cargo check` work.",
+        "cargo:warning=There is no library in {}: `bash tools/install --archive` builds it, and COGUNWA_LIB_DIR names \
+         another folder. Without it only `cargo doc` and `cargo check` work.",
         folder.display()
     );
     println!("cargo:rustc-link-lib=static={}", NAMES[0]);
