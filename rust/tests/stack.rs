@@ -25,7 +25,7 @@ const OPERATIONS: [(&str, Operation); 10] = [
 const PAINTED: usize = 512 * 1024;
 const PAINT: u64 = 0xA5A5_A5A5_A5A5_A5A5;
 /// What `depth_of` leaves for its own callees between its frame and the paint.
-const LEFT: usize = 512;
+const LEFT: usize = 8192;
 
 /// How many bytes below its caller's frame a call writes, in eights. The thread has more than `PAINTED` left.
 #[inline(never)]
@@ -86,10 +86,10 @@ fn within_the_constant() {
     on_a_thread_of_that_size(&packs.iter().map(|(_, words)| bytes_of(words)).collect::<Vec<_>>());
 }
 
-/// A call that took more would end the run.
+/// On a thread that has as much left, besides what its own frames take. A call that took more would end the run.
 fn on_a_thread_of_that_size(packs: &[Vec<u8>]) {
     let mut out = vec![0; 32_768];
-    let calls = with_stack(STACK_BYTES, || {
+    let calls = with_stack(STACK_BYTES + 16 * 1024, || {
         let calls = packs.iter().flat_map(|pack| OPERATIONS.map(|(_, operation)| (pack, operation)));
         calls.map(|(pack, operation)| operation(pack, &mut out)).count()
     });
