@@ -61,6 +61,13 @@ fn the_measure_measures() {
 }
 
 #[test]
+fn every_operation_is_measured() {
+    let header = include_str!("../../include/cogunwa.h");
+    let declared = header.lines().filter(|line| line.starts_with("COGUNWA_MUST_USE uint64_t cogunwa_"));
+    assert_eq!(declared.count(), OPERATIONS.len());
+}
+
+#[test]
 fn within_the_constant() {
     let packs = all_packs();
     let deepest = with_stack(2 * PAINTED, || {
