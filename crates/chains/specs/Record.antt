@@ -35,6 +35,6 @@ nodesIn (w ∷ ws) = pick (leb 64 (kindOf w)) (suc (nodesIn ws)) 0
 unfoldable pub recordEnd : List ℕ → ℕ → ℕ
 recordEnd ws start = pick (eqb (flagAt ws start) 1) (predicateAt ws start + nodesIn (drop (predicateAt ws start) ws)) (start + 5 + kindCount ws start)
 
--- every record starts within the words
+-- no record starts past the place 65,536, so that sums of places stay small
 unfoldable pub Recorded : List ℕ → Type 0
 Recorded records = (n : ℕ) → getD records n 0 ≤ 65536

@@ -64,7 +64,7 @@ unfoldable pub takenIn : List ℕ → List ℕ → List ℕ → List ℕ → Lis
 takenIn ws records marks [] t = t
 takenIn ws records marks (n ∷ ns) t = takenIn ws records marks ns (takenBy ws marks t n (getD records n 0))
 
--- they are names, and their records start within the words
+-- they are names, and no record starts past the place 65,536
 pub record Takeable (names records : List ℕ) : Type 0 where
   pub below : (j : ℕ) → getD names j 0 < 4096
   pub low : Recorded records
