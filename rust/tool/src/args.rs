@@ -68,7 +68,7 @@ pub fn take_apart(arguments: &[String], commands: &'static [Command]) -> Outcome
     let find = |name: &str| commands.iter().find(|command| command.name == name);
     match first.as_str() {
         "--help" | "-h" => return Ok(Asked::Help(overview(commands))),
-        "--version" => return Ok(Asked::Help(format!("cogunwa {}\n", env!("CARGO_PKG_VERSION")))),
+        "--version" => return Ok(Asked::Help(format!("cogunwa {}\n", cogunwa::VERSION))),
         "help" => {
             let command = rest.first().map(|name| find(name).ok_or_else(|| no_command(name, commands))).transpose()?;
             return Ok(Asked::Help(command.map_or_else(|| overview(commands), help)));

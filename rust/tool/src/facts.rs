@@ -42,7 +42,7 @@ pub struct Resolved {
 }
 
 /// The most words that an operation writes.
-const MOST: usize = 8192;
+const MOST: usize = cogunwa::MAX_WORDS;
 
 /// An operation that Check's yes leaves nothing to refuse by.
 fn sure<T>(operation: &str, answer: Result<T, Refusal>) -> Outcome<T> {

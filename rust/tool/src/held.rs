@@ -30,14 +30,11 @@ pub fn find<'a>(accepted: &'a Accepted, facts: &'a Facts) -> Outcome<Findings<'a
     Ok(findings)
 }
 
-/// The most words that a result may have.
-const MOST: usize = 8192;
-
 pub fn compare(pack: &Pack, words: &[u32], found: &Findings) -> Result<(), String> {
     let due = equal_kinds(pack, found.facts).or_else(|| found.reasons.iter().find_map(|reason| reason.refused));
     let parts = expected(pack, words, found);
     let length = parts.iter().map(|(_, words)| words.len()).sum::<usize>();
-    let due = due.or((length > MOST).then_some(Refusal { number: 16, place: 0, name: 0, other: 0 }));
+    let due = due.or((length > cogunwa::MAX_WORDS).then_some(Refusal { number: 16, place: 0, name: 0, other: 0 }));
     match (&found.resolved, due) {
         (Err(refusal), Some(due)) if *refusal == due => Ok(()),
         (Err(refusal), Some(due)) => Err(format!("Resolve refuses by {refusal:?}, and {due:?} was worked out")),

@@ -11,6 +11,7 @@ pub mod held;
 pub mod input;
 pub mod layout;
 pub mod lex;
+pub mod limits;
 pub mod make;
 pub mod names;
 pub mod nodes;

@@ -4,6 +4,7 @@ use crate::lex::{Parsed, Span, bad};
 use crate::names::Naming;
 use crate::pack::NONE;
 use crate::parse::{Cell, Key, Text, Value, parse};
+use cogunwa::MAX_NAMES;
 use std::collections::BTreeSet;
 
 pub struct Made {
@@ -15,8 +16,6 @@ pub struct Made {
     pub numbers: Vec<u32>,
     pub text: Text,
 }
-
-const MOST_NAMES: usize = 4096;
 
 pub fn make(text: &str) -> Parsed<Made> {
     let mut text = parse(text)?;
@@ -42,11 +41,11 @@ pub fn make(text: &str) -> Parsed<Made> {
 
 /// The index of the first name that is one too many; the empty text counts whether it is met or not.
 fn most_met(names: &[(Key, Span)]) -> usize {
-    if let Some(far) = names.iter().position(|(key, _)| matches!(key, Key::Number(n) if *n as usize >= MOST_NAMES)) {
+    if let Some(far) = names.iter().position(|(key, _)| matches!(key, Key::Number(n) if *n as usize >= MAX_NAMES)) {
         return far;
     }
     let empty = names.iter().position(|(key, _)| *key == Key::Text(vec![]));
-    if empty.is_some_and(|at| at < MOST_NAMES) { MOST_NAMES } else { MOST_NAMES - 1 }
+    if empty.is_some_and(|at| at < MAX_NAMES) { MAX_NAMES } else { MAX_NAMES - 1 }
 }
 
 /// Names have texts throughout, or numbers; only the empty text is also @0.

@@ -4,11 +4,12 @@ use crate::accepted::Accepted;
 use crate::facts::Facts;
 use crate::input::{Form, Input};
 use crate::layout::slots_text;
+use crate::limits::{most, with_comma};
 use crate::nodes;
 use crate::pack::{NONE, Relation, Tree};
 use crate::point::line_and_column;
 use crate::read::{Due, Record, due};
-use cogunwa::Refusal;
+use cogunwa::{MAX_NAMES, MAX_WORDS, Refusal};
 
 /// What Check refuses.
 pub fn unaccepted(input: &Input, refusal: Refusal) -> String {
@@ -29,7 +30,7 @@ pub fn unaccepted(input: &Input, refusal: Refusal) -> String {
 /// The word with which a pack becomes too long; in a text the last one before it that stands for a part of its own.
 fn first_too_many(input: &Input) -> usize {
     let head = input.spans.first();
-    (0..=8192).rev().find(|&place| input.form == Form::Hex || input.spans.get(place) != head).unwrap_or(8192)
+    (0..=MAX_WORDS).rev().find(|&place| input.form == Form::Hex || input.spans.get(place) != head).unwrap_or(MAX_WORDS)
 }
 
 /// Hexadecimal words that end too early: the last of them is pointed at.
@@ -72,7 +73,7 @@ fn check_message(input: &Input, refusal: Refusal, due: Option<&Due>) -> String {
         1 if !input.bytes.len().is_multiple_of(4) => {
             format!("{} bytes make no whole words of four bytes each", input.bytes.len())
         }
-        1 => format!("this has {} words; a pack has 6 to 8,192", input.words.len()),
+        1 => format!("this has {} words; a pack has 6 to {}", input.words.len(), with_comma(MAX_WORDS)),
         2 => format!("word {place} is of kind {kind}, where {what}{due_kind} is due"),
         3 => format!("the pack ends after {place} words, where {what} is due"),
         4 => not_allowed(input, kind, value),
@@ -96,23 +97,17 @@ fn before(input: &Input, word: u32) -> String {
 /// Refusal 4, by the kind of the word.
 fn not_allowed(input: &Input, kind: u8, value: u32) -> String {
     let names = input.words.get(1).map_or(0, |word| word & NONE);
-    let many = |what: &str, most: &str| format!("there are {value} {what} here; at most {most} are allowed");
     match kind {
         1 => format!("the first word says that the pack has {value} words, and it has {}", input.words.len()),
-        2 => format!("the pack has {value} names; 1 to 4,096 are allowed, the empty text included"),
-        3 => many("defaulted names", "512"),
-        5 => many("relations", "512"),
-        9 => many("slot kinds", "8"),
-        21 => many("kinds", "8"),
-        13 => many("steps in a path", "8"),
-        22 => many("rules", "1,024"),
+        2 => format!("the pack has {value} names; 1 to {} are allowed, the empty text included", with_comma(MAX_NAMES)),
         26 => format!("there are {value} bodies here; a rule has 1 to 64"),
-        28 => many("blocks of inputs", "64"),
-        30 => many("items in a block", "1,024"),
         11 | 27 | 32 | 83 => format!("a flag is 0 or 1, and here it is {value}"),
         nodes::PERIODS => format!("`periods` takes a number from 0 to 7, and here it is {value}"),
         nodes::IF | nodes::NOT => format!("the value of this node is 0, and here it is {value}"),
-        _ => format!("the pack has {names} names, from 0 on, and here is the name {value}"),
+        _ => match most(kind) {
+            Some((most, what)) => format!("there are {value} {what} here; at most {} are allowed", with_comma(most)),
+            None => format!("the pack has {names} names, from 0 on, and here is the name {value}"),
+        },
     }
 }
 

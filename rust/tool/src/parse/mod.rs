@@ -4,6 +4,7 @@ mod records;
 mod trees;
 
 use crate::lex::{Comment, Lexed, Parsed, Sort, Span, Token, bad, lex};
+use crate::limits::most;
 use crate::nodes;
 use crate::pack::NONE;
 use crate::words::nearest;
@@ -92,7 +93,7 @@ struct Parser {
     out: Text,
 }
 
-/// A counted list that is being read: where its count goes, and the first element past the limit.
+/// A counted list that is being read: where its count goes, how many it may have and how many it has.
 struct Counted {
     place: usize,
     most: u32,
@@ -223,18 +224,23 @@ impl Parser {
         self.out.cells.push(Cell { kind, value, span });
     }
 
-    fn counted(&mut self, kind: u8, most: u32, span: Span) -> Counted {
+    fn counted(&mut self, kind: u8, span: Span) -> Counted {
         self.put(kind, 0, span);
+        let most = most(kind).map_or(u32::MAX, |(most, _)| most as u32);
         Counted { place: self.out.cells.len() - 1, most, count: 0 }
     }
 
-    /// One element more, which begins at the token at hand. The first that is too many is what the count points at.
+    /// One element more, which begins at the token at hand.
     fn one_more(&mut self, counted: &mut Counted) {
-        let span = self.span();
+        self.one_more_at(counted, self.span());
+    }
+
+    /// One element more. The first that is too many is what the count points at.
+    fn one_more_at(&mut self, counted: &mut Counted, span: Span) {
         counted.count += 1;
         let cell = &mut self.out.cells[counted.place];
         cell.value = Value::Number(counted.count);
-        if counted.count == counted.most + 1 {
+        if counted.count == counted.most.saturating_add(1) {
             cell.span = span;
         }
     }
@@ -258,21 +264,22 @@ impl Parser {
         self.put(2, 0, span);
         let mut defaulted = vec![];
         while self.header(&mut defaulted)? {}
-        self.put(3, defaulted.len() as u32, defaulted.get(512).map_or(span, |&(_, span)| span));
+        let mut counted = self.counted(3, span);
         for (name, span) in defaulted {
+            self.one_more_at(&mut counted, span);
             self.put_name(4, Some(name), span);
         }
-        let mut relations = self.counted(5, 512, span);
+        let mut relations = self.counted(5, span);
         while self.sees("relation") {
             self.one_more(&mut relations);
             self.relation()?;
         }
-        let mut rules = self.counted(22, 1024, span);
+        let mut rules = self.counted(22, span);
         while self.sees("rule") {
             self.one_more(&mut rules);
             self.rule()?;
         }
-        let mut blocks = self.counted(28, 64, span);
+        let mut blocks = self.counted(28, span);
         while self.sees("inputs") {
             self.one_more(&mut blocks);
             self.inputs()?;

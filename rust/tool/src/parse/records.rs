@@ -44,7 +44,7 @@ impl Parser {
     fn kinds(&mut self, kind: u8) -> Parsed<u32> {
         let span = self.span();
         self.sign(Sort::Open, "`(` before the kinds of the slots")?;
-        let mut counted = self.counted(kind, 8, span);
+        let mut counted = self.counted(kind, span);
         while self.more(counted.count == 0, "a kind or `)`")? {
             self.one_more(&mut counted);
             let (name, span) = self.name("the kind of a slot")?;
@@ -104,7 +104,7 @@ impl Parser {
         }
         let span = self.span();
         self.sign(Sort::Open, "`(` before the steps of the path")?;
-        let mut counted = self.counted(13, 8, span);
+        let mut counted = self.counted(13, span);
         while self.more(counted.count == 0, "a step, such as member_of 0->1, or `)`")? {
             self.one_more(&mut counted);
             let (name, span) = self.name("the relation of a step")?;
@@ -148,7 +148,7 @@ impl Parser {
         let (entity, span) = self.name("the entity of the rule")?;
         self.put_name(25, Some(entity), span);
         self.range(place, start);
-        let mut bodies = self.counted(26, 64, word);
+        let mut bodies = self.counted(26, word);
         while self.sees("scalar") || self.sees("judgment") {
             self.one_more(&mut bodies);
             let (start, place, judgment) = (self.at, self.here(), self.sees("judgment"));
@@ -175,7 +175,7 @@ impl Parser {
             self.range(place, start);
             return Ok(());
         }
-        let mut items = self.counted(30, 1024, word);
+        let mut items = self.counted(30, word);
         self.range(place, start);
         while self.sees("item") {
             self.one_more(&mut items);
