@@ -1,9 +1,9 @@
 //! What the library says of an accepted pack: the kinds of every relation and whose they are, the filtered tables, the
 //! result of Resolve.
 
-use crate::pack::{NONE, Pack, Relation};
+use crate::pack::{Pack, Relation};
 use crate::read::read;
-use crate::trouble::{Outcome, Trouble, disagreement};
+use crate::trouble::{Outcome, disagreement};
 use cogunwa::Refusal;
 use std::collections::HashMap;
 
@@ -41,25 +41,20 @@ pub struct Resolved {
     pub steps: u32,
 }
 
-/// The most words that an operation writes.
-const MOST: usize = cogunwa::MAX_WORDS;
-
 /// An operation that Check's yes leaves nothing to refuse by.
 fn sure<T>(operation: &str, answer: Result<T, Refusal>) -> Outcome<T> {
     answer.map_err(|refusal| disagreement(format!("{operation} refuses a pack that Check accepts: {refusal}")))
 }
 
 pub fn ask(bytes: &[u8], pack: &Pack) -> Outcome<Facts> {
-    let mut out = vec![0; 4 * MOST];
-    let written = sure("All kinds", cogunwa::all_kinds(bytes, &mut out))?;
-    let places = cogunwa::words_of(&out[..4 * written.words.min(MOST)]);
-    let settled = |place: &u32| if *place == 0 { Ok(None) } else { owned(pack, *place as usize).map(Some) };
-    let kinds = places.iter().map(settled).collect::<Outcome<Vec<_>>>()?;
+    let answer = sure("All kinds", cogunwa::all_kinds_vec(bytes))?;
+    let settled = |place: &Option<usize>| place.map(|place| owned(pack, place)).transpose();
+    let kinds = answer.places.iter().map(settled).collect::<Outcome<Vec<_>>>()?;
     if kinds.len() != pack.relations.len() {
         return Err(disagreement("All kinds does not answer one place a relation"));
     }
     let index = pack.relations.iter().enumerate().map(|(i, r)| (r.name, i)).collect();
-    Ok(Facts { kinds, steps: written.steps, tables: tables(bytes)?, index })
+    Ok(Facts { kinds, steps: answer.steps, tables: tables(bytes, pack.names as usize)?, index })
 }
 
 /// The list whose count word stands at a place.
@@ -73,30 +68,24 @@ fn owned(pack: &Pack, place: usize) -> Outcome<Settled> {
     found.ok_or_else(|| disagreement(format!("there is no list of kinds at word {place}")))
 }
 
-fn tables(bytes: &[u8]) -> Outcome<Tables> {
-    let mut out = vec![0; 4 * MOST];
-    let mut table = |name: &str, operation: fn(&[u8], &mut [u8]) -> Result<usize, Refusal>| {
-        let words = sure(name, operation(bytes, &mut out))?;
-        Ok::<_, Trouble>(cogunwa::words_of(&out[..4 * words.min(MOST)]))
+/// The tables, each with a word for every name.
+fn tables(bytes: &[u8], names: usize) -> Outcome<Tables> {
+    let tables = Tables {
+        direct: sure("Direct", cogunwa::direct_vec(bytes))?,
+        innermost: sure("Innermost", cogunwa::innermost_vec(bytes))?,
+        alias: sure("Alias", cogunwa::alias_vec(bytes))?,
+        unresolved: sure("Unresolved", cogunwa::unresolved_vec(bytes))?,
     };
-    let names = |words: Vec<u32>| words.into_iter().map(|w| Some(w).filter(|&w| w != NONE)).collect();
-    let flags = |words: Vec<u32>| words.into_iter().map(|w| w == 1).collect();
-    Ok(Tables {
-        direct: names(table("Direct", cogunwa::direct)?),
-        innermost: names(table("Innermost", cogunwa::innermost)?),
-        alias: flags(table("Alias", cogunwa::alias)?),
-        unresolved: flags(table("Unresolved", cogunwa::unresolved)?),
-    })
+    let lengths = [tables.direct.len(), tables.innermost.len(), tables.alias.len(), tables.unresolved.len()];
+    if lengths == [names; 4] { Ok(tables) } else { Err(disagreement("a table has not one word a name")) }
 }
 
 /// Resolve's answer; a refusal is one of 9 to 16.
 pub fn resolve(bytes: &[u8]) -> Outcome<Result<Resolved, Refusal>> {
-    let mut out = vec![0; 4 * MOST];
-    match cogunwa::resolve(bytes, &mut out) {
-        Ok(written) => {
-            let words = cogunwa::words_of(&out[..4 * written.words.min(MOST)]);
+    match cogunwa::resolve_vec(bytes) {
+        Ok(cogunwa::Resolved { words, steps, .. }) => {
             let pack = read(&words).ok_or_else(|| disagreement("the tool cannot read what Resolve writes"))?;
-            Ok(Ok(Resolved { words, pack, steps: written.steps }))
+            Ok(Ok(Resolved { words, pack, steps }))
         }
         Err(refusal) if (9..=16).contains(&refusal.number) => Ok(Err(refusal)),
         Err(refusal) => sure("Resolve", Err(refusal)),

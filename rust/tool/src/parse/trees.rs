@@ -6,7 +6,7 @@ use crate::nodes;
 use crate::words::nearest;
 
 /// Trees may be nested this deep in a text. The library refuses them much earlier.
-const DEEPEST: usize = 1000;
+const DEEPEST: usize = 256;
 
 impl Parser {
     pub(super) fn tree(&mut self, judgment: bool, depth: usize) -> Parsed<()> {
