@@ -83,7 +83,7 @@ fn check_message(input: &Input, refusal: Refusal, due: Option<&Due>) -> String {
         7 => {
             format!("the relation {} is declared a second time{}", input.naming.show(refusal.name), before(input, word))
         }
-        8 => format!("{} words are left over after the last block of inputs", input.words.len() - place),
+        8 => format!("{} words are left over after the last block of inputs", input.words.len().saturating_sub(place)),
         _ => refusal.to_string(),
     }
 }
