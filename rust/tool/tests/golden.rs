@@ -75,7 +75,7 @@ fn lines() -> Vec<(String, String)> {
     let list = fs::read_to_string(golden().join("commands")).unwrap();
     let lines = list.lines().filter(|line| !line.is_empty() && !line.starts_with('#'));
     lines
-        .map(|line| line.split_once(": ").map(|(name, line)| (name.trim().into(), line.trim().into())).unwrap())
+        .map(|line| line.split_once(':').map(|(name, line)| (name.trim().into(), line.trim().into())).unwrap())
         .collect()
 }
 
