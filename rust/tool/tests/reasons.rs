@@ -96,7 +96,7 @@ fn every_replayed_pack() {
 fn packs_by_chance() {
     let mut met = Met::default();
     let mut c = Chance(2202);
-    for (i, words) in cases::by_chance(&mut c, 4000).iter().enumerate() {
+    for (i, words) in cases::by_chance(&mut c, 2500).iter().enumerate() {
         hold(&format!("pack {i}"), words, &mut met);
     }
     println!("{:?}", met.0);

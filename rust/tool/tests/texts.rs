@@ -51,7 +51,7 @@ fn strewn(text: &str, tokens: &[Token], c: &mut Chance, between: &mut dyn FnMut(
 #[test]
 fn the_layout_does_not_matter() {
     let mut c = Chance(2210);
-    for text in some_texts(&mut c, 400) {
+    for text in some_texts(&mut c, 250) {
         let plain = formatted(
             &text
                 .lines()
@@ -73,7 +73,7 @@ fn the_layout_does_not_matter() {
 fn comments_are_kept() {
     let mut c = Chance(2211);
     let mut kept = 0;
-    for text in some_texts(&mut c, 500) {
+    for text in some_texts(&mut c, 300) {
         let lexed = lex(&text).unwrap();
         let mut number = 0;
         let often = 1 + c.below(30);
@@ -95,7 +95,7 @@ fn comments_are_kept() {
         assert_eq!(formatted(&once), once, "laid out again");
         kept += number;
     }
-    assert!(kept > 1000, "only {kept} comments");
+    assert!(kept > 800, "only {kept} comments");
 }
 
 /// Damaged texts end in a pack or in a place within the text, never in a panic. Those that still make a pack make it again.
@@ -104,7 +104,7 @@ fn damaged_texts() {
     let mut c = Chance(2212);
     let texts = some_texts(&mut c, 300);
     let (mut good, mut wrong) = (0, 0);
-    for i in 0..12_000 {
+    for i in 0..8_000 {
         let damaged = damaged(&texts[i % texts.len()], &mut c);
         match make(&damaged) {
             Ok(made) => {
@@ -123,7 +123,7 @@ fn damaged_texts() {
             }
         }
     }
-    assert!(good > 300 && wrong > 3000, "{good} good, {wrong} wrong");
+    assert!(good > 200 && wrong > 2000, "{good} good, {wrong} wrong");
 }
 
 /// A text in which one thing is left out, doubled or put in, at a place made by chance.
@@ -152,7 +152,7 @@ fn refused_words() {
     let mut refused: Vec<Vec<u32>> =
         cases::replayed().into_iter().filter(|case| !case.accepted).map(|case| case.words).collect();
     assert!(refused.len() > 500);
-    for mut words in cases::by_chance(&mut c, 2000) {
+    for mut words in cases::by_chance(&mut c, 1200) {
         let at = c.below(words.len() as u32) as usize;
         match c.below(4) {
             0 => words[at] ^= 1 << c.below(32),
