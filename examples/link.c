@@ -1,6 +1,10 @@
-/* Cogunwa's operations from C. Build it from the repository's folder, after `rt staticlib host`:
+/* Cogunwa's operations from C. Build it with the package that `tools/install PREFIX` installs:
  *
- *   cc -Iinclude examples/link.c target/staticlib/libhost.a -o target/link
+ *   cc examples/link.c $(pkg-config --cflags --libs cogunwa) -o link
+ *
+ * or from the repository's folder, without installing anything:
+ *
+ *   cc -Iinclude examples/link.c $(bash tools/install --archive) -o target/link
  */
 #include <stdio.h>
 #include <string.h>
@@ -12,13 +16,9 @@ static void show(const char *what, uint64_t answer)
     if (cogunwa_number(answer) == 0)
         printf("%s: ok %u\n", what, (unsigned)cogunwa_value(answer));
     else
-        printf("%s: refused %u %u %u %u\n", what, (unsigned)cogunwa_number(answer), (unsigned)cogunwa_place(answer),
-               (unsigned)cogunwa_name(answer), (unsigned)cogunwa_other(answer));
-}
-
-static uint32_t first_word(const uint8_t *bytes)
-{
-    return bytes[0] | (uint32_t)bytes[1] << 8 | (uint32_t)bytes[2] << 16 | (uint32_t)bytes[3] << 24;
+        printf("%s: refused %u %u %u %u, %s\n", what, (unsigned)cogunwa_number(answer), (unsigned)cogunwa_place(answer),
+               (unsigned)cogunwa_name(answer), (unsigned)cogunwa_other(answer),
+               cogunwa_refusal_text(cogunwa_number(answer)));
 }
 
 int main(void)
@@ -44,15 +44,16 @@ int main(void)
 
     /* The tables have one word for the one name. */
     show("direct", cogunwa_direct(pack, sizeof pack, out, sizeof out));
-    printf("direct of the name 0: %u\n", (unsigned)first_word(out));
+    printf("direct of the name 0: %u\n", (unsigned)cogunwa_word_at(out, 0));
     show("innermost", cogunwa_innermost(pack, sizeof pack, out, sizeof out));
     show("alias", cogunwa_alias(pack, sizeof pack, out, sizeof out));
     show("unresolved", cogunwa_unresolved(pack, sizeof pack, out, sizeof out));
-    printf("unresolved of the name 0: %u\n", (unsigned)first_word(out));
+    printf("unresolved of the name 0: %u\n", (unsigned)cogunwa_word_at(out, 0));
     show("direct into three bytes", cogunwa_direct(pack, sizeof pack, out, 3));
 
     pack[4] = 0; /* a pack has at least one name */
     show("check of a damaged pack", cogunwa_check(pack, sizeof pack));
     show("check of three bytes", cogunwa_check(pack, 3));
+    show("check of nothing", cogunwa_check(NULL, 0));
     return 0;
 }

@@ -1,8 +1,10 @@
 //! Check, Rewrite, All kinds and Resolve of a pack in a file: eight hexadecimal digits a word, with blanks or line ends
-//! between.
+//! between, and comments after `#`.
 //!
 //!     cargo run --release --offline --example link -- ../examples/household.hex
 
+use cogunwa::{Refusal, kinds_at, word_kind, word_value};
+use std::error::Error;
 use std::process::ExitCode;
 
 fn main() -> ExitCode {
@@ -10,104 +12,70 @@ fn main() -> ExitCode {
         eprintln!("usage: link FILE");
         return ExitCode::from(2);
     };
-    let words = match std::fs::read_to_string(&file) {
-        Ok(text) => cogunwa::words_of_hex(&text),
+    let words = match read(&file) {
+        Ok(words) => words,
         Err(error) => {
             eprintln!("{file}: {error}");
             return ExitCode::from(2);
         }
     };
-    let Some(words) = words else {
-        eprintln!("{file}: expected words of eight hexadecimal digits");
-        return ExitCode::from(2);
-    };
-    let pack = cogunwa::bytes_of(&words);
-    println!("pack: {} words", words.len());
-
-    match cogunwa::check(&pack) {
-        Ok(()) => println!("check: yes"),
+    match show(&words) {
+        Ok(()) => ExitCode::SUCCESS,
         Err(r) => {
-            println!("check: refused {} {} {} {}", r.number, r.place, r.name, r.other);
-            println!("  {r}");
-            if let Some(word) = words.get(r.place).filter(|_| r.number != 1) {
-                println!("  word {} is {word:08X}: kind {}, value {}", r.place, word >> 24, word & 0xFF_FFFF);
+            println!("refused {} {} {} {}: {r}", r.number, r.place, r.name, r.other);
+            if let Some(&word) = words.get(r.place).filter(|_| r.number != 1) {
+                println!("  word {} is {word:08X}: kind {}, value {}", r.place, word_kind(word), word_value(word));
             }
-        }
-    }
-
-    let mut out = vec![0; pack.len()];
-    match cogunwa::rewrite(&pack, &mut out) {
-        Ok(length) if out == pack => println!("rewrite: {length} words, the same as the pack's"),
-        Ok(length) => {
-            println!("rewrite: {length} words, NOT the pack's");
-            return ExitCode::FAILURE;
-        }
-        Err(r) => {
-            println!("rewrite: refused {} {} {} {}", r.number, r.place, r.name, r.other);
-            return ExitCode::FAILURE;
-        }
-    }
-
-    // There are fewer relations than words, so the output has room.
-    match cogunwa::all_kinds(&pack, &mut out) {
-        Ok(written) => {
-            println!("all kinds: {} relations, {} steps", written.words, written.steps);
-            show_kinds(&words, &cogunwa::words_of(&out[..4 * written.words]));
-        }
-        Err(r) => {
-            println!("all kinds: refused {} {} {} {}", r.number, r.place, r.name, r.other);
-            return ExitCode::FAILURE;
-        }
-    }
-
-    // A resolved pack may have more words than the pack, but not more than 8,192.
-    let mut out = vec![0; 4 * 8192];
-    match cogunwa::resolve(&pack, &mut out) {
-        Ok(written) => {
-            println!("resolve: {} words, {} steps", written.words, written.steps);
-            show_changes(&words, &cogunwa::words_of(&out[..4 * written.words]));
-            ExitCode::SUCCESS
-        }
-        Err(r) => {
-            println!("resolve: refused {} {} {} {}", r.number, r.place, r.name, r.other);
-            println!("  {r}");
             ExitCode::FAILURE
         }
     }
 }
 
-/// A line for each relation. A word of kind 6 has a relation's name, so these words are the relations in record order.
-fn show_kinds(words: &[u32], places: &[u32]) {
-    let relations = words.iter().filter(|&word| word >> 24 == 6);
-    for (relation, &place) in relations.zip(places) {
-        let name = relation & 0xFF_FFFF;
-        if place == 0 {
-            println!("  relation {name}: none");
-            continue;
-        }
-        println!("  relation {name}: kinds {}, the list at word {place}", kinds(&words[place as usize..]));
-    }
+fn read(file: &str) -> Result<Vec<u32>, Box<dyn Error>> {
+    Ok(cogunwa::words_of_hex(&std::fs::read_to_string(file)?)?)
 }
 
-/// The kinds of the list whose count word is the first.
-fn kinds(list: &[u32]) -> String {
-    let count = (list[0] & 0xFF_FFFF) as usize;
-    list[1..=count].iter().map(|kind| (kind & 0xFF_FFFF).to_string()).collect::<Vec<_>>().join(" ")
+fn show(words: &[u32]) -> Result<(), Refusal> {
+    let pack = cogunwa::bytes_of(words);
+    println!("pack: {} words", words.len());
+    cogunwa::check(&pack)?;
+    println!("check: yes");
+    let same = if cogunwa::rewrite_vec(&pack)? == words { "the same as the pack's" } else { "NOT the pack's" };
+    println!("rewrite: {same}");
+
+    let kinds = cogunwa::all_kinds_vec(&pack)?;
+    println!("all kinds: {} relations, {} steps", kinds.places.len(), kinds.steps);
+    for (relation, place) in cogunwa::relations(words).zip(kinds.places) {
+        match place {
+            Some(place) => println!("  relation {relation}: kinds {}, the list at word {place}", listed(words, place)),
+            None => println!("  relation {relation}: none"),
+        }
+    }
+
+    let resolved = cogunwa::resolve_vec(&pack)?;
+    println!("resolve: {} words, {} steps", resolved.words.len(), resolved.steps);
+    show_changes(words, &resolved.words);
+    Ok(())
+}
+
+/// The kinds of the list whose count word is at this place.
+fn listed(words: &[u32], place: usize) -> String {
+    kinds_at(words, place).map(|kind| kind.to_string()).collect::<Vec<_>>().join(" ")
 }
 
 /// A line for each slot that is set another way and each empty list that is filled, with the place in the pack.
 fn show_changes(words: &[u32], result: &[u32]) {
-    let mut rest = &result[1..];
-    for (place, word) in words.iter().enumerate().skip(1) {
-        let (kind, before, after) = (word >> 24, word & 0xFF_FFFF, rest[0] & 0xFF_FFFF);
-        let filled = matches!(kind, 9 | 21) && before == 0;
-        match kind {
+    let mut at = 1;
+    for (place, &word) in words.iter().enumerate().skip(1) {
+        let (before, after) = (word_value(word), word_value(result[at]));
+        match word_kind(word) {
             _ if before == after => {}
-            9 => println!("  word {place}, slot kinds: {}", kinds(rest)),
-            21 => println!("  word {place}, slot entities: {}", kinds(rest)),
+            9 => println!("  word {place}, slot kinds: {}", listed(result, at)),
+            21 => println!("  word {place}, slot entities: {}", listed(result, at)),
             80 => println!("  word {place}, current slot: {before} becomes {after}"),
             _ => println!("  word {place}, related slot: {before} becomes {after}"),
         }
-        rest = &rest[1 + if filled { after as usize } else { 0 }..];
+        let filled = matches!(word_kind(word), 9 | 21) && before == 0;
+        at += 1 + if filled { after as usize } else { 0 };
     }
 }

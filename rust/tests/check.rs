@@ -28,7 +28,7 @@ fn the_listing_has_the_words_of_the_sample() {
     for line in include_str!("../../examples/household.txt").lines() {
         let columns: Vec<&str> = line.split_whitespace().take(4).collect();
         let [place, word, kind, value] = columns[..] else { continue };
-        let (Ok(place), Some(word)) = (place.parse::<usize>(), cogunwa::words_of_hex(word)) else { continue };
+        let (Ok(place), Ok(word)) = (place.parse::<usize>(), cogunwa::words_of_hex(word)) else { continue };
         assert_eq!(place, listed.len());
         assert_eq!(word[0], cogunwa::word(kind.parse().unwrap(), value.parse().unwrap()), "{line}");
         listed.push(word[0]);

@@ -1,4 +1,4 @@
--- At the place that All kinds writes for a relation stand the names of its own walk's kinds.
+-- At the place that All kinds writes for a relation stands its owner's own list, whose names are the kinds of the relation's own walk.
 use Prim.Native.Nat.{ℕ, zero, suc, _+_, _*_, _<_}
 use native.Mathlib.Omega.{arith}
 use mathlib.Core.Path.{_≡_, refl, ap, sym, _∙_, subst}
@@ -13,11 +13,11 @@ use Rattle.pack.specs.Form.{among, wordsAll, FineAll, Fits, wordsBy, Fine, coun
 use Rattle.pack.specs.Pack.{Hop, Derivation, Relation, Pack, WellFormed, newName, nameList, hop, path, chain, member, derivation, optionalDerivation, relationTail, relation, words}
 use Rattle.pack.specs.Tree.{root}
 use Rattle.chains.specs.Chain.{Step, end, next, nothing, walk, own, same}
-use Rattle.chains.specs.Kinds.{Which, list9, list21, Answer, find, readAt, kindStep, declared, ownAnswer, listOf, namesOf, kindsOf}
-use Rattle.chains.specs.Places.{relationWords, startOf, firstRelation, hops, countPlace, placeOf, namesAt, allKindsWords}
+use Rattle.chains.specs.Kinds.{Which, list9, list21, countKind, Source, Answer, find, readAt, kindStep, declared, ownAnswer, listOf, namesOf, kindsOf}
+use Rattle.chains.specs.Places.{relationWords, startOf, firstRelation, hops, countPlace, placeOf, namesAt, OwnersList, allKindsWords, SettledAt, AllSettledAt}
 use Rattle.chains.proofs.KindLaws.{in-row, words-own}
 use Rattle.chains.proofs.RelationScan.{relationsWords, RelationsFine}
-use Rattle.chains.proofs.PackIndex.{parts, split, opening, opening-length, relationsPart, find-name, each-way}
+use Rattle.chains.proofs.PackIndex.{parts, split, opening, opening-length, relationsPart, find-name, each-way-listed}
 
 -- ---- what holds of every end holds of every own walk
 
@@ -98,9 +98,8 @@ short-names n (k ∷ ks) f = (f .0 .0, short-names n ks (f .1))
 record InRelation (n : ℕ) (r : Relation) (w : Which) (ks : List ℕ) : Type 0 where
   before : List ℕ
   long : length before ≡ countPlace w r
-  kind : ℕ
   after : List ℕ
-  same-words : relationWords n r ≡ before ++ (wordOf kind (length ks) ∷ (nameWords ks ++ after))
+  same-words : relationWords n r ≡ before ++ (wordOf (countKind w) (length ks) ∷ (nameWords ks ++ after))
   few : length ks < 16777216
   short : Short ks
 
@@ -110,7 +109,6 @@ nine-in n used r f =
     record {
       before = wordOf 6 (r .name) ∷ wordOf 7 (r .origin) ∷ wordOf 8 (r .arity) ∷ [];
       long = refl;
-      kind = 9;
       after = wordsBy (optionalDerivation n) (r .derivation);
       same-words = rw (list-words n (r .slotKinds)) refl;
       few = f .1 .1 .1 .0 .0 .0;
@@ -173,7 +171,6 @@ twenty-one-in n used r d e f =
     record {
       before = wordOf 6 (r .name) ∷ wordOf 7 (r .origin) ∷ wordOf 8 (r .arity) ∷ wordOf 9 (length (r .slotKinds)) ∷ (nameWords (r .slotKinds) ++ (wordOf 11 1 ∷ early n d));
       long = let l = length-append (nameWords (r .slotKinds)) (wordOf 11 1 ∷ early n d) in let m = place-21 n r d e in omega arith;
-      kind = 21;
       after = late n d;
       same-words =
           rw (list-words n (r .slotKinds), o)
@@ -219,15 +216,27 @@ in-words n name pre rest used (s ∷ rs) r f e =
         subst (λ (k : ℕ). InWords whole (startOf n name k rs) n r) (length-append pre (relationWords n s))
         (subst (λ (l : List ℕ). InWords l (startOf n name (length (pre ++ relationWords n s)) rs) n r) onward (ih e))
 
-names-there : {ws : List ℕ} {start n : ℕ} {r : Relation} (c : Which) {ks : List ℕ} → 0 < countPlace c r → InWords ws start n r → InRelation n r c ks → namesAt ws (start + countPlace c r) ≡ some ks
-names-there {ws} {start} {n} {r} c {ks} h i j =
-    let w : ℕ = wordOf (j .kind) (length ks) in
+-- the owner's list there
+owners-list : (rs : List Relation) (s : Source) (r : Relation) {ws : List ℕ} {start n : ℕ} → find (s .owner) rs ≡ some r → InWords ws start n r → InRelation n r (s .which) (listOf (s .which) r)
+    → 0 < countPlace (s .which) r → 0 < length (listOf (s .which) r) → OwnersList ws rs (start + countPlace (s .which) r) s
+owners-list rs s r {ws} {start} {n} found i j h full =
+    let ks : List ℕ = listOf (s .which) r in
+    let kind : ℕ = countKind (s .which) in
+    let w : ℕ = wordOf kind (length ks) in
+    let more : List ℕ = nameWords ks ++ (j .after ++ i .after) in
     let front : List ℕ = i .before ++ j .before in
-    let l : length front ≡ start + countPlace c r = length-append (i .before) (j .before) ∙ rw (i .long, j .long) refl in
-    let e : ws ≡ front ++ (w ∷ (nameWords ks ++ (j .after ++ i .after))) =
+    let l : length front ≡ start + countPlace (s .which) r = length-append (i .before) (j .before) ∙ rw (i .long, j .long) refl in
+    let e : ws ≡ front ++ (w ∷ more) =
     i .same-words
-    ∙ rw (j .same-words, append-assoc (j .before) (w ∷ (nameWords ks ++ j .after)) (i .after), append-assoc (nameWords ks) (j .after) (i .after)) (sym (append-assoc (i .before) (j .before) (w ∷ (nameWords ks ++ (j .after ++ i .after))))) in
-    rw (e, ← l) (listed-at front (j .kind) ks (j .after ++ i .after) (omega (arith, l)) (j .few) (j .short))
+    ∙ rw (j .same-words, append-assoc (j .before) (w ∷ (nameWords ks ++ j .after)) (i .after), append-assoc (nameWords ks) (j .after) (i .after)) (sym (append-assoc (i .before) (j .before) (w ∷ more))) in
+    record {
+      owner = r;
+      found = found;
+      inside = rw (e, ← l) (omega (arith, length-append front (w ∷ more)));
+      count-word = rw (e, ← l) (get-over front w more);
+      names = rw (e, ← l) (listed-at front kind ks (j .after ++ i .after) (omega (arith, l)) (j .few) (j .short));
+      not-empty = full;
+    }
 
 -- ---- the theorem
 
@@ -240,11 +249,15 @@ module _ (p : Pack) (w : WellFormed p) where
   rs = p .relations
 
   abbrev Holds : Answer → Type 0
-  Holds a = namesAt (words p) (placeOf p a) ≡ namesOf rs a
+  Holds a = SettledAt (words p) rs a (placeOf p a)
 
   none-holds : Holds none
-  unfolding placeOf namesAt
+  unfolding placeOf
   none-holds = refl
+
+  none-there : namesAt (words p) (placeOf p none) ≡ none
+  unfolding namesAt
+  none-there = rw none-holds refl
 
   pub in-pack : (r : Relation) → find (r .name) rs ≡ some r → InWords (words p) (startOf (p .names) (r .name) (firstRelation p) rs) (p .names) r
   in-pack r e =
@@ -257,17 +270,17 @@ module _ (p : Pack) (w : WellFormed p) where
       (subst (λ (k : ℕ). InWords (pre ++ (relationsPart p ++ rest)) (startOf (p .names) (r .name) k rs) (p .names) r) l
       (in-words (p .names) (r .name) pre rest [] rs r (parts p w .relations-fine) e))
 
-  nine-holds : (r : Relation) → find (r .name) rs ≡ some r → Holds (some (record { owner = r .name; which = list9 }))
+  nine-holds : (r : Relation) → find (r .name) rs ≡ some r → 0 < length (r .slotKinds) → Holds (some (record { owner = r .name; which = list9 }))
   unfolding placeOf
-  nine-holds r e = let i = in-pack r e in rw e (names-there list9 (omega arith) i (nine-in (p .names) (i .used) r (i .fine)))
+  nine-holds r e full = let i = in-pack r e in rw e (owners-list rs (record { owner = r .name; which = list9 }) r e i (nine-in (p .names) (i .used) r (i .fine)) (omega arith) full)
 
-  twenty-one-holds : (r : Relation) → find (r .name) rs ≡ some r → (d : Derivation) → r .derivation ≡ some d → Holds (some (record { owner = r .name; which = list21 }))
+  twenty-one-holds : (r : Relation) → find (r .name) rs ≡ some r → (d : Derivation) → r .derivation ≡ some d → 0 < length (d .slotEntities) → Holds (some (record { owner = r .name; which = list21 }))
   unfolding placeOf
-  twenty-one-holds r e d g =
+  twenty-one-holds r e d g full =
       let i = in-pack r e in
-      let l : listOf list21 r ≡ d .slotEntities = rw g refl in
+      let l : d .slotEntities ≡ listOf list21 r = rw g refl in
       let k : 0 < countPlace list21 r = rw g (omega arith) in
-      rw (e, l) (names-there list21 k i (twenty-one-in (p .names) (i .used) r d g (i .fine)))
+      rw e (owners-list rs (record { owner = r .name; which = list21 }) r e i (subst (InRelation (p .names) r list21) l (twenty-one-in (p .names) (i .used) r d g (i .fine))) k (rw (← l) full))
 
   abbrev EndHolds : Step Answer → Type 0
   EndHolds (end a) = Holds a
@@ -281,15 +294,35 @@ module _ (p : Pack) (w : WellFormed p) where
       go none e = none-holds
       go (some r) e =
           let f : find (r .name) rs ≡ some r = ap (λ (v : ℕ). find v rs) (sym (find-name rs n r e)) ∙ e in
-          each-way EndHolds (r .name) none-holds (nine-holds r f) (r .slotKinds) (r .derivation) (λ d g. twenty-one-holds r f d g) (λ d g z. tt)
+          each-way-listed EndHolds (r .name) none-holds (r .slotKinds) (r .derivation) (nine-holds r f) (twenty-one-holds r f) (λ d g z. tt)
 
   end-holds : (n : ℕ) (a : Answer) → kindStep rs n ≡ end a → Holds a
   end-holds n a e = subst EndHolds e (step-holds n)
 
+  -- so it is where any name's own walk ends
+  pub walk-end : (n : ℕ) → Holds (ownAnswer rs n)
+  walk-end n = own-holds Holds none none-holds same (λ a h. h) (kindStep rs) end-holds (declared rs) n
+
+  -- at the place of a name's kinds stands the owner's own list
+  pub settled-place : (n : ℕ) (s : Source) → ownAnswer rs n ≡ some s → OwnersList (words p) rs (placeOf p (some s)) s
+  settled-place n s e = subst Holds e (walk-end n)
+
+  -- in record order: so it is at each place that All kinds writes
+  pub all-settled : AllSettledAt (words p) rs rs (allKindsWords p)
+  all-settled = rw (words-own p) (each rs)
+    where
+      each : (l : List Relation) → AllSettledAt (words p) rs l (map (λ (r : Relation). placeOf p (ownAnswer rs (r .name))) l)
+      each [] = refl
+      each (r ∷ l) = (walk-end (r .name), each l)
+
   -- the names at the place of a name's own walk are its kinds, and at 0 it has none
   pub place-holds : (n : ℕ) → namesAt (words p) (placeOf p (ownAnswer rs n)) ≡ kindsOf rs n
   unfolding kindsOf
-  place-holds n = own-holds Holds none none-holds same (λ a h. h) (kindStep rs) end-holds (declared rs) n
+  place-holds n = go (ownAnswer rs n) (walk-end n)
+    where
+      go : (a : Answer) → Holds a → namesAt (words p) (placeOf p a) ≡ namesOf rs a
+      go none h = none-there
+      go (some s) h = h .names ∙ rw (h .found) refl
 
   -- in record order: at each place that All kinds writes stand the names of the relation's kinds
   pub names-in-order : map (namesAt (words p)) (allKindsWords p) ≡ map (λ (r : Relation). kindsOf rs (r .name)) rs

@@ -26,13 +26,13 @@ unfolding defaultedName wordsBy
 defaulted-length n [] low = refl
 defaulted-length n (d ∷ ds) low = ap suc (defaulted-length n ds (above low d))
 
-both : (a b : Bool) → (a && b) ≡ true → b ≡ true
-both true b e = e
+both : (a b : Bool) → (a && b) ≡ true → (a ≡ true) × (b ≡ true)
+both true b e = (refl, e)
 both false b e = let z : _≡_ {A = ℕ} 0 1 = cc in absurd (omega arith)
 
-names-most : (v : ℕ) → allowedHere 0 2 v ≡ true → v ≤ 4096
+names-bounds : (v : ℕ) → allowedHere 0 2 v ≡ true → (1 ≤ v) × (v ≤ 4096)
 unfolding allowedHere entryOf table
-names-most v e = leb-true v 4096 (both (leb 1 v) (leb v 4096) e)
+names-bounds v e = let h = both (leb 1 v) (leb v 4096) e in (leb-true 1 v (h .0), leb-true v 4096 (h .1))
 
 relations-most : (n v : ℕ) → allowedHere n 5 v ≡ true → v ≤ 512
 unfolding allowedHere entryOf table
@@ -65,6 +65,7 @@ split p =
 -- what is known of a checked pack's parts
 pub record Parts (p : Pack) : Type 0 where
   pub names : p .names < 16777216
+  pub least : 1 ≤ p .names
   pub most : p .names ≤ 4096
   pub defaulted-count : length (p .defaulted) < 16777216
   pub defaulted-fine : FineAll above (λ low v. Fine (defaultedName (p .names) low) v) 0 (p .defaulted)
@@ -78,7 +79,8 @@ parts p w =
     let f = w .parts in
     record {
       names = f .0 .0;
-      most = names-most (p .names) (f .0 .1);
+      least = names-bounds (p .names) (f .0 .1) .0;
+      most = names-bounds (p .names) (f .0 .1) .1;
       defaulted-count = f .1 .0 .0 .0;
       defaulted-fine = f .1 .0 .2;
       few-relations = relations-most (p .names) (length (p .relations)) (f .1 .1 .0 .0 .1);
@@ -109,13 +111,13 @@ relations-room p w =
 
 -- ---- places
 
--- what holds of each way in which a declaration goes holds of the declaration
-module _ (P : Step Answer → Type 0) (n : ℕ) (nowhere : P (end none)) (nine : P (from n list9)) where
-  pub each-way : (ks : List ℕ) (o : Option Derivation) → ((d : Derivation) → o ≡ some d → P (from n list21))
+-- what holds of each way in which a declaration goes holds of the declaration; a list that settles it is not empty
+module _ (P : Step Answer → Type 0) (n : ℕ) (nowhere : P (end none)) where
+  pub each-way-listed : (ks : List ℕ) (o : Option Derivation) → (0 < length ks → P (from n list9)) → ((d : Derivation) → o ≡ some d → 0 < length (d .slotEntities) → P (from n list21))
       → ((d : Derivation) → o ≡ some d → eqb (d .source) table.none ≡ false → P (next (d .source))) → P (declares n ks o)
-  each-way [] none twentyOne leads = nowhere
-  each-way (k ∷ ks) none twentyOne leads = nine
-  each-way ks (some d) twentyOne leads = go (d .slotEntities) ks
+  each-way-listed [] none nine twentyOne leads = nowhere
+  each-way-listed (k ∷ ks) none nine twentyOne leads = nine (omega arith)
+  each-way-listed ks (some d) nine twentyOne leads = go (d .slotEntities) (twentyOne d refl) ks nine
     where
       sourced : (c : Bool) → eqb (d .source) table.none ≡ c → P (pick c (end none) (next (d .source)))
       sourced true e = nowhere
@@ -125,10 +127,14 @@ module _ (P : Step Answer → Type 0) (n : ℕ) (nowhere : P (end none)) (nine :
       pathed none = sourced (eqb (d .source) table.none) refl
       pathed (some l) = nowhere
 
-      go : (es ks : List ℕ) → P (derived n d es ks)
-      go (e ∷ es) ks = twentyOne d refl
-      go [] (k ∷ ks) = nine
-      go [] [] = pathed (d .path)
+      go : (es : List ℕ) → (0 < length es → P (from n list21)) → (ks : List ℕ) → (0 < length ks → P (from n list9)) → P (derived n d es ks)
+      go (e ∷ es) own ks nine = own (omega arith)
+      go [] own (k ∷ ks) nine = nine (omega arith)
+      go [] own [] nine = pathed (d .path)
+
+  pub each-way : P (from n list9) → (ks : List ℕ) (o : Option Derivation) → ((d : Derivation) → o ≡ some d → P (from n list21))
+      → ((d : Derivation) → o ≡ some d → eqb (d .source) table.none ≡ false → P (next (d .source))) → P (declares n ks o)
+  each-way nine ks o twentyOne leads = each-way-listed ks o (λ h. nine) (λ d e h. twentyOne d e) leads
 
 -- a declaration's answers are those of its own relation
 pub mapped-alike : {S : Type 0} (g h : Answer → S) (n : ℕ) → g none ≡ h none → ((w : Which) → g (some (record { owner = n; which = w })) ≡ h (some (record { owner = n; which = w })))

@@ -13,17 +13,17 @@ use Rattle.pack.specs.declared.answer.Answer.the-variants.{Given, Refused}
 use Rattle.pack.specs.Table.{pick}
 use Rattle.pack.specs.Pack.{Pack, Reading, yes, refuse, read}
 use Rattle.pack.specs.Operations.{answer, noRoom}
-use Rattle.pack.proofs.Refusals.{Within, read-numbers}
+use Rattle.pack.proofs.Refusals.{CheckRefuses, read-numbers}
 use Rattle.chains.specs.Answers.{writeAnswer}
 
 pub no-given : {v s : ℕ} {r : Refusal} → _≡_ {A = Answer} (Given v s) (Refused r) → ⊥
 no-given e = let z : _≡_ {A = ℕ} 0 1 = cc in omega arith
 
 -- an operation's refusals are Check's, and those of what it makes of a pack
-pub refuses : (P : Refusal → Type 0) (f : Pack → Answer) → ((p : Pack) (r : Refusal) → f p ≡ Refused r → P r) → (ws : List ℕ) (r : Refusal) → answer (read ws) f ≡ Refused r → Within 8192 r ⊎ P r
+pub refuses : (P : Refusal → Type 0) (f : Pack → Answer) → ((p : Pack) (r : Refusal) → f p ≡ Refused r → P r) → (ws : List ℕ) (r : Refusal) → answer (read ws) f ≡ Refused r → CheckRefuses ws r ⊎ P r
 refuses P f made ws r e = go (read ws) refl e
   where
-    go : (m : Reading) → read ws ≡ m → answer m f ≡ Refused r → Within 8192 r ⊎ P r
+    go : (m : Reading) → read ws ≡ m → answer m f ≡ Refused r → CheckRefuses ws r ⊎ P r
     go (yes p) h q = inr (made p r q)
     go (refuse s) h q = let u : s ≡ r = cc in inl (read-numbers ws r (h ∙ ap refuse u))
 

@@ -8,11 +8,11 @@ use lib.Dec.{leb}
 use Rattle.pack.specs.declared.answer.Answer.{Answer}
 use Rattle.pack.specs.declared.answer.Answer.the-variants.{Given, Refused}
 use Rattle.pack.specs.Table.{pick}
-use Rattle.pack.specs.Operations.{noRoom}
+use Rattle.pack.specs.Operations.{wordsAndSteps, noRoom}
 
 -- an operation that writes words, or refuses by 16 where there are too few
 abbrev pub writeAnswer : List ℕ → ℕ → ℕ → Answer
-writeAnswer out steps room = pick (leb (length out) room) (Given (length out) steps) noRoom
+writeAnswer out steps room = pick (leb (length out) room) (wordsAndSteps (length out) steps) noRoom
 
 abbrev pub writeBuffer : List ℕ → List ℕ → List ℕ
 writeBuffer out lent = pick (leb (length out) (length lent)) (out ++ drop (length out) lent) lent
@@ -29,3 +29,7 @@ unknown name = Refused (record { number = 17; place = 0; name = name; other = 0 
 abbrev pub yesNo : Bool → ℕ
 yesNo true = 1
 yesNo false = 0
+
+-- Lean: yes or no
+abbrev pub yesOrNo : Bool → Answer
+yesOrNo b = Given (yesNo b) 0

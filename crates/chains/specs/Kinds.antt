@@ -13,6 +13,11 @@ pub data Which : Type 0 where
   list9 : Which
   list21 : Which
 
+-- the kind of its count word
+abbrev pub countKind : Which → ℕ
+countKind list9 = 9
+countKind list21 = 21
+
 pub record Source : Type 0 where
   pub owner : ℕ
   pub which : Which

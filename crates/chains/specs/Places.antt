@@ -1,14 +1,15 @@
 -- Where relations and their lists of kinds stand in the words of a pack.
-use Prim.Native.Nat.{ℕ, suc, _+_, _*_}
+use Prim.Native.Nat.{ℕ, suc, _+_, _*_, _<_}
+use mathlib.Core.Path.{_≡_}
 use mathlib.Core.List.{List, [], _∷_, map}
 use mathlib.Core.Bool.{false}
 use mathlib.Core.Option.{Option, none, some}
 use lib.ListN.{length, getD, take, drop}
 use lib.Dec.{eqb}
-use Rattle.pack.specs.Table.{pick, valueOf}
+use Rattle.pack.specs.Table.{pick, valueOf, wordOf}
 use Rattle.pack.specs.Form.{wordsBy}
 use Rattle.pack.specs.Pack.{Hop, Relation, relation, Pack}
-use Rattle.chains.specs.Kinds.{Which, list9, list21, find, allKinds}
+use Rattle.chains.specs.Kinds.{Which, list9, list21, countKind, Source, find, allKinds, ownAnswer, listOf}
 use Rattle.chains.specs.Kinds as kinds
 
 -- the words of a relation
@@ -52,6 +53,15 @@ placeOf p (some s) =
 unfoldable pub namesAt : List ℕ → ℕ → Option (List ℕ)
 namesAt ws place = pick (eqb place 0) none (some (map valueOf (take (valueOf (getD ws place 0)) (drop (suc place) ws))))
 
+-- At a place stands the owner's own list: a count word of kind 9 or 21 within the words, and after it the names of that list, which has one at least.
+pub record OwnersList (ws : List ℕ) (rs : List Relation) (place : ℕ) (s : Source) : Type 0 where
+  pub owner : Relation
+  pub found : find (s .owner) rs ≡ some owner
+  pub inside : place < length ws
+  pub count-word : getD ws place 0 ≡ wordOf (countKind (s .which)) (length (listOf (s .which) owner))
+  pub names : namesAt ws place ≡ some (listOf (s .which) owner)
+  pub not-empty : 0 < length (listOf (s .which) owner)
+
 -- what is settled for a name, in All kinds
 abbrev pub settledOf : Option kinds.Answer → kinds.Answer
 settledOf none = none
@@ -59,3 +69,14 @@ settledOf (some a) = a
 
 unfoldable pub allKindsWords : Pack → List ℕ
 allKindsWords p = map (λ (r : Relation). placeOf p (settledOf (allKinds (p .relations) .settled (r .name)))) (p .relations)
+
+-- "the place of the settled list's count word, or 0 for none": so stands at a place what an answer says
+abbrev pub SettledAt : List ℕ → List Relation → kinds.Answer → ℕ → Type 0
+SettledAt ws rs none place = place ≡ 0
+SettledAt ws rs (some s) place = OwnersList ws rs place s
+
+-- "per relation in record order": for each of some relations, a place of what its own walk answers
+abbrev pub AllSettledAt : List ℕ → List Relation → List Relation → List ℕ → Type 0
+AllSettledAt ws rs [] places = places ≡ []
+AllSettledAt ws rs (r ∷ more) [] = ⊥
+AllSettledAt ws rs (r ∷ more) (place ∷ places) = SettledAt ws rs (ownAnswer rs (r .name)) place × AllSettledAt ws rs more places

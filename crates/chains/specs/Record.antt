@@ -31,6 +31,6 @@ unfoldable pub nodesIn : List ℕ → ℕ
 nodesIn [] = 0
 nodesIn (w ∷ ws) = pick (leb 64 (kindOf w)) (suc (nodesIn ws)) 0
 
--- every record starts within the words
+-- no record starts past the place 65,536, so that sums of places stay small
 unfoldable pub Recorded : List ℕ → Type 0
 Recorded records = (n : ℕ) → getD records n 0 ≤ 65536

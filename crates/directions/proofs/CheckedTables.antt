@@ -14,7 +14,7 @@ use Rattle.pack.specs.Form.{among, allowedHere, items, Fine}
 use Rattle.pack.specs.Pack.{Derivation, Relation, Pack, WellFormed, yes, read, words, derivation, member, optionalDerivation, relationTail}
 use Rattle.pack.proofs.PackLaws.{words-read}
 use Rattle.chains.specs.Kinds.{find, declared, kindsOf, ownAnswer}
-use Rattle.filtered.specs.Filtered.{takenFrom, taken, single, direct}
+use Rattle.filtered.specs.Filtered.{entityIs, takenFrom, taken, single, direct}
 use Rattle.filtered.specs.Filtered as filtered
 use Rattle.chains.specs.Places.{startOf, firstRelation, placeOf, namesAt}
 use Rattle.chains.specs.AllKinds.{Noted, KindsMarked}
@@ -42,13 +42,17 @@ found-among m (s ∷ rs) r e = go (eqb m (s .name)) e (found-among m rs r)
 
 -- ---- entities are names of the pack
 
-entity-allowed : (n v e : ℕ) → allowedHere n 19 v ≡ true → n ≤ e → e < 4096 → eqb v e ≡ false
+entity-allowed : (n v e : ℕ) → allowedHere n 19 v ≡ true → n ≤ e → entityIs v e ≡ false
 unfolding allowedHere entryOf table
-entity-allowed n v e a l u = go (ltb v n) refl a
+entity-allowed n v e a l = go (eqb v table.none) refl
   where
-    go : (b : Bool) → ltb v n ≡ b → (b || eqb v table.none) ≡ true → eqb v e ≡ false
-    go true h a = ne-eqb v e (λ q. (let z = ltb-true v n h in omega arith))
-    go false h a = ne-eqb v e (λ q. (let z = eqb-true v table.none a in omega arith))
+    below : (b : Bool) → eqb v table.none ≡ false → ltb v n ≡ b → (b || eqb v table.none) ≡ true → eqb v e ≡ false
+    below true q h a = ne-eqb v e (λ z. (let u = ltb-true v n h in omega arith))
+    below false q h a = let z : _≡_ {A = ℕ} 0 1 = cc in absurd (omega arith)
+
+    go : (b : Bool) → eqb v table.none ≡ b → pick b false (eqb v e) ≡ false
+    go true q = refl
+    go false q = below (ltb v n) q refl a
 
 option-entity : (n : ℕ) (o : Option Derivation) → Fine (optionalDerivation n) o → (d : Derivation) → o ≡ some d → allowedHere n 19 (d .entity) ≡ true
 unfolding optionalDerivation derivation member Fine items
@@ -59,13 +63,13 @@ tail-entity : (n : ℕ) (r : Relation) → Fine (relationTail n) (r .origin, (r 
 unfolding relationTail Fine
 tail-entity n r f = option-entity n (r .derivation) (f .1 .1 .1)
 
-none-taken : (n : ℕ) (all : List Relation) (e : ℕ) → n ≤ e → e < 4096 → (used : List ℕ) (l : List Relation) → RelationsFine n used l → takenFrom all e l ≡ []
-none-taken n all e h u used [] f = refl
-none-taken n all e h u used (r ∷ l) f = rw (go (r .derivation) (tail-entity n r (kept n (λ v. among v used) r (f .0) .tail)), none-taken n all e h u (r .name ∷ used) l (f .1)) refl
+none-taken : (n : ℕ) (all : List Relation) (e : ℕ) → n ≤ e → (used : List ℕ) (l : List Relation) → RelationsFine n used l → takenFrom all e l ≡ []
+none-taken n all e h used [] f = refl
+none-taken n all e h used (r ∷ l) f = rw (go (r .derivation) (tail-entity n r (kept n (λ v. among v used) r (f .0) .tail)), none-taken n all e h (r .name ∷ used) l (f .1)) refl
   where
     go : (o : Option Derivation) → ((d : Derivation) → o ≡ some d → allowedHere n 19 (d .entity) ≡ true) → filtered.takes all e (r .name) o ≡ []
     go none q = refl
-    go (some d) q = rw (entity-allowed n (d .entity) e (q d refl) h u) refl
+    go (some d) q = rw (entity-allowed n (d .entity) e (q d refl) h) refl
 
 -- ---- the tables
 
@@ -101,7 +105,7 @@ module _ (ws records marks taken₀ names : List ℕ) (steps : ℕ) (p : Pack) (
   T = tablesIn ws records marks taken₀
 
   abbrev U : Tables
-  U = tables n rs
+  U = tables rs
 
   typed-alike : (m : ℕ) → T .typed m ≡ U .typed m
   unfolding tablesIn tables
@@ -124,20 +128,19 @@ module _ (ws records marks taken₀ names : List ℕ) (steps : ℕ) (p : Pack) (
           rw (ne-eqb (getD records m 0) 0 (record-some m r e))
           (derived-read ws (getD records m 0) n r (stands m r e) (parts p w .most) place ∙ ap (λ k. derivedAt k (some r)) kinds)
 
-  past-names : (e : ℕ) → n ≤ e → e < 4096 → direct rs e ≡ none
+  -- no entity past the names takes a kind
+  past-names : (e : ℕ) → n ≤ e → direct rs e ≡ none
   unfolding direct taken
-  past-names e a b = ap single (none-taken n rs e a b [] rs (parts p w .relations-fine))
+  past-names e a = ap single (none-taken n rs e a [] rs (parts p w .relations-fine))
 
-  direct-alike : (e : ℕ) → directBy taken₀ e ≡ pick (ltb e n) (direct rs e) none
-  direct-alike e = go (ltb e n) refl (ltb e 4096) refl
+  direct-alike : (e : ℕ) → directBy taken₀ e ≡ direct rs e
+  direct-alike e = go (ltb e 4096) refl
     where
-      go : (a : Bool) → ltb e n ≡ a → (b : Bool) → ltb e 4096 ≡ b → pick b (directIn taken₀ e) none ≡ pick a (direct rs e) none
-      go true x true y = direct-in p h knows e (ltb-true e 4096 y)
-      go true x false y = let u = ltb-true e n x in let v = ltb-false e 4096 y in let t = parts p w .most in absurd (omega arith)
-      go false x true y = direct-in p h knows e (ltb-true e 4096 y) ∙ past-names e (ltb-false e n x) (ltb-true e 4096 y)
-      go false x false y = refl
+      go : (b : Bool) → ltb e 4096 ≡ b → pick b (directIn taken₀ e) none ≡ direct rs e
+      go true y = direct-in p h knows e (ltb-true e 4096 y)
+      go false y = let v = ltb-false e 4096 y in let t = parts p w .most in sym (past-names e (omega arith))
 
-  pub tables-are : tablesIn ws records marks taken₀ ≡ tables n rs
+  pub tables-are : tablesIn ws records marks taken₀ ≡ tables rs
   unfolding tablesIn tables
   tables-are =
       let typed : T .typed ≡ U .typed = fun-ext typed-alike in

@@ -22,7 +22,7 @@ use Rattle.directions.specs.Turning.{Outcome, done, refused, andThen, ma
 
 -- a rule or relation of a name and an origin, in a pack
 abbrev pub cites : Pack → ℕ → ℕ → Citing
-cites p name origin = record { tables = tables (p .names) (p .relations); name = name; input = input (p .blocks) origin }
+cites p name origin = record { tables = tables (p .relations); name = name; input = input (p .blocks) origin }
 
 -- ---- "1. Defaulted names, rising: a derived relation with kinds, both slots in range and equal kinds there: 9."
 
@@ -186,4 +186,4 @@ resolveRecords p =
     (resolveRelations p (firstRelation p) (p .relations)))
 
 unfoldable pub resolved : Pack → Outcome Pack
-resolved p = elim (defaultedEqual (tables (p .names) (p .relations)) (p .defaulted)) [ some n ↦ refused (equalRefusal p n) | none ↦ resolveRecords p ]
+resolved p = elim (defaultedEqual (tables (p .relations)) (p .defaulted)) [ some n ↦ refused (equalRefusal p n) | none ↦ resolveRecords p ]

@@ -2,8 +2,6 @@
 use Prim.Native.Nat.{ℕ}
 use mathlib.Core.List.{List, [], _∷_}
 use mathlib.Core.Option.{Option, none, some}
-use lib.Dec.{ltb}
-use Rattle.pack.specs.Table.{pick}
 use Rattle.pack.specs.Pack.{Derivation, Relation}
 use Rattle.chains.specs.Kinds.{find, kindsOf}
 use Rattle.filtered.specs.Filtered.{direct}
@@ -43,6 +41,5 @@ pub record Tables : Type 0 where
   pub derived : ℕ → Option Derived
   pub direct : ℕ → Option ℕ
 
--- entities are names below N
-unfoldable pub tables : ℕ → List Relation → Tables
-tables names rs = record { typed = λ n. typedAt (find n rs); derived = λ n. derivedAt (kindsOf rs n) (find n rs); direct = λ e. pick (ltb e names) (direct rs e) none }
+unfoldable pub tables : List Relation → Tables
+tables rs = record { typed = λ n. typedAt (find n rs); derived = λ n. derivedAt (kindsOf rs n) (find n rs); direct = direct rs }

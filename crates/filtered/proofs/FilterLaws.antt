@@ -10,7 +10,7 @@ use Rattle.pack.specs.declared.answer.Answer.{Answer}
 use Rattle.pack.specs.declared.answer.Answer.the-variants.{Given, Refused}
 use Rattle.pack.specs.Pack.{Pack}
 use Rattle.pack.specs.Operations.{noRoom, checkAnswer}
-use Rattle.pack.proofs.Refusals.{Within}
+use Rattle.pack.proofs.Refusals.{CheckRefuses}
 use Rattle.filtered.specs.declared.filtered.Filter.{Filter}
 use Rattle.chains.specs.Answers.{writeAnswer, Answered}
 use Rattle.filtered.specs.FilteredTables.{says, filterWords, filterAnswer, filterBuffer}
@@ -44,6 +44,6 @@ module _ (f : Filter) (ws lent : List ℕ) where
     filter-done h l = made-done (filterWords f) noSteps ws lent c one-name h refl (l .holds (c .pack) (c .reads))
 
 -- they refuse by Check's numbers and 16 alone
-pub filter-numbers : (f : Filter) (ws : List ℕ) (room : ℕ) (r : Refusal) → filterAnswer f ws room ≡ Refused r → Within 8192 r ⊎ NoRoom r
+pub filter-numbers : (f : Filter) (ws : List ℕ) (room : ℕ) (r : Refusal) → filterAnswer f ws room ≡ Refused r → CheckRefuses ws r ⊎ NoRoom r
 unfolding filterAnswer
 filter-numbers f ws room r e = refuses NoRoom (λ p. writeAnswer (filterWords f p) 0 room) (λ p r. writing-refuses (filterWords f p) 0 room r) ws r e

@@ -14,7 +14,7 @@ use Rattle.pack.specs.Dealt.{nil, cons, swap, trans, InAnyOrder}
 use Rattle.chains.specs.Chain.{end, next, Distinct, OnlyDeclaredLead, same}
 use Rattle.chains.specs.Kinds.{kindsOf, declared}
 use Rattle.chains.specs.Reach.{any}
-use Rattle.filtered.specs.Filtered.{kindAt, listed, takes, takenFrom, taken, single, direct, alias, namesEntity, isNil, unresolved, innerAt, upTo, innerStep, innermostBy, innermost}
+use Rattle.filtered.specs.Filtered.{kindAt, listed, entityIs, takes, takenFrom, taken, single, direct, alias, namesEntity, isNil, unresolved, innerAt, upTo, innerStep, innermostBy, innermost}
 use Rattle.chains.proofs.Names.{shuffled-after, shuffled-rows, shuffled-any}
 use Rattle.chains.proofs.ChainLaws.{SettledOwn, settled-own}
 use Rattle.chains.proofs.KindLaws.{kinds-dealt}
@@ -48,7 +48,7 @@ module _ (rs : List Relation) (e : ℕ) where
 module _ (rs rs′ : List Relation) (kinds : (n : ℕ) → kindsOf rs n ≡ kindsOf rs′ n) (e : ℕ) where
   takes-alike : (n : ℕ) (o : Option Derivation) → takes rs e n o ≡ takes rs′ e n o
   takes-alike n none = refl
-  takes-alike n (some d) = ap (λ ks. pick (eqb (d .entity) e) (listed (kindAt ks (d .current))) []) (kinds n)
+  takes-alike n (some d) = ap (λ ks. pick (entityIs (d .entity) e) (listed (kindAt ks (d .current))) []) (kinds n)
 
   from-alike : (l : List Relation) → takenFrom rs e l ≡ takenFrom rs′ e l
   from-alike [] = refl

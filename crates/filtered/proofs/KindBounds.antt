@@ -13,7 +13,7 @@ use Rattle.pack.specs.Form.{allowedHere, FineAll, field, Fine, items}
 use Rattle.pack.specs.Pack.{Derivation, Relation, Pack, WellFormed, nameList, member, derivation, optionalDerivation, relationTail}
 use Rattle.chains.specs.Kinds.{Which, list9, list21, Answer, find, listOf, listIn, namesOf, kindsOf, ownAnswer}
 use Rattle.chains.specs.Reach.{any}
-use Rattle.filtered.specs.Filtered.{kindAt, listed, takes, takenFrom, taken, single, direct}
+use Rattle.filtered.specs.Filtered.{kindAt, listed, entityIs, takes, takenFrom, taken, single, direct}
 use Rattle.chains.proofs.PackIndex.{parts, find-kept}
 
 abbrev pub Below : ℕ → List ℕ → Type 0
@@ -86,7 +86,7 @@ module _ (p : Pack) (w : WellFormed p) where
 
   takes-below : (e n : ℕ) (o : Option Derivation) → Below (p .names) (takes (p .relations) e n o)
   takes-below e n none = tt
-  takes-below e n (some d) = go (eqb (d .entity) e)
+  takes-below e n (some d) = go (entityIs (d .entity) e)
     where
       go : (b : Bool) → Below (p .names) (pick b (listed (kindAt (kindsOf (p .relations) n) (d .current))) [])
       go true = slot-below (kindsOf (p .relations) n) (d .current) (kinds-below n)

@@ -1,4 +1,3 @@
-pub mod Worked
 pub mod FilteredLaws
 pub mod TakingLaws
 pub mod TakenKnown

@@ -10,12 +10,13 @@ use lib.Seq.{getD-set-same, getD-set-other}
 use lib.Dec.{eqb, ltb}
 use borrow.Author.Tests.{eq-eqb, ne-eqb, eqb-true, eqb-false, lt-ltb, le-ltb}
 use Rattle.pack.specs.Table.{pick, valueOf}
+use Rattle.pack.specs.Table as table
 use Rattle.pack.specs.Form.{among}
 use Rattle.pack.specs.Pack.{Derivation, Relation, Pack, WellFormed, yes, read, words}
 use Rattle.chains.specs.Kinds.{find, declared, ownAnswer, kindsOf}
 use Rattle.chains.specs.Reach.{any}
 use Rattle.filtered.specs.Filtered as filtered
-use Rattle.filtered.specs.Filtered.{kindAt, listed, takenFrom, taken, namesEntity}
+use Rattle.filtered.specs.Filtered.{kindAt, listed, entityIs, takenFrom, taken, namesEntity}
 use Rattle.chains.specs.Places.{startOf, firstRelation, hops, placeOf, namesAt}
 use Rattle.chains.specs.Record.{valueAt, slotsPlace}
 use Rattle.records.specs.declared.directory.Layout.{Layout}
@@ -74,6 +75,21 @@ unfolding takenAfter
 more-known b ks none h = named-known b ks ∙ ap (known true) (sym (append-nil ks))
 more-known b ks (some k) h = ap (λ (x : ℕ). takenAfter x (some k)) (named-known b ks) ∙ kind-known ks k h
 
+-- the field of a derivation that names an entity is it, and one that does not name a name is not
+entity-is : (field e : ℕ) → entityIs field e ≡ true → field ≡ e
+entity-is field e q = go (eqb field table.none) q
+  where
+    go : (b : Bool) → pick b false (eqb field e) ≡ true → field ≡ e
+    go true q = let z : _≡_ {A = ℕ} 0 1 = cc in absurd (omega arith)
+    go false q = eqb-true field e q
+
+entity-not : (field e : ℕ) → e < 4096 → entityIs field e ≡ false → e ≡ field → ⊥
+entity-not field e h q z = go (eqb field table.none) refl q
+  where
+    go : (b : Bool) → eqb field table.none ≡ b → pick b false (eqb field e) ≡ false → ⊥
+    go true n q = let m = eqb-true field table.none n in omega arith
+    go false n q = eqb-false field e q (sym z)
+
 -- ---- the relations
 
 module _ (kind : ℕ → ℕ → Option ℕ) where
@@ -91,7 +107,7 @@ module _ (kind : ℕ → ℕ → Option ℕ) where
 
   abbrev takesBy : ℕ → ℕ → Option Derivation → List ℕ
   takesBy e n none = []
-  takesBy e n (some d) = pick (eqb (d .entity) e) (listed (kind n (d .current))) []
+  takesBy e n (some d) = pick (entityIs (d .entity) e) (listed (kind n (d .current))) []
 
   abbrev takenOf : ℕ → List Relation → List ℕ
   takenOf e [] = []
@@ -102,7 +118,7 @@ module _ (kind : ℕ → ℕ → Option ℕ) where
         → getD (tableAfter n o t) e 0 ≡ known (b || namesEntity e o) (ks ++ takesBy e n o)
     unfolding takeAt
     take-known t n none b ks l h = h ∙ rw (append-nil ks, or-false b) refl
-    take-known t n (some d) b ks l h = go (eqb (d .entity) e) refl
+    take-known t n (some d) b ks l h = go (entityIs (d .entity) e) refl
       where
         k : Option ℕ
         k = kind n (d .current)
@@ -111,14 +127,14 @@ module _ (kind : ℕ → ℕ → Option ℕ) where
         kept-or true q z = getD-set-other t (d .entity) e _ 0 z
         kept-or false q z = refl
 
-        go : (c : Bool) → eqb (d .entity) e ≡ c
+        go : (c : Bool) → entityIs (d .entity) e ≡ c
             → getD (pick (ltb (d .entity) 4096) (set t (d .entity) (takenAfter (namedAfter (getD t (d .entity) 0)) k)) t) e 0 ≡ known (b || c) (ks ++ pick c (listed k) [])
         go true q =
-            let m : d .entity ≡ e = eqb-true (d .entity) e q in
+            let m : d .entity ≡ e = entity-is (d .entity) e q in
             rw (m, lt-ltb e 4096 inside, or-true b)
             (getD-set-same t e (takenAfter (namedAfter (getD t e 0)) k) 0 (omega arith) ∙ ap (λ (x : ℕ). takenAfter (namedAfter x) k) h ∙ more-known b ks k (fits n (d .current)))
         go false q =
-            kept-or (ltb (d .entity) 4096) refl (λ z. eqb-false (d .entity) e q (sym z)) ∙ h ∙ rw (or-false b, append-nil ks) refl
+            kept-or (ltb (d .entity) 4096) refl (entity-not (d .entity) e inside q) ∙ h ∙ rw (or-false b, append-nil ks) refl
 
     take-long : (t : List ℕ) (n : ℕ) (o : Option Derivation) → length t ≡ 4096 → length (tableAfter n o t) ≡ 4096
     unfolding takeAt
@@ -148,7 +164,7 @@ taken-alike kind all e (r ∷ l) h =
   where
     go : (o : Option Derivation) → takesBy kind e (r .name) o ≡ filtered.takes all e (r .name) o
     go none = refl
-    go (some d) = ap (λ (k : Option ℕ). pick (eqb (d .entity) e) (listed k) []) (h (r .name) (or-left (among (r .name) (declared l)) (eq-eqb (r .name) (r .name) refl)) (d .current))
+    go (some d) = ap (λ (k : Option ℕ). pick (entityIs (d .entity) e) (listed k) []) (h (r .name) (or-left (among (r .name) (declared l)) (eq-eqb (r .name) (r .name) refl)) (d .current))
 
 value-fits : (l : List ℕ) (slot : ℕ) → getD (map valueOf l) slot 0 < 16777216
 value-fits l slot = rw (List·getD-map valueOf l slot 0) (omega arith)

@@ -6,6 +6,7 @@ use mathlib.Core.Option.{Option, none, some}
 use lib.ListN.{length, getD}
 use lib.Dec.{ltb, eqb}
 use Rattle.pack.specs.Table.{pick}
+use Rattle.pack.specs.Table as table
 use Rattle.pack.specs.Pack.{Derivation, Relation}
 use Rattle.chains.specs.Chain.{Step, end, next, own, same}
 use Rattle.chains.specs.Kinds.{kindsOf}
@@ -20,10 +21,14 @@ abbrev pub listed : Option ℕ → List ℕ
 listed none = []
 listed (some k) = k ∷ []
 
+-- whether a derivation's field 19 names an entity: "19 entity°", so it may be none, which is no entity's name
+abbrev pub entityIs : ℕ → ℕ → Bool
+entityIs field e = pick (eqb field table.none) false (eqb field e)
+
 -- "entity e takes the kind at the current slot of each derivation with entity e, where in range"; "Where the walk yields no kinds the relation is passed over."
 abbrev pub takes : List Relation → ℕ → ℕ → Option Derivation → List ℕ
 takes rs e n none = []
-takes rs e n (some d) = pick (eqb (d .entity) e) (listed (kindAt (kindsOf rs n) (d .current))) []
+takes rs e n (some d) = pick (entityIs (d .entity) e) (listed (kindAt (kindsOf rs n) (d .current))) []
 
 abbrev pub takenFrom : List Relation → ℕ → List Relation → List ℕ
 takenFrom rs e [] = []
@@ -48,7 +53,7 @@ alias rs e = any (λ k. not (eqb k e)) (taken rs e)
 
 abbrev pub namesEntity : ℕ → Option Derivation → Bool
 namesEntity e none = false
-namesEntity e (some d) = eqb (d .entity) e
+namesEntity e (some d) = entityIs (d .entity) e
 
 abbrev pub isNil : List ℕ → Bool
 isNil [] = true

@@ -9,7 +9,7 @@ use Rattle.pack.specs.declared.answer.Refusal.{Refusal}
 use Rattle.pack.specs.declared.answer.Answer.{Answer}
 use Rattle.pack.specs.declared.answer.Answer.the-variants.{Given, Refused}
 use Rattle.pack.specs.Table.{pick}
-use Rattle.pack.proofs.Refusals.{Within}
+use Rattle.pack.proofs.Refusals.{CheckRefuses}
 use Rattle.chains.specs.Kinds.{allKinds, ownAnswer}
 use Rattle.chains.specs.Reach.{leans}
 use Rattle.chains.specs.Places.{placeOf, allKindsWords}
@@ -19,7 +19,7 @@ use Rattle.chains.proofs.RefusalNumbers.{no-given, refuses, NoRoom, writing-ref
 
 -- ---- words are written: 16
 
-pub all-kinds-numbers : (ws : List ℕ) (room : ℕ) (r : Refusal) → allKindsAnswer ws room ≡ Refused r → Within 8192 r ⊎ NoRoom r
+pub all-kinds-numbers : (ws : List ℕ) (room : ℕ) (r : Refusal) → allKindsAnswer ws room ≡ Refused r → CheckRefuses ws r ⊎ NoRoom r
 unfolding allKindsAnswer
 all-kinds-numbers ws room r e =
     refuses NoRoom (λ p. writeAnswer (allKindsWords p) (allKinds (p .relations) .steps) room) (λ p r. writing-refuses (allKindsWords p) (allKinds (p .relations) .steps) room r) ws r e
@@ -37,12 +37,12 @@ asking-refuses P name n a r un on e = go (ltb name n) e
     go true q = on q
     go false q = un (sym q)
 
-pub kinds-of-numbers : (ws : List ℕ) (name : ℕ) (r : Refusal) → kindsOfAnswer ws name ≡ Refused r → Within 8192 r ⊎ Unknown name r
+pub kinds-of-numbers : (ws : List ℕ) (name : ℕ) (r : Refusal) → kindsOfAnswer ws name ≡ Refused r → CheckRefuses ws r ⊎ Unknown name r
 unfolding kindsOfAnswer
 kinds-of-numbers ws name r e =
     refuses (Unknown name) _ (λ p r. asking-refuses (Unknown name) name (p .names) (Given (placeOf p (ownAnswer (p .relations) name)) 0) r (λ u. u) (λ q. absurd (no-given q))) ws r e
 
-pub lean-numbers : (ws : List ℕ) (a b : ℕ) (r : Refusal) → leanAnswer ws a b ≡ Refused r → Within 8192 r ⊎ (Unknown a r ⊎ Unknown b r)
+pub lean-numbers : (ws : List ℕ) (a b : ℕ) (r : Refusal) → leanAnswer ws a b ≡ Refused r → CheckRefuses ws r ⊎ (Unknown a r ⊎ Unknown b r)
 unfolding leanAnswer
 lean-numbers ws a b r e =
     refuses (λ r. Unknown a r ⊎ Unknown b r) _

@@ -175,7 +175,7 @@ module _ (p : Pack) where
 
 pub refused-number : (p : Pack) (r : Refusal) → resolved p ≡ refused r → (9 ≤ r .number) × (r .number ≤ 15)
 unfolding resolved
-refused-number p r e = go (defaultedEqual (tables (p .names) (p .relations)) (p .defaulted)) e
+refused-number p r e = go (defaultedEqual (tables (p .relations)) (p .defaulted)) e
   where
     records : Numbered (resolveRecords p)
     records =

@@ -70,7 +70,7 @@ module _ (p : Pack) (w : WellFormed p) where
       go none e = pair-short (r .slotKinds) ks e
       go (some d) e = let z : _≡_ {A = ℕ} 0 1 = cc in absurd (omega arith)
 
-  pub tables-fit : TablesFit (tables n rs)
+  pub tables-fit : TablesFit (tables rs)
   unfolding tables
   tables-fit = record { slots = λ m d e. derived-fit m (find m rs) refl (kindsOf rs m) d e; few = λ m ks e. typed-fit (find m rs) ks e }
 

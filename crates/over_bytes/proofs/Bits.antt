@@ -103,9 +103,11 @@ resolve-gives ws room p e = go (resolved p) refl (resolved-told p fine)
     given true false n h = (omega arith, omega arith, omega arith, omega arith, omega arith)
     given false b n h = (omega arith, omega arith, omega arith, omega arith, omega arith)
 
-    go : (o : Outcome Pack) → resolved p ≡ o → Told 8192 o → FitsBits (givenOut steps room o)
+    go : (o : Outcome Pack) → resolved p ≡ o → Told (p .names) (total p) o → FitsBits (givenOut steps room o)
     go (done q) s t = given (leb (total q) 8192) (leb (total q) room) (total q) refl
-    go (refused r) s t = (omega (arith, refused-number p r s .0), omega (arith, t .0 .number), omega (arith, t .0 .place), omega (arith, t .1), omega (arith, t .0 .other))
+    go (refused r) s t =
+        let few : p .names ≤ 4096 = parts p fine .most in
+        (omega (arith, refused-number p r s .0), omega (arith, t .0 .number), omega (arith, t .0 .place, fine .most), omega (arith, t .1), omega (arith, t .0 .other))
 
 pub resolve-fits : (ws : List ℕ) (room : ℕ) → FitsBits (resolveAnswer ws room)
 unfolding resolveAnswer

@@ -1,3 +1,4 @@
 pub mod Writes
 pub mod Bits
+pub mod RefusingLaws
 pub mod Cases

@@ -1,4 +1,4 @@
--- Check and Rewrite refuse by 01's numbers alone: 1 to 8, and Rewrite 16 too. Places lie within the slice, and names are values of words.
+-- Check and Rewrite refuse by 01's numbers alone: 1 to 8, and Rewrite 16 too. Places lie within the slice, or are its length where it has ended, and names are values of words.
 use Prim.Native.Nat.{ℕ, zero, suc, _+_, _-_, _≤_, _<_}
 use native.Mathlib.Omega.{arith}
 use mathlib.Core.Path.{_≡_, refl, ap, sym, _∙_}
@@ -11,17 +11,19 @@ use borrow.Author.Tests.{eqb-false, leb-true}
 use Rattle.pack.specs.declared.answer.Refusal.{Refusal}
 use Rattle.pack.specs.declared.answer.Answer.the-variants.{Given, Refused}
 use Rattle.pack.specs.Table.{pick, kindOf, valueOf, entryOf, judgment}
-use Rattle.pack.specs.Form.{Read, got, refused, because, bind, mapRead, allowedHere, readWord, among, only, readField, readAll, readEach, Holder, says, whole, Suits, Form, field, word, empty, each, guarded, _▹_, countedFrom, oneAndMore, via, Fine, readBy}
+use Rattle.pack.specs.Form.{Read, got, refused, because, bind, mapRead, allowedHere, readWord, among, only, readField, readAll, readEach, Holder, says, whole, Suits, Form, field, word, empty, each, guarded, _▹_, countedFrom, oneAndMore, via, wordsBy, Fine, readBy}
 use Rattle.pack.specs.Tree.{heads, fields, follow, tree, root}
 use Rattle.pack.specs.Pack.{defaultedName, defaulted, nameList, hop, path, chain, member, derivation, optionalDerivation, relationTail, newName, relation, relations, body, bodies, rule, rules, item, blockItems, block, blocks, records, inner, layout, Edition, Reading, yes, refuse, complete, editionOf, read, words}
 use Rattle.pack.specs.Operations.{answer, noRoom, checkAnswer, rewriteAnswer}
 use Rattle.pack.proofs.FormLaws.{lawful}
 
--- a refusal by one of the numbers from 1 to 8, at a place up to `end`
+-- A refusal by one of the numbers from 1 to 8, of words that end before the place `end`. By 3 its place is that end, by 2 and 4 to 8 a word's.
 pub record Within (end : ℕ) (r : Refusal) : Type 0 where
   pub least : 1 ≤ r .number
   pub most : r .number ≤ 8
   pub place : r .place ≤ end
+  pub ended : r .number ≡ 3 → r .place ≡ end
+  pub word : 2 ≤ r .number → (r .number ≡ 3 → ⊥) → r .place < end
   pub name : r .name < 16777216
   pub other : r .other ≡ 0
 
@@ -35,20 +37,43 @@ no-got e = let z : _≡_ {A = ℕ} 0 1 = cc in omega arith
 same-refusal : {A : Type 0} {r s : Refusal} → _≡_ {A = Read A} (refused r) (refused s) → r ≡ s
 same-refusal e = cc
 
-plain : {A : Type 0} (number place end : ℕ) (r : Refusal) → 1 ≤ number → number ≤ 8 → place ≤ end → _≡_ {A = Read A} (because number place) (refused r) → Within end r
-plain number place end r lo hi p e = rw (← same-refusal e) (record { least = lo; most = hi; place = p; name = omega arith; other = refl })
+-- the numbers of a word, and a refusal by one of them at a place of a word
+abbrev OfWord : ℕ → Type 0
+OfWord number = (2 ≤ number) × (number ≤ 8) × (number ≡ 3 → ⊥)
+
+at-word : (number place name end : ℕ) → OfWord number → place < end → name < 16777216 → Within end (record { number = number; place = place; name = name; other = 0 })
+at-word number place name end h p l =
+    record { least = omega (arith, h .0); most = h .1; place = omega arith; ended = λ e. absurd (h .2 e); word = λ lo n. p; name = l; other = refl }
+
+at-end : (end : ℕ) → Within end (record { number = 3; place = end; name = 0; other = 0 })
+at-end end = record { least = omega arith; most = omega arith; place = omega arith; ended = λ e. refl; word = λ lo n. absurd (n refl); name = omega arith; other = refl }
+
+plain : {A : Type 0} (number place end : ℕ) (r : Refusal) → OfWord number → place < end → _≡_ {A = Read A} (because number place) (refused r) → Within end r
+plain number place end r h p e = rw (← same-refusal e) (at-word number place 0 end h p (omega arith))
 
 -- a kind is turned away by 2 or 5
+abbrev Turned : ℕ → Type 0
+Turned number = (number ≤ 5) × (number ≡ 1 → ⊥) × (number ≡ 3 → ⊥)
+
 abbrev Turns : (ℕ → ℕ) → Type 0
-Turns turned = (k : ℕ) → turned k ≤ 5
+Turns turned = (k : ℕ) → Turned (turned k)
+
+turned-0 : Turned 0
+turned-0 = (omega arith, λ e. omega arith, λ e. omega arith)
+
+turned-2 : Turned 2
+turned-2 = (omega arith, λ e. omega arith, λ e. omega arith)
+
+turned-5 : Turned 5
+turned-5 = (omega arith, λ e. omega arith, λ e. omega arith)
 
 word-bounded : (turned : ℕ → ℕ) (n : ℕ) → Turns turned → Bounded (readWord turned n)
-word-bounded turned n t at [] r e = plain 3 at (at + 0) r (omega arith) (omega arith) (omega arith) e
+word-bounded turned n t at [] r e = let z : at + 0 ≡ at = omega arith in rw (z, ← same-refusal e) (at-end at)
 word-bounded turned n t at (w ∷ ws) r e = kind (eqb (turned (kindOf w)) 0) refl e
   where
     value : (b : Bool) → pick {A = Read (ℕ × ℕ)} b (got (kindOf w, valueOf w) (at + 1) ws) (because 4 at) ≡ refused r → Within (at + length (w ∷ ws)) r
     value true e = absurd (no-got e)
-    value false e = plain 4 at _ r (omega arith) (omega arith) (omega arith) e
+    value false e = plain 4 at _ r (omega arith, omega arith, λ e. omega arith) (omega arith) e
 
     kind : (b : Bool) → eqb (turned (kindOf w)) 0 ≡ b
         → pick {A = Read (ℕ × ℕ)} b (pick (allowedHere n (kindOf w) (valueOf w)) (got (kindOf w, valueOf w) (at + 1) ws) (because 4 at)) (because (turned (kindOf w)) at) ≡ refused r
@@ -56,28 +81,28 @@ word-bounded turned n t at (w ∷ ws) r e = kind (eqb (turned (kindOf w)) 0) ref
     kind true h e = value (allowedHere n (kindOf w) (valueOf w)) e
     kind false h e =
         let z = eqb-false (turned (kindOf w)) 0 h in
-        let lo : 1 ≤ turned (kindOf w) = omega arith in
-        plain (turned (kindOf w)) at _ r lo (omega (arith, t (kindOf w))) (omega arith) e
+        let u = t (kindOf w) in
+        plain (turned (kindOf w)) at _ r (omega (arith, u .1), omega (arith, u .0), u .2) (omega arith) e
 
 only-turns : (kinds : List ℕ) → Turns (only kinds)
 only-turns kinds k = go (among k kinds)
   where
-    go : (b : Bool) → pick b 0 2 ≤ 5
-    go true = omega arith
-    go false = omega arith
+    go : (b : Bool) → Turned (pick b 0 2)
+    go true = turned-0
+    go false = turned-2
 
 heads-turns : (sort left : ℕ) → Turns (heads sort left)
 unfolding heads
 heads-turns sort zero k = go (eqb (entryOf k .sort) sort)
   where
-    go : (b : Bool) → pick b 5 2 ≤ 5
-    go true = omega arith
-    go false = omega arith
+    go : (b : Bool) → Turned (pick b 5 2)
+    go true = turned-5
+    go false = turned-2
 heads-turns sort (suc d) k = go (eqb (entryOf k .sort) sort)
   where
-    go : (b : Bool) → pick b 0 2 ≤ 5
-    go true = omega arith
-    go false = omega arith
+    go : (b : Bool) → Turned (pick b 0 2)
+    go true = turned-0
+    go false = turned-2
 
 map-bounded : {A B : Type 0} (f : A → B) (m : Read A) (r : Refusal) → mapRead f m ≡ refused r → m ≡ refused r
 map-bounded f (got a at ws) r e = absurd (no-got e)
@@ -153,16 +178,16 @@ more-fit n kind most rule F G h g =
     (λ v. bind-bounded F _ h (λ a. after-map (λ l. (a, l)) (readAll {S = Unit {0}} (λ u b. u) (λ u b vs. readBy G b vs) (v - 1) tt) (all-bounded {S = Unit {0}} (λ u b. u) (λ u. G) (λ u. g) (v - 1) tt)))
 
 -- a word with a later test, by 6 or 7, at its place and with its value as the name or with none
-guarded-fit : (n kind : ℕ) (test : ℕ → Bool) (why : ℕ → ℕ → Refusal) → ((at end v : ℕ) → at ≤ end → v < 16777216 → Within end (why at v)) → Fit (guarded (field n kind) test why)
-unfolding readBy Fine
+guarded-fit : (n kind : ℕ) (test : ℕ → Bool) (why : ℕ → ℕ → Refusal) → ((at end v : ℕ) → at < end → v < 16777216 → Within end (why at v)) → Fit (guarded (field n kind) test why)
+unfolding readBy wordsBy Fine
 guarded-fit n kind test why h at ws r e = go (readField n kind at ws) refl e
   where
-    tested : (v at′ : ℕ) (rest : List ℕ) → v < 16777216 → (b : Bool) → pick b (got v at′ rest) (refused (why at v)) ≡ refused r → Within (at + length ws) r
-    tested v at′ rest l true e = absurd (no-got e)
-    tested v at′ rest l false e = rw (← same-refusal e) (h at (at + length ws) v (omega arith) l)
+    tested : (v at′ : ℕ) (rest : List ℕ) → at < at + length ws → v < 16777216 → (b : Bool) → pick b (got v at′ rest) (refused (why at v)) ≡ refused r → Within (at + length ws) r
+    tested v at′ rest k l true e = absurd (no-got e)
+    tested v at′ rest k l false e = rw (← same-refusal e) (h at (at + length ws) v k l)
 
     go : (m : Read ℕ) → readField n kind at ws ≡ m → bind m (λ a at′ ws′. pick (test a) (got a at′ ws′) (refused (why at a))) ≡ refused r → Within (at + length ws) r
-    go (got v at′ rest) q e = tested v at′ rest (lawful (field n kind) .back at ws v at′ rest q .fine .0) (test v) e
+    go (got v at′ rest) q e = let t = lawful (field n kind) .back at ws v at′ rest q in tested v at′ rest (rw (t .same) (omega arith)) (t .fine .0) (test v) e
     go (refused s) q e = field-bounded n kind at ws r (q ∙ ap refused (same-refusal e))
 
 -- the forms of a pack
@@ -195,7 +220,7 @@ module _ (n : ℕ) where
   relation-fit used =
       via-fit _ _ _ _ _
       (then-fit _ _
-      (guarded-fit n 6 _ _ (λ at end v p l. record { least = omega arith; most = omega arith; place = p; name = l; other = refl }))
+      (guarded-fit n 6 _ _ (λ at end v p l. at-word 7 at v end (omega arith, omega arith, λ e. omega arith) p l))
       (λ _. fields-fit n 7 _ (fields-fit n 8 _ (then-fit _ _ (names-fit 9) (λ _. counted-fit _ n 11 _ _ _ _ (λ u. derivation-fit))))))
 
   body-fit : Fit (body n)
@@ -205,7 +230,7 @@ module _ (n : ℕ) where
   records-fit : (e : Edition) → Fit (records e n)
   unfolding records defaulted defaultedName relations rules rule bodies blocks block blockItems item
   records-fit e =
-      then-fit _ _ (counted-fit _ n 3 _ _ _ _ (λ low. guarded-fit n 4 _ _ (λ at end v p l. record { least = omega arith; most = omega arith; place = p; name = omega arith; other = refl })))
+      then-fit _ _ (counted-fit _ n 3 _ _ _ _ (λ low. guarded-fit n 4 _ _ (λ at end v p l. at-word 6 at 0 end (omega arith, omega arith, λ e. omega arith) p (omega arith))))
       (λ _. then-fit _ _ (counted-fit _ n 5 _ _ _ _ (λ used. relation-fit _))
       (λ _. then-fit _ _ (counted-fit _ n 22 _ _ _ _ (λ u. via-fit _ _ _ _ _ (fields-fit n 23 _ (fields-fit n 24 _ (fields-fit n 25 _ (more-fit n 26 64 _ _ _ body-fit body-fit))))))
       (λ _. counted-fit _ n 28 _ _ _ _ (λ u. via-fit _ _ _ _ _ (fields-fit n 29 _ (counted-fit _ n 30 _ _ _ _ (λ u. via-fit _ _ _ _ _ (fields-fit n 31 _ (fields-fit n 32 _ (field-fit n 33))))))))))
@@ -219,44 +244,54 @@ both : (a b : Bool) → (a && b) ≡ true → b ≡ true
 both true b e = e
 both false b e = let z : _≡_ {A = ℕ} 0 1 = cc in absurd (omega arith)
 
-pub read-numbers : (ws : List ℕ) (r : Refusal) → read ws ≡ refuse r → Within 8192 r
+-- One of Check's refusals of a slice: its place is within the slice, or the slice's length for 3. A slice of over 8,192 words is refused at 0.
+pub record CheckRefuses (ws : List ℕ) (r : Refusal) : Type 0 where
+  pub within : Within (length ws) r
+  pub few : r .place ≤ 8192
+
+pub read-numbers : (ws : List ℕ) (r : Refusal) → read ws ≡ refuse r → CheckRefuses ws r
 unfolding read
 read-numbers ws r e = size (leb 6 (length ws) && leb (length ws) 8192) refl e
   where
-    found : (m : Read _) → readBy (layout (editionOf ws) (length ws)) 0 ws ≡ m → length ws ≤ 8192 → complete (editionOf ws) m ≡ refuse r → Within 8192 r
-    found (got t at []) q l e = let z : _≡_ {A = ℕ} 0 1 = cc in absurd (omega arith)
-    found (got t at (w ∷ rest)) q l e =
+    placed : length ws ≤ 8192 → Within (length ws) r → CheckRefuses ws r
+    placed l b = record { within = b; few = omega (arith, b .place) }
+
+    found : (m : Read _) → readBy (layout (editionOf ws) (length ws)) 0 ws ≡ m → complete (editionOf ws) m ≡ refuse r → Within (length ws) r
+    found (got t at []) q e = let z : _≡_ {A = ℕ} 0 1 = cc in absurd (omega arith)
+    found (got t at (w ∷ rest)) q e =
         let s : record { number = 8; place = at; name = 0; other = 0 } ≡ r = cc in
-        rw (← s) (record { least = omega arith; most = omega arith; place = omega (arith, ends (layout (editionOf ws) (length ws)) 0 ws t at (w ∷ rest) q); name = omega arith; other = refl })
-    found (refused s) q l e =
+        rw (← s) (at-word 8 at 0 (length ws) (omega arith, omega arith, λ e. omega arith) (omega (arith, ends (layout (editionOf ws) (length ws)) 0 ws t at (w ∷ rest) q)) (omega arith))
+    found (refused s) q e =
         let u : s ≡ r = cc in
-        let b = layout-fit (editionOf ws) (length ws) 0 ws s q in
-        rw (← u) (record { least = b .least; most = b .most; place = omega (arith, b .place); name = b .name; other = b .other })
+        let z : 0 + length ws ≡ length ws = omega arith in
+        rw (← u, ← z) (layout-fit (editionOf ws) (length ws) 0 ws s q)
 
     size : (b : Bool) → (leb 6 (length ws) && leb (length ws) 8192) ≡ b
-        → pick b (complete (editionOf ws) (readBy (layout (editionOf ws) (length ws)) 0 ws)) (refuse (record { number = 1; place = 0; name = 0; other = 0 })) ≡ refuse r → Within 8192 r
-    size true h e = found (readBy (layout (editionOf ws) (length ws)) 0 ws) refl (leb-true _ _ (both (leb 6 (length ws)) _ h)) e
+        → pick b (complete (editionOf ws) (readBy (layout (editionOf ws) (length ws)) 0 ws)) (refuse (record { number = 1; place = 0; name = 0; other = 0 })) ≡ refuse r → CheckRefuses ws r
+    size true h e = placed (leb-true _ _ (both (leb 6 (length ws)) _ h)) (found (readBy (layout (editionOf ws) (length ws)) 0 ws) refl e)
     size false h e =
         let s : record { number = 1; place = 0; name = 0; other = 0 } ≡ r = cc in
-        rw (← s) (record { least = omega arith; most = omega arith; place = omega arith; name = omega arith; other = refl })
+        let one : Within (length ws) (record { number = 1; place = 0; name = 0; other = 0 }) =
+        record { least = omega arith; most = omega arith; place = omega arith; ended = λ e. absurd (omega arith); word = λ lo n. absurd (omega arith); name = omega arith; other = refl } in
+        rw (← s) (record { within = one; few = omega arith })
 
-pub check-numbers : (ws : List ℕ) (r : Refusal) → checkAnswer ws ≡ Refused r → Within 8192 r
+pub check-numbers : (ws : List ℕ) (r : Refusal) → checkAnswer ws ≡ Refused r → CheckRefuses ws r
 unfolding checkAnswer
 check-numbers ws r e = go (read ws) refl e
   where
-    go : (m : Reading) → read ws ≡ m → answer m (λ p. Given 1 0) ≡ Refused r → Within 8192 r
+    go : (m : Reading) → read ws ≡ m → answer m (λ p. Given 1 0) ≡ Refused r → CheckRefuses ws r
     go (yes p) h q = let z : _≡_ {A = ℕ} 0 1 = cc in absurd (omega arith)
     go (refuse s) h q = let u : s ≡ r = cc in read-numbers ws r (h ∙ ap refuse u)
 
 -- one of Check's refusals, or 16 with nothing else
-pub rewrite-numbers : (ws : List ℕ) (room : ℕ) (r : Refusal) → rewriteAnswer ws room ≡ Refused r → Within 8192 r ⊎ (Refused r ≡ noRoom)
+pub rewrite-numbers : (ws : List ℕ) (room : ℕ) (r : Refusal) → rewriteAnswer ws room ≡ Refused r → CheckRefuses ws r ⊎ (Refused r ≡ noRoom)
 unfolding rewriteAnswer
 rewrite-numbers ws room r e = go (read ws) refl e
   where
-    fits : (b : Bool) (n : ℕ) → pick b (Given n 0) noRoom ≡ Refused r → Within 8192 r ⊎ (Refused r ≡ noRoom)
+    fits : (b : Bool) (n : ℕ) → pick b (Given n 0) noRoom ≡ Refused r → CheckRefuses ws r ⊎ (Refused r ≡ noRoom)
     fits true n q = let z : _≡_ {A = ℕ} 0 1 = cc in absurd (omega arith)
     fits false n q = inr (sym q)
 
-    go : (m : Reading) → read ws ≡ m → answer m (λ p. pick (leb (length (words p)) room) (Given (length (words p)) 0) noRoom) ≡ Refused r → Within 8192 r ⊎ (Refused r ≡ noRoom)
+    go : (m : Reading) → read ws ≡ m → answer m (λ p. pick (leb (length (words p)) room) (Given (length (words p)) 0) noRoom) ≡ Refused r → CheckRefuses ws r ⊎ (Refused r ≡ noRoom)
     go (yes p) h q = fits (leb (length (words p)) room) (length (words p)) q
     go (refuse s) h q = let u : s ≡ r = cc in inl (read-numbers ws r (h ∙ ap refuse u))

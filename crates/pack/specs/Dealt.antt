@@ -3,13 +3,12 @@ use Prim.Native.Nat.{ℕ}
 use mathlib.Core.Path.{_≡_}
 use mathlib.Core.List.{List, [], _∷_}
 use mathlib.Core.Option.{Option, none, some}
-use Rattle.pack.specs.declared.answer.Answer.the-variants.{Given}
 use Rattle.pack.specs.Pack.{Item, Block, Pack}
-use Rattle.pack.specs.Operations.{checkAnswer}
+use Rattle.pack.specs.Operations.{saysYes, checkAnswer}
 
 -- "a pack is checked when Check answers yes."
 abbrev pub Checked : List ℕ → Type 0
-Checked ws = checkAnswer ws ≡ Given 1 0
+Checked ws = checkAnswer ws ≡ saysYes
 
 -- "each as often .., in any order": a list shuffled into another, where `Same` says what counts as the same.
 pub data Shuffled {A : Type 0} (Same : A → A → Type 0) : List A → List A → Type 0 where

@@ -25,15 +25,15 @@ use Rattle.resolve.proofs.PlaceFree.{rules-each, relations-each}
 use Rattle.nodes.proofs.Numbers.{Numbered, rules-numbered, relations-numbered}
 use Rattle.inputs.proofs.InputLaws.{input-dealt}
 
-tables-dealt : (n : ℕ) {rs rs′ : List Relation} → InAnyOrder rs rs′ → Distinct (declared rs) → tables n rs ≡ tables n rs′
+tables-dealt : {rs rs′ : List Relation} → InAnyOrder rs rs′ → Distinct (declared rs) → tables rs ≡ tables rs′
 unfolding tables
-tables-dealt n {rs} {rs′} p u =
+tables-dealt {rs} {rs′} p u =
     let k = kinds-dealt p u in
-    let T : Tables = tables n rs in
-    let U : Tables = tables n rs′ in
+    let T : Tables = tables rs in
+    let U : Tables = tables rs′ in
     let typed : T .typed ≡ U .typed = fun-ext (λ n. ap typedAt (k .finds n)) in
     let derived : T .derived ≡ U .derived = fun-ext (λ n. ap (λ o. derivedAt o (find n rs)) (k .kinds n) ∙ ap (derivedAt (kindsOf rs′ n)) (k .finds n)) in
-    let directs : T .direct ≡ U .direct = fun-ext (λ e. ap (λ o. pick (ltb e n) o none) (filtered-dealt p u .directs e)) in
+    let directs : T .direct ≡ U .direct = fun-ext (filtered-dealt p u .directs) in
     λ i. record { typed = typed i; derived = derived i; direct = directs i }
 
 -- what a pack and one dealt out of it resolve their trees by
@@ -41,8 +41,8 @@ module _ (p q : Pack) (w : WellFormed p) (d : Dealt p q) where
   distinct : Distinct (declared (p .relations))
   distinct = distinct-names p w
 
-  same-tables : tables (p .names) (p .relations) ≡ tables (q .names) (q .relations)
-  same-tables = tables-dealt (p .names) (d .relations) distinct ∙ ap (λ (n : ℕ). tables n (q .relations)) (d .names)
+  same-tables : tables (p .relations) ≡ tables (q .relations)
+  same-tables = tables-dealt (d .relations) distinct
 
   same-cites : (n o : ℕ) → cites p n o ≡ cites q n o
   same-cites n o = let inputs : cites p n o .input ≡ cites q n o .input = fun-ext (λ owner. fun-ext (λ v. input-dealt (d .blocks) o owner v)) in λ i. record { tables = same-tables i; name = n; input = inputs i }
@@ -135,10 +135,10 @@ module _ (p q : Pack) (w : WellFormed p) (d : Dealt p q) where
 
   pub resolve-dealt : ResolvedAlike (resolved p) (resolved q)
   unfolding resolved
-  resolve-dealt = go (defaultedEqual (tables (p .names) (p .relations)) (p .defaulted)) (defaultedEqual (tables (q .names) (q .relations)) (q .defaulted)) same
+  resolve-dealt = go (defaultedEqual (tables (p .relations)) (p .defaulted)) (defaultedEqual (tables (q .relations)) (q .defaulted)) same
     where
-      same : defaultedEqual (tables (p .names) (p .relations)) (p .defaulted) ≡ defaultedEqual (tables (q .names) (q .relations)) (q .defaulted)
-      same = ap (λ (T : Tables). defaultedEqual T (p .defaulted)) (same-tables p q w d) ∙ ap (defaultedEqual (tables (q .names) (q .relations))) (d .defaulted)
+      same : defaultedEqual (tables (p .relations)) (p .defaulted) ≡ defaultedEqual (tables (q .relations)) (q .defaulted)
+      same = ap (λ (T : Tables). defaultedEqual T (p .defaulted)) (same-tables p q w d) ∙ ap (defaultedEqual (tables (q .relations))) (d .defaulted)
 
       go : (x y : Option ℕ) → x ≡ y
           → ResolvedAlike (elim x [ some n ↦ refused (equalRefusal p n) | none ↦ resolveRecords p ]) (elim y [ some n ↦ refused (equalRefusal q n) | none ↦ resolveRecords q ])

@@ -59,7 +59,7 @@ records-are p = go (resolveRules p (firstRule p) (p .rules))
 
 resolved-is : (p : Pack) → resolved p ≡ mapDone (stampAll p) (unstamped p)
 unfolding resolved unstamped
-resolved-is p = go (defaultedEqual (tables (p .names) (p .relations)) (p .defaulted))
+resolved-is p = go (defaultedEqual (tables (p .relations)) (p .defaulted))
   where
     go : (o : Option ℕ) → elim o [ some n ↦ refused (equalRefusal p n) | none ↦ resolveRecords p ] ≡ mapDone (stampAll p) (elim o [ some n ↦ refused (equalRefusal p n) | none ↦ turned p ])
     go (some n) = refl
@@ -91,7 +91,7 @@ module _ {ws : List ℕ} {l : Layout} {starts marks taken work order : List ℕ}
   w = words-read ws p h .fine
 
   abbrev T : Tables
-  T = tables (p .names) (p .relations)
+  T = tables (p .relations)
 
   pub default-fit : DefaultedFit ws
   default-fit = defaulted-fit ws p h
@@ -188,7 +188,7 @@ module _ {ws : List ℕ} (c : IsPack ws) (lent : List ℕ) where
   -- done
   turned-done : (x : Pack) → unstamped q ≡ done x → turned q ≡ done x
   unfolding unstamped
-  turned-done x e = go (defaultedEqual (tables (q .names) (q .relations)) (q .defaulted)) e
+  turned-done x e = go (defaultedEqual (tables (q .relations)) (q .defaulted)) e
     where
       go : (o : Option ℕ) → elim o [ some n ↦ refused (equalRefusal q n) | none ↦ turned q ] ≡ done x → turned q ≡ done x
       go (some n) e = let z : _≡_ {A = ℕ} 0 1 = cc in absurd (omega arith)

@@ -1,52 +1,65 @@
--- Resolve refuses by 01's numbers for it alone.
-use Prim.Native.Nat.{ℕ}
+-- Resolve refuses by 01's numbers for it alone, at a word of the pack and by names of the pack.
+use Prim.Native.Nat.{ℕ, _<_, _≤_}
 use native.Mathlib.Omega.{arith}
 use mathlib.Core.Path.{_≡_, refl, ap, sym, _∙_}
 use mathlib.Core.List.{List}
 use mathlib.Core.Bool.{Bool, true, false, _&&_}
-use mathlib.Core.Option.{Option, none, some}
-use lib.Dec.{leb}
+use lib.ListN.{length}
+use lib.Dec.{eqb, leb}
+use borrow.Author.Tests.{eqb-true, eqb-false}
 use Rattle.pack.specs.declared.answer.Refusal.{Refusal}
 use Rattle.pack.specs.declared.answer.Answer.the-variants.{Given, Refused}
 use Rattle.pack.specs.Table.{pick}
-use Rattle.pack.specs.Pack.{Relation, Rule, Pack, Reading, yes, refuse, read, total}
+use Rattle.pack.specs.Pack.{Pack, Reading, yes, refuse, read, total}
 use Rattle.pack.specs.Operations.{answer, noRoom}
-use Rattle.pack.proofs.Refusals.{Within, read-numbers}
+use Rattle.pack.proofs.PackLaws.{words-length, words-read}
+use Rattle.pack.proofs.Refusals.{CheckRefuses, read-numbers}
 use Rattle.chains.specs.Kinds.{allKinds}
-use Rattle.chains.specs.Places.{firstRelation}
-use Rattle.directions.specs.Turning.{Outcome, done, refused, andThen, mapDone, InRange}
-use Rattle.directions.specs.Tables.{tables}
-use Rattle.directions.specs.Resolving.{resolveRules, resolveRelations, defaultedEqual, equalRefusal, firstRule, resolveRecords, resolved}
+use Rattle.directions.specs.Turning.{Outcome, done, refused, InRange}
+use Rattle.directions.specs.Resolving.{resolved}
 use Rattle.resolve.specs.Operations.{givenOut, resolveAnswer}
-use Rattle.nodes.proofs.Numbers.{Numbered, rules-numbered, relations-numbered}
+use Rattle.nodes.proofs.Numbers.{refused-number}
+use Rattle.resolve.proofs.RefusalNames.{Told, resolved-told}
+
+-- a refusal of a checked pack: its place is a word's, its name and other are names of the pack
+pub record OfPack (ws : List ℕ) (r : Refusal) : Type 0 where
+  pub pack : Pack
+  pub reads : read ws ≡ yes pack
+  pub place : r .place < length ws
+  pub name : r .name < pack .names
+  pub other : r .other < pack .names
 
 -- "Check's refusals, then 9 ..; 10 ..; 11 to 15. Then 16"
-pub data ResolveRefuses (r : Refusal) : Type 0 where
-  checks : Within 8192 r → ResolveRefuses r
-  equal-kinds : r .number ≡ 9 → ResolveRefuses r
-  open-direction : InRange (r .number) → ResolveRefuses r
-  no-room : Refused r ≡ noRoom → ResolveRefuses r
+pub data ResolveRefuses (ws : List ℕ) (r : Refusal) : Type 0 where
+  checks : CheckRefuses ws r → ResolveRefuses ws r
+  equal-kinds : r .number ≡ 9 → OfPack ws r → ResolveRefuses ws r
+  open-direction : InRange (r .number) → OfPack ws r → ResolveRefuses ws r
+  no-room : Refused r ≡ noRoom → ResolveRefuses ws r
 
-finish-refuses : (p : Pack) (o : Outcome (List Rule)) (e : Outcome (List Relation)) (f : List Rule → List Relation → Pack) (steps room : ℕ) (r : Refusal) → Numbered o → Numbered e
-    → givenOut steps room (andThen o (λ rl. mapDone (f rl) e)) ≡ Refused r → ResolveRefuses r
-finish-refuses p (refused s) e f steps room r h k q = let u : s ≡ r = cc in open-direction (rw (← u) h)
-finish-refuses p (done rl) (refused s) f steps room r h k q = let u : s ≡ r = cc in open-direction (rw (← u) k)
-finish-refuses p (done rl) (done rs) f steps room r h k q = go (leb (total (f rl rs)) 8192 && leb (total (f rl rs)) room) q
-  where
-    go : (b : Bool) → pick b (Given (total (f rl rs)) steps) noRoom ≡ Refused r → ResolveRefuses r
-    go true q = let z : _≡_ {A = ℕ} 0 1 = cc in absurd (omega arith)
-    go false q = no-room (sym q)
-
-pub resolve-numbers : (ws : List ℕ) (room : ℕ) (r : Refusal) → resolveAnswer ws room ≡ Refused r → ResolveRefuses r
-unfolding resolveAnswer resolved
+pub resolve-numbers : (ws : List ℕ) (room : ℕ) (r : Refusal) → resolveAnswer ws room ≡ Refused r → ResolveRefuses ws r
+unfolding resolveAnswer
 resolve-numbers ws room r e = go (read ws) refl e
   where
-    defaults : (p : Pack) (o : Option ℕ) → givenOut (allKinds (p .relations) .steps) room (elim o [ some n ↦ refused (equalRefusal p n) | none ↦ resolveRecords p ]) ≡ Refused r → ResolveRefuses r
-    defaults p (some n) q = let u : equalRefusal p n ≡ r = cc in equal-kinds (ap (λ (s : Refusal). s .number) (sym u))
-    defaults p none q =
-        finish-refuses p (resolveRules p (firstRule p) (p .rules)) (resolveRelations p (firstRelation p) (p .relations)) _ (allKinds (p .relations) .steps) room r
-        (rules-numbered p (firstRule p) (p .rules)) (relations-numbered p (firstRelation p) (p .relations)) q
+    long : (p : Pack) → read ws ≡ yes p → total p ≡ length ws
+    long p h = sym (words-length p) ∙ ap length (words-read ws p h .same)
 
-    go : (m : Reading) → read ws ≡ m → answer m (λ p. givenOut (allKinds (p .relations) .steps) room (resolved p)) ≡ Refused r → ResolveRefuses r
-    go (yes p) h q = defaults p (defaultedEqual (tables (p .names) (p .relations)) (p .defaulted)) q
+    told : (p : Pack) → read ws ≡ yes p → Told {A = Pack} (p .names) (total p) (refused r) → OfPack ws r
+    told p h t = record { pack = p; reads = h; place = rw (← long p h) (t .0 .place); name = t .1; other = t .0 .other }
+
+    numbered : (9 ≤ r .number) × (r .number ≤ 15) → OfPack ws r → (b : Bool) → eqb (r .number) 9 ≡ b → ResolveRefuses ws r
+    numbered n o true q = equal-kinds (eqb-true (r .number) 9 q) o
+    numbered n o false q = let z = eqb-false (r .number) 9 q in open-direction (omega (arith, n .0), n .1) o
+
+    fits : (b : Bool) (n steps : ℕ) → pick b (Given n steps) noRoom ≡ Refused r → ResolveRefuses ws r
+    fits true n steps q = let z : _≡_ {A = ℕ} 0 1 = cc in absurd (omega arith)
+    fits false n steps q = no-room (sym q)
+
+    outcome : (p : Pack) → read ws ≡ yes p → (o : Outcome Pack) → resolved p ≡ o → Told (p .names) (total p) o → givenOut (allKinds (p .relations) .steps) room o ≡ Refused r → ResolveRefuses ws r
+    outcome p h (refused s) k t q =
+        let u : s ≡ r = cc in
+        numbered (refused-number p r (k ∙ ap refused u)) (told p h (rw (← u) t)) (eqb (r .number) 9) refl
+    outcome p h (done x) k t q = fits (leb (total x) 8192 && leb (total x) room) (total x) (allKinds (p .relations) .steps) q
+
+    go : (m : Reading) → read ws ≡ m → answer m (λ p. givenOut (allKinds (p .relations) .steps) room (resolved p)) ≡ Refused r → ResolveRefuses ws r
+    go (yes p) h q = outcome p h (resolved p) refl (resolved-told p (words-read ws p h .fine)) q
     go (refuse s) h q = let u : s ≡ r = cc in checks (read-numbers ws r (h ∙ ap refuse u))

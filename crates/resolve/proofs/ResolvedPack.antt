@@ -52,7 +52,7 @@ module _ (p : Pack) (w : WellFormed p) where
   -- what comes out is well formed if it is not too long
   pub resolved-good : Good (λ q. total q ≤ 8192 → WellFormed q) (resolved p)
   unfolding resolved
-  resolved-good = go (defaultedEqual (tables (p .names) (p .relations)) (p .defaulted))
+  resolved-good = go (defaultedEqual (tables (p .relations)) (p .defaulted))
     where
       go : (o : Option ℕ) → Good (λ q. total q ≤ 8192 → WellFormed q) (elim o [ some n ↦ refused (equalRefusal p n) | none ↦ resolveRecords p ])
       go (some n) = tt

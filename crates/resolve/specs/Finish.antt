@@ -21,7 +21,7 @@ use Rattle.trees.specs.Passes.{turned, CameWhole, placesIn, Tabled}
 
 -- defaulted names, then the trees
 unfoldable pub unstamped : Pack → Outcome Pack
-unstamped p = elim (defaultedEqual (tables (p .names) (p .relations)) (p .defaulted)) [ some n ↦ refused (equalRefusal p n) | none ↦ turned p ]
+unstamped p = elim (defaultedEqual (tables (p .relations)) (p .defaulted)) [ some n ↦ refused (equalRefusal p n) | none ↦ turned p ]
 
 -- what comes of them in the words of the pack, and where its relations start
 pub record PackCame (ws : List ℕ) (answer : Answer) (left order : List ℕ) : Type 0 where

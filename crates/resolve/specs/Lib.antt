@@ -2,3 +2,4 @@ pub mod Operations
 pub mod Demand3
 pub mod Writing
 pub mod Finish
+pub mod Starred

@@ -26,7 +26,7 @@ pub fn check(words: &[u32]) -> Outcome<()> {
 }
 
 pub fn read_bytes(bytes: &[u8]) -> Outcome<Pack> {
-    if !bytes.len().is_multiple_of(4) {
+    if bytes.len() % 4 != 0 {
         return refuse(1, 0, 0);
     }
     read(&cogunwa::words_of(bytes))

@@ -3,7 +3,7 @@
 use crate::chance::Made;
 use crate::compare::{self, Counts};
 use crate::original::Refused;
-use crate::records::{Block, Derivation, Item, NONE, Pack, Relation, Rule, Tree};
+use crate::records::{Block, Derivation, Item, Pack, Relation, Rule, Tree, NONE};
 
 /// Plain texts for n names: no origins.
 pub fn plain_texts(n: u32) -> Vec<String> {
@@ -256,6 +256,72 @@ fn at_limits() -> Vec<(String, Pack, Wanted)> {
     all
 }
 
+/// Packs of nearly 8,192 words with as many nodes of one sort as fit: those that Resolve looks at, and those that keep a
+/// relation from being stamped.
+fn most_nodes() -> Vec<(String, Pack, Wanted)> {
+    const ROOM: usize = 8140;
+    let mut all = vec![];
+    let all_of = |tree: Tree, words: usize| {
+        let many = ROOM / words;
+        Tree::new(97, many as u32, &[], vec![tree; many])
+    };
+    let atom = |name: u32| Tree::new(102, name, &[(85, 3)], vec![]);
+    let relations = || vec![typed(5, &[1, 2]), derived(6, derivation(5))];
+    let mut atoms = all_of(atom(7), 2);
+    all.push((
+        "4,070 RelationAtoms of another name".into(),
+        small(relations(), vec![rule(8, 2, vec![atoms.clone()])]),
+        Wanted::Stamped(4),
+    ));
+    *atoms.children.last_mut().unwrap() = atom(6);
+    all.push((
+        "4,070 RelationAtoms, the last of the relation".into(),
+        small(relations(), vec![rule(8, 2, vec![atoms])]),
+        Wanted::Stamped(0),
+    ));
+    let predicate = |tree: Tree| {
+        vec![typed(5, &[2, 1]), derived(6, Derivation { kinds: vec![1, 2], predicate: tree, ..derivation(NONE) })]
+    };
+    all.push((
+        "2,713 RelationMembers in a predicate".into(),
+        small(predicate(all_of(member(5, (7, 9)), 3)), vec![]),
+        Wanted::Slots(1, 0),
+    ));
+    let mut same_entity =
+        vec![typed(5, &[1, 2]), derived(6, Derivation { predicate: all_of(Tree::leaf(104, 0), 1), ..derivation(5) })];
+    all.push(("8,140 SameEntity in a predicate".into(), small(same_entity.clone(), vec![]), Wanted::Stamped(0)));
+    same_entity[1].derived.as_mut().unwrap().predicate = all_of(Tree::leaf(106, 0), 1);
+    all.push(("8,140 RoleDerived in a predicate".into(), small(same_entity, vec![]), Wanted::Stamped(4)));
+    let sum_of = |tree: Tree, words: usize| {
+        let many = ROOM / words;
+        Tree::new(68, many as u32, &[], vec![tree; many])
+    };
+    let counts = sum_of(count(5, (7, 9), None), 5);
+    all.push((
+        "1,628 aggregates in a body".into(),
+        small(vec![typed(5, &[1, 2])], vec![rule(8, 2, vec![counts])]),
+        Wanted::Slots(1, 0),
+    ));
+    let nested = (0..14).fold(count(5, (7, 9), None), |tree, _| count(5, (7, 9), Some(same(tree, leaf()))));
+    let nests = sum_of(nested, 14 * 7 + 5);
+    all.push((
+        "79 nests of where trees, each 15 deep".into(),
+        small(vec![typed(5, &[1, 1])], vec![rule(8, 2, vec![nests])]),
+        Wanted::Resolved,
+    ));
+    let each =
+        |i: u32| derived(20 + i, Derivation { kinds: vec![1, 2], predicate: member(5, (7, 9)), ..derivation(NONE) });
+    let members = std::iter::once(typed(5, &[2, 1])).chain((0..449).map(each)).collect();
+    all.push((
+        "450 relations, each with a test in its predicate".into(),
+        Pack { n: 600, ..small(members, vec![]) },
+        Wanted::Slots(1, 0),
+    ));
+    let turned = (0..810).map(|i| rule(8, 1 + i % 2, vec![count(5, (7, 9), None)])).collect();
+    all.push(("810 rules, each with an aggregate".into(), small(vec![typed(5, &[1, 2])], turned), Wanted::Slots(1, 0)));
+    all
+}
+
 fn meets(pack: &Pack, told: &compare::Told, wanted: &Wanted) -> bool {
     let refused = |number, name, other| Err(Refused { number, name, other });
     let answer = told.answer(8192);
@@ -278,7 +344,7 @@ fn meets(pack: &Pack, told: &compare::Told, wanted: &Wanted) -> bool {
 /// Document 01's cases and packs at the limits, by name.
 pub fn run_named() -> Counts {
     let mut counts = Counts::default();
-    for (name, pack, wanted) in named().into_iter().chain(at_limits()) {
+    for (name, pack, wanted) in named().into_iter().chain(at_limits()).chain(most_nodes()) {
         let made = plain(pack);
         let (alike, told) = compare::pack(&made, 8192, &mut counts);
         let right = meets(&made.pack, &told, &wanted);

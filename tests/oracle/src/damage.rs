@@ -42,7 +42,9 @@ fn damage(r: &mut Chance, words: &[u32], at: usize, way: u32) -> Vec<u32> {
         // One level more of the tree, or names more of the defaulted ones.
         13 if kind == 3 => {
             out[at] = words[at] + 2;
-            out.splice(at + 1..at + 1, [word(4, r.below(n)), word(4, r.below(n))]);
+            // N may be damaged too, and be 0.
+            let names = n.max(1);
+            out.splice(at + 1..at + 1, [word(4, r.below(names)), word(4, r.below(names))]);
         }
         13 if (64..=78).contains(&kind) => out.insert(at, word(66, 0)),
         13 if (96..=106).contains(&kind) => out.insert(at, word(100, 0)),

@@ -1,0 +1,97 @@
+-- What demand 3 says is left in the buffer is what resolving gives and nothing else. Three wrong Resolves that are blind to order, each refuted on a small pack:
+-- the input copied; lists stamped, but slots left as they stood; blocks dropped.
+use Prim.Native.Nat.{ℕ}
+use native.Mathlib.Omega.{arith}
+use mathlib.Core.Path.{_≡_, refl, ap, sym, _∙_, subst}
+use mathlib.Core.List.{List, [], _∷_, _++_}
+use mathlib.Core.Option.{none, some}
+use lib.ListN.{drop, getD}
+use Rattle.pack.specs.declared.answer.Answer.{Answer}
+use Rattle.pack.specs.declared.answer.Answer.the-variants.{Given}
+use Rattle.pack.specs.Table.{wordOf, entryOf, table, fieldsOf, childrenOf}
+use Rattle.pack.specs.Table as tables256
+use Rattle.pack.specs.Form.{wordsBy, count, items}
+use Rattle.pack.specs.Tree.{tree, root, follow, fields, heads}
+use Rattle.pack.specs.Pack.{Relation, Rule, Block, Pack, words, total, layout, inner, records, defaulted, defaultedName, relations, relation, newName, relationTail, nameList, optionalDerivation, derivation, chain, path, hop, member, rules, rule, bodies, body, blocks, block, blockItems, item}
+use Rattle.pack.specs.Operations.{wordsAndSteps}
+use Rattle.chains.specs.Chain.{walk, own}
+use Rattle.chains.specs.Kinds.{find, kindStep, kindsOf}
+use Rattle.chains.specs.Places.{startOf}
+use Rattle.filtered.specs.Filtered.{taken, direct}
+use Rattle.directions.specs.Tables.{tables}
+use Rattle.directions.specs.Direction.{turn}
+use Rattle.directions.specs.Direction as direction
+use Rattle.inputs.specs.Inputs.{input}
+use Rattle.directions.specs.Turning.{done, stepBy, size, resolveTree}
+use Rattle.directions.specs.Resolving.{defaultedEqual, resolveBodies, ruleBy, resolveRules, predicateBy, resolveRelation, resolveRelations, holds, atomNames, stamp, resolved}
+use Rattle.resolve.specs.Demand3.{Left, ResolveAlike, bothResolve, bothEqual, bothRoom, bothOpen}
+use Rattle.resolve.specs.Starred.{withoutDerivation, saysNothing, counting, withDerivation, ruled, packed}
+use Rattle.resolve.proofs.ComingOut.{comes-out, comes-one}
+
+-- ---- nothing else is left
+
+left-where-given : {p q : Pack} {lent lent′ after after′ : List ℕ} {a b : Answer} → ResolveAlike p q lent lent′ a after b after′ → {len steps : ℕ} → a ≡ Given len steps → Left p lent len after
+left-where-given {p} {lent = lent} {after = after} (bothResolve {len = n} one other same) {len} e = let s : n ≡ len = cc in subst (λ (t : ℕ). Left p lent t after) s one
+left-where-given (bothEqual a b n) e = let z : _≡_ {A = ℕ} 0 1 = cc in absurd (omega arith)
+left-where-given (bothRoom a b) e = let z : _≡_ {A = ℕ} 0 1 = cc in absurd (omega arith)
+left-where-given (bothOpen a b) e = let z : _≡_ {A = ℕ} 0 1 = cc in absurd (omega arith)
+
+pub left-is : (p r : Pack) → resolved p ≡ done r → {lent after : List ℕ} {len : ℕ} → Left p lent len after → after ≡ words r ++ drop (total r) lent
+left-is p r h {lent} l =
+    l .holds
+    ∙ ap (λ (t : ℕ). words (l .out) ++ drop t lent) (l .long)
+    ∙ ap (λ (x : Pack). words x ++ drop (total x) lent) (comes-one p (l .out) r (l .comes) (comes-out p r h))
+
+-- a Resolve that leaves the words of another pack, with another word at some place, does not meet what demand 3 says of it
+module _ (p right wrong : Pack) (h : resolved p ≡ done right) (at is should : ℕ) where
+  refuted : ((lent : List ℕ) → getD (words wrong ++ drop (total wrong) lent) at 0 ≡ is) → ((lent : List ℕ) → getD (words right ++ drop (total right) lent) at 0 ≡ should) → (is ≡ should → ⊥)
+      → {q : Pack} {lent lent′ after′ : List ℕ} {b : Answer} {steps : ℕ} → ResolveAlike p q lent lent′ (wordsAndSteps (total wrong) steps) (words wrong ++ drop (total wrong) lent) b after′ → ⊥
+  refuted w r differs {lent = lent} alike = differs (sym (w lent) ∙ ap (λ (l : List ℕ). getD l at 0) (left-is p right h (left-where-given alike refl)) ∙ r lent)
+
+-- ---- the three
+
+-- A1, and with a derived relation that is stamped, and with a block
+abbrev membership : Relation
+membership = withoutDerivation 5 (1 ∷ 2 ∷ [])
+
+abbrev turnedRule : ℕ → ℕ → List Rule
+turnedRule c r = ruled 2 (counting c r)
+
+abbrev withBlocks : Pack → List Block → Pack
+withBlocks p bs = record { edition = p .edition; names = p .names; defaulted = p .defaulted; relations = p .relations; rules = p .rules; blocks = bs }
+
+abbrev Refuted : Pack → Pack → Type 0
+Refuted p wrong = (q : Pack) (lent lent′ after′ : List ℕ) (b : Answer) (steps : ℕ) → ResolveAlike p q lent lent′ (wordsAndSteps (total wrong) steps) (words wrong ++ drop (total wrong) lent) b after′ → ⊥
+
+-- the input copied
+abbrev copied : Pack
+copied = packed [] (membership ∷ []) (turnedRule 7 9)
+
+-- lists stamped, slots left
+abbrev unstamped : Pack
+unstamped = packed [] (membership ∷ withDerivation 6 (1 ∷ 2 ∷ []) [] 0 5 3 saysNothing ∷ []) (turnedRule 7 9)
+
+abbrev onlyStamped : Pack
+onlyStamped = packed [] (membership ∷ withDerivation 6 (1 ∷ 2 ∷ []) (1 ∷ 2 ∷ []) 0 5 3 saysNothing ∷ []) (turnedRule 7 9)
+
+-- blocks dropped
+abbrev blocked : Pack
+blocked = withBlocks copied (record { origin = tables256.none; items = some [] } ∷ [])
+
+abbrev dropped : Pack
+dropped = packed [] (membership ∷ []) (turnedRule 1 0)
+
+pub record WrongOnes : Type 0 where
+  pub input-copied : Refuted copied copied
+  pub slots-left : Refuted unstamped onlyStamped
+  pub blocks-dropped : Refuted blocked dropped
+
+pub wrong-ones : WrongOnes
+unfolding entryOf table fieldsOf childrenOf heads wordsBy count items tree root follow fields words total layout inner records defaulted defaultedName relations relation newName relationTail nameList optionalDerivation derivation chain path hop member rules rule bodies body blocks block blockItems item walk own find kindStep kindsOf taken direct startOf tables turn direction.member input stepBy size resolveTree defaultedEqual resolveBodies ruleBy resolveRules predicateBy resolveRelation resolveRelations holds atomNames stamp resolved
+wrong-ones =
+    record {
+      input-copied = λ q lent lent′ after′ b steps a. refuted copied (packed [] (membership ∷ []) (turnedRule 1 0)) copied refl 18 (wordOf 80 7) (wordOf 80 1) (λ lent. refl) (λ lent. refl) (λ e. omega arith) a;
+      slots-left = λ q lent lent′ after′ b steps a.
+          refuted unstamped (packed [] (membership ∷ withDerivation 6 (1 ∷ 2 ∷ []) (1 ∷ 2 ∷ []) 0 5 3 saysNothing ∷ []) (turnedRule 1 0)) onlyStamped refl 35 (wordOf 80 7) (wordOf 80 1) (λ lent. refl) (λ lent. refl) (λ e. omega arith) a;
+      blocks-dropped = λ q lent lent′ after′ b steps a. refuted blocked (withBlocks dropped (record { origin = tables256.none; items = some [] } ∷ [])) dropped refl 0 (wordOf 1 23) (wordOf 1 25) (λ lent. refl) (λ lent. refl) (λ e. omega arith) a;
+    }
