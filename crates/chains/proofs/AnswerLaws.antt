@@ -14,7 +14,7 @@ use Rattle.pack.specs.Pack.{Pack, read}
 use Rattle.pack.specs.Operations.{answer, buffer, noRoom, checkAnswer}
 use Rattle.checking.proofs.OperationLaws.{accepted, turned-away}
 use Rattle.chains.specs.Answers.{writeAnswer, writeBuffer, Answered}
-use Rattle.chains.specs.AllKinds.{IsPack, Counted, KindsAsked}
+use Rattle.chains.specs.AllKinds.{IsPack}
 
 -- an answer of Check's
 pub checked : (ws : List ℕ) {a : Answer} {v s : ℕ} → a ≡ checkAnswer ws → a ≡ Given v s → IsPack ws
@@ -47,8 +47,3 @@ module _ (make : Pack → List ℕ) (steps : Pack → ℕ) where
 -- a slice of so many words at the front of the lent one
 pub front-length : (lent : List ℕ) (count : ℕ) → count ≤ length lent → length (midOf 0 (count - 0) lent) ≡ count
 front-length lent count h = let whole : count - 0 ≡ count = omega arith in rw whole (length-take-le count lent h)
-
--- which holds the kinds
-module _ (ws lent : List ℕ) (c : IsPack ws) {count : ℕ} (k : Counted ws count) where
-  pub kinds-asked : count ≤ length lent → KindsAsked ws (midOf 0 (count - 0) lent)
-  kinds-asked h = record { checked = c; fits = rw (front-length lent count h) k }

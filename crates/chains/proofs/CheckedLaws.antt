@@ -6,28 +6,28 @@ use native.Mathlib.Numerals.{add-one}
 use mathlib.Core.Path.{_≡_, refl, ap, sym, _∙_, subst}
 use mathlib.Core.List.{List, [], _∷_, _++_}
 use mathlib.Core.Bool.{true}
-use lib.ListN.{length, getD, length-append, length-map, length-replicate}
+use lib.ListN.{length, getD, take, length-append, length-map, length-replicate}
 use lib.Seq.{getD-at}
 use lib.Dec.{eqb}
-use borrow.Author.Tests.{eq-eqb}
+use borrow.Author.Tests.{eq-eqb, le-leb}
 use Rattle.pack.specs.Table.{wordOf}
 use Rattle.pack.specs.Form.{among}
 use Rattle.pack.specs.Pack.{Relation, Pack, WellFormed, yes, read, words}
 use Rattle.pack.proofs.PackLaws.{words-read, words-length}
 use Rattle.chains.specs.Kinds.{declared, allKinds, ownAnswer}
 use Rattle.chains.specs.Places.{placeOf}
-use Rattle.chains.specs.Record.{Recorded}
-use Rattle.chains.specs.Declaration.{declarations}
+use Rattle.chains.specs.Entry.{declarationsIn, namesIn}
 use Rattle.chains.specs.Settle.{Leading, Marked, OnPath, Settleable, SettledAll, Placeable}
-use Rattle.chains.specs.AllKinds.{IsPack, Counted, Named, Noted, KindsMarked}
+use Rattle.records.specs.declared.directory.Layout.{Layout}
+use Rattle.checking.specs.Checked.{namesSaid}
+use Rattle.chains.specs.AllKinds.{IsPack, Counted, Named, IsDirectory, KindsMarked}
 use Rattle.chains.proofs.RelationScan.{RelationsFine, kept}
 use Rattle.chains.proofs.PackIndex.{zeros, zero-at, parts, split, opening, opening-length, relationsPart}
 use Rattle.chains.proofs.Names.{or-left, or-right}
-use Rattle.chains.proofs.DeclarationLaws.{recorded, declares-each}
 use Rattle.chains.proofs.PlaceBounds.{Indexes, indexes}
 use Rattle.chains.proofs.AllKindsLaws.{KindsFound, kinds-found}
 
--- ---- the number of relations
+-- ---- the number of names
 
 module _ (ws : List ℕ) (p : Pack) (h : read ws ≡ yes p) where
   abbrev tail : List ℕ
@@ -36,43 +36,15 @@ module _ (ws : List ℕ) (p : Pack) (h : read ws ≡ yes p) where
   opened : ws ≡ opening p ++ (wordOf 5 (length (p .relations)) ∷ tail)
   opened = sym (words-read ws p h .same) ∙ split p .same
 
-  defaulted-word : getD ws 2 0 % 16777216 ≡ length (p .defaulted)
-  defaulted-word = ap (λ (l : List ℕ). getD l 2 0 % 16777216) opened ∙ omega (arith, parts p (words-read ws p h .fine) .defaulted-count)
-
   names-word : getD ws 1 0 % 16777216 ≡ p .names
   names-word = ap (λ (l : List ℕ). getD l 1 0 % 16777216) opened ∙ omega (arith, parts p (words-read ws p h .fine) .names)
 
-  count-word : getD ws (length (p .defaulted) + 3) 0 % 16777216 ≡ length (p .relations)
-  count-word =
-      ap (λ (l : List ℕ). getD l (length (p .defaulted) + 3) 0 % 16777216) opened
-      ∙ ap (λ (w : ℕ). w % 16777216) (getD-at (opening p) (wordOf 5 (length (p .relations))) tail 0 (length (p .defaulted) + 3) (omega (arith, opening-length p)))
-      ∙ omega (arith, parts p (words-read ws p h .fine) .relation-count)
-
-  long-enough : length (p .defaulted) + 3 < length ws
-  long-enough = let l = ap length opened ∙ length-append (opening p) (wordOf 5 (length (p .relations)) ∷ tail) in omega (arith, l, opening-length p)
-
-pub record CountWord (ws : List ℕ) : Type 0 where
-  pub first : 2 < length ws
-  pub second : getD ws 2 0 % 16777216 + 3 < length ws
-  pub counted : Counted ws (getD ws (getD ws 2 0 % 16777216 + 3) 0 % 16777216)
-
-pub count-word-of : (ws : List ℕ) → IsPack ws → CountWord ws
-count-word-of ws c =
-    let l = long-enough ws (c .pack) (c .reads) in
-    record {
-      first = omega arith;
-      second = omega (arith, defaulted-word ws (c .pack) (c .reads));
-      counted = record { relations = λ p h. ap (λ (d : ℕ). getD ws (d + 3) 0 % 16777216) (defaulted-word ws p h) ∙ count-word ws p h };
-    }
-
--- ---- the number of names
-
-pub record NamesWord (ws : List ℕ) : Type 0 where
-  pub first : 1 < length ws
-  pub named : Named ws (getD ws 1 0 % 16777216)
-
-pub names-word-of : (ws : List ℕ) → IsPack ws → NamesWord ws
-names-word-of ws c = record { first = omega (arith, long-enough ws (c .pack) (c .reads)); named = record { names = names-word ws } }
+-- N as word 1 says it
+pub said-names : (ws : List ℕ) (c : IsPack ws) → namesSaid ws ≡ c .pack .names
+unfolding namesSaid
+said-names ws c =
+    let n = names-word ws (c .pack) (c .reads) in
+    rw (n, le-leb (c .pack .names) 4096 (parts (c .pack) (words-read ws (c .pack) (c .reads) .fine) .most)) refl
 
 -- ---- the pack of the words
 
@@ -123,44 +95,45 @@ settleable-pack p w table says =
 pub same-pack : (ws : List ℕ) {p q : Pack} → read ws ≡ yes p → read ws ≡ yes q → p ≡ q
 same-pack ws e f = cc
 
--- the declarations of a checked pack, whose records start where a table says
-module _ {ws names starts : List ℕ} (c : IsPack ws) (noted : Noted ws names starts) where
+-- the declarations that the directory of a checked pack has
+module _ {ws : List ℕ} {l : Layout} {dir : List ℕ} (d : IsDirectory ws l dir) where
   abbrev p : Pack
-  p = c .pack
+  p = d .checked .pack
 
   abbrev rs : List Relation
   rs = p .relations
 
-  fine : WellFormed p
-  fine = is-fine c
-
   abbrev table : List ℕ
-  table = declarations ws starts
+  table = declarationsIn dir
 
-  pub its-recorded : Recorded starts
-  its-recorded = recorded p fine starts (noted .placed p (c .reads))
+  abbrev names : List ℕ
+  names = namesIn dir (l .relations)
+
+  fine : WellFormed p
+  fine = is-fine (d .checked)
 
   pub its-index : Indexes p table
-  its-index =
-      subst (λ (v : List ℕ). Indexes p (declarations v starts)) (its-words c)
-      (indexes p fine (declarations (words p) starts) (declares-each p fine starts (noted .placed p (c .reads))))
+  its-index = indexes p fine table (d .says p (d .checked .reads))
 
-  pub its-names : names ≡ declared rs
-  its-names = noted .named p (c .reads)
+  its-names : names ≡ declared rs
+  its-names = d .noted .named p (d .checked .reads)
 
-  pub its-fuel : length names + 1 ≡ suc (length (declared rs))
-  its-fuel = add-one (length names) ∙ ap suc (ap length its-names)
+  its-count : l .relations ≡ length rs
+  its-count = d .counted .relations p (d .checked .reads)
 
-  pub few-names : length names ≤ 512
-  few-names = let l : length (declared rs) ≡ length rs = length-map rs (λ (r : Relation). r .name) in omega (arith, ap length its-names, parts p fine .few-relations)
+  pub its-fuel : l .relations + 1 ≡ suc (length (declared rs))
+  its-fuel = add-one (l .relations) ∙ ap suc (its-count ∙ sym (length-map rs (λ (r : Relation). r .name)))
 
-  pub settleable : Settleable table zeros names 0 (length names + 1)
+  pub few-relations : l .relations ≤ 512
+  few-relations = omega (arith, its-count, parts p fine .few-relations)
+
+  pub settleable : Settleable table zeros names 0 (l .relations + 1)
   settleable = rw (its-fuel, its-names) (settleable-pack p fine table its-index)
 
-  pub kinds-marked : {marks : List ℕ} {steps : ℕ} → SettledAll table zeros names 0 (length names + 1) marks steps → KindsMarked ws steps names marks
+  pub kinds-marked : {marks : List ℕ} {steps : ℕ} → SettledAll table zeros names 0 (l .relations + 1) marks steps → KindsMarked ws steps names marks
   kinds-marked {marks} {steps} s =
-      let found : KindsFound p marks steps = kinds-found p table its-index marks steps (rw (← its-fuel, ← its-names) s) in
-      let it : (q : Pack) → read ws ≡ yes q → p ≡ q = λ q h. same-pack ws (c .reads) h in
+      let found : KindsFound p marks steps = kinds-found p table its-index marks steps (rw (its-fuel, its-names) at s) in
+      let it : (q : Pack) → read ws ≡ yes q → p ≡ q = λ q h. same-pack ws (d .checked .reads) h in
       record {
         counts = λ q h. found .counts ∙ ap (λ (p : Pack). allKinds (p .relations) .steps) (it q h);
         named = λ q h. its-names ∙ ap (λ (p : Pack). declared (p .relations)) (it q h);
@@ -184,8 +157,3 @@ module _ {ws names marks : List ℕ} {steps : ℕ} (c : IsPack ws) (m : KindsMar
         names-below = names-below (p .names) (parts p (is-fine c) .most) [] (p .relations) (parts p (is-fine c) .relations-fine);
         settled = λ j h. (let e = m .marked p (c .reads) (getD (declared (p .relations)) j 0) (among-at (declared (p .relations)) j h) in omega arith);
       })
-
--- ---- a checked pack has few relations
-
-pub few-counted : (ws : List ℕ) → IsPack ws → {count : ℕ} → Counted ws count → count ≤ 512
-few-counted ws c k = omega (arith, k .relations (c .pack) (c .reads), parts (c .pack) (words-read ws (c .pack) (c .reads) .fine) .few-relations)

@@ -14,7 +14,7 @@ pub mod CheckedLaws
 pub mod ListAt
 pub mod RecordLaws
 pub mod DeclarationLaws
-pub mod RecordsLaws
+pub mod EntryLaws
 pub mod FillLaws
 pub mod AnswerLaws
 pub mod RefusalNumbers

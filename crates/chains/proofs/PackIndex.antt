@@ -16,7 +16,7 @@ use Rattle.chains.specs.Chain.{Step, end, next, mapped}
 use Rattle.chains.specs.Kinds.{Which, list9, list21, Answer, from, inherits, derived, declares, find}
 use Rattle.chains.specs.Places.{relationWords, startOf, firstRelation}
 use Rattle.pack.proofs.PackLaws.{words-length}
-use Rattle.chains.proofs.Names.{neither}
+use Rattle.chains.proofs.Names.{neither, or-right}
 use Rattle.chains.proofs.RelationScan.{RelationsFine, relationsWords, Kept, kept}
 
 -- ---- the words before the relations
@@ -69,7 +69,6 @@ pub record Parts (p : Pack) : Type 0 where
   pub most : p .names ≤ 4096
   pub defaulted-count : length (p .defaulted) < 16777216
   pub defaulted-fine : FineAll above (λ low v. Fine (defaultedName (p .names) low) v) 0 (p .defaulted)
-  pub relation-count : length (p .relations) < 16777216
   pub few-relations : length (p .relations) ≤ 512
   pub relations-fine : RelationsFine (p .names) [] (p .relations)
   pub rule-count : length (p .rules) < 16777216
@@ -84,7 +83,6 @@ parts p w =
       most = names-bounds (p .names) (f .0 .1) .1;
       defaulted-count = f .1 .0 .0 .0;
       defaulted-fine = f .1 .0 .2;
-      relation-count = f .1 .1 .0 .0 .0;
       few-relations = relations-most (p .names) (length (p .relations)) (f .1 .1 .0 .0 .1);
       relations-fine = f .1 .1 .0 .2;
       rule-count = f .1 .1 .1 .0 .0 .0;
@@ -102,7 +100,7 @@ pub opening-length : (p : Pack) → length (opening p) ≡ 3 + length (p .defaul
 opening-length p = let e = defaulted-length (p .names) (p .defaulted) 0 in omega arith
 
 -- the relations end before the pack does
-pub relations-room : (p : Pack) → WellFormed p → firstRelation p + length (relationsPart p) ≤ 8192
+pub relations-room : (p : Pack) → WellFormed p → firstRelation p + length (relationsPart p) < 8192
 relations-room p w =
     let s = split p in
     let rest : List ℕ = wordOf 22 (length (p .rules)) ∷ s .more in
@@ -206,3 +204,15 @@ each-found n all used (r ∷ rs) f h = (here, each-found n all (r .name ∷ used
 
 pub all-found : (p : Pack) → WellFormed p → EachFound (p .relations) (p .relations)
 all-found p w = each-found (p .names) (p .relations) [] (p .relations) (parts p w .relations-fine) (λ m e. refl)
+
+-- a name that is used before a list of relations is not declared in it
+pub not-again : (n m : ℕ) (used : List ℕ) (rs : List Relation) → RelationsFine n used rs → among m used ≡ true → find m rs ≡ none
+unfolding find
+not-again n m used [] f e = refl
+not-again n m used (r ∷ rs) f e = go (eqb m (r .name)) refl (not-again n m (r .name ∷ used) rs (f .1) (or-right (eqb m (r .name)) e))
+  where
+    go : (b : Bool) → eqb m (r .name) ≡ b → find m rs ≡ none → pick b (some r) (find m rs) ≡ none
+    go true h ih =
+        let q : among m used ≡ false = rw (eqb-true m (r .name) h) (kept n (λ v. among v used) r (f .0) .fresh) in
+        let z : _≡_ {A = ℕ} 0 1 = cc in absurd (omega arith)
+    go false h ih = ih

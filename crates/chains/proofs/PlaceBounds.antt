@@ -49,6 +49,8 @@ path-few n (some l) f = few-steps n (length l) (f .0 .1) (let s = short-path n (
 pub record Small (n : ℕ) (r : Relation) : Type 0 where
   pub place : (w : Which) → countPlace w r ≤ 43
   pub leads : (d : Derivation) → r .derivation ≡ some d → eqb (d .source) table.none ≡ false → d .source < n
+  pub few : length (r .slotKinds) ≤ 8
+  pub short : (d : Derivation) → r .derivation ≡ some d → hops (d .path) ≤ 8
 
 place-small : (r : Relation) → length (r .slotKinds) ≤ 8 → ((d : Derivation) → r .derivation ≡ some d → hops (d .path) ≤ 8) → (w : Which) → countPlace w r ≤ 43
 place-small r k h list9 = omega arith
@@ -73,7 +75,8 @@ tail-small : (n : ℕ) (r : Relation) → Fine (relationTail n) (r .origin, (r .
 unfolding relationTail nameList Fine count
 tail-small n r f =
     let o = option-small n (r .derivation) (f .1 .1 .1) in
-    record { place = place-small r (few n (length (r .slotKinds)) (f .1 .1 .0 .0 .1)) (λ d e. o d e .0); leads = λ d e. o d e .1 }
+    let k = few n (length (r .slotKinds)) (f .1 .1 .0 .0 .1) in
+    record { place = place-small r k (λ d e. o d e .0); leads = λ d e. o d e .1; few = k; short = λ d e. o d e .0 }
 
 small : (n : ℕ) (used : ℕ → Bool) (r : Relation) → Fine (relation n used) r → Small n r
 unfolding relation Fine

@@ -14,7 +14,7 @@ use Rattle.pack.specs.Form.{listOrNone, count, items, repeats, wordsBy, Fine}
 use Rattle.pack.specs.Tree.{tree, root}
 use Rattle.pack.specs.Pack.{Hop, Derivation, Relation, relation, newName, relationTail, nameList, optionalDerivation, path, derivation, member}
 use Rattle.chains.specs.Places.{relationWords, hops}
-use Rattle.chains.specs.Record.{valueAt, kindCount, flagAt, slotsPlace, entityCount, predicateAt, nodesIn, recordEnd}
+use Rattle.chains.specs.Record.{valueAt, kindCount, flagAt, slotsPlace, entityCount, predicateAt}
 use Rattle.chains.proofs.Hushed.{Quiet, tree-hushed}
 use Rattle.chains.proofs.RelationScan.{Fitting, Kept, kept}
 use Rattle.chains.proofs.ListAt.{nameWords, list-words, path-words, early, late, derived-fine, option-words, InWords}
@@ -163,6 +163,10 @@ module _ (ws : List ℕ) (start n : ℕ) (r : Relation) (i : InWords ws start n 
     unfolding slotsPlace
     place-of-slots = ap (λ (s : ℕ). start + 4 + kindCount ws start + 3 + 3 * s) (ap repeats path-count ∙ steps-again (d .path) (g .steps))
 
+    -- by its kinds and its path
+    pub slots-at : slotsPlace ws start ≡ start + 7 + length ks + 3 * hops (d .path)
+    slots-at = omega (arith, place-of-slots, counted)
+
     abbrev pub before-slots : List ℕ
     before-slots = front ++ (wordOf 11 1 ∷ wordOf 12 (d .source) ∷ pathWords)
 
@@ -240,7 +244,7 @@ module _ (ws : List ℕ) (start n : ℕ) (r : Relation) (i : InWords ws start n 
   pub nine-length : length after-nine ≡ start + 4
   nine-length = length-append (i .before ++ three) (wordOf 9 (length ks) ∷ []) ∙ omega (arith, length-append (i .before) three, i .long)
 
--- ---- where it ends
+-- ---- what follows it
 
 -- the words after a tree: none, or one that is no word of a tree
 abbrev pub Ends : List ℕ → Type 0
@@ -249,50 +253,3 @@ Ends (w ∷ ws) = kindOf w < 64
 
 abbrev pub low : ℕ → Bool
 low k = ltb k 64
-
-nodes-end : (ws : List ℕ) → Ends ws → nodesIn ws ≡ 0
-unfolding nodesIn
-nodes-end [] h = refl
-nodes-end (w ∷ ws) h = rw (lt-leb 64 (kindOf w) h) refl
-
-nodes-words : (us rest : List ℕ) → Quiet low us → Ends rest → nodesIn (us ++ rest) ≡ length us
-unfolding nodesIn
-nodes-words [] rest q h = nodes-end rest h
-nodes-words (u ∷ us) rest q h = rw (le-leb 64 (kindOf u) (ltb-false (kindOf u) 64 (q .0))) (ap suc (nodes-words us rest (q .1) h))
-
-module _ (ws : List ℕ) (start n : ℕ) (r : Relation) (i : InWords ws start n r) (most : n ≤ 4096) (ends : Ends (i .after)) where
-  abbrev its : List ℕ
-  its = relationWords n r
-
-  ends-at : (front T : List ℕ) → ws ≡ front ++ (T ++ i .after) → length front + length T ≡ start + length its
-  ends-at front T e =
-      let a = ap length e ∙ length-append front (T ++ i .after) in
-      let b = ap length (i .same-words) ∙ length-append (i .before) (its ++ i .after) in
-      omega (arith, length-append T (i .after), length-append its (i .after), i .long)
-
-  plain-length : r .derivation ≡ none → length (optionWords ws start n r i most) ≡ 1
-  unfolding optionalDerivation wordsBy count items
-  plain-length e = rw e refl
-
-  pub record-ends : recordEnd ws start ≡ start + length its
-  unfolding recordEnd
-  record-ends = go (r .derivation) refl
-    where
-      go : (o : Option Derivation) → r .derivation ≡ o
-          → pick (eqb (flagAt ws start) 1) (predicateAt ws start + nodesIn (drop (predicateAt ws start) ws)) (start + 5 + kindCount ws start) ≡ start + length its
-      go none e =
-          rw (no-flag ws start n r i most e)
-          (omega (arith, counted ws start n r i most, plain-length e, front-length ws start n r i most, ends-at (front ws start n r i most) (optionWords ws start n r i most) (front-words ws start n r i most)))
-      go (some d) e =
-          let T : List ℕ = wordsBy (tree n 32 judgment) (d .predicate) in
-          let before : List ℕ = before-predicate ws start n r i most d e in
-          let opens = predicate-open ws start n r i most d e in
-          let at = predicate-there ws start n r i most d e in
-          let q : Quiet low T = tree-hushed low (λ k g. le-ltb k 64 g) n 32 judgment (omega arith) (d .predicate) (its-fine ws start n r i most d e) in
-          let m : nodesIn (drop (predicateAt ws start) ws) ≡ length T =
-          ap (λ (v : List ℕ). nodesIn (drop (predicateAt ws start) v)) opens ∙ ap nodesIn (drop-at before (T ++ i .after) (predicateAt ws start) at) ∙ nodes-words T (i .after) q ends in
-          rw (a-flag ws start n r i most d e) (omega (arith, m, at, ends-at before T opens))
-
-  pub name-there : valueAt ws start ≡ r .name
-  unfolding relation newName wordsBy
-  name-there = value-there ws (i .before) _ 6 (r .name) start (i .same-words) (i .long) (omega (arith, kept n (i .used) r (i .fine) .below))

@@ -1,14 +1,19 @@
 -- What the parts of the operations promise each other, of words that Check accepts.
-use Prim.Native.Nat.{ℕ, _+_}
+use Prim.Native.Nat.{ℕ, _+_, _*_}
 use mathlib.Core.Path.{_≡_}
 use mathlib.Core.List.{List}
 use mathlib.Core.Bool.{true}
 use mathlib.Core.Option.{Option, none, some}
 use lib.ListN.{length, getD}
 use Rattle.pack.specs.Form.{among}
-use Rattle.pack.specs.Pack.{Relation, Pack, yes, read}
-use Rattle.chains.specs.Kinds.{find, declared, allKinds, ownAnswer}
-use Rattle.chains.specs.Places.{startOf, firstRelation, relationsEnd, placeOf}
+use Rattle.pack.specs.Pack.{Relation, Pack, yes, read, toRow}
+use Rattle.records.specs.declared.directory.Layout.{Layout}
+use Rattle.records.specs.Directory.{blocksAt}
+use Rattle.chains.specs.Chain.{mapped}
+use Rattle.chains.specs.Kinds.{find, declared, kindStep, allKinds, ownAnswer}
+use Rattle.chains.specs.Places.{startOf, firstRelation, relationsEnd, hops, placeOf}
+use Rattle.chains.specs.Declaration.{coded}
+use Rattle.chains.specs.Entry.{startsIn, slotsIn, declarationsIn, namesIn}
 
 -- the words are those of a pack
 pub record IsPack (ws : List ℕ) : Type 0 where
@@ -23,11 +28,6 @@ pub record Counted (ws : List ℕ) (count : ℕ) : Type 0 where
 pub record Named (ws : List ℕ) (n : ℕ) : Type 0 where
   pub names : (p : Pack) → read ws ≡ yes p → n ≡ p .names
 
--- a slice with one word for each relation
-pub record KindsAsked (ws out : List ℕ) : Type 0 where
-  pub checked : IsPack ws
-  pub fits : Counted ws (length out)
-
 -- the place where the record of a name starts, 0 for a name that no relation declares
 abbrev pub placeIn : ℕ → Option Relation → ℕ
 placeIn start none = 0
@@ -35,6 +35,14 @@ placeIn start (some r) = start
 
 unfoldable pub recordOf : Pack → ℕ → ℕ
 recordOf p m = placeIn (startOf (p .names) m (firstRelation p) (p .relations)) (find m (p .relations))
+
+-- the place of its slots (17), 0 without a derivation
+abbrev pub slotsFor : ℕ → Option Relation → ℕ
+slotsFor start none = 0
+slotsFor start (some r) = elim (r .derivation) [ none ↦ 0 | some d ↦ start + 7 + length (r .slotKinds) + 3 * hops (d .path) ]
+
+unfoldable pub slotsOf : Pack → ℕ → ℕ
+slotsOf p m = slotsFor (startOf (p .names) m (firstRelation p) (p .relations)) (find m (p .relations))
 
 -- the relations' names in record order, and by name the places where their records start
 pub record Noted (ws names starts : List ℕ) : Type 0 where
@@ -44,6 +52,21 @@ pub record Noted (ws names starts : List ℕ) : Type 0 where
 -- the place of the count of rules (22), which stands after the relations
 pub record RulesAt (ws : List ℕ) (at : ℕ) : Type 0 where
   pub after : (p : Pack) → read ws ≡ yes p → at ≡ relationsEnd (p .names) (firstRelation p) (p .relations)
+
+-- the place of the count of blocks (28), which stands after the rules
+pub record BlocksAt (ws : List ℕ) (at : ℕ) : Type 0 where
+  pub after : (p : Pack) → read ws ≡ yes p → at ≡ blocksAt (p .names) 2 (toRow p .1)
+
+-- the layout and the directory of a pack: what they say of its records
+pub record IsDirectory (ws : List ℕ) (l : Layout) (dir : List ℕ) : Type 0 where
+  pub checked : IsPack ws
+  pub named : Named ws (l .names)
+  pub counted : Counted ws (l .relations)
+  pub ruled : RulesAt ws (l .rules)
+  pub blocked : BlocksAt ws (l .blocks)
+  pub noted : Noted ws (namesIn dir (l .relations)) (startsIn dir)
+  pub slotted : (p : Pack) → read ws ≡ yes p → (m : ℕ) → getD (slotsIn dir) m 0 ≡ slotsOf p m
+  pub says : (p : Pack) → read ws ≡ yes p → (m : ℕ) → getD (declarationsIn dir) m 0 ≡ coded (mapped (placeOf p) (kindStep (p .relations) m))
 
 -- the relations' names in record order, marks by name that are 2 and the place of the list that settles the name, and the number of declarations read
 pub record KindsMarked (ws : List ℕ) (steps : ℕ) (names marks : List ℕ) : Type 0 where

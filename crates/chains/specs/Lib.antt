@@ -4,6 +4,7 @@ pub mod Reach
 pub mod Places
 pub mod Answers
 pub mod ByName
+pub mod Entry
 pub mod Record
 pub mod Declaration
 pub mod Settle

@@ -31,10 +31,6 @@ unfoldable pub nodesIn : List ℕ → ℕ
 nodesIn [] = 0
 nodesIn (w ∷ ws) = pick (leb 64 (kindOf w)) (suc (nodesIn ws)) 0
 
--- where the record ends: after its flag, or after its predicate
-unfoldable pub recordEnd : List ℕ → ℕ → ℕ
-recordEnd ws start = pick (eqb (flagAt ws start) 1) (predicateAt ws start + nodesIn (drop (predicateAt ws start) ws)) (start + 5 + kindCount ws start)
-
 -- no record starts past the place 65,536, so that sums of places stay small
 unfoldable pub Recorded : List ℕ → Type 0
 Recorded records = (n : ℕ) → getD records n 0 ≤ 65536

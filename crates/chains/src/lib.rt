@@ -1,9 +1,7 @@
 // The chain walks: what relations inherit from their sources.
-// What a pack says of itself (header), the relations from record to record (records) and what a record says (record,
-// declaration), and the walk (settle, mark_kinds). They serve the crates above.
-pub mod declaration;
-pub mod header;
-pub mod mark_kinds;
+// What the directory says of a name (entry), what a record says (record), the walk over the directory (settle), and the refusal of a
+// name (unknown). They serve the crates above.
+pub mod entry;
 pub mod record;
-pub mod records;
 pub mod settle;
+pub mod unknown;

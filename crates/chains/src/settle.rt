@@ -1,10 +1,11 @@
-// The chain walk over the declarations of relations: each name's answer is the place of the list that settles it, 0 for no kinds.
+// The chain walk over the declarations of the directory: each name's answer is the place of the list that settles it, 0 for no kinds.
 // Marks by name say what is known: unseen, on the path of the walk that is going on, or settled.
-use crate::declaration::Declaration;
-use crate::declaration::declared;
-ghost use Prim.Native.Nat.{_<_};
-ghost use Rattle.chains.specs.Record.{Recorded};
-ghost use Rattle.chains.specs.Declaration.{declarations};
+use crate::entry::Declaration;
+use crate::entry::declared;
+use crate::entry::name_at;
+use records::directory::Words;
+ghost use Prim.Native.Nat.{_+_, _<_, _≤_};
+ghost use Rattle.chains.specs.Entry.{declarationsIn, namesIn};
 ghost use Rattle.chains.specs.Settle.{ReadOne, Walkable, WalkedHere, Settleable, SettledAll};
 
 pub struct Mark {}
@@ -19,25 +20,18 @@ impl Mark {
 }
 
 // One declaration read at a name: the only place that adds to the steps.
-fn read_name(pack: &[u32], records: &[u32; 4096], n: usize, steps: &mut u32) -> u32
-    requires { ⌜ Recorded (now records) × (n < 4096) × (now steps < 4294967295) ⌝ }
-    ensures { λ r. ⌜ ReadOne (declarations (now (pack .entry)) (now (records .entry))) n (now (steps .entry)) r (now (steps .exit)) ⌝ }
+fn read_name(dir: &Words, n: usize, steps: &mut u32) -> u32
+    requires { ⌜ (n < 4096) × (now steps < 4294967295) ⌝ }
+    ensures { λ r. ⌜ ReadOne (declarationsIn (now (dir .entry))) n (now (steps .entry)) r (now (steps .exit)) ⌝ }
 {
     *steps += 1;
-    declared(pack, records[n] as usize)
+    declared(dir, n)
 }
 
 // The walk from a name: its answer. A name on the path is a ring.
-pub fn walk(
-    pack: &[u32],
-    records: &[u32; 4096],
-    marks: &mut [u32; 4096],
-    steps: &mut u32,
-    n: usize,
-    fuel: u32,
-) -> u32
-    requires { ⌜ Recorded (now records) × Walkable (declarations (now pack) (now records)) (now marks) (now steps) n fuel ⌝ }
-    ensures { λ r. ⌜ WalkedHere (declarations (now (pack .entry)) (now (records .entry))) (now (marks .entry)) (now (steps .entry)) n fuel r (now (marks .exit)) (now (steps .exit)) ⌝ }
+pub fn walk(dir: &Words, marks: &mut [u32; 4096], steps: &mut u32, n: usize, fuel: u32) -> u32
+    requires { ⌜ Walkable (declarationsIn (now dir)) (now marks) (now steps) n fuel ⌝ }
+    ensures { λ r. ⌜ WalkedHere (declarationsIn (now (dir .entry))) (now (marks .entry)) (now (steps .entry)) n fuel r (now (marks .exit)) (now (steps .exit)) ⌝ }
 {
     if fuel == 0 {
         return 0;
@@ -50,14 +44,13 @@ pub fn walk(
         return Declaration::NO_KINDS;
     }
     marks[n] = Mark::ON_PATH;
-    let x = read_name(pack, records, n, steps);
+    let x = read_name(dir, n, steps);
     if x < Declaration::LEADS {
         marks[n] = Mark::SETTLED + x;
         return x;
     }
     let r = walk(
-        pack,
-        records,
+        dir,
         marks,
         steps,
         (x - Declaration::LEADS) as usize,
@@ -67,21 +60,16 @@ pub fn walk(
     r
 }
 
-// The walks from all starts in order.
-pub fn settle_all(
-    pack: &[u32],
-    records: &[u32; 4096],
-    marks: &mut [u32; 4096],
-    steps: &mut u32,
-    starts: &[u32],
-    fuel: u32,
-)
-    requires { ⌜ Recorded (now records) × Settleable (declarations (now pack) (now records)) (now marks) (now starts) (now steps) fuel ⌝ }
-    ensures { λ r. ⌜ SettledAll (declarations (now (pack .entry)) (now (records .entry))) (now (marks .entry)) (now (starts .entry)) (now (steps .entry)) fuel (now (marks .exit)) (now (steps .exit)) ⌝ }
+// The walks from so many relations in record order: the number of declarations read.
+pub fn settle_all(dir: &Words, marks: &mut [u32; 4096], count: u32) -> u32
+    requires { ⌜ (count ≤ 512) × Settleable (declarationsIn (now dir)) (now marks) (namesIn (now dir) count) 0 (count + 1) ⌝ }
+    ensures { λ r. ⌜ SettledAll (declarationsIn (now (dir .entry))) (now (marks .entry)) (namesIn (now (dir .entry)) count) 0 (count + 1) (now (marks .exit)) r ⌝ }
 {
-    let mut j: usize = 0;
-    while j < starts.len() {
-        walk(pack, records, marks, steps, starts[j] as usize, fuel);
+    let mut steps: u32 = 0;
+    let mut j: u32 = 0;
+    while j < count {
+        walk(dir, marks, &mut steps, name_at(dir, j as usize), count + 1);
         j += 1;
     }
+    steps
 }

@@ -1,22 +1,33 @@
 -- Laws of Check: what its tests and its reading come to.
-use Prim.Native.Nat.{ℕ, _≤_, _<_}
-use mathlib.Core.Path.{_≡_, refl, ap, sym, _∙_}
+use Prim.Native.Nat.{ℕ, _+_, _≤_, _<_}
+use mathlib.Core.Path.{_≡_, refl, ap, sym, _∙_, subst}
 use mathlib.Core.List.{List}
-use lib.ListN.{length, drop-of-length-le}
-use lib.Seq.{drop-cons}
-use borrow.Author.Tests.{le-leb, lt-leb}
+use native.Mathlib.Omega.{arith}
+use mathlib.Core.Bool.{Bool, true, false}
+use lib.ListN.{length, drop, getD, drop-of-length-le, replicate, length-replicate, getD-replicate, List·getD-eq-default}
+use lib.Seq.{drop-cons, getD-drop}
+use lib.Dec.{leb, ltb}
+use borrow.Author.Tests.{le-leb, lt-leb, leb-true, ltb-true, ltb-false}
 use Rattle.pack.specs.declared.answer.Refusal.{Refusal}
 use Rattle.pack.specs.declared.answer.Answer.the-variants.{Given}
 use Rattle.pack.specs.declared.answer.Answer.the-variants.{Refused as No}
 use Rattle.pack.specs.declared.cursor.Cursor.{Cursor}
 use Rattle.pack.specs.declared.cursor.Step.{Step}
 use Rattle.pack.specs.declared.cursor.Step.the-variants.{On, Refused}
-use Rattle.pack.specs.Table.{entryOf, table}
-use Rattle.pack.specs.Form.{Form, readBy}
-use Rattle.pack.specs.Pack.{undated, layout, complete, read}
-use Rattle.pack.specs.Steps.{stepOf, walk, fieldStep}
+use Rattle.pack.specs.Table.{pick, valueOf, wordOf, entryOf, table}
+use Rattle.pack.specs.Form.{Form, Read, mapRead, field, got, readBy, wordsBy}
+use Rattle.pack.specs.Pack.{Records, Reading, yes, undated, layout, inner, records, complete, read, ofRow, toRow, Pack}
+use Rattle.pack.specs.Steps.{stepOf, walk, same, fieldStep}
 use Rattle.pack.specs.Operations.{answer, checkAnswer}
-use Rattle.pack.proofs.StepLaws.{went, step-no, field-fine, from-one}
+use Rattle.pack.proofs.FormLaws.{clash, map-got}
+use Rattle.records.specs.declared.directory.Layout.{Layout}
+use Rattle.records.specs.declared.directory.Laid.{Laid}
+use Rattle.records.specs.declared.directory.Laid.the-variants.{Yes}
+use Rattle.records.specs.declared.directory.Laid.the-variants.{No as Out}
+use Rattle.records.specs.Directory.{Clear, LaidOut, stepIn, refusal, layoutOf, directoryOf}
+use Rattle.records.proofs.KeptLaws.{There, there, within}
+use Rattle.checking.specs.Checked.{namesSaid, LaidWhole, answerIn, Checked}
+use Rattle.pack.proofs.StepLaws.{went, went-same, by-then, by-value, step-no, field-fine, from-one}
 
 -- reading that starts at word 0
 pub from-start : {A : Type 0} (F : Form A) (ws : List ℕ) {at : ℕ} {x : Step} → at ≡ 0 → x ≡ walk F ws at → x ≡ walk F ws 0
@@ -55,3 +66,117 @@ module _ (ws : List ℕ) where
       check-yes {k = k} o h =
           let t = went (λ a. 0) (layout undated (length ws)) ws 0 e o in
           sym (sized ∙ rw (t .found) (rw (drop-of-length-le ws h)))
+
+-- ---- with a directory
+
+whole-long : (len : ℕ) (a : ℕ × (ℕ × Records)) → 0 < length (wordsBy (layout undated len) a)
+unfolding layout wordsBy
+whole-long len a = omega arith
+
+-- a cleared array of 512 words and one for each name
+pub clear-zeros : (n k : ℕ) → 512 + n ≤ k → Clear n (replicate k 0)
+clear-zeros n k h = record { long = omega (arith, length-replicate {A = ℕ} k 0); clear = λ v. go v (ltb (512 + v) k) refl }
+  where
+    go : (v : ℕ) (b : Bool) → ltb (512 + v) k ≡ b → getD {A = ℕ} (replicate k 0) (512 + v) 0 ≡ 0
+    go v true e = getD-replicate {A = ℕ} k (512 + v) 0 0 (ltb-true (512 + v) k e)
+    go v false e = List·getD-eq-default (replicate k 0) 0 (omega (arith, length-replicate {A = ℕ} k 0, ltb-false (512 + v) k e))
+
+pub said-most : (ws : List ℕ) → namesSaid ws ≤ 4096
+unfolding namesSaid
+said-most ws = go (leb (valueOf (getD ws 1 0)) 4096) refl
+  where
+    go : (b : Bool) → leb (valueOf (getD ws 1 0)) 4096 ≡ b → pick b (valueOf (getD ws 1 0)) 0 ≤ 4096
+    go true e = leb-true (valueOf (getD ws 1 0)) 4096 e
+    go false e = omega arith
+
+-- N that was read is as word 1 says it
+names-said : (ws : List ℕ) {x : Step} {v : ℕ} {k : Cursor} → x ≡ fieldStep 0 2 ws 1 → x ≡ On v k → namesSaid ws ≡ v
+unfolding namesSaid wordsBy
+names-said ws {v = v} e o =
+    let t = there same (field 0 2) ws 1 e o in
+    let m = names-most 0 ws 1 e o in
+    let g : getD ws 1 0 ≡ wordOf 2 (t .value) = sym (getD-drop 1 ws 0 0) ∙ ap (λ (l : List ℕ). getD l 0 0) (t .stood) in
+    let w : valueOf (getD ws 1 0) ≡ v = omega (arith, g, t .kept) in
+    rw (w, le-leb v 4096 m) refl
+
+-- so there is room for as many names
+pub clear-read : (len : ℕ) (ws : List ℕ) {at : ℕ} → at ≡ 0 → {x y : Step} {u v : ℕ} {k j : Cursor} → x ≡ walk (field len 1) ws at → x ≡ On u k → y ≡ fieldStep 0 2 ws (k .at) → y ≡ On v j → {d : List ℕ}
+    → Clear (namesSaid ws) d → Clear v d
+unfolding wordsBy
+clear-read len ws {at} z {y = y} {k = k} e₁ o₁ e₂ o₂ {d} c =
+    let a : k .at ≡ 1 = omega (arith, z, there (λ v. 0) (field len 1) ws at e₁ o₁ .on) in
+    let f : y ≡ fieldStep 0 2 ws 1 = e₂ ∙ ap (λ (i : ℕ). fieldStep 0 2 ws i) a in
+    subst (λ (m : ℕ). Clear m d) (names-said ws f o₂) c
+
+module _ {ws d : List ℕ} {d′ : List ℕ} where
+  -- of a refusal nothing is to be shown but the answer
+  pub checked-no : {e : Refusal} {r : Laid} → r ≡ Out e → No e ≡ checkAnswer ws → Checked ws d r d′
+  unfolding checkAnswer
+  checked-no {e} {r} q a =
+      record {
+        answers = ap answerIn q ∙ a;
+        lays = λ p h. (let z : _≡_ {A = ℕ} 0 1 = clash (ap (λ (r : Reading). answer r (λ p. Given 1 0)) h) in absurd (omega arith));
+        notes = λ p h. (let z : _≡_ {A = ℕ} 0 1 = clash (ap (λ (r : Reading). answer r (λ p. Given 1 0)) h) in absurd (omega arith));
+      }
+    where
+      clash : answer (read ws) (λ p. Given 1 0) ≡ Given 1 0 → _≡_ {A = ℕ} 0 1
+      clash b = cc (a, b)
+
+  module _ (lo : 6 ≤ length ws) (hi : length ws ≤ 8192) where
+    pub checked-refused : {r : Laid} → LaidWhole (length ws) ws d r d′ → {e : Refusal} → r ≡ Out e → Checked ws d r d′
+    checked-refused l q = checked-no q (check-refused ws lo hi (l .answers) (ap stepIn q))
+
+    pub checked-yes : {r : Laid} → LaidWhole (length ws) ws d r d′ → {l : Layout} → r ≡ Yes l → length ws ≤ l .end → Checked ws d (Yes l) d′
+    unfolding read
+    checked-yes {r} w {l} q h =
+        let e : On 0 (record { at = l .end }) ≡ walk (layout undated (length ws)) ws 0 = sym (ap stepIn q) ∙ w .answers in
+        let t = there (λ a. 0) (layout undated (length ws)) ws 0 e refl in
+        let n : l .end ≡ length ws = omega (arith, within (λ a. 0) (layout undated (length ws)) ws 0 e refl (whole-long (length ws))) in
+        let f : read ws ≡ yes (ofRow undated (t .value .1)) = simp (le-leb 6 (length ws) lo, le-leb (length ws) 8192 hi, t .found, drop-of-length-le ws h) in
+        record {
+          answers = check-yes ws lo hi e refl h;
+          lays = λ p k. (let z : ofRow undated (t .value .1) ≡ p = cc (f, k) in subst (λ (p : Pack). Yes l ≡ Yes (layoutOf (p .names) 2 (length ws) (toRow p .1))) z
+              (sym q ∙ w .lays (t .value) (l .end) (drop (l .end) ws) (t .found) ∙ ap (λ (x : ℕ). Yes (layoutOf (t .value .1 .0) 2 x (t .value .1 .1))) n));
+          notes = λ p k. (let z : ofRow undated (t .value .1) ≡ p = cc (f, k) in subst (λ (p : Pack). d′ ≡ directoryOf (p .names) 2 (toRow p .1) d) z (w .notes (t .value) (l .end) (drop (l .end) ws) (t .found)));
+        }
+
+-- the total and the number of names, and then the records
+module _ (len : ℕ) (ws d : List ℕ) {d′ : List ℕ} where
+  pub whole-no : {x : Step} {e : Refusal} {r : Laid} → x ≡ walk (layout undated len) ws 0 → x ≡ Refused e → r ≡ refusal x → LaidWhole len ws d r d′
+  unfolding stepOf
+  whole-no {x} {e} {r} w o q =
+      let s : r ≡ Out e = q ∙ ap refusal o in
+      let no = step-no (λ a. 0) (readBy (layout undated len) 0 ws) (sym w ∙ o) in
+      record { answers = ap stepIn s ∙ sym o ∙ w; lays = λ t next rest h. absurd (clash (sym no ∙ h)); notes = λ t next rest h. absurd (clash (sym no ∙ h)) }
+
+  pub whole-on : {at : ℕ} → at ≡ 0 → {x y : Step} {v n : ℕ} {k j : Cursor} → x ≡ walk (field len 1) ws at → x ≡ On v k → y ≡ fieldStep 0 2 ws (k .at) → y ≡ On n j → {r : Laid} → LaidOut n ws (j .at) d r d′
+      → LaidWhole len ws d r d′
+  unfolding layout inner readBy stepOf wordsBy
+  whole-on {at} z {x = x} {v = v} {n = n} {k = k} {j = j} e₁ o₁ e₂ o₂ {r} l =
+      record {
+        answers = by-then (λ v. 0) (field len 1) ws 0 e (λ _. inner undated) (λ t. 0) o₁ (λ _. by-value (field 0 2) (λ n. records undated n) (λ t. 0) ws (k .at) e₂ o₂ (l .answers));
+        lays = λ t next rest h. (let u = apart t next rest h in rw (← m, ← u .2) (l .lays (u .0) next rest (u .1)));
+        notes = λ t next rest h. (let u = apart t next rest h in rw (← m, ← u .2) (l .notes (u .0) next rest (u .1)));
+      }
+    where
+      e : x ≡ walk (field len 1) ws 0
+      e = from-start (field len 1) ws z e₁
+
+      a : There (λ v. 0) (field len 1) ws 0 v k
+      a = there (λ v. 0) (field len 1) ws 0 e o₁
+
+      b : There same (field 0 2) ws (k .at) n j
+      b = there same (field 0 2) ws (k .at) e₂ o₂
+
+      m : j .at ≡ 2
+      m = omega (arith, a .on, b .on)
+
+      apart : (t : ℕ × (ℕ × Records)) (next : ℕ) (rest : List ℕ) → readBy (layout undated len) 0 ws ≡ got t next rest
+          → (c : Records) × (readBy (records undated n) (j .at) (drop (j .at) ws) ≡ got c next rest) × (_≡_ {A = ℕ × (ℕ × Records)} (a .value, (n, c)) t)
+      apart t next rest h =
+          let f : readBy (field 0 2) (k .at) (drop (k .at) ws) ≡ got n (j .at) (drop (j .at) ws) = went-same (field 0 2) ws (k .at) e₂ o₂ .0 in
+          let R : Read Records = readBy (records undated n) (j .at) (drop (j .at) ws) in
+          let g : mapRead (λ (c : ℕ × Records). (a .value, c)) (mapRead (λ (c : Records). (n, c)) R) ≡ got t next rest = rw f at (rw (a .found) at h) in
+          let u = map-got (λ (c : ℕ × Records). (a .value, c)) (mapRead (λ (c : Records). (n, c)) R) g in
+          let w = map-got (λ (c : Records). (n, c)) R (u .1) in
+          (w .0, w .1, ap (λ (c : ℕ × Records). (a .value, c)) (w .2) ∙ u .2)

@@ -6,11 +6,14 @@ use pack::kinds::Pack;
 use pack::table::Rule;
 use pack::table::table;
 use records::all::records;
+use records::all::refused;
+use records::directory::Directory;
+use records::directory::Laid;
 ghost use mathlib.Core.Path.{_≡_};
 ghost use Prim.Native.Nat.{_≤_};
 ghost use lib.ListN.{length};
-ghost use Rattle.pack.specs.Pack.{Edition, layout};
-ghost use Rattle.pack.specs.Steps.{walk};
+ghost use Rattle.records.specs.Directory.{Clear};
+ghost use Rattle.checking.specs.Checked.{namesSaid, LaidWhole, answerIn, Checked};
 ghost use Rattle.pack.specs.Operations.{checkAnswer};
 
 pub fn refuse(number: u32, place: usize) -> Answer
@@ -24,44 +27,96 @@ pub fn refuse(number: u32, place: usize) -> Answer
     })
 }
 
-// All the words of a slice of so many.
-fn layout(s: &[u32], len: u32) -> Step
-    requires { ⌜ length (now s) ≤ 8192 ⌝ }
-    ensures { λ r. ⌜ r ≡ walk (layout Edition.undated len) (now (s .entry)) 0 ⌝ }
+fn no(number: u32, place: usize) -> Laid
+    ensures { λ r. ⌜ r ≡ Laid.No (record { number = number; place = place; name = 0; other = 0 }) ⌝ }
+{
+    Laid::No(Refusal {
+        number,
+        place,
+        name: 0,
+        other: 0,
+    })
+}
+
+// All the words of a slice of so many: where they stand.
+fn layout(s: &[u32], len: u32, dir: &mut [u32]) -> Laid
+    requires { ⌜ (length (now s) ≤ 8192) × Clear (namesSaid (now s)) (now dir) ⌝ }
+    ensures { λ r. ⌜ LaidWhole len (now (s .entry)) (now (dir .entry)) r (now (dir .exit)) ⌝ }
 {
     let t = table();
     let c = Pack::start();
     let f1 = c.skip(s, len, Pack::TOTAL, Rule::Total);
     let Step::On(_, c1) = f1 else {
-        return f1;
+        return refused(f1);
     };
     let f2 = c1.field(s, 0, Pack::NAMES, Rule::FromOne(Pack::MOST_NAMES));
     let Step::On(n, c2) = f2 else {
-        return f2;
+        return refused(f2);
     };
-    records(c2, s, &t, n)
+    records(c2, s, &t, n, dir)
 }
 
-// Whether the words are a pack, or the first refusal.
-pub fn check(pack: &[u32]) -> Answer
-    ensures { λ r. ⌜ r ≡ checkAnswer (now (pack .entry)) ⌝ }
+// Where the records of a pack stand, with a directory of its relations; or the first refusal.
+pub fn check_directory(pack: &[u32], dir: &mut [u32]) -> Laid
+    requires { ⌜ Clear (namesSaid (now pack)) (now dir) ⌝ }
+    ensures { λ r. ⌜ Checked (now (pack .entry)) (now (dir .entry)) r (now (dir .exit)) ⌝ }
 {
     let len = pack.len();
     if len < Pack::LEAST_WORDS {
-        return refuse(1, 0);
+        return no(1, 0);
     }
     if Pack::MOST_WORDS < len {
-        return refuse(1, 0);
+        return no(1, 0);
     }
-    match layout(pack, len as u32) {
-        Step::Refused(r) => Answer::Refused(r),
-        Step::On(_, c) => {
-            let at = c.at;
-            if at < len {
-                refuse(8, at)
-            } else {
-                Answer::Given(1, 0)
-            }
-        }
+    let r = layout(pack, len as u32, dir);
+    let Laid::Yes(l) = r else {
+        return r;
+    };
+    let end = l.end;
+    if end < len {
+        return no(8, end);
     }
+    Laid::Yes(l)
+}
+
+// What Check answers.
+pub fn answer(r: Laid) -> Answer
+    ensures { λ a. ⌜ a ≡ answerIn r ⌝ }
+{
+    match r {
+        Laid::Yes(_) => Answer::Given(1, 0),
+        Laid::No(e) => Answer::Refused(e),
+    }
+}
+
+// N as the words say it, 0 where that can't be N.
+fn names_said(pack: &[u32]) -> usize
+    ensures { λ r. ⌜ r ≡ namesSaid (now (pack .entry)) ⌝ }
+{
+    if pack.len() < 2 {
+        return 0;
+    }
+    let n = pack[1] % Pack::VALUES;
+    if Pack::MOST_NAMES < n {
+        return 0;
+    }
+    n as usize
+}
+
+// Whether the words are a pack, or the first refusal. Few names have a small directory, since clearing a large one would take
+// longer than the work.
+pub fn check(pack: &[u32]) -> Answer
+    ensures { λ r. ⌜ r ≡ checkAnswer (now (pack .entry)) ⌝ }
+{
+    let n = names_said(pack);
+    if n <= Directory::FEW {
+        let mut few = [0u32; Directory::NAMES + Directory::FEW];
+        return answer(check_directory(pack, &mut few));
+    }
+    if n <= Directory::SOME {
+        let mut some = [0u32; Directory::NAMES + Directory::SOME];
+        return answer(check_directory(pack, &mut some));
+    }
+    let mut all = [0u32; Directory::WORDS];
+    answer(check_directory(pack, &mut all))
 }

@@ -23,11 +23,10 @@ use Rattle.filtered.specs.Said.{directIn}
 use Rattle.chains.proofs.RelationScan.{RelationsFine, kept}
 use Rattle.chains.proofs.PackIndex.{parts}
 use Rattle.chains.proofs.ListAt.{InWords, place-holds}
-use Rattle.chains.proofs.DeclarationLaws.{no-record, a-record, recorded, standing}
+use Rattle.chains.proofs.DeclarationLaws.{no-record, a-record, standing}
 use Rattle.filtered.proofs.SaysLaws.{direct-in}
 use Rattle.directions.specs.Tables.{derivedAt, typedAt, Tables, tables}
 use Rattle.directions.specs.Words.{directBy, typedIn, derivedIn, tablesIn}
-use Rattle.chains.specs.Record.{Recorded}
 use Rattle.directions.proofs.TablesLaws.{typed-read, derived-read}
 
 -- ---- the names of records
@@ -93,9 +92,6 @@ module _ (ws records marks taken₀ names : List ℕ) (steps : ℕ) (p : Pack) (
 
   pub declared-at : (m : ℕ) (r : Relation) → find m rs ≡ some r → getD records m 0 ≡ startOf n m (firstRelation p) rs
   declared-at = a-record p w records (noted .placed p h)
-
-  pub its-records : Recorded records
-  its-records = recorded p w records (noted .placed p h)
 
   -- the relation of a name stands where its record starts
   module _ (m : ℕ) (r : Relation) (e : find m rs ≡ some r) where

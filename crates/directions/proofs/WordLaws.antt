@@ -25,7 +25,7 @@ use Rattle.directions.specs.declared.direction.Membership.the-variants.{
 use Rattle.directions.specs.Direction.{bearing, orElse, kindOrZero, matched, towards, turn, Membership, eachOnce, between, tested, member}
 use Rattle.directions.specs.Tables.{Derived, Tables}
 use Rattle.directions.specs.Words.{directBy, typedIn, derivedIn, tablesIn, membershipOf, membershipIn, MembershipFits, MemberTurned}
-use Rattle.chains.specs.Record.{valueAt, kindCount, flagAt, slotsPlace, Recorded}
+use Rattle.chains.specs.Record.{valueAt, kindCount, flagAt, slotsPlace}
 
 -- ---- a kind or 0
 
@@ -130,10 +130,6 @@ module _ (ws records marks taken : List ℕ) (relation e c r : ℕ) where
     is-derived {flag} {at} {x} {y} {place} {k} f z s u v p q =
         let d : T .derived relation ≡ some (record { current = x; related = y; kinds = namesAt ws place }) = rw (ne-eqb start 0 h, ← f, eq-eqb flag 1 z, ← s, ← u, ← v, ← p) refl in
         rw q (sym (turn-derived T relation e c r (record { current = x; related = y; kinds = namesAt ws place }) d))
-
-pub recorded : (records : List ℕ) (n : ℕ) → Recorded records → getD records n 0 ≤ 65536
-unfolding Recorded
-recorded records n h = h n
 
 -- ---- a membership in one number
 

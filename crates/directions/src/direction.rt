@@ -1,4 +1,5 @@
 // The direction of one node, from what the pack says of its relation.
+use chains::entry::start;
 use chains::record::flag_at;
 use chains::record::kind_count;
 use chains::record::slots_place;
@@ -8,13 +9,15 @@ use filtered::taking::Kind;
 use filtered::taking::kind_at;
 use filtered::taking::place_of;
 use pack::kinds::Pack;
+use records::directory::Words;
 ghost use mathlib.Core.Path.{_≡_};
 ghost use mathlib.Core.List.{[], _∷_};
 ghost use Prim.Native.Nat.{_<_, _≤_};
 ghost use Rattle.chains.specs.Places.{namesAt};
 ghost use Rattle.directions.specs.Direction.{bearing, orElse, kindOrZero, matched, towards, turn, between, tested};
 ghost use Rattle.directions.specs.Words.{typedIn, directBy, tablesIn, membershipOf, membershipIn, MembershipFits, MemberTurned};
-ghost use Rattle.chains.specs.Record.{flagAt, Recorded};
+ghost use Rattle.chains.specs.Record.{flagAt};
+ghost use Rattle.chains.specs.Entry.{startsIn};
 
 // How a node comes out: its slots and the kind that results; or its direction is open, between slots of this kind or entity.
 pub enum Direction {
@@ -154,7 +157,7 @@ fn towards(
 // An aggregate over a relation.
 pub fn turn(
     pack: &[u32],
-    records: &[u32; 4096],
+    dir: &Words,
     marks: &[u32; 4096],
     taken: &[u32; 4096],
     relation: usize,
@@ -162,10 +165,10 @@ pub fn turn(
     current: u32,
     related: u32,
 ) -> Direction
-    requires { ⌜ Recorded (now records) × (relation < 4096) ⌝ }
-    ensures { λ r. ⌜ r ≡ turn (tablesIn (now (pack .entry)) (now (records .entry)) (now (marks .entry)) (now (taken .entry))) relation entity current related ⌝ }
+    requires { ⌜ relation < 4096 ⌝ }
+    ensures { λ r. ⌜ r ≡ turn (tablesIn (now (pack .entry)) (startsIn (now (dir .entry))) (now (marks .entry)) (now (taken .entry))) relation entity current related ⌝ }
 {
-    let start = records[relation] as usize;
+    let start = start(dir, relation);
     if start == 0 {
         return Direction::Turned(current, related, 0);
     }
@@ -197,16 +200,16 @@ fn tested(pack: &[u32], start: usize, m: u64, current: u32, related: u32) -> Dir
 // A test of membership in a relation.
 pub fn member(
     pack: &[u32],
-    records: &[u32; 4096],
+    dir: &Words,
     relation: usize,
     m: u64,
     current: u32,
     related: u32,
 ) -> Direction
-    requires { ⌜ Recorded (now records) × (relation < 4096) ⌝ }
-    ensures { λ r. ⌜ MemberTurned (now (pack .entry)) (now (records .entry)) relation (membershipIn m) current related r ⌝ }
+    requires { ⌜ relation < 4096 ⌝ }
+    ensures { λ r. ⌜ MemberTurned (now (pack .entry)) (startsIn (now (dir .entry))) relation (membershipIn m) current related r ⌝ }
 {
-    let start = records[relation] as usize;
+    let start = start(dir, relation);
     if start == 0 {
         return Direction::Turned(current, related, 0);
     }

@@ -1,5 +1,6 @@
 // Derived relations with equal kinds in both slots.
 use crate::direction::Membership;
+use chains::entry::start;
 use chains::record::flag_at;
 use chains::record::slots_place;
 use chains::record::value_at;
@@ -7,10 +8,12 @@ use filtered::taking::Kind;
 use filtered::taking::kind_at;
 use filtered::taking::place_of;
 use pack::kinds::Pack;
+use records::directory::Words;
 ghost use mathlib.Core.Path.{_≡_};
 ghost use Prim.Native.Nat.{_<_, _≤_};
 ghost use Rattle.directions.specs.Words.{membershipOf, MembershipFits, slotKindsIn, equalIn, firstEqual, DefaultedFit};
-ghost use Rattle.chains.specs.Record.{Recorded, valueAt};
+ghost use Rattle.chains.specs.Record.{valueAt};
+ghost use Rattle.chains.specs.Entry.{startsIn};
 
 // The kinds in the slots of a derived relation whose record starts at a place of some words, from the list of the pack
 // that settles it.
@@ -29,11 +32,11 @@ pub fn slot_kinds(pack: &[u32], work: &[u32], list: u32, start: usize) -> Member
 }
 
 // Whether a name is that of a derived relation with equal kinds there.
-pub fn equal_kinds(pack: &[u32], records: &[u32; 4096], marks: &[u32; 4096], name: usize) -> bool
-    requires { ⌜ Recorded (now records) × (name < 4096) ⌝ }
-    ensures { λ r. ⌜ r ≡ equalIn (now (pack .entry)) (now (records .entry)) (now (marks .entry)) name ⌝ }
+pub fn equal_kinds(pack: &[u32], dir: &Words, marks: &[u32; 4096], name: usize) -> bool
+    requires { ⌜ name < 4096 ⌝ }
+    ensures { λ r. ⌜ r ≡ equalIn (now (pack .entry)) (startsIn (now (dir .entry))) (now (marks .entry)) name ⌝ }
 {
-    let start = records[name] as usize;
+    let start = start(dir, name);
     if start == 0 {
         return false;
     }
@@ -47,15 +50,15 @@ pub fn equal_kinds(pack: &[u32], records: &[u32; 4096], marks: &[u32; 4096], nam
 }
 
 // The first defaulted name of a checked pack with equal kinds, or NONE.
-pub fn first_equal(pack: &[u32], records: &[u32; 4096], marks: &[u32; 4096]) -> u32
-    requires { ⌜ Recorded (now records) × DefaultedFit (now pack) ⌝ }
-    ensures { λ r. ⌜ r ≡ firstEqual (now (pack .entry)) (now (records .entry)) (now (marks .entry)) 3 (valueAt (now (pack .entry)) 2) ⌝ }
+pub fn first_equal(pack: &[u32], dir: &Words, marks: &[u32; 4096]) -> u32
+    requires { ⌜ DefaultedFit (now pack) ⌝ }
+    ensures { λ r. ⌜ r ≡ firstEqual (now (pack .entry)) (startsIn (now (dir .entry))) (now (marks .entry)) 3 (valueAt (now (pack .entry)) 2) ⌝ }
 {
     let count = value_at(pack, 2) as usize;
     let mut i: usize = 0;
     while i < count {
         let name = value_at(pack, 3 + i);
-        if equal_kinds(pack, records, marks, name as usize) {
+        if equal_kinds(pack, dir, marks, name as usize) {
             return name;
         }
         i += 1;

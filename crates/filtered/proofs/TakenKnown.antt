@@ -1,5 +1,5 @@
 -- After all relations of a checked pack the table says of every entity what is known of it: whether a derivation names it, and the kinds that it takes.
-use Prim.Native.Nat.{ℕ, suc, _+_, _-_, _<_, _≤_}
+use Prim.Native.Nat.{ℕ, suc, _+_, _-_, _*_, _<_, _≤_}
 use native.Mathlib.Omega.{arith}
 use mathlib.Core.Path.{_≡_, refl, ap, sym, _∙_, subst}
 use mathlib.Core.List.{List, [], _∷_, _++_, map, append-nil, append-assoc}
@@ -17,17 +17,19 @@ use Rattle.chains.specs.Kinds.{find, declared, ownAnswer, kindsOf}
 use Rattle.chains.specs.Reach.{any}
 use Rattle.filtered.specs.Filtered as filtered
 use Rattle.filtered.specs.Filtered.{kindAt, listed, entityIs, takenFrom, taken, namesEntity}
-use Rattle.chains.specs.Places.{placeOf, namesAt}
-use Rattle.chains.specs.Record.{valueAt, flagAt, slotsPlace}
-use Rattle.chains.specs.AllKinds.{IsPack, Noted, KindsMarked}
-use Rattle.filtered.specs.Taking.{several, known, namedAfter, takenAfter, takeAt, takenBy, kindMarked, takenIn, Takeable, Filled}
+use Rattle.chains.specs.Places.{startOf, firstRelation, hops, placeOf, namesAt}
+use Rattle.chains.specs.Record.{valueAt, slotsPlace}
+use Rattle.records.specs.declared.directory.Layout.{Layout}
+use Rattle.chains.specs.Entry.{startsIn, slotsIn, namesIn}
+use Rattle.chains.specs.AllKinds.{slotsOf, Noted, IsDirectory, KindsMarked}
+use Rattle.filtered.specs.Taking.{several, known, namedAfter, takenAfter, takeAt, takenBy, kindMarked, takenIn, NamesLow, Filled}
 use Rattle.pack.proofs.PackLaws.{words-read}
 use Rattle.chains.proofs.Names.{or-left, or-right, or-false, or-true}
 use Rattle.chains.proofs.PackIndex.{zeros, zero-at, parts, EachFound, all-found}
 use Rattle.chains.proofs.ListAt.{InWords, place-holds}
-use Rattle.chains.proofs.RecordLaws.{no-flag, a-flag, current-there, entity-there}
-use Rattle.chains.proofs.DeclarationLaws.{standing}
-use Rattle.chains.proofs.CheckedLaws.{its-recorded, placeable}
+use Rattle.chains.proofs.RecordLaws.{slots-at, current-there, entity-there}
+use Rattle.chains.proofs.DeclarationLaws.{a-record, standing}
+use Rattle.chains.proofs.CheckedLaws.{placeable}
 
 -- ---- what is known, after one more derivation
 
@@ -189,7 +191,8 @@ kind-of {ws} {marks = marks} m p h same fine n i slot =
     let q : getD marks n 0 - 2 ≡ placeOf p (ownAnswer (p .relations) n) = (let k = m .marked p h n i in omega arith) in
     ap (λ (o : Option (List ℕ)). kindAt o slot) (ap (namesAt ws) q ∙ ap (λ (v : List ℕ). namesAt v (placeOf p (ownAnswer (p .relations) n))) (sym same) ∙ place-holds p fine n)
 
-module _ {ws names records marks : List ℕ} {steps : ℕ} (noted : Noted ws names records) (m : KindsMarked ws steps names marks) (p : Pack) (h : read ws ≡ yes p) where
+module _ {ws names records : List ℕ} (slots : List ℕ) {marks : List ℕ} {steps : ℕ} (noted : Noted ws names records) (slotted : (p : Pack) → read ws ≡ yes p → (m : ℕ) → getD slots m 0 ≡ slotsOf p m) (m : KindsMarked ws steps names marks)
+    (p : Pack) (h : read ws ≡ yes p) where
   abbrev kind : ℕ → ℕ → Option ℕ
   kind = kindMarked ws marks
 
@@ -199,13 +202,16 @@ module _ {ws names records marks : List ℕ} {steps : ℕ} (noted : Noted ws nam
   fine : WellFormed p
   fine = words-read ws p h .fine
 
-  -- what the code reads at a relation's record
-  record-takes : (r : Relation) → find (r .name) (p .relations) ≡ some r → (t : List ℕ) → takenBy ws marks t (r .name) (getD records (r .name) 0) ≡ tableAfter kind (r .name) (r .derivation) t
-  unfolding takenBy
-  record-takes r e t = go (r .derivation) refl
+  -- what the code reads at a relation's slots
+  slots-take : (r : Relation) → find (r .name) (p .relations) ≡ some r → (t : List ℕ) → takenBy ws marks t (r .name) (getD slots (r .name) 0) ≡ tableAfter kind (r .name) (r .derivation) t
+  unfolding takenBy slotsOf
+  slots-take r e t = rw (slotted p h (r .name), e) (go (r .derivation) refl)
     where
       start : ℕ
       start = getD records (r .name) 0
+
+      starts : startOf (p .names) (r .name) (firstRelation p) (p .relations) ≡ start
+      starts = sym (a-record p fine records (noted .placed p h) (r .name) r e)
 
       i : InWords ws start (p .names) r
       i = subst (λ (v : List ℕ). InWords v start (p .names) r) same (standing p fine records (noted .placed p h) (r .name) r e .stands)
@@ -214,26 +220,30 @@ module _ {ws names records marks : List ℕ} {steps : ℕ} (noted : Noted ws nam
       most = parts p fine .most
 
       go : (o : Option Derivation) → r .derivation ≡ o
-          → pick (eqb (flagAt ws start) 1) (takeAt t (valueAt ws (slotsPlace ws start + 2)) (kind (r .name) (valueAt ws (slotsPlace ws start)))) t ≡ tableAfter kind (r .name) o t
-      go none q = rw (no-flag ws start (p .names) r i most q) refl
-      go (some d) q = rw (a-flag ws start (p .names) r i most d q, entity-there ws start (p .names) r i most d q, current-there ws start (p .names) r i most d q) refl
+          → takenBy ws marks t (r .name) (elim o [ none ↦ 0 | some d ↦ startOf (p .names) (r .name) (firstRelation p) (p .relations) + 7 + length (r .slotKinds) + 3 * hops (d .path) ]) ≡ tableAfter kind (r .name) o t
+      go none q = refl
+      go (some d) q =
+          let s : startOf (p .names) (r .name) (firstRelation p) (p .relations) + 7 + length (r .slotKinds) + 3 * hops (d .path) ≡ slotsPlace ws start =
+          omega (arith, starts, slots-at ws start (p .names) r i most d q) in
+          rw (s, ne-eqb (slotsPlace ws start) 0 (λ z. omega (arith, slots-at ws start (p .names) r i most d q)), entity-there ws start (p .names) r i most d q, current-there ws start (p .names) r i most d q) refl
 
-  all-take : (l : List Relation) → EachFound (p .relations) l → (t : List ℕ) → takenIn ws records marks (declared l) t ≡ afterAll kind l t
+  all-take : (l : List Relation) → EachFound (p .relations) l → (t : List ℕ) → takenIn ws slots marks (declared l) t ≡ afterAll kind l t
   unfolding takenIn
   all-take [] f t = refl
-  all-take (r ∷ l) f t = ap (takenIn ws records marks (declared l)) (record-takes r (f .0) t) ∙ all-take l (f .1) (tableAfter kind (r .name) (r .derivation) t)
+  all-take (r ∷ l) f t = ap (takenIn ws slots marks (declared l)) (slots-take r (f .0) t) ∙ all-take l (f .1) (tableAfter kind (r .name) (r .derivation) t)
 
-  entity-known : {t : List ℕ} → t ≡ takenIn ws records marks names zeros → (e : ℕ) → e < 4096
+  entity-known : {t : List ℕ} → t ≡ takenIn ws slots marks names zeros → (e : ℕ) → e < 4096
       → getD t e 0 ≡ known (any (λ r. namesEntity e (r .derivation)) (p .relations)) (taken (p .relations) e)
   unfolding taken
   entity-known q e i =
-      ap (λ (u : List ℕ). getD u e 0) (q ∙ ap (λ (l : List ℕ). takenIn ws records marks l zeros) (noted .named p h) ∙ all-take (p .relations) (all-found p fine) zeros)
+      ap (λ (u : List ℕ). getD u e 0) (q ∙ ap (λ (l : List ℕ). takenIn ws slots marks l zeros) (noted .named p h) ∙ all-take (p .relations) (all-found p fine) zeros)
       ∙ relations-known kind (marked-fits ws marks) e i (p .relations) zeros false [] (length-replicate {A = ℕ} 4096 0) (zero-at 4096 e)
       ∙ ap (known (any (λ (r : Relation). namesEntity e (r .derivation)) (p .relations))) (taken-alike kind (p .relations) e (p .relations) (kind-of m p h same fine))
 
-module _ {ws names records marks : List ℕ} {steps : ℕ} (c : IsPack ws) (noted : Noted ws names records) (m : KindsMarked ws steps names marks) where
-  pub takeable : Takeable names records
-  takeable = record { below = placeable c m .names-below; low = its-recorded c noted }
+module _ {ws : List ℕ} {l : Layout} {dir marks : List ℕ} {steps : ℕ} (d : IsDirectory ws l dir) (m : KindsMarked ws steps (namesIn dir (l .relations)) marks) where
+  pub takeable : NamesLow (namesIn dir (l .relations))
+  unfolding NamesLow
+  takeable = placeable (d .checked) m .names-below
 
-  pub filled : {t : List ℕ} → t ≡ takenIn ws records marks names zeros → Filled ws names records marks t steps
-  filled q = record { noted = noted; marked = m; knows = record { holds = λ p h. entity-known noted m p h q } }
+  pub filled : {t : List ℕ} → t ≡ takenIn ws (slotsIn dir) marks (namesIn dir (l .relations)) zeros → Filled ws (namesIn dir (l .relations)) (startsIn dir) marks t steps
+  filled q = record { noted = d .noted; marked = m; knows = record { holds = λ p h. entity-known (slotsIn dir) (d .noted) (d .slotted) m p h q } }

@@ -14,8 +14,8 @@ use Rattle.filtered.specs.declared.taking.Kind.{Kind}
 use Rattle.filtered.specs.declared.taking.Kind.the-variants.{Is, Unknown}
 use Rattle.filtered.specs.Filtered.{kindAt}
 use Rattle.chains.specs.Places.{namesAt}
-use Rattle.chains.specs.Record.{valueAt, flagAt, slotsPlace}
-use Rattle.filtered.specs.Taking.{kindIn, Small, KindFound, several, namedAfter, takenAfter, takeAt, takenBy, kindMarked, takenIn, Takeable}
+use Rattle.chains.specs.Record.{valueAt}
+use Rattle.filtered.specs.Taking.{kindIn, Small, KindFound, several, namedAfter, takenAfter, takeAt, takenBy, kindMarked, takenIn, NamesLow}
 
 -- ---- the kind at a slot
 
@@ -95,35 +95,36 @@ an-entity t e kind h n k = sym (rw (lt-ltb e 4096 h, ← n, ← k) refl)
 
 -- ---- one relation
 
-module _ (ws marks t : List ℕ) (name start : ℕ) {flag : ℕ} (f : flag ≡ flagAt ws start) where
-  pub none-takes : (flag ≡ 1 → ⊥) → t ≡ takenBy ws marks t name start
+module _ (ws marks t : List ℕ) (name at : ℕ) where
+  pub none-takes : at ≡ 0 → t ≡ takenBy ws marks t name at
   unfolding takenBy
-  none-takes z = sym (rw (← f, ne-eqb flag 1 z) refl)
+  none-takes z = sym (rw (eq-eqb at 0 z) refl)
 
-  pub one-takes : flag ≡ 1 → {at place slot entity : ℕ} {kind : Kind} {t′ : List ℕ} → at ≡ slotsPlace ws start → place ≡ getD marks name 0 - 2 → slot ≡ valueAt ws at → KindFound ws place slot kind
-      → entity ≡ valueAt ws (at + 2) → t′ ≡ takeAt t entity (kindIn kind) → t′ ≡ takenBy ws marks t name start
+  pub one-takes : (at ≡ 0 → ⊥) → {place slot entity : ℕ} {kind : Kind} {t′ : List ℕ} → place ≡ getD marks name 0 - 2 → slot ≡ valueAt ws at → KindFound ws place slot kind
+      → entity ≡ valueAt ws (at + 2) → t′ ≡ takeAt t entity (kindIn kind) → t′ ≡ takenBy ws marks t name at
   unfolding takenBy kindMarked
-  one-takes z {at} {place} {slot} {entity} p q s k e h =
-      h ∙ ap (takeAt t entity) (k .is ∙ ap (λ (n : ℕ). kindAt (namesAt ws n) slot) q) ∙ sym (rw (← f, z, ← p, ← e, ← s) refl)
+  one-takes z {place} {slot} {entity} q s k e h =
+      h ∙ ap (takeAt t entity) (k .is ∙ ap (λ (n : ℕ). kindAt (namesAt ws n) slot) q) ∙ sym (rw (ne-eqb at 0 z, ← e, ← s) refl)
 
 -- ---- all relations
 
-module _ (ws records marks names t₀ : List ℕ) where
+module _ (ws slots marks names t₀ : List ℕ) where
   -- what is left to take gives what the whole gives
   pub record Taken (t : List ℕ) (j : ℕ) : Type 0 where
-    pub todo : takenIn ws records marks names t₀ ≡ takenIn ws records marks (drop j names) t
+    pub todo : takenIn ws slots marks names t₀ ≡ takenIn ws slots marks (drop j names) t
 
   pub begin : Taken t₀ 0
   begin = record { todo = refl }
 
   module _ {t : List ℕ} {j : ℕ} (s : Taken t j) where
-    pub taken-all : length names ≤ j → t ≡ takenIn ws records marks names t₀
+    pub taken-all : length names ≤ j → t ≡ takenIn ws slots marks names t₀
     unfolding takenIn
     taken-all h = sym (s .todo ∙ rw (drop-of-length-le names h) refl)
 
-    pub taken-next : j < length names → {t′ : List ℕ} → t′ ≡ takenBy ws marks t (getD names j 0) (getD records (getD names j 0) 0) → Taken t′ (j + 1)
+    pub taken-next : j < length names → {t′ : List ℕ} → t′ ≡ takenBy ws marks t (getD names j 0) (getD slots (getD names j 0) 0) → Taken t′ (j + 1)
     unfolding takenIn
     taken-next h e = record { todo = s .todo ∙ rw (drop-cons names j 0 h, add-one j, e) refl }
 
-pub name-low : (names records : List ℕ) → Takeable names records → (j : ℕ) → getD names j 0 < 4096
-name-low names records h j = h .below j
+pub name-low : (names : List ℕ) → NamesLow names → (j : ℕ) → getD names j 0 < 4096
+unfolding NamesLow
+name-low names h j = h j

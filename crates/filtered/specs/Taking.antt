@@ -13,7 +13,7 @@ use Rattle.filtered.specs.declared.taking.Kind.the-variants.{Is, Unknown
 use Rattle.chains.specs.Reach.{any}
 use Rattle.filtered.specs.Filtered.{kindAt, taken, namesEntity}
 use Rattle.chains.specs.Places.{namesAt}
-use Rattle.chains.specs.Record.{valueAt, flagAt, slotsPlace, Recorded}
+use Rattle.chains.specs.Record.{valueAt}
 use Rattle.chains.specs.AllKinds.{Noted, KindsMarked}
 
 -- the code's kind as an option
@@ -54,20 +54,18 @@ takeAt t e kind = pick (ltb e 4096) (set t e (takenAfter (namedAfter (getD t e 0
 unfoldable pub kindMarked : List ℕ → List ℕ → ℕ → ℕ → Option ℕ
 kindMarked ws marks name slot = kindAt (namesAt ws (getD marks name 0 - 2)) slot
 
--- after the relation of a name, whose record starts at a place: its entity (19) takes the kind at its current slot (17)
+-- after the relation of a name, whose slots stand at a place, 0 without a derivation: its entity (19) takes the kind at its current slot (17)
 unfoldable pub takenBy : List ℕ → List ℕ → List ℕ → ℕ → ℕ → List ℕ
-takenBy ws marks t name start =
-    pick (eqb (flagAt ws start) 1) (takeAt t (valueAt ws (slotsPlace ws start + 2)) (kindMarked ws marks name (valueAt ws (slotsPlace ws start)))) t
+takenBy ws marks t name at = pick (eqb at 0) t (takeAt t (valueAt ws (at + 2)) (kindMarked ws marks name (valueAt ws at)))
 
 -- after the relations of some names
 unfoldable pub takenIn : List ℕ → List ℕ → List ℕ → List ℕ → List ℕ → List ℕ
-takenIn ws records marks [] t = t
-takenIn ws records marks (n ∷ ns) t = takenIn ws records marks ns (takenBy ws marks t n (getD records n 0))
+takenIn ws slots marks [] t = t
+takenIn ws slots marks (n ∷ ns) t = takenIn ws slots marks ns (takenBy ws marks t n (getD slots n 0))
 
--- they are names, and no record starts past the place 65,536
-pub record Takeable (names records : List ℕ) : Type 0 where
-  pub below : (j : ℕ) → getD names j 0 < 4096
-  pub low : Recorded records
+-- they are names
+unfoldable pub NamesLow : List ℕ → Type 0
+NamesLow names = (j : ℕ) → getD names j 0 < 4096
 
 -- what is known of every entity of a checked pack
 pub record Known (ws t : List ℕ) : Type 0 where

@@ -2,18 +2,23 @@
 use crate::inner::settle_all;
 use crate::taking::Taken;
 use crate::taking::take_kinds;
-use chains::declaration::Declaration;
-use chains::header::name_count;
+use chains::entry::Declaration;
 use chains::settle::Mark;
-use checking::check::check;
+use checking::check::answer;
+use checking::check::check_directory;
 use checking::check::refuse;
 use pack::answer::Answer;
 use pack::kinds::Pack;
+use records::directory::Directory;
+use records::directory::Laid;
+use records::directory::Layout;
+use records::directory::Words;
 ghost use mathlib.Core.Path.{_≡_};
 ghost use mathlib.Core.List.{_++_};
 ghost use Prim.Native.Nat.{_<_, _≤_};
 ghost use lib.ListN.{length, drop, replicate};
 ghost use Rattle.chains.specs.ByName.{tableFrom};
+ghost use Rattle.chains.specs.AllKinds.{IsDirectory};
 ghost use Rattle.chains.specs.Answers.{Answered};
 ghost use Rattle.filtered.specs.FilteredTables.{filterAnswer, filterBuffer};
 ghost use Rattle.filtered.specs.Said.{directOf, aliasOf, unresolvedOf, innerEntry, innerOf, said, saidIn, entriesIn, plainly, Directed, InnerMarked, InnerFor, FilterAsked, FilterLeft, KnownName};
@@ -162,13 +167,13 @@ fn mark_inner(filter: Filter, taken: &[u32; 4096], names: &mut [u32], marks: &mu
 }
 
 // A table of a checked pack into a slice with one word for each name.
-fn fill(pack: &[u32], filter: Filter, out: &mut [u32])
-    requires { ⌜ FilterAsked (now pack) (now out) ⌝ }
+fn fill(pack: &[u32], l: Layout, dir: &Words, filter: Filter, out: &mut [u32])
+    requires { ⌜ IsDirectory (now pack) l (now dir) × FilterAsked (now pack) (now out) ⌝ }
     ensures { λ r. ⌜ FilterLeft filter (now (pack .entry)) (now (out .exit)) ⌝ }
 {
     let mut taken = [0u32; 4096];
     let mut marks = [0u32; 4096];
-    take_kinds(pack, &mut taken);
+    take_kinds(pack, l, dir, &mut taken);
     mark_inner(filter, &taken, out, &mut marks);
     say_all(&taken, &marks, filter, out);
 }
@@ -177,15 +182,16 @@ fn fill(pack: &[u32], filter: Filter, out: &mut [u32])
 pub fn filtered(pack: &[u32], filter: Filter, out: &mut [u32]) -> Answer
     ensures { λ r. ⌜ Answered (filterAnswer filter) (filterBuffer filter) (now (pack .entry)) (now (out .entry)) r (now (out .exit)) ⌝ }
 {
-    let a = check(pack);
-    let Answer::Given(_, _) = a else {
-        return a;
+    let mut dir: Words = [0u32; Directory::WORDS];
+    let r = check_directory(pack, &mut dir);
+    let Laid::Yes(l) = r else {
+        return answer(r);
     };
-    let names = name_count(pack);
+    let names = l.names;
     let count = names as usize;
     if out.len() < count {
         return refuse(16, 0);
     }
-    fill(pack, filter, &mut out[0..count]);
+    fill(pack, l, &dir, filter, &mut out[0..count]);
     Answer::Given(names, 0)
 }

@@ -1,5 +1,5 @@
 // The chain walk over a table by name, for the innermost kinds: an answer is 1 and the name that a chain ends at, 0 in a ring.
-use chains::declaration::Declaration;
+use chains::entry::Declaration;
 use chains::settle::Mark;
 ghost use Prim.Native.Nat.{_+_, _<_};
 ghost use Rattle.chains.specs.Settle.{ReadOne, Walkable, WalkedHere, Settleable, SettledAll};

@@ -1,17 +1,18 @@
 // The kinds that entities take from the derivations that name them, by name.
-use chains::header::relation_count;
-use chains::mark_kinds::mark_kinds;
-use chains::record::flag_at;
-use chains::record::slots_place;
+use chains::entry::name_at;
+use chains::entry::slots;
 use chains::record::value_at;
-use chains::records::records;
 use chains::settle::Mark;
+use chains::settle::settle_all;
 use pack::kinds::Pack;
+use records::directory::Layout;
+use records::directory::Words;
 ghost use mathlib.Core.Path.{_≡_};
 ghost use Prim.Native.Nat.{_-_, _<_, _≤_};
 ghost use lib.ListN.{getD, replicate};
-ghost use Rattle.chains.specs.AllKinds.{IsPack, KindsAsked, RulesAt};
-ghost use Rattle.filtered.specs.Taking.{kindIn, Small, KindFound, namedAfter, takenAfter, takeAt, takenBy, takenIn, Takeable, Known, Filled};
+ghost use Rattle.chains.specs.Entry.{startsIn, slotsIn, namesIn};
+ghost use Rattle.chains.specs.AllKinds.{IsDirectory};
+ghost use Rattle.filtered.specs.Taking.{kindIn, Small, KindFound, namedAfter, takenAfter, takeAt, takenBy, takenIn, NamesLow, Known, Filled};
 
 // A relation's kind at a slot, where it is known.
 pub enum Kind {
@@ -103,75 +104,53 @@ fn take_at(table: &mut [u32; 4096], entity: u32, kind: Kind)
     table[e] = taken_after(x, kind);
 }
 
-// The relation of a name, whose record starts at a place: its entity takes the kind at its current slot.
-fn take_record(
-    pack: &[u32],
-    marks: &[u32; 4096],
-    table: &mut [u32; 4096],
-    name: usize,
-    start: usize,
-)
-    requires { ⌜ (name < 4096) × (start ≤ 65536) ⌝ }
-    ensures { λ r. ⌜ now (table .exit) ≡ takenBy (now (pack .entry)) (now (marks .entry)) (now (table .entry)) name start ⌝ }
+// The relation of a name, whose slots stand at a place: its entity takes the kind at its current slot. At 0 there are none.
+fn take_slots(pack: &[u32], marks: &[u32; 4096], table: &mut [u32; 4096], name: usize, at: usize)
+    requires { ⌜ (name < 4096) × (at ≤ 65536) ⌝ }
+    ensures { λ r. ⌜ now (table .exit) ≡ takenBy (now (pack .entry)) (now (marks .entry)) (now (table .entry)) name at ⌝ }
 {
-    if flag_at(pack, start) != 1 {
+    if at == 0 {
         return;
     }
-    let at = slots_place(pack, start);
     let kind = kind_at(pack, place_of(marks, name), value_at(pack, at));
     take_at(table, value_at(pack, at + 2), kind);
 }
 
-// What every derivation's entity takes, from the names of the relations, the places of their records and their marks.
-fn take_all(
-    pack: &[u32],
-    names: &[u32],
-    records: &[u32; 4096],
-    marks: &[u32; 4096],
-    table: &mut [u32; 4096],
-)
-    requires { ⌜ Takeable (now names) (now records) ⌝ }
-    ensures { λ r. ⌜ now (table .exit) ≡ takenIn (now (pack .entry)) (now (records .entry)) (now (marks .entry)) (now (names .entry)) (now (table .entry)) ⌝ }
+// What every derivation's entity takes, from the directory of so many relations and their marks.
+fn take_all(pack: &[u32], dir: &Words, count: u32, marks: &[u32; 4096], table: &mut [u32; 4096])
+    requires { ⌜ (count ≤ 512) × NamesLow (namesIn (now dir) count) ⌝ }
+    ensures { λ r. ⌜ now (table .exit) ≡ takenIn (now (pack .entry)) (slotsIn (now (dir .entry))) (now (marks .entry)) (namesIn (now (dir .entry)) count) (now (table .entry)) ⌝ }
 {
-    let mut j: usize = 0;
-    while j < names.len() {
-        let name = names[j] as usize;
-        take_record(pack, marks, table, name, records[name] as usize);
+    let mut j: u32 = 0;
+    while j < count {
+        let name = name_at(dir, j as usize);
+        take_slots(pack, marks, table, name, slots(dir, name));
         j += 1;
     }
 }
 
-// What reading the tables of a pack tells: the number of declarations read, and the place of the count of rules.
-pub struct Read {
-    pub steps: u32,
-    pub rules: usize,
-}
-
-// The tables of a checked pack, which hold zeros before.
+// The tables of a checked pack, which hold zeros before; the answer is the number of declarations read.
 pub fn read_tables(
     pack: &[u32],
-    names: &mut [u32],
-    starts: &mut [u32; 4096],
+    l: Layout,
+    dir: &Words,
     marks: &mut [u32; 4096],
     taken: &mut [u32; 4096],
-) -> Read
-    requires { ⌜ KindsAsked (now pack) (now names) × (now starts ≡ replicate 4096 0) × (now marks ≡ replicate 4096 0) × (now taken ≡ replicate 4096 0) ⌝ }
-    ensures { λ r. ⌜ Filled (now (pack .entry)) (now (names .exit)) (now (starts .exit)) (now (marks .exit)) (now (taken .exit)) (r .steps) × RulesAt (now (pack .entry)) (r .rules) ⌝ }
+) -> u32
+    requires { ⌜ IsDirectory (now pack) l (now dir) × (now marks ≡ replicate 4096 0) × (now taken ≡ replicate 4096 0) ⌝ }
+    ensures { λ r. ⌜ Filled (now (pack .entry)) (namesIn (now (dir .entry)) (l .relations)) (startsIn (now (dir .entry))) (now (marks .exit)) (now (taken .exit)) r ⌝ }
 {
-    let rules = records(pack, names, starts);
-    let steps = mark_kinds(pack, names, starts, marks);
-    take_all(pack, names, starts, marks, taken);
-    Read { steps, rules }
+    let count = l.relations;
+    let steps = settle_all(dir, marks, count);
+    take_all(pack, dir, count, marks, taken);
+    steps
 }
 
 // What is known of every entity of a checked pack; the table holds zeros before.
-pub fn take_kinds(pack: &[u32], table: &mut [u32; 4096])
-    requires { ⌜ IsPack (now pack) × (now table ≡ replicate 4096 0) ⌝ }
+pub fn take_kinds(pack: &[u32], l: Layout, dir: &Words, table: &mut [u32; 4096])
+    requires { ⌜ IsDirectory (now pack) l (now dir) × (now table ≡ replicate 4096 0) ⌝ }
     ensures { λ r. ⌜ Known (now (pack .entry)) (now (table .exit)) ⌝ }
 {
-    let mut names = [0u32; 512];
-    let mut starts = [0u32; 4096];
     let mut marks = [0u32; 4096];
-    let count = relation_count(pack);
-    read_tables(pack, &mut names[0..count], &mut starts, &mut marks, table);
+    read_tables(pack, l, dir, &mut marks, table);
 }

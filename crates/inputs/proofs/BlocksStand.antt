@@ -1,4 +1,4 @@
--- Where the blocks of a checked pack stand: after its only word of kind 28.
+-- Where the blocks of a checked pack stand: after their count.
 use Prim.Native.Nat.{ℕ, suc, _+_, _-_, _<_, _≤_}
 use native.Mathlib.Omega.{arith}
 use mathlib.Core.Path.{_≡_, refl, ap, sym, _∙_}
@@ -6,20 +6,18 @@ use mathlib.Core.List.{List, [], _∷_, _++_, append-assoc, append-nil}
 use mathlib.Core.Bool.{Bool, true, false}
 use mathlib.Core.Option.{Option, none, some}
 use lib.ListN.{length, getD, length-append}
-use lib.Seq.{getD-at}
 use lib.Dec.{eqb}
 use borrow.Author.Tests.{leb-true, eqb-true, eqb-false}
 use Rattle.pack.specs.Table.{pick, kindOf, wordOf, table, entryOf}
 use Rattle.pack.specs.Form.{allowedHere, wordsAll, FineAll, says, count, items, listOrNone, wordsBy, Fine}
-use Rattle.pack.specs.Pack.{Item, Block, Pack, WellFormed, yes, read, item, blockItems, block, blocks, defaulted, relations, rules, records, inner, layout, total, words, firstKind, Edition, undated}
+use Rattle.pack.specs.Pack.{Item, Block, Pack, WellFormed, yes, read, item, blockItems, block, blocks, defaulted, relations, rules, records, inner, layout, total, words, toRow, firstKind, Edition, undated}
 use Rattle.pack.proofs.PackLaws.{words-read}
-use Rattle.chains.specs.AllKinds.{IsPack}
-use Rattle.chains.proofs.Hushed.{Quiet, quiet-append, quiet-word, kind-word}
+use Rattle.records.specs.Directory.{relationsAt, rulesAt, blocksAt}
+use Rattle.chains.specs.AllKinds.{BlocksAt}
 use Rattle.inputs.specs.Inputs.{sequence, input}
 use Rattle.chains.specs.Record.{valueAt}
-use Rattle.inputs.specs.Blocks.{inputIn, placeOfKind}
+use Rattle.inputs.specs.Blocks.{inputIn}
 use Rattle.chains.proofs.RecordLaws.{value-there}
-use Rattle.inputs.proofs.WordsBefore.{loud, defaulted-hushed, relations-hushed, rules-hushed, place-quiet, only-there}
 use Rattle.inputs.proofs.InputRead.{numberOf, input-read, itemsWords, blockWords, blocksWords, ItemsFit, BlockFits, BlocksFit}
 
 -- ---- the blocks themselves
@@ -76,19 +74,6 @@ module _ (n : ℕ) where
   blocks-fit [] h = tt
   blocks-fit (b ∷ bs) h = (block-fits b (h .0), blocks-fit bs (h .1))
 
--- none of their words is of kind 28
-items-quiet : (l : List Item) → ItemsFit l → Quiet (loud 28) (itemsWords l)
-items-quiet [] f = tt
-items-quiet (i ∷ l) f =
-    (quiet-word (loud 28) 31 (i .name) (f .0) refl .0, (quiet-word (loud 28) 32 (i .boolean) (f .1) refl .0, (quiet-word (loud 28) 33 (i .entity) (f .2) refl .0, items-quiet l (f .3))))
-
-blocks-quiet : (bs : List Block) → BlocksFit bs → Quiet (loud 28) (blocksWords bs)
-blocks-quiet [] f = tt
-blocks-quiet (b ∷ bs) f =
-    let fit = f .0 in
-    let q : Quiet (loud 28) (blockWords b) = (quiet-word (loud 28) 29 (b .origin) (fit .origin) refl .0, (quiet-word (loud 28) 30 (count listOrNone (b .items)) (fit .counts) refl .0, items-quiet (sequence (b .items)) (fit .items))) in
-    quiet-append (loud 28) (blockWords b) (blocksWords bs) q (blocks-quiet bs (f .1))
-
 -- ---- a pack
 
 -- the defaulted names begin with their count
@@ -99,11 +84,11 @@ first-word n ds = omega arith
 pub first-kind : (e : Edition) → firstKind e ≡ 1
 first-kind undated = refl
 
--- the words before the blocks, and that they are all other words
+-- the words before the blocks
 pub record Stands (p : Pack) : Type 0 where
   pub before : List ℕ
   pub same : words p ≡ before ++ (wordOf 28 (length (p .blocks)) ∷ blocksWords (p .blocks))
-  pub quiet : Quiet (loud 28) before
+  pub long : length before ≡ blocksAt (p .names) 2 (toRow p .1)
   pub fits : BlocksFit (p .blocks)
   pub few : length (p .blocks) ≤ 64
   pub three : 3 ≤ length before
@@ -113,7 +98,7 @@ unfolding allowedHere entryOf table
 few-blocks n v e = leb-true v 64 e
 
 pub blocks-stand : (p : Pack) → WellFormed p → Stands p
-unfolding words layout inner records blocks Fine wordsBy items count
+unfolding words layout inner records blocks Fine wordsBy items count blocksAt rulesAt relationsAt
 blocks-stand p w =
     let n : ℕ = p .names in
     let f = w .parts in
@@ -127,52 +112,11 @@ blocks-stand p w =
           rw (first-kind (p .edition))
           (ap (λ (l : List ℕ). wordOf 1 (total p) ∷ wordOf 2 n ∷ l)
           (ap (λ (l : List ℕ). a ++ l) (sym (append-assoc b c d)) ∙ sym (append-assoc a (b ++ c) d) ∙ ap (λ (l : List ℕ). (a ++ (b ++ c)) ++ l) (blocks-words n (p .blocks))));
-      quiet = (
-        quiet-word (loud 28) 1 (total p) (omega (arith, w .most)) refl .0,
-        (
-          quiet-word (loud 28) 2 n (f .0 .0) refl .0,
-          quiet-append (loud 28) a (b ++ c) (defaulted-hushed 28 (omega arith) (omega arith) n (p .defaulted) (f .1 .0)) (quiet-append (loud 28) b c (relations-hushed 28 (omega arith) (omega arith) n (p .relations) (f .1 .1 .0)) (rules-hushed 28 (omega arith) (omega arith) n (omega arith) (p .rules) (f .1 .1 .1 .0))),
-        ),
-      );
+      long = omega (arith, length-append a (b ++ c), length-append b c);
       fits = blocks-fit n (p .blocks) (f .1 .1 .1 .1 .2);
       few = few-blocks n (length (p .blocks)) (f .1 .1 .1 .1 .0 .1);
       three = (let x = length-append a (b ++ c) in let y = first-word n (p .defaulted) in omega arith);
     }
-
--- ---- their place
-
--- in the words of a pack, no other word is of kind 28
-pub record OnlyPlace (ws : List ℕ) (at : ℕ) : Type 0 where
-  pub near : at < length ws
-  pub there : kindOf (getD ws at 0) ≡ 28
-  pub only : (k : ℕ) → k < length ws → kindOf (getD ws k 0) ≡ 28 → k ≡ at
-
-pub only-place : {ws : List ℕ} → IsPack ws → OnlyPlace ws (placeOfKind 28 0 ws)
-only-place {ws} h =
-    let p : Pack = h .pack in
-    let r = words-read ws p (h .reads) in
-    let s = blocks-stand p (r .fine) in
-    let bs : List Block = p .blocks in
-    let v : length bs < 16777216 = omega (arith, s .few) in
-    let place : placeOfKind 28 0 (s .before ++ (wordOf 28 (length bs) ∷ blocksWords bs)) ≡ length (s .before) = place-quiet 28 (s .before) (blocksWords bs) (length bs) 0 v (s .quiet) ∙ omega arith in
-    rw (sym (r .same) ∙ s .same, place)
-    (record {
-      near = omega (arith, length-append (s .before) (wordOf 28 (length bs) ∷ blocksWords bs));
-      there = ap kindOf (getD-at (s .before) (wordOf 28 (length bs)) (blocksWords bs) 0 (length (s .before)) refl) ∙ kind-word 28 (length bs) v;
-      only = λ k i e. only-there 28 (s .before) (blocksWords bs) (wordOf 28 (length bs)) k (s .quiet) (blocks-quiet bs (s .fits)) i e;
-    })
-
--- so it is met from the end, and is not passed before
-module _ {ws : List ℕ} {at i : ℕ} (o : OnlyPlace ws at) (within : i ≤ length ws) (ahead : at < i) where
-  pub met : kindOf (getD ws (i - 1) 0) ≡ 28 → i - 1 ≡ at
-  met e = o .only (i - 1) (omega arith) e
-
-  pub ahead-still : (kindOf (getD ws (i - 1) 0) ≡ 28 → ⊥) → at < i - 1
-  ahead-still z = go (eqb at (i - 1)) refl
-    where
-      go : (b : Bool) → eqb at (i - 1) ≡ b → at < i - 1
-      go true e = absurd (z (rw (← eqb-true at (i - 1) e) (o .there)))
-      go false e = let n = eqb-false at (i - 1) e in omega arith
 
 -- of the words of a pack: the place of its count of blocks, and what an input is there
 pub record ReadsInputs (ws : List ℕ) (p : Pack) (at : ℕ) : Type 0 where
@@ -181,14 +125,14 @@ pub record ReadsInputs (ws : List ℕ) (p : Pack) (at : ℕ) : Type 0 where
   pub near : at < length ws
   pub inputs : (origin owner name : ℕ) → inputIn ws (at + 1) (valueAt ws at) origin owner name ≡ numberOf (input (p .blocks) origin owner name)
 
-pub reads-inputs : (ws : List ℕ) (p : Pack) → read ws ≡ yes p → {at : ℕ} → at ≡ placeOfKind 28 0 ws → ReadsInputs ws p at
+pub reads-inputs : (ws : List ℕ) (p : Pack) → read ws ≡ yes p → {at : ℕ} → BlocksAt ws at → ReadsInputs ws p at
 reads-inputs ws p h {at} e =
     let r = words-read ws p h in
     let s = blocks-stand p (r .fine) in
     let bs : List Block = p .blocks in
     let same : ws ≡ s .before ++ (wordOf 28 (length bs) ∷ blocksWords bs) = sym (r .same) ∙ s .same in
     let v : length bs < 16777216 = omega (arith, s .few) in
-    let l : at ≡ length (s .before) = e ∙ ap (placeOfKind 28 0) same ∙ place-quiet 28 (s .before) (blocksWords bs) (length bs) 0 v (s .quiet) ∙ omega arith in
+    let l : at ≡ length (s .before) = e .after p h ∙ sym (s .long) in
     let c : valueAt ws at ≡ length bs = value-there ws (s .before) (blocksWords bs) 28 (length bs) at same (sym l) v in
     let one : List ℕ = wordOf 28 (length bs) ∷ [] in
     let opened : ws ≡ (s .before ++ one) ++ (blocksWords bs ++ []) = same ∙ sym (append-assoc (s .before) one (blocksWords bs)) ∙ ap (λ (x : List ℕ). (s .before ++ one) ++ x) (sym (append-nil (blocksWords bs))) in

@@ -69,8 +69,3 @@ pub record AfterBlock (ws : List ℕ) (at next : ℕ) : Type 0 where
 pub record SeenBlocks (ws : List ℕ) (origin name at count seen : ℕ) : Type 0 where
   pub is : seen ≡ seenBlocks ws origin name at count 0
   pub near : seen ≤ far
-
--- the place of the first word of a kind, from a place on
-unfoldable pub placeOfKind : ℕ → ℕ → List ℕ → ℕ
-placeOfKind kind at [] = at
-placeOfKind kind at (w ∷ ws) = pick (eqb (kindOf w) kind) at (placeOfKind kind (suc at) ws)

@@ -1,3 +1,2 @@
-// The blocks of a pack (blocks), and the declarations of an input in them (inputs).
-pub mod blocks;
+// The declarations of an input in the blocks of a pack.
 pub mod inputs;

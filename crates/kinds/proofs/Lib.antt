@@ -1,6 +1,5 @@
 pub mod LeanLaws
 pub mod SourceLaws
-pub mod PlaceLaws
 pub mod PartLaws
 pub mod OperationLaws
 pub mod RefusalNumbers

@@ -1,69 +1,75 @@
 -- The parts of the operations, of words that Check accepts.
-use Prim.Native.Nat.{ℕ, _+_, _-_, _<_}
+use Prim.Native.Nat.{ℕ, zero, suc, _+_, _-_, _<_, _≤_}
 use native.Mathlib.Omega.{arith}
 use mathlib.Core.Path.{_≡_, refl, ap, sym, _∙_}
 use mathlib.Core.List.{List, [], _∷_, map}
-use lib.ListN.{length, getD, length-map}
+use lib.ListN.{getD}
 use Rattle.pack.specs.Pack.{Relation, Pack, WellFormed, yes, read}
 use Rattle.chains.specs.Kinds.{declared, ownAnswer}
 use Rattle.chains.specs.Places.{placeOf, allKindsWords}
-use Rattle.chains.specs.Declaration.{declarations}
-use Rattle.chains.specs.Settle.{Walkable, WalkedHere}
-use Rattle.chains.specs.AllKinds.{IsPack, Counted, Noted, KindsMarked}
-use Rattle.kinds.specs.Parts.{placesIn, OwnPlace, KindsLeft}
+use Rattle.records.specs.declared.directory.Layout.{Layout}
+use Rattle.chains.specs.ByName.{tableFrom}
+use Rattle.chains.specs.Entry.{declarationsIn, namesIn}
+use Rattle.chains.specs.Settle.{Walkable, WalkedHere, Placeable}
+use Rattle.chains.specs.AllKinds.{IsDirectory, KindsMarked}
+use Rattle.kinds.specs.Parts.{placeAt, OwnPlace, KindsLeft}
 use Rattle.chains.proofs.PackIndex.{zeros}
 use Rattle.chains.proofs.KindLaws.{in-row, words-own}
-use Rattle.chains.proofs.PlaceBounds.{Indexes}
+use Rattle.chains.proofs.EntryLaws.{name-here, names-long}
 use Rattle.chains.proofs.AllKindsLaws.{own-found}
-use Rattle.chains.proofs.CheckedLaws.{is-fine, settleable-pack, same-pack, its-index, its-names, its-fuel, few-names}
+use Rattle.chains.proofs.CheckedLaws.{is-fine, settleable-pack, same-pack, its-index, its-fuel, few-relations}
 
 -- ---- one name
 
-module _ {ws names starts : List ℕ} (c : IsPack ws) (noted : Noted ws names starts) where
+module _ {ws : List ℕ} {l : Layout} {dir : List ℕ} (d : IsDirectory ws l dir) where
   abbrev p : Pack
-  p = c .pack
-
-  abbrev rs : List Relation
-  rs = p .relations
+  p = d .checked .pack
 
   abbrev table : List ℕ
-  table = declarations ws starts
+  table = declarationsIn dir
 
   fine : WellFormed p
-  fine = is-fine c
+  fine = is-fine (d .checked)
 
-  index : Indexes p table
-  index = its-index c noted
+  pub walkable-own : {name : ℕ} → name < 4096 → Walkable table zeros 0 name (l .relations + 1)
+  walkable-own h =
+      let s = settleable-pack p fine table (its-index d) in
+      record { name = h; leading = s .leading; marked = s .marked; long = s .long; room = omega (arith, few-relations d) }
 
-  each-counted : {count : ℕ} → Counted ws count → count ≡ length names
-  each-counted k = k .relations p (c .reads) ∙ sym (length-map rs (λ (r : Relation). r .name)) ∙ sym (ap length (its-names c noted))
+  pub own-place : {name r steps : ℕ} {marks : List ℕ} → WalkedHere table zeros 0 name (l .relations + 1) r marks steps → OwnPlace ws name r
+  own-place {name} {r} w =
+      let e : r ≡ placeOf p (ownAnswer (p .relations) name) =
+      w .answers [] (settleable-pack p fine table (its-index d) .idle) ∙ rw (its-fuel d) (own-found p table (its-index d) name) in
+      record { says = λ q h. e ∙ ap (λ (p : Pack). placeOf p (ownAnswer (p .relations) name)) (same-pack ws (d .checked .reads) h) }
 
-  pub walkable-own : {count : ℕ} → Counted ws count → {name : ℕ} → name < 4096 → Walkable table zeros 0 name (count + 1)
-  walkable-own k h =
-      let s = settleable-pack p fine table index in
-      record { name = h; leading = s .leading; marked = s .marked; long = s .long; room = omega (arith, few-names c noted, each-counted k) }
-
-  pub own-place : {count : ℕ} → Counted ws count → {name r steps : ℕ} {marks : List ℕ} → WalkedHere table zeros 0 name (count + 1) r marks steps → OwnPlace ws name r
-  own-place {count} k {name} {r} w =
-      let e : r ≡ placeOf p (ownAnswer rs name) =
-      w .answers [] (settleable-pack p fine table index .idle) ∙ rw (each-counted k, its-fuel c noted) (own-found p table index name) in
-      record { says = λ q h. e ∙ ap (λ (p : Pack). placeOf p (ownAnswer (p .relations) name)) (same-pack ws (c .reads) h) }
-
--- ---- the places of marked names
+-- ---- the places of all relations
 
 map-names : {B : Type 0} (f : ℕ → B) (rs : List Relation) → map f (declared rs) ≡ map (λ (r : Relation). f (r .name)) rs
 map-names f [] = refl
 map-names f (r ∷ rs) = ap (λ (l : List _). f (r .name) ∷ l) (map-names f rs)
 
-module _ {ws names marks : List ℕ} {steps : ℕ} (c : IsPack ws) (m : KindsMarked ws steps names marks) where
-  places-are : (p : Pack) → read ws ≡ yes p → placesIn marks names ≡ allKindsWords p
-  unfolding placesIn
+table-mapped : (f g : ℕ → ℕ) (i k : ℕ) → tableFrom (λ j. f (g j)) i k ≡ map f (tableFrom g i k)
+table-mapped f g i zero = refl
+table-mapped f g i (suc k) = ap (λ (l : List ℕ). f (g i) ∷ l) (table-mapped f g (suc i) k)
+
+module _ {ws marks : List ℕ} (dir : List ℕ) {steps : ℕ} (many : ℕ) (m : KindsMarked ws steps (namesIn dir many) marks) where
+  places-are : (p : Pack) → read ws ≡ yes p → tableFrom (placeAt marks dir) 0 many ≡ allKindsWords p
+  unfolding placeAt namesIn
   places-are p h =
       let rs : List Relation = p .relations in
-      rw (m .named p h)
-      (map-names (λ n. getD marks n 0 - 2) rs
+      table-mapped (λ n. getD marks n 0 - 2) (λ j. getD dir j 0) 0 many
+      ∙ ap (map (λ n. getD marks n 0 - 2)) (m .named p h)
+      ∙ map-names (λ n. getD marks n 0 - 2) rs
       ∙ in-row (λ n. getD marks n 0 - 2) (λ n. placeOf p (ownAnswer rs n)) rs (λ n i. (let e = m .marked p h n i in omega arith))
-      ∙ sym (words-own p))
+      ∙ sym (words-own p)
 
-  pub kinds-left : {out : List ℕ} → out ≡ placesIn marks names → KindsLeft ws steps out
-  kinds-left e = record { counts = m .counts; holds = λ p h. e ∙ places-are p h }
+  pub kinds-left : {out : List ℕ} {count : ℕ} → count ≡ many → out ≡ tableFrom (placeAt marks dir) 0 count → KindsLeft ws steps out
+  kinds-left c e = record { counts = m .counts; holds = λ p h. e ∙ ap (tableFrom (placeAt marks dir) 0) c ∙ places-are p h }
+
+-- each name of the directory has a settled mark
+module _ (marks dir : List ℕ) (many : ℕ) (asked : Placeable marks (namesIn dir many)) (j : ℕ) (h : j < many) {name : ℕ} (e : name ≡ getD dir j 0) where
+  pub named-low : name < 4096
+  named-low = omega (arith, asked .names-below j, name-here dir many j h)
+
+  pub named-settled : 2 ≤ getD marks name 0
+  named-settled = rw (e ∙ sym (name-here dir many j h)) (asked .settled j (omega (arith, names-long dir many)))

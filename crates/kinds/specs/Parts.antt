@@ -1,7 +1,7 @@
 -- What the parts of the operations promise each other, of words that Check accepts.
 use Prim.Native.Nat.{ℕ, _-_}
 use mathlib.Core.Path.{_≡_}
-use mathlib.Core.List.{List, map}
+use mathlib.Core.List.{List}
 use mathlib.Core.Bool.{Bool}
 use lib.ListN.{getD}
 use Rattle.pack.specs.Pack.{Pack, yes, read}
@@ -9,9 +9,9 @@ use Rattle.chains.specs.Kinds.{allKinds, ownAnswer}
 use Rattle.chains.specs.Reach.{leans}
 use Rattle.chains.specs.Places.{placeOf, allKindsWords}
 
--- each name's settled place
-unfoldable pub placesIn : List ℕ → List ℕ → List ℕ
-placesIn marks names = map (λ n. getD marks n 0 - 2) names
+-- the settled place of the relation with a number
+unfoldable pub placeAt : List ℕ → List ℕ → ℕ → ℕ
+placeAt marks dir j = getD marks (getD dir j 0) 0 - 2
 
 -- the places, and the number of declarations read
 pub record KindsLeft (ws : List ℕ) (steps : ℕ) (out : List ℕ) : Type 0 where

@@ -1,11 +1,13 @@
 // The source (12) of a relation, read at its record, and where sources lead.
+use chains::entry::start;
 use chains::record::flag_at;
 use chains::record::kind_count;
 use chains::record::value_at;
 use pack::kinds::Pack;
+use records::directory::Words;
 ghost use mathlib.Core.Path.{_≡_};
 ghost use Prim.Native.Nat.{_<_, _≤_};
-ghost use Rattle.chains.specs.Record.{Recorded};
+ghost use Rattle.chains.specs.Entry.{startsIn};
 ghost use Rattle.kinds.specs.Sources.{sourceIn, sourcesIn, Sourced};
 ghost use Rattle.chains.specs.Reach.{leadsWithin};
 
@@ -29,14 +31,14 @@ fn source_at(pack: &[u32], start: usize) -> u32
 }
 
 // Whether one or more sources, and no more than so many, lead from a name to another.
-pub fn leads(pack: &[u32], records: &[u32; 4096], a: usize, b: usize, most: usize) -> bool
-    requires { ⌜ Recorded (now records) × Sourced (now pack) (now records) × (a < 4096) ⌝ }
-    ensures { λ r. ⌜ r ≡ leadsWithin (sourcesIn (now (pack .entry)) (now (records .entry))) most a b ⌝ }
+pub fn leads(pack: &[u32], dir: &Words, a: usize, b: usize, most: usize) -> bool
+    requires { ⌜ Sourced (now pack) (startsIn (now dir)) × (a < 4096) ⌝ }
+    ensures { λ r. ⌜ r ≡ leadsWithin (sourcesIn (now (pack .entry)) (startsIn (now (dir .entry)))) most a b ⌝ }
 {
     let mut n = a;
     let mut left = most;
     while 0 < left {
-        let s = source_at(pack, records[n] as usize);
+        let s = source_at(pack, start(dir, n));
         if s == 0 {
             return false;
         }

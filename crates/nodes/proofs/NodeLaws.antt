@@ -70,7 +70,7 @@ module _ {kind : ℕ} {w : Follows} {rest : List (List ℕ)} (s : SlotForm kind 
 -- what setting slots asks for
 pub node-asked : {kind : ℕ} {w : Follows} {rest : List (List ℕ)} → SlotForm kind w rest → {records work : List ℕ} {place : ℕ} → NodeAsked records kind work place → (entity : ℕ) → TurnAsked records work place entity
 node-asked s {records} {work} {place} a entity =
-    record { recorded = a .recorded; node = asked-slots s (a .names) (a .most) (a .levels) (a .sort) (a .root) (a .after) work (a .fine) (a .stands) (a .kinded); near = let h = a .near in omega arith }
+    record { node = asked-slots s (a .names) (a .most) (a .levels) (a .sort) (a .root) (a .after) work (a .fine) (a .stands) (a .kinded); near = let h = a .near in omega arith }
 
 -- ---- nodes with slots and without children
 

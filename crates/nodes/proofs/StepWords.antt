@@ -7,7 +7,7 @@ use mathlib.Core.Option.{Option, none, some}
 use Rattle.pack.specs.declared.table.Follows.the-variants.{Aggregate}
 use Rattle.pack.specs.Table.{valueOf, wordOf}
 use Rattle.pack.specs.Pack.{Pack, yes, read}
-use Rattle.chains.specs.AllKinds.{Noted, KindsMarked}
+use Rattle.chains.specs.AllKinds.{BlocksAt, Noted, KindsMarked}
 use Rattle.filtered.specs.Taking.{Known}
 use lib.ListN.{getD}
 use Rattle.directions.specs.declared.direction.Direction.{Direction}
@@ -20,7 +20,6 @@ use Rattle.directions.specs.Turning.{Citing, Fields, aggregate, membershipTest,
 use Rattle.directions.specs.Resolving.{cites}
 use Rattle.directions.specs.Words.{tablesIn, MemberTurned}
 use Rattle.chains.specs.Record.{valueAt}
-use Rattle.inputs.specs.Blocks.{placeOfKind}
 use Rattle.nodes.specs.Walk.{TwoSlots, SlotsFit, SlotsSet, slotsSet, kindCode, testCode, NodeTurned, MemberStepped, orNot, citingIn, stepCode, fieldsAfter, SlotNode, AnyFields, Stepped}
 use Rattle.nodes.proofs.KeepsForm.{member-fits}
 use Rattle.nodes.proofs.SlotLaws.{head-is, current-is, related-is, slots-fit-in, tables-fit-in}
@@ -124,7 +123,7 @@ number-again (some zero) h = absurd (omega (arith, h .0))
 number-again (some (suc n)) h = refl
 
 pub citing-is : (ws records marks taken names : List ℕ) (steps : ℕ) (p : Pack) → read ws ≡ yes p → Noted ws names records → KindsMarked ws steps names marks → Known ws taken
-    → {at : ℕ} → at ≡ placeOfKind 28 0 ws → (name origin : ℕ) → citingIn ws records marks taken (at + 1) (valueAt ws at) name origin ≡ cites p name origin
+    → {at : ℕ} → BlocksAt ws at → (name origin : ℕ) → citingIn ws records marks taken (at + 1) (valueAt ws at) name origin ≡ cites p name origin
 unfolding citingIn
 citing-is ws records marks taken names steps p h noted marked knows {at} e name origin =
     let t = tables-are ws records marks taken names steps p h noted marked knows in

@@ -15,7 +15,6 @@ use Rattle.directions.specs.Tables.{Tables}
 use Rattle.directions.specs.Direction.{turn, Membership}
 use Rattle.directions.specs.Turning.{Outcome, done, refused, Citing, Fields, Step, goes, stops, stepBy, fieldWords, treeWords, forestWords, size, sizes, resolveTree, resolveForest}
 use Rattle.directions.specs.Words.{tablesIn}
-use Rattle.chains.specs.Record.{Recorded}
 use Rattle.inputs.specs.Blocks.{inputIn}
 
 -- a refusal in one number, which no number of words and no value is: its number, its place and its other
@@ -53,7 +52,6 @@ pub record SlotsSet (work : List ℕ) (d : Direction) (left : List ℕ) : Type 0
 
 -- what setting the slots of an aggregate asks for, and what it leaves
 pub record TurnAsked (records work : List ℕ) (place entity : ℕ) : Type 0 where
-  pub recorded : Recorded records
   pub node : TwoSlots work
   pub near : place < 16384
 
@@ -187,7 +185,6 @@ pub record RowWalked (C : Citing) (levels sort many entity : ℕ) (m : Membershi
 
 -- what all walkers ask for: places, blocks and the records are within bounds
 pub record Standing (records work : List ℕ) (place entity blocks count : ℕ) : Type 0 where
-  pub recorded : Recorded records
   pub value : entity < 16777216
   pub near : place + length work ≤ 8192
   pub low : blocks ≤ 65536
@@ -205,7 +202,6 @@ pub record TreeAsked (records : List ℕ) (levels sort : ℕ) (work : List ℕ) 
 
 -- a node of a kind stands there
 pub record NodeAsked (records : List ℕ) (kind : ℕ) (work : List ℕ) (place : ℕ) : Type 0 where
-  pub recorded : Recorded records
   pub near : place + length work ≤ 8192
   pub names : ℕ
   pub most : names ≤ 4096

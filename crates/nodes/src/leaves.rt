@@ -2,9 +2,11 @@
 use crate::slots::member_node;
 use crate::slots::only_node;
 use pack::kinds::Pack;
+use records::directory::Words;
 ghost use Prim.Native.Nat.{_<_, _≤_};
 ghost use Rattle.directions.specs.Words.{membershipIn};
 ghost use Rattle.nodes.specs.Walk.{NodeAsked, MemberWalked, OnlyWalked};
+ghost use Rattle.chains.specs.Entry.{startsIn};
 
 // The blocks and the origin of the citing rule or relation: where the first block stands and how many they are.
 pub struct Cited {
@@ -16,16 +18,16 @@ pub struct Cited {
 // RelationMember.
 pub fn relation_member(
     pack: &[u32],
-    records: &[u32; 4096],
+    dir: &Words,
     work: &mut [u32],
     place: u32,
     entity: u32,
     m: u64,
 ) -> u64
-    requires { ⌜ NodeAsked (now records) 101 (now work) place × (entity < 16777216) ⌝ }
-    ensures { λ r. ⌜ MemberWalked (now (pack .entry)) (now (records .entry)) entity (membershipIn m) place (now (work .entry)) r (now (work .exit)) ⌝ }
+    requires { ⌜ NodeAsked (startsIn (now dir)) 101 (now work) place × (entity < 16777216) ⌝ }
+    ensures { λ r. ⌜ MemberWalked (now (pack .entry)) (startsIn (now (dir .entry))) entity (membershipIn m) place (now (work .entry)) r (now (work .exit)) ⌝ }
 {
-    let code = member_node(pack, records, work, place, entity, m);
+    let code = member_node(pack, dir, work, place, entity, m);
     if Pack::VALUES as u64 <= code {
         return code;
     }
@@ -35,7 +37,7 @@ pub fn relation_member(
 // OnlyRelated.
 pub fn only_related(
     pack: &[u32],
-    records: &[u32; 4096],
+    dir: &Words,
     marks: &[u32; 4096],
     taken: &[u32; 4096],
     cited: Cited,
@@ -43,12 +45,12 @@ pub fn only_related(
     place: u32,
     entity: u32,
 ) -> u64
-    requires { ⌜ NodeAsked (now records) 78 (now work) place × (cited .blocks ≤ 65536) × (cited .count ≤ 64) ⌝ }
-    ensures { λ r. ⌜ OnlyWalked (now (pack .entry)) (now (records .entry)) (now (marks .entry)) (now (taken .entry)) (cited .blocks) (cited .count) (cited .origin) entity place (now (work .entry)) r (now (work .exit)) ⌝ }
+    requires { ⌜ NodeAsked (startsIn (now dir)) 78 (now work) place × (cited .blocks ≤ 65536) × (cited .count ≤ 64) ⌝ }
+    ensures { λ r. ⌜ OnlyWalked (now (pack .entry)) (startsIn (now (dir .entry))) (now (marks .entry)) (now (taken .entry)) (cited .blocks) (cited .count) (cited .origin) entity place (now (work .entry)) r (now (work .exit)) ⌝ }
 {
     let code = only_node(
         pack,
-        records,
+        dir,
         marks,
         taken,
         cited.blocks,

@@ -4,11 +4,13 @@ use directions::direction::member;
 use directions::direction::turn;
 use inputs::inputs::input;
 use pack::kinds::Pack;
+use records::directory::Words;
 ghost use mathlib.Core.Path.{_≡_};
 ghost use Prim.Native.Nat.{_<_, _≤_};
 ghost use Rattle.directions.specs.Words.{tablesIn, membershipIn};
 ghost use Rattle.inputs.specs.Blocks.{inputIn};
 ghost use Rattle.nodes.specs.Walk.{TwoSlots, SlotsFit, SlotsSet, refusalCode, kindCode, testCode, TurnAsked, NodeTurned, MemberStepped, onlyNumber, OnlyAsked, OnlyStepped};
+ghost use Rattle.chains.specs.Entry.{startsIn};
 
 // Sets them as a direction says.
 pub fn set_slots(work: &mut [u32], d: Direction)
@@ -44,29 +46,20 @@ fn kind_code(place: u32, d: Direction) -> u64
 // An aggregate at the front of a slice: its slots are set, and the kind for its where tree results.
 pub fn turn_node(
     pack: &[u32],
-    records: &[u32; 4096],
+    dir: &Words,
     marks: &[u32; 4096],
     taken: &[u32; 4096],
     work: &mut [u32],
     place: u32,
     entity: u32,
 ) -> u64
-    requires { ⌜ TurnAsked (now records) (now work) place entity ⌝ }
-    ensures { λ r. ⌜ NodeTurned (tablesIn (now (pack .entry)) (now (records .entry)) (now (marks .entry)) (now (taken .entry))) (now (work .entry)) place entity r (now (work .exit)) ⌝ }
+    requires { ⌜ TurnAsked (startsIn (now dir)) (now work) place entity ⌝ }
+    ensures { λ r. ⌜ NodeTurned (tablesIn (now (pack .entry)) (startsIn (now (dir .entry))) (now (marks .entry)) (now (taken .entry))) (now (work .entry)) place entity r (now (work .exit)) ⌝ }
 {
     let relation = (work[0] % Pack::VALUES) as usize;
     let current = work[1] % Pack::VALUES;
     let related = work[2] % Pack::VALUES;
-    let d = turn(
-        pack,
-        records,
-        marks,
-        taken,
-        relation,
-        entity,
-        current,
-        related,
-    );
+    let d = turn(pack, dir, marks, taken, relation, entity, current, related);
     set_slots(work, d);
     kind_code(place, d)
 }
@@ -85,19 +78,19 @@ fn test_code(place: u32, entity: u32, d: Direction) -> u64
 // A test of membership at the front of a slice: its slots are set.
 pub fn member_node(
     pack: &[u32],
-    records: &[u32; 4096],
+    dir: &Words,
     work: &mut [u32],
     place: u32,
     entity: u32,
     m: u64,
 ) -> u64
-    requires { ⌜ TurnAsked (now records) (now work) place 0 ⌝ }
-    ensures { λ r. ⌜ MemberStepped (now (pack .entry)) (now (records .entry)) (now (work .entry)) place entity (membershipIn m) r (now (work .exit)) ⌝ }
+    requires { ⌜ TurnAsked (startsIn (now dir)) (now work) place 0 ⌝ }
+    ensures { λ r. ⌜ MemberStepped (now (pack .entry)) (startsIn (now (dir .entry))) (now (work .entry)) place entity (membershipIn m) r (now (work .exit)) ⌝ }
 {
     let relation = (work[0] % Pack::VALUES) as usize;
     let current = work[1] % Pack::VALUES;
     let related = work[2] % Pack::VALUES;
-    let d = member(pack, records, relation, m, current, related);
+    let d = member(pack, dir, relation, m, current, related);
     set_slots(work, d);
     test_code(place, entity, d)
 }
@@ -117,7 +110,7 @@ fn only_number(pack: &[u32], blocks: usize, count: usize, origin: u32, owner: u3
 // results.
 pub fn only_node(
     pack: &[u32],
-    records: &[u32; 4096],
+    dir: &Words,
     marks: &[u32; 4096],
     taken: &[u32; 4096],
     blocks: usize,
@@ -127,13 +120,13 @@ pub fn only_node(
     place: u32,
     entity: u32,
 ) -> u64
-    requires { ⌜ OnlyAsked (now records) (now work) place entity blocks count ⌝ }
-    ensures { λ r. ⌜ OnlyStepped (now (pack .entry)) (now (records .entry)) (now (marks .entry)) (now (taken .entry)) blocks count origin (now (work .entry)) place entity r (now (work .exit)) ⌝ }
+    requires { ⌜ OnlyAsked (startsIn (now dir)) (now work) place entity blocks count ⌝ }
+    ensures { λ r. ⌜ OnlyStepped (now (pack .entry)) (startsIn (now (dir .entry))) (now (marks .entry)) (now (taken .entry)) blocks count origin (now (work .entry)) place entity r (now (work .exit)) ⌝ }
 {
     let current = work[1];
     let related = work[2];
     let word = work[3];
-    let code = turn_node(pack, records, marks, taken, work, place, entity);
+    let code = turn_node(pack, dir, marks, taken, work, place, entity);
     if Pack::VALUES as u64 <= code {
         return code;
     }

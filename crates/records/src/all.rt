@@ -1,32 +1,59 @@
 // All the records of a pack, one sort after the other.
 use crate::block::blocks;
 use crate::defaulted::defaulted;
+use crate::directory::Laid;
+use crate::directory::Layout;
 use crate::relation::relations;
 use crate::rule::rules;
+use pack::answer::Refusal;
 use pack::cursor::Cursor;
 use pack::cursor::Step;
 ghost use mathlib.Core.Path.{_≡_};
 ghost use Rattle.pack.specs.Packed.{Lent};
 ghost use Prim.Native.Nat.{_≤_};
-ghost use Rattle.pack.specs.Pack.{Edition, records};
-ghost use Rattle.pack.specs.Steps.{walk};
+ghost use Rattle.records.specs.Directory.{Clear, LaidOut, refusal};
 
-// All the records.
-pub fn records(from: Cursor, s: &[u32], t: &[u32; 256], n: u32) -> Step
-    requires { ⌜ (n ≤ 4096) × Lent (now s) (now t) ⌝ }
-    ensures { λ r. ⌜ r ≡ walk (records Edition.undated n) (now (s .entry)) (from .at) ⌝ }
+// What a refused step says.
+pub fn refused(f: Step) -> Laid
+    ensures { λ r. ⌜ r ≡ refusal f ⌝ }
+{
+    match f {
+        Step::Refused(e) => Laid::No(e),
+        Step::On(_, _) => Laid::No(Refusal {
+            number: 0,
+            place: 0,
+            name: 0,
+            other: 0,
+        }),
+    }
+}
+
+// All the records: where they stand, with the relations noted.
+pub fn records(from: Cursor, s: &[u32], t: &[u32; 256], n: u32, dir: &mut [u32]) -> Laid
+    requires { ⌜ (n ≤ 4096) × Lent (now s) (now t) × Clear n (now dir) ⌝ }
+    ensures { λ r. ⌜ LaidOut n (now (s .entry)) (from .at) (now (dir .entry)) r (now (dir .exit)) ⌝ }
 {
     let f1 = defaulted(from, s, n);
     let Step::On(_, c1) = f1 else {
-        return f1;
+        return refused(f1);
     };
-    let f2 = relations(c1, s, t, n);
-    let Step::On(_, c2) = f2 else {
-        return f2;
+    let f2 = relations(c1, s, t, n, dir);
+    let Step::On(count, c2) = f2 else {
+        return refused(f2);
     };
     let f3 = rules(c2, s, t, n);
     let Step::On(_, c3) = f3 else {
-        return f3;
+        return refused(f3);
     };
-    blocks(c3, s, n)
+    let f4 = blocks(c3, s, n);
+    let Step::On(_, c4) = f4 else {
+        return refused(f4);
+    };
+    Laid::Yes(Layout {
+        names: n,
+        relations: count,
+        rules: c2.at,
+        blocks: c3.at,
+        end: c4.at,
+    })
 }

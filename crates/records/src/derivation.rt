@@ -1,5 +1,6 @@
 // Derivations: lists of names, paths, and what else a derivation says.
 use crate::count::repeats;
+use crate::directory::Directory;
 use pack::cursor::Cursor;
 use pack::cursor::Step;
 use pack::kinds::Pack;
@@ -9,12 +10,16 @@ ghost use mathlib.Core.Path.{_≡_};
 ghost use Rattle.pack.specs.declared.table.Rule.the-variants.{AtMost};
 ghost use Rattle.pack.specs.Packed.{Lent, Ruled};
 ghost use Rattle.pack.specs.Pack.{nameList, hop, path, chain, member, derivation, optionalDerivation};
-ghost use Rattle.pack.specs.Steps.{walk};
+ghost use Rattle.pack.specs.Steps.{walk, stepOf};
+ghost use Rattle.pack.specs.Form.{count, list, listOrNone};
+ghost use mathlib.Core.Option.{some};
+ghost use Prim.Native.Nat.{_≤_};
+ghost use Rattle.records.specs.Directory.{leadIn, chainLead, entities, plainBy, derivedBy, noteIn};
 
-// A count of this kind, and as many names.
+// A count of this kind, and as many names: how many.
 pub fn name_list(from: Cursor, s: &[u32], n: u32, kind: u32) -> Step
     requires { ⌜ Ruled kind (AtMost 8) ⌝ }
-    ensures { λ r. ⌜ r ≡ walk (nameList n kind) (now (s .entry)) (from .at) ⌝ }
+    ensures { λ r. ⌜ r ≡ stepOf (count list) (nameList n kind) (now (s .entry)) (from .at) ⌝ }
 {
     let f = from.field(s, n, kind, Rule::AtMost(Pack::MOST_SLOTS));
     let Step::On(count, first) = f else {
@@ -30,7 +35,7 @@ pub fn name_list(from: Cursor, s: &[u32], n: u32, kind: u32) -> Step
         c = next;
         left -= 1;
     }
-    Step::On(0, c)
+    Step::On(count, c)
 }
 
 // A step of a path.
@@ -48,8 +53,9 @@ fn hop(from: Cursor, s: &[u32], n: u32) -> Step
     c2.skip(s, n, Pack::STEP_RELATED, Rule::Any)
 }
 
+// A path: its count.
 fn path(from: Cursor, s: &[u32], n: u32) -> Step
-    ensures { λ r. ⌜ r ≡ walk (path n) (now (s .entry)) (from .at) ⌝ }
+    ensures { λ r. ⌜ r ≡ stepOf (count listOrNone) (path n) (now (s .entry)) (from .at) ⌝ }
 {
     let f = from.field(s, n, Pack::PATH, Rule::AtMostOrNone(Pack::MOST_STEPS));
     let Step::On(count, first) = f else {
@@ -65,32 +71,50 @@ fn path(from: Cursor, s: &[u32], n: u32) -> Step
         c = next;
         left -= 1;
     }
-    Step::On(0, c)
+    Step::On(count, c)
 }
 
-// The source, the path and the slots.
-fn chain(from: Cursor, s: &[u32], n: u32) -> Step
-    ensures { λ r. ⌜ r ≡ walk (chain n) (now (s .entry)) (from .at) ⌝ }
+// The name that a source leads on to and 1, if the path is none; else 0.
+fn lead(source: u32, steps: u32) -> u32
+    requires { ⌜ source ≤ 16777215 ⌝ }
+    ensures { λ r. ⌜ r ≡ leadIn source steps ⌝ }
 {
-    let f1 = from.skip(s, n, Pack::SOURCE, Rule::NameOrNone);
-    let Step::On(_, c1) = f1 else {
+    if steps != Pack::NONE {
+        return 0;
+    }
+    if source == Pack::NONE {
+        return 0;
+    }
+    source + 1
+}
+
+// The source, the path and the slots: where it leads.
+fn chain(from: Cursor, s: &[u32], n: u32) -> Step
+    ensures { λ r. ⌜ r ≡ stepOf chainLead (chain n) (now (s .entry)) (from .at) ⌝ }
+{
+    let f1 = from.field(s, n, Pack::SOURCE, Rule::NameOrNone);
+    let Step::On(source, c1) = f1 else {
         return f1;
     };
     let f2 = path(c1, s, n);
-    let Step::On(_, c2) = f2 else {
+    let Step::On(steps, c2) = f2 else {
         return f2;
     };
     let f3 = c2.skip(s, n, Pack::CURRENT_SLOT, Rule::Any);
     let Step::On(_, c3) = f3 else {
         return f3;
     };
-    c3.skip(s, n, Pack::RELATED_SLOT, Rule::Any)
+    let f4 = c3.skip(s, n, Pack::RELATED_SLOT, Rule::Any);
+    let Step::On(_, c4) = f4 else {
+        return f4;
+    };
+    Step::On(lead(source, steps), c4)
 }
 
-// The entity, the member relation, the list and the predicate.
+// The entity, the member relation, the list and the predicate: how many names the list has.
 fn member(from: Cursor, s: &[u32], t: &[u32; 256], n: u32) -> Step
     requires { ⌜ Lent (now s) (now t) ⌝ }
-    ensures { λ r. ⌜ r ≡ walk (member n) (now (s .entry)) (from .at) ⌝ }
+    ensures { λ r. ⌜ r ≡ stepOf entities (member n) (now (s .entry)) (from .at) ⌝ }
 {
     let f1 = from.skip(s, n, Pack::ENTITY, Rule::NameOrNone);
     let Step::On(_, c1) = f1 else {
@@ -101,34 +125,73 @@ fn member(from: Cursor, s: &[u32], t: &[u32; 256], n: u32) -> Step
         return f2;
     };
     let f3 = name_list(c2, s, n, Pack::SLOT_ENTITIES);
-    let Step::On(_, c3) = f3 else {
+    let Step::On(many, c3) = f3 else {
         return f3;
     };
-    judgment(s, t, c3, n, Pack::DEPTH)
+    let f4 = judgment(s, t, c3, n, Pack::DEPTH);
+    let Step::On(_, c4) = f4 else {
+        return f4;
+    };
+    Step::On(many, c4)
 }
 
-fn derivation(from: Cursor, s: &[u32], t: &[u32; 256], n: u32) -> Step
-    requires { ⌜ Lent (now s) (now t) ⌝ }
-    ensures { λ r. ⌜ r ≡ walk (derivation n) (now (s .entry)) (from .at) ⌝ }
+// What is noted of a relation with so many kinds and without a derivation.
+fn plain(kinds: u32) -> u32
+    ensures { λ r. ⌜ r ≡ plainBy kinds ⌝ }
 {
+    if kinds == 0 {
+        return 0;
+    }
+    Directory::LIST_9
+}
+
+// The same with one: its slots stand so far behind its place, its list 21 has so many names.
+fn derived(kinds: u32, slots: u32, many: u32, lead: u32) -> u32
+    requires { ⌜ (slots ≤ 8300) × (lead ≤ 4096) ⌝ }
+    ensures { λ r. ⌜ r ≡ derivedBy kinds slots many lead ⌝ }
+{
+    if many != 0 {
+        return slots + Directory::LIST_21 + Directory::OFFSETS * slots;
+    }
+    if kinds != 0 {
+        return Directory::LIST_9 + Directory::OFFSETS * slots;
+    }
+    if lead == 0 {
+        return Directory::OFFSETS * slots;
+    }
+    Directory::OFFSETS * (Directory::OFFSETS + lead - 1)
+}
+
+// A derivation: what is noted of its relation, which has so many kinds.
+fn derivation(from: Cursor, s: &[u32], t: &[u32; 256], n: u32, kinds: u32) -> Step
+    requires { ⌜ Lent (now s) (now t) × (n ≤ 4096) × (kinds ≤ 8) ⌝ }
+    ensures { λ r. ⌜ r ≡ stepOf (λ d. noteIn kinds (some d)) (derivation n) (now (s .entry)) (from .at) ⌝ }
+{
+    let first = from.at;
     let f1 = chain(from, s, n);
-    let Step::On(_, c1) = f1 else {
+    let Step::On(lead, c1) = f1 else {
         return f1;
     };
-    member(c1, s, t, n)
+    let f2 = member(c1, s, t, n);
+    let Step::On(many, c2) = f2 else {
+        return f2;
+    };
+    // before a derivation stand 6 to 9, the kinds and 11; the slots are the last two words of the chain
+    let slots = 3 + kinds + (c1.at - first) as u32;
+    Step::On(derived(kinds, slots, many, lead), c2)
 }
 
-// A flag, and a derivation where it is 1.
-pub fn optional_derivation(from: Cursor, s: &[u32], t: &[u32; 256], n: u32) -> Step
-    requires { ⌜ Lent (now s) (now t) ⌝ }
-    ensures { λ r. ⌜ r ≡ walk (optionalDerivation n) (now (s .entry)) (from .at) ⌝ }
+// A flag, and a derivation where it is 1: what is noted of the relation.
+pub fn optional_derivation(from: Cursor, s: &[u32], t: &[u32; 256], n: u32, kinds: u32) -> Step
+    requires { ⌜ Lent (now s) (now t) × (n ≤ 4096) × (kinds ≤ 8) ⌝ }
+    ensures { λ r. ⌜ r ≡ stepOf (noteIn kinds) (optionalDerivation n) (now (s .entry)) (from .at) ⌝ }
 {
     let f = from.field(s, n, Pack::DERIVATION, Rule::AtMost(1));
     let Step::On(flag, c) = f else {
         return f;
     };
     if flag == 0 {
-        return Step::On(0, c);
+        return Step::On(plain(kinds), c);
     }
-    derivation(c, s, t, n)
+    derivation(c, s, t, n, kinds)
 }

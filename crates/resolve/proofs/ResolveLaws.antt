@@ -20,18 +20,21 @@ use Rattle.pack.proofs.PackLaws.{words-read}
 use Rattle.chains.specs.Kinds.{find, kindsOf, allKinds}
 use Rattle.chains.specs.Places.{firstRelation, startOf}
 use Rattle.chains.specs.Answers.{Answered}
-use Rattle.chains.specs.AllKinds.{IsPack, Counted, RulesAt}
-use Rattle.chains.proofs.CheckedLaws.{same-pack, few-counted}
+use Rattle.records.specs.declared.directory.Layout.{Layout}
+use Rattle.chains.specs.Entry.{startsIn, namesIn}
+use Rattle.chains.specs.AllKinds.{IsPack, IsDirectory}
+use Rattle.filtered.specs.Taking.{Filled}
+use Rattle.chains.proofs.CheckedLaws.{same-pack, few-relations}
 use Rattle.chains.proofs.PackIndex.{parts, find-name, find-kept}
 use Rattle.directions.specs.Tables.{Tables, derivedAt, tables}
 use Rattle.directions.specs.Turning.{Outcome, done, refused, andThen, mapDone}
 use Rattle.directions.specs.Resolving.{equalKinds, defaultedEqual, equalRefusal, resolveRules, resolveRelations, stamp, firstRule, resolveRecords, resolved}
 use Rattle.resolve.specs.Operations.{givenOut, writtenOut, resolveAnswer, resolveBuffer}
 use Rattle.directions.specs.Words.{derivedBy, tablesIn, firstEqual, DefaultedFit}
-use Rattle.chains.specs.Record.{valueAt, Recorded}
+use Rattle.chains.specs.Record.{valueAt}
 use Rattle.trees.specs.Passes.{withRecords, turned, CameWhole, TreesCame, Tabled, TreesAsked}
 use Rattle.resolve.specs.Finish.{stampAll, unstamped, PackCame, ResolveAsked, FinishAsked, FinishCame}
-use Rattle.directions.proofs.CheckedTables.{its-records, declared-at, derived-alike}
+use Rattle.directions.proofs.CheckedTables.{declared-at, derived-alike}
 use Rattle.directions.proofs.DefaultedLaws.{orNone, defaulted-fit, first-equal-is}
 
 given-not-refused : {n x : ℕ} {r : Refusal} → Given n x ≡ Refused r → ⊥
@@ -77,7 +80,7 @@ pub declared-of : (k : Option (List ℕ)) (o : Option Relation) → equalKinds (
 declared-of k none e = let z : _≡_ {A = ℕ} 0 1 = cc in absurd (omega arith)
 declared-of k (some r) e = (r, refl)
 
-module _ {ws starts marks taken work order : List ℕ} {at : ℕ} (a : TreesAsked ws starts marks taken at work order) where
+module _ {ws : List ℕ} {l : Layout} {starts marks taken work order : List ℕ} (a : TreesAsked ws l starts marks taken work order) where
   abbrev p : Pack
   p = a .tabled .checked .pack
 
@@ -89,13 +92,6 @@ module _ {ws starts marks taken work order : List ℕ} {at : ℕ} (a : TreesAske
 
   abbrev T : Tables
   T = tables (p .relations)
-
-  pub default-recorded : Recorded starts
-  default-recorded = its-records ws starts marks taken (a .tabled .declares) (a .steps) p h (a .tabled .noted) (a .tabled .marked) (a .tabled .knows)
-
-  pub start-small : (m : ℕ) → getD starts m 0 ≤ 65536
-  unfolding Recorded
-  start-small m = default-recorded m
 
   pub default-fit : DefaultedFit ws
   default-fit = defaulted-fit ws p h
@@ -229,15 +225,20 @@ resolve-refused ws lent e o =
 pub finish-of : {ws starts marks taken : List ℕ} {steps : ℕ} (t : Tabled ws starts marks taken steps) {answer : Answer} {left order : List ℕ} {n x : ℕ} → PackCame ws answer left order → answer ≡ Given n x → FinishAsked ws marks left order steps
 finish-of {starts = starts} {taken = taken} t {n = n} {x = x} c e = let d = whole-done (t .checked) [] c e in record { records = starts; taken = taken; tabled = t; whole = d .whole; resolves = d .resolves; stands = d .stands; places = c .places (t .checked .pack) (t .checked .reads) n x e }
 
+pub tabled-of : {ws : List ℕ} {l : Layout} {dir marks taken : List ℕ} {steps : ℕ} → IsDirectory ws l dir → Filled ws (namesIn dir (l .relations)) (startsIn dir) marks taken steps → Tabled ws (startsIn dir) marks taken steps
+tabled-of {l = l} {dir} d f = record { checked = d .checked; declares = namesIn dir (l .relations); noted = f .noted; marked = f .marked; knows = f .knows }
+
 -- a word for each relation
-pub asked-of : {ws starts marks taken work : List ℕ} {steps at : ℕ} → Tabled ws starts marks taken steps → RulesAt ws at → work ≡ ws → {count : ℕ} → Counted ws count → TreesAsked ws starts marks taken at work (midOf 0 (count - 0) (replicate 512 0))
-asked-of {ws} {steps = steps} t ruled e {count} k =
-    let whole : count - 0 ≡ count = omega arith in
-    let long : length {A = ℕ} (midOf 0 (count - 0) (replicate 512 0)) ≡ count = rw whole (length-take-le {A = ℕ} count (replicate 512 0) (omega (arith, few-counted ws (t .checked) k, length-replicate {A = ℕ} 512 0))) in
-    record { steps = steps; tabled = t; ruled = ruled; copied = e; room = λ p h. long ∙ k .relations p h }
+pub asked-of : {ws : List ℕ} {l : Layout} {dir starts marks taken work : List ℕ} {steps : ℕ} → IsDirectory ws l dir → Tabled ws starts marks taken steps → work ≡ ws
+    → TreesAsked ws l starts marks taken work (midOf 0 (l .relations - 0) (replicate 512 0))
+asked-of {ws} {l} {steps = steps} d t e =
+    let k = d .counted in
+    let whole : l .relations - 0 ≡ l .relations = omega arith in
+    let long : length {A = ℕ} (midOf 0 (l .relations - 0) (replicate 512 0)) ≡ l .relations = rw whole (length-take-le {A = ℕ} (l .relations) (replicate 512 0) (omega (arith, few-relations d, length-replicate {A = ℕ} 512 0))) in
+    record { steps = steps; tabled = t; counted = k; ruled = d .ruled; blocked = d .blocked; copied = e; room = λ p h. long ∙ k .relations p h }
 
 front-room : (ws : List ℕ) (most : ℕ) → length ws ≤ most → length {A = ℕ} (midOf 0 (length ws - 0) (replicate most 0)) ≡ length ws
 front-room ws most few = let whole : length ws - 0 ≡ length ws = omega arith in rw whole (length-take-le {A = ℕ} (length ws) (replicate most 0) (omega (arith, length-replicate {A = ℕ} most 0)))
 
-pub in-asked : {ws : List ℕ} (most : ℕ) → IsPack ws → length ws ≤ most → ResolveAsked ws (midOf 0 (length ws - 0) (replicate most 0))
-in-asked {ws} most c few = record { checked = c; room = front-room ws most few }
+pub in-asked : {ws : List ℕ} {l : Layout} {dir : List ℕ} (most : ℕ) → IsDirectory ws l dir → length ws ≤ most → ResolveAsked ws l dir (midOf 0 (length ws - 0) (replicate most 0))
+in-asked {ws} most d few = record { directory = d; room = front-room ws most few }

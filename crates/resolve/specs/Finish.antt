@@ -8,7 +8,8 @@ use Rattle.pack.specs.declared.answer.Answer.{Answer}
 use Rattle.pack.specs.declared.answer.Answer.the-variants.{Given}
 use Rattle.pack.specs.Pack.{Pack, yes, read, words}
 use Rattle.chains.specs.Kinds.{allKinds}
-use Rattle.chains.specs.AllKinds.{IsPack}
+use Rattle.records.specs.declared.directory.Layout.{Layout}
+use Rattle.chains.specs.AllKinds.{IsDirectory}
 use Rattle.directions.specs.Turning.{Outcome, done, refused}
 use Rattle.directions.specs.Tables.{tables}
 use Rattle.directions.specs.Resolving.{defaultedEqual, equalRefusal, stamp}
@@ -48,7 +49,7 @@ pub record FinishCame (ws lent : List ℕ) (answer : Answer) (left : List ℕ) :
   pub answers : (p q : Pack) → read ws ≡ yes p → turned p ≡ done q → answer ≡ givenOut (allKinds (p .relations) .steps) (length lent) (done (stampAll p q))
   pub leaves : (p q : Pack) → read ws ≡ yes p → turned p ≡ done q → left ≡ writtenOut lent (done (stampAll p q))
 
--- a slice for as many words as a checked pack has
-pub record ResolveAsked (ws work : List ℕ) : Type 0 where
-  pub checked : IsPack ws
+-- a checked pack with its directory, and a slice for as many words
+pub record ResolveAsked (ws : List ℕ) (l : Layout) (dir work : List ℕ) : Type 0 where
+  pub directory : IsDirectory ws l dir
   pub room : length work ≡ length ws

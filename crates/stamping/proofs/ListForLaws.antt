@@ -13,7 +13,7 @@ use Rattle.chains.specs.Places.{namesAt}
 use Rattle.filtered.specs.declared.taking.Kind.{Kind}
 use Rattle.filtered.specs.declared.taking.Kind.the-variants as kind
 use Rattle.filtered.specs.Taking.{KindFound}
-use Rattle.chains.specs.Record.{valueAt, kindCount, flagAt, slotsPlace, entityCount, predicateAt}
+use Rattle.chains.specs.Record.{valueAt, kindCount, flagAt, slotsPlace, entityCount, predicateAt, Recorded}
 use Rattle.stamping.specs.Stamping.{roleIn, unstamped, passedIn, unlikeIn, nameAt, listFor, namesOr, Lists, addedFor, listsFor, addedBy, Listed}
 use Rattle.directions.proofs.EqualLaws.{is-known, is-unknown}
 
@@ -171,3 +171,7 @@ module _ (ws work marks atoms : List ℕ) where
             adds = s .sums ∙ ap (λ (l : List ℕ). addedBy ws work l (take i table)) o ∙ ap (addedBy ws work order) t;
             few = let w = s .within in omega (arith, s .small);
           }
+
+pub recorded : (places : List ℕ) (i : ℕ) → Recorded places → getD places i 0 ≤ 65536
+unfolding Recorded
+recorded places i h = h i

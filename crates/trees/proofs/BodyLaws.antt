@@ -175,7 +175,7 @@ module _ (ws records marks taken : List ℕ) (blocks count name origin entity ma
     bodies-asked h a = run-asked bodyWords by BodyFine longs many first work₀ (g .going) h (a .asked)
 
     pub bodies-bodily : Bodily records blocks count entity work₀ → Bodily records blocks count entity work
-    bodies-bodily b = record { recorded = b .recorded; low = b .low; few = b .few; value = b .value; short = let s = b .short in omega (arith, g .going .same) }
+    bodies-bodily b = record { low = b .low; few = b .few; value = b .value; short = let s = b .short in omega (arith, g .going .same) }
 
     module _ (h : 0 < k) {answer : Answer} {left : List ℕ} (c : BodyCame ws records marks taken blocks count name origin entity at work answer left) where
       pub bodies-next : {next x : ℕ} → answer ≡ Given next x → length left ≡ length work → BodiesGoing next (k - 1) left

@@ -317,7 +317,7 @@ module _ {ws records marks taken : List ℕ} {blocks count at : ℕ} {work : Lis
   asked-name = relation-name (a .ready) (a .settled) (a .ready .pack) (a .ready .checked) it (a .asked .front) (a .asked .after) (a .asked .passed) (a .asked .keeps) (a .asked .stands)
 
   pub relation-bodily : {entity : ℕ} → entity < 16777216 → Bodily records blocks count entity work
-  relation-bodily h = record { recorded = a .ready .recorded; low = a .ready .low; few = a .ready .few; value = h; short = a .ready .short }
+  relation-bodily h = record { low = a .ready .low; few = a .ready .few; value = h; short = a .ready .short }
 
   pub came-plain : (flagAt work at ≡ 1 → ⊥) → {next : ℕ} → next ≡ at + 5 + kindCount work at → RelationCame ws at work (Given next 0) work
   came-plain not q = record { each = λ p h. record { each = λ r front after passed keeps stands. plain-relation (a .ready) (a .settled) p h r front after passed keeps stands not q } }
@@ -511,7 +511,6 @@ module _ {ws records marks taken : List ℕ} {blocks count many first : ℕ} {wo
     relations-asked h =
         record {
           ready = record {
-            recorded = a .ready .recorded;
             low = a .ready .low;
             few = a .ready .few;
             short = let s = a .ready .short in omega (arith, g .going .same);

@@ -215,7 +215,7 @@ module _ {ws records marks taken : List ℕ} {blocks count at : ℕ} {work : Lis
   rule-bodies = its-bodies (a .ready .pack .names) (a .ready .most) at work (a .asked .it) (a .asked .front) (a .asked .after) (a .asked .passed) (a .asked .keeps) (a .asked .stands)
 
   pub rule-bodily : {entity : ℕ} → entity < 16777216 → Bodily records blocks count entity work
-  rule-bodily h = record { recorded = a .ready .recorded; low = a .ready .low; few = a .ready .few; value = h; short = a .ready .short }
+  rule-bodily h = record { low = a .ready .low; few = a .ready .few; value = h; short = a .ready .short }
 
   pub rule-came : {answer : Answer} {left : List ℕ}
       → BodiesCame ws records marks taken blocks count (valueOf (getD work at 0)) (valueOf (getD work (at + 1) 0)) (valueOf (getD work (at + 2) 0)) (valueOf (getD work (at + 3) 0)) (at + 4) work answer left → RuleCame ws at work answer left
@@ -294,7 +294,6 @@ module _ {ws records marks taken : List ℕ} {blocks count many first : ℕ} {wo
     rules-asked h =
         record {
           ready = record {
-            recorded = a .ready .recorded;
             low = a .ready .low;
             few = a .ready .few;
             short = let s = a .ready .short in omega (arith, g .going .same);

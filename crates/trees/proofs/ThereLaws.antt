@@ -55,7 +55,7 @@ module _ (n levels sort place : ℕ) (work : List ℕ) (most : n ≤ 4096) (t : 
   pub there-asked : {records : List ℕ} {blocks count entity : ℕ} → Bodily records blocks count entity work → TreeAsked records levels sort (part place work) place entity blocks count
   there-asked h =
       record {
-        standing = record { recorded = h .recorded; value = h .value; near = let s = h .short in omega (arith, ap length (part-drop place work), length-drop place work, there-inside); low = h .low; few = h .few };
+        standing = record { value = h .value; near = let s = h .short in omega (arith, ap length (part-drop place work), length-drop place work, there-inside); low = h .low; few = h .few };
         names = n;
         most = most;
         root = t;

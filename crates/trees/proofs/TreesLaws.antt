@@ -14,18 +14,16 @@ use Rattle.pack.specs.Pack.{Relation, Rule, Pack, WellFormed, yes, read, words,
 use Rattle.pack.proofs.PackLaws.{words-read, words-length}
 use Rattle.chains.specs.Places.{relationWords, firstRelation, namesAt, placeOf}
 use Rattle.chains.specs.Kinds.{ownAnswer}
-use Rattle.chains.specs.AllKinds.{RulesAt}
+use Rattle.chains.specs.AllKinds.{Counted, RulesAt, BlocksAt}
 use Rattle.chains.proofs.PackIndex.{parts}
 use Rattle.chains.proofs.ListAt.{place-holds}
 use Rattle.chains.proofs.CheckedLaws.{same-pack}
 use Rattle.directions.specs.Turning.{Outcome, done, refused, andThen, mapDone}
 use Rattle.directions.specs.Resolving.{ruleWords, resolveRule, resolveRules, resolveRelation, resolveRelations, firstRule}
 use Rattle.chains.specs.Record.{valueAt, nodesIn}
-use Rattle.inputs.specs.Blocks.{placeOfKind}
 use Rattle.nodes.specs.Walk.{citingIn}
 use Rattle.trees.specs.Passes.{CameAt, AskedFrom, wordsOf, runBy, Many, Ready, KindsReady, RelationKeeps, RulesAsked, RulesCame, RelationsAsked, RelationsCame, withRecords, turned, CameWhole, placesIn, TreesCame, Tabled}
 use Rattle.trees.specs.Passes.{placesFrom}
-use Rattle.directions.proofs.CheckedTables.{its-records}
 use Rattle.nodes.proofs.StepWords.{citing-is}
 use Rattle.chains.proofs.RecordLaws.{value-there}
 use Rattle.inputs.proofs.BlocksStand.{reads-inputs}
@@ -84,29 +82,22 @@ module _ {ws records marks taken : List ℕ} {steps : ℕ} (a : Tabled ws record
         let z = length-append (R (p .relations)) one in omega (arith, front22-long p, rules-at) in
         value ∙ value-there ws before (U (p .rules) ++ B) 22 (length (p .rules)) at stands-22 q r
 
-  module _ {d many : ℕ} (value : d ≡ valueAt ws 2) (counts : many ≡ valueAt ws (d + 3)) where
+  module _ {d many : ℕ} (value : d ≡ valueAt ws 2) (counts : Counted ws many) where
     pub defaulted-is : d ≡ length (p .defaulted)
     defaulted-is = value ∙ value-there ws (wordOf 1 (total p) ∷ wordOf 2 n ∷ []) _ 3 (length (p .defaulted)) 2 (same ∙ pack-words p ∙ defaulted-first p _) refl (parts p w .defaulted-count)
-
-    five-there : ws ≡ (wordOf 1 (total p) ∷ wordOf 2 n ∷ wordsBy (defaulted n) (p .defaulted)) ++ (wordOf 5 (length (p .relations)) ∷ (R (p .relations) ++ (wordOf 22 (length (p .rules)) ∷ (U (p .rules) ++ B))))
-    five-there = same ∙ pack-words p ∙ ap (λ (l : List ℕ). wordOf 1 (total p) ∷ wordOf 2 n ∷ l) (append-assoc (wordsBy (defaulted n) (p .defaulted)) (wordOf 5 (length (p .relations)) ∷ []) (R (p .relations) ++ (wordOf 22 (length (p .rules)) ∷ (U (p .rules) ++ B))))
 
     pub relations-at : d + 4 ≡ firstRelation p
     relations-at = omega (arith, defaulted-is)
 
     pub relations-many : many ≡ length (p .relations)
-    relations-many =
-        let D : List ℕ = wordsBy (defaulted n) (p .defaulted) in
-        let x = length-append D (wordOf 5 (length (p .relations)) ∷ []) in
-        let q : length (wordOf 1 (total p) ∷ wordOf 2 n ∷ D) ≡ d + 3 = omega (arith, front-long p, defaulted-is) in
-        counts ∙ value-there ws (wordOf 1 (total p) ∷ wordOf 2 n ∷ D) _ 5 (length (p .relations)) (d + 3) five-there q (parts p w .relation-count)
+    relations-many = counts .relations p h
 
   pub rules-near : {at : ℕ} → RulesAt ws at → at < 8192
   rules-near {at} e =
       let x = ap length (same ∙ pack-words-22 p) ∙ length-append (front22 p) (U (p .rules) ++ B) in
       omega (arith, short, front22-long p, rules-at e refl)
 
-  pub blocks-near : {b : ℕ} → b ≡ placeOfKind 28 0 ws → b < 8192
+  pub blocks-near : {b : ℕ} → BlocksAt ws b → b < 8192
   blocks-near e = omega (arith, short, reads-inputs ws p h e .near)
 
   -- ---- what the passes ask for
@@ -120,12 +111,11 @@ module _ {ws records marks taken : List ℕ} {steps : ℕ} (a : Tabled ws record
             ap (namesAt ws) at ∙ ap (λ (x : List ℕ). namesAt x (placeOf q (ownAnswer (q .relations) m))) (sym (v .same)) ∙ place-holds q (v .fine) m;
       }
 
-  module _ {b c : ℕ} (place : b ≡ placeOfKind 28 0 ws) (value : c ≡ valueAt ws b) {work : List ℕ} (few : length work ≤ 8192) where
+  module _ {b c : ℕ} (place : BlocksAt ws b) (value : c ≡ valueAt ws b) {work : List ℕ} (few : length work ≤ 8192) where
     pub is-ready : Ready ws records marks taken (b + 1) c work
     is-ready =
         let i = reads-inputs ws p h place in
         record {
-          recorded = its-records ws records marks taken (a .declares) steps p h (a .noted) (a .marked) (a .knows);
           low = let s = short in omega (arith, i .near);
           few = omega (arith, i .counts, i .few, value);
           short = few;
@@ -136,7 +126,7 @@ module _ {ws records marks taken : List ℕ} {steps : ℕ} (a : Tabled ws record
         }
 
   -- rules, in a copy of the words
-  module _ {b c : ℕ} (place : b ≡ placeOfKind 28 0 ws) (value : c ≡ valueAt ws b) {work : List ℕ} (few : length work ≤ 8192) where
+  module _ {b c : ℕ} (place : BlocksAt ws b) (value : c ≡ valueAt ws b) {work : List ℕ} (few : length work ≤ 8192) where
     module _ (copied : work ≡ ws) {at many : ℕ} (at-is : RulesAt ws at) (many-is : many ≡ valueAt ws at) where
       stands-rules : work ≡ front22 p ++ (U (p .rules) ++ B)
       stands-rules = copied ∙ same ∙ pack-words-22 p
@@ -186,7 +176,7 @@ module _ {ws records marks taken : List ℕ} {steps : ℕ} (a : Tabled ws record
           rules-done = rules-done-by (resolveRules p (firstRule p) (p .rules)) refl its
 
           -- then relations
-          module _ {d count : ℕ} (d-is : d ≡ valueAt ws 2) (count-is : count ≡ valueAt ws (d + 3)) where
+          module _ {d count : ℕ} (d-is : d ≡ valueAt ws 2) (count-is : Counted ws count) where
             abbrev after : List ℕ
             after = wordOf 22 (length (p .rules)) ∷ (U (rules-done .result) ++ B)
 

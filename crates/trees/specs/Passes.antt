@@ -11,12 +11,13 @@ use Rattle.pack.specs.Form.{among, Fine}
 use Rattle.pack.specs.Pack.{Relation, Body, Rule, Pack, yes, read, words, body, rule, relation}
 use Rattle.chains.specs.Kinds.{declared, kindsOf}
 use Rattle.chains.specs.Places.{relationWords, firstRelation, namesAt}
-use Rattle.chains.specs.AllKinds.{IsPack, Noted, RulesAt, KindsMarked}
+use Rattle.records.specs.declared.directory.Layout.{Layout}
+use Rattle.chains.specs.AllKinds.{IsPack, Counted, RulesAt, BlocksAt, Noted, KindsMarked}
 use Rattle.filtered.specs.Taking.{Known}
 use Rattle.directions.specs.Turning.{Outcome, done, refused, andThen, mapDone, treeWords}
 use Rattle.directions.specs.Tables.{tables}
 use Rattle.directions.specs.Resolving.{cites, resolveBody, ruleWords, resolveRule, resolveRules, resolveRelation, resolveRelations, firstRule}
-use Rattle.chains.specs.Record.{nodesIn, Recorded}
+use Rattle.chains.specs.Record.{nodesIn}
 use Rattle.nodes.specs.Walk.{citingIn, refusalCode}
 
 -- a refusal's code with the name of the citing rule or relation
@@ -64,7 +65,6 @@ pub record Many {A : Type 0} (Keeps : A → Type 0) (count : ℕ) (l : List A) :
 -- ---- what all passes ask for: the tables of a checked pack, and no more words than a pack has
 
 pub record Ready (ws records marks taken : List ℕ) (blocks count : ℕ) (work : List ℕ) : Type 0 where
-  pub recorded : Recorded records
   pub low : blocks ≤ 65536
   pub few : count ≤ 64
   pub short : length work ≤ 8192
@@ -85,7 +85,6 @@ pub record BodyFine (b : Body) : Type 0 where
 
 -- the tables within bounds, and an entity that is a value
 pub record Bodily (records : List ℕ) (blocks count entity : ℕ) (work : List ℕ) : Type 0 where
-  pub recorded : Recorded records
   pub low : blocks ≤ 65536
   pub few : count ≤ 64
   pub value : entity < 16777216
@@ -186,10 +185,12 @@ pub record Tabled (ws records marks taken : List ℕ) (steps : ℕ) : Type 0 whe
   pub marked : KindsMarked ws steps declares marks
   pub knows : Known ws taken
 
--- with the place of the count of rules, a copy of the words, and a word for each relation
-pub record TreesAsked (ws records marks taken : List ℕ) (at : ℕ) (work order : List ℕ) : Type 0 where
+-- with the layout, a copy of the words, and a word for each relation
+pub record TreesAsked (ws : List ℕ) (l : Layout) (records marks taken work order : List ℕ) : Type 0 where
   pub steps : ℕ
   pub tabled : Tabled ws records marks taken steps
-  pub ruled : RulesAt ws at
+  pub counted : Counted ws (l .relations)
+  pub ruled : RulesAt ws (l .rules)
+  pub blocked : BlocksAt ws (l .blocks)
   pub copied : work ≡ ws
   pub room : (p : Pack) → read ws ≡ yes p → length order ≡ length (p .relations)

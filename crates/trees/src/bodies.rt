@@ -4,9 +4,11 @@ use nodes::leaves::Cited;
 use pack::answer::Answer;
 use pack::answer::Refusal;
 use pack::kinds::Pack;
+use records::directory::Words;
 use walkers::walk::tree;
 ghost use Prim.Native.Nat.{_≤_};
 ghost use Rattle.trees.specs.Passes.{RefusedAs, AskedFrom, bodyWords, BodyFine, Bodily, BodyCame, BodiesAsked, BodiesCame};
+ghost use Rattle.chains.specs.Entry.{startsIn};
 
 // The refusal of a code, with the name of the citing rule or relation.
 pub fn refused(code: u64, name: u32) -> Answer
@@ -25,7 +27,7 @@ pub fn refused(code: u64, name: u32) -> Answer
 // A body: its sort and its tree. The answer is the place after it.
 fn body(
     pack: &[u32],
-    records: &[u32; 4096],
+    dir: &Words,
     marks: &[u32; 4096],
     taken: &[u32; 4096],
     cited: Cited,
@@ -34,13 +36,13 @@ fn body(
     at: usize,
     entity: u32,
 ) -> Answer
-    requires { ⌜ Bodily (now records) (cited .blocks) (cited .count) entity (now work) × AskedFrom bodyWords BodyFine at (now work) ⌝ }
-    ensures { λ r. ⌜ BodyCame (now (pack .entry)) (now (records .entry)) (now (marks .entry)) (now (taken .entry)) (cited .blocks) (cited .count) name (cited .origin) entity at (now (work .entry)) r (now (work .exit)) ⌝ }
+    requires { ⌜ Bodily (startsIn (now dir)) (cited .blocks) (cited .count) entity (now work) × AskedFrom bodyWords BodyFine at (now work) ⌝ }
+    ensures { λ r. ⌜ BodyCame (now (pack .entry)) (startsIn (now (dir .entry))) (now (marks .entry)) (now (taken .entry)) (cited .blocks) (cited .count) name (cited .origin) entity at (now (work .entry)) r (now (work .exit)) ⌝ }
 {
     let sort = work[at] % Pack::VALUES;
     let code = tree(
         pack,
-        records,
+        dir,
         marks,
         taken,
         cited,
@@ -60,7 +62,7 @@ fn body(
 // So many bodies from a place on.
 pub fn bodies(
     pack: &[u32],
-    records: &[u32; 4096],
+    dir: &Words,
     marks: &[u32; 4096],
     taken: &[u32; 4096],
     cited: Cited,
@@ -70,15 +72,15 @@ pub fn bodies(
     many: u32,
     entity: u32,
 ) -> Answer
-    requires { ⌜ Bodily (now records) (cited .blocks) (cited .count) entity (now work) × BodiesAsked many first (now work) ⌝ }
-    ensures { λ r. ⌜ BodiesCame (now (pack .entry)) (now (records .entry)) (now (marks .entry)) (now (taken .entry)) (cited .blocks) (cited .count) name (cited .origin) entity many first (now (work .entry)) r (now (work .exit)) ⌝ }
+    requires { ⌜ Bodily (startsIn (now dir)) (cited .blocks) (cited .count) entity (now work) × BodiesAsked many first (now work) ⌝ }
+    ensures { λ r. ⌜ BodiesCame (now (pack .entry)) (startsIn (now (dir .entry))) (now (marks .entry)) (now (taken .entry)) (cited .blocks) (cited .count) name (cited .origin) entity many first (now (work .entry)) r (now (work .exit)) ⌝ }
 {
     let mut at = first as u32;
     let mut k = many;
     while 0 < k {
         let a = body(
             pack,
-            records,
+            dir,
             marks,
             taken,
             cited,

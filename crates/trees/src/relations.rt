@@ -13,17 +13,19 @@ use filtered::taking::place_of;
 use nodes::leaves::Cited;
 use pack::answer::Answer;
 use pack::kinds::Pack;
+use records::directory::Words;
 use walkers::walk::tree;
 ghost use mathlib.Core.Path.{_≡_};
 ghost use lib.ListN.{length};
 ghost use Rattle.chains.specs.Record.{flagAt, predicateAt};
 ghost use Rattle.trees.specs.Passes.{RelationAsked, RelationCame, RelationsAsked, RelationsCame};
+ghost use Rattle.chains.specs.Entry.{startsIn};
 
 // The predicate of a relation, which stands at a place: its entity is the kind at the related slot, its membership that
 // of both slots. The answer is the place after it.
 fn predicate(
     pack: &[u32],
-    records: &[u32; 4096],
+    dir: &Words,
     marks: &[u32; 4096],
     taken: &[u32; 4096],
     blocks: usize,
@@ -32,7 +34,7 @@ fn predicate(
     at: usize,
     place: usize,
 ) -> Answer
-    requires { ⌜ RelationAsked (now pack) (now records) (now marks) (now taken) blocks count at (now work) × (flagAt (now work) at ≡ 1) × (place ≡ predicateAt (now work) at) ⌝ }
+    requires { ⌜ RelationAsked (now pack) (startsIn (now dir)) (now marks) (now taken) blocks count at (now work) × (flagAt (now work) at ≡ 1) × (place ≡ predicateAt (now work) at) ⌝ }
     ensures { λ r. ⌜ RelationCame (now (pack .entry)) at (now (work .entry)) r (now (work .exit)) ⌝ }
 {
     let name = value_at(work, at);
@@ -43,7 +45,7 @@ fn predicate(
     let m = membership_code(slot_kinds(pack, work, list, at));
     let code = tree(
         pack,
-        records,
+        dir,
         marks,
         taken,
         Cited {
@@ -67,7 +69,7 @@ fn predicate(
 // A relation: its predicate, if it has a derivation. A predicate of which no node has slots stays as it is.
 fn relation(
     pack: &[u32],
-    records: &[u32; 4096],
+    dir: &Words,
     marks: &[u32; 4096],
     taken: &[u32; 4096],
     blocks: usize,
@@ -75,14 +77,14 @@ fn relation(
     work: &mut [u32],
     at: usize,
 ) -> Answer
-    requires { ⌜ RelationAsked (now pack) (now records) (now marks) (now taken) blocks count at (now work) ⌝ }
+    requires { ⌜ RelationAsked (now pack) (startsIn (now dir)) (now marks) (now taken) blocks count at (now work) ⌝ }
     ensures { λ r. ⌜ RelationCame (now (pack .entry)) at (now (work .entry)) r (now (work .exit)) ⌝ }
 {
     if flag_at(work, at) == 1 {
         let place = predicate_place(work, at);
         let end = quiet_end(work, place);
         if end == 0 {
-            return predicate(pack, records, marks, taken, blocks, count, work, at, place);
+            return predicate(pack, dir, marks, taken, blocks, count, work, at, place);
         }
         return Answer::Given(end as u32, 0);
     }
@@ -92,7 +94,7 @@ fn relation(
 // So many relations from a place on; their places are noted.
 pub fn relations(
     pack: &[u32],
-    records: &[u32; 4096],
+    dir: &Words,
     marks: &[u32; 4096],
     taken: &[u32; 4096],
     blocks: usize,
@@ -102,23 +104,14 @@ pub fn relations(
     many: u32,
     order: &mut [u32],
 ) -> Answer
-    requires { ⌜ RelationsAsked (now pack) (now records) (now marks) (now taken) blocks count many first (now work) × (length (now order) ≡ many) ⌝ }
+    requires { ⌜ RelationsAsked (now pack) (startsIn (now dir)) (now marks) (now taken) blocks count many first (now work) × (length (now order) ≡ many) ⌝ }
     ensures { λ r. ⌜ RelationsCame (now (pack .entry)) many first (now (work .entry)) r (now (work .exit)) (now (order .exit)) ⌝ }
 {
     let mut at = first as u32;
     let mut k = many;
     while 0 < k {
         order[(many - k) as usize] = at;
-        let a = relation(
-            pack,
-            records,
-            marks,
-            taken,
-            blocks,
-            count,
-            work,
-            at as usize,
-        );
+        let a = relation(pack, dir, marks, taken, blocks, count, work, at as usize);
         let Answer::Given(next, _) = a else {
             return a;
         };

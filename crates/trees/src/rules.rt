@@ -3,12 +3,14 @@ use crate::bodies::bodies;
 use nodes::leaves::Cited;
 use pack::answer::Answer;
 use pack::kinds::Pack;
+use records::directory::Words;
 ghost use Rattle.trees.specs.Passes.{RuleAsked, RuleCame, RulesAsked, RulesCame};
+ghost use Rattle.chains.specs.Entry.{startsIn};
 
 // A rule: its citing name, origin and entity, then its bodies. The answer is the place after it.
 fn rule(
     pack: &[u32],
-    records: &[u32; 4096],
+    dir: &Words,
     marks: &[u32; 4096],
     taken: &[u32; 4096],
     blocks: usize,
@@ -16,7 +18,7 @@ fn rule(
     work: &mut [u32],
     at: usize,
 ) -> Answer
-    requires { ⌜ RuleAsked (now pack) (now records) (now marks) (now taken) blocks count at (now work) ⌝ }
+    requires { ⌜ RuleAsked (now pack) (startsIn (now dir)) (now marks) (now taken) blocks count at (now work) ⌝ }
     ensures { λ r. ⌜ RuleCame (now (pack .entry)) at (now (work .entry)) r (now (work .exit)) ⌝ }
 {
     let name = work[at] % Pack::VALUES;
@@ -25,7 +27,7 @@ fn rule(
     let many = work[at + 3] % Pack::VALUES;
     bodies(
         pack,
-        records,
+        dir,
         marks,
         taken,
         Cited {
@@ -44,7 +46,7 @@ fn rule(
 // So many rules from a place on.
 pub fn rules(
     pack: &[u32],
-    records: &[u32; 4096],
+    dir: &Words,
     marks: &[u32; 4096],
     taken: &[u32; 4096],
     blocks: usize,
@@ -53,22 +55,13 @@ pub fn rules(
     first: usize,
     many: u32,
 ) -> Answer
-    requires { ⌜ RulesAsked (now pack) (now records) (now marks) (now taken) blocks count many first (now work) ⌝ }
+    requires { ⌜ RulesAsked (now pack) (startsIn (now dir)) (now marks) (now taken) blocks count many first (now work) ⌝ }
     ensures { λ r. ⌜ RulesCame (now (pack .entry)) many first (now (work .entry)) r (now (work .exit)) ⌝ }
 {
     let mut at = first as u32;
     let mut k = many;
     while 0 < k {
-        let a = rule(
-            pack,
-            records,
-            marks,
-            taken,
-            blocks,
-            count,
-            work,
-            at as usize,
-        );
+        let a = rule(pack, dir, marks, taken, blocks, count, work, at as usize);
         let Answer::Given(next, _) = a else {
             return a;
         };

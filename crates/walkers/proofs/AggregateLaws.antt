@@ -62,7 +62,6 @@ module _ {records : List ℕ} {levels : ℕ} {work : List ℕ} {place entity blo
   pub aggregate-asked : TurnAsked records work place entity
   aggregate-asked =
       record {
-        recorded = a .standing .recorded;
         node = asked-slots (aggregate-form (kindOf (getD work 0 0)) lo hi) (a .names) (a .most) levels scalar (a .root) (a .after) work (a .fine) (a .stands) refl;
         near = let h = a .standing .near in omega arith;
       }
@@ -161,7 +160,7 @@ module _ (ws records marks taken : List ℕ) (blocks count origin entity place :
         pub where-asked : TreeAsked records levels scalar work place entity blocks count → RowAsked records (levels - 1) judgment (valueOf (getD work 4 0)) (part 5 left) (place + 5) code blocks count
         where-asked a =
             all-asked ws records marks taken blocks count origin (levels - 1) code place work _ (aggregate-going below same) (tree-there a)
-            (record { recorded = a .standing .recorded; value = below; near = a .standing .near; low = a .standing .low; few = a .standing .few })
+            (record { value = below; near = a .standing .near; low = a .standing .low; few = a .standing .few })
 
         module _ {code′ : ℕ} {l : List ℕ} (w : RowTurned ws records marks taken blocks count origin (levels - 1) judgment (valueOf (getD work 4 0)) code none (place + 5) (part 5 left) code′ l) where
           pub where-done : code′ < 16777216 → TreeTurned ws records marks taken blocks count origin levels scalar entity m place work (5 + code′) (back 5 left l)

@@ -75,7 +75,6 @@ module _ (ws records marks taken : List ℕ) (blocks count origin levels entity 
     part-stands : {sorts : List ℕ} → Going sorts first rest at work → K .Case → Standing records work₀ place entity blocks count → Standing records (part at work) (place + at) entity blocks count
     part-stands g c st =
         record {
-          recorded = st .recorded;
           value = st .value;
           near = let h = st .near in omega (arith, ap length (part-drop at work), length-drop at work, going-inside g c, g .same);
           low = st .low;

@@ -43,7 +43,6 @@ module _ {records : List ℕ} {levels sort : ℕ} {work : List ℕ} {place entit
   pub node-of : {kind : ℕ} → kindOf (getD work 0 0) ≡ kind → NodeAsked records kind work place
   node-of e =
       record {
-        recorded = a .standing .recorded;
         near = a .standing .near;
         names = a .names;
         most = a .most;

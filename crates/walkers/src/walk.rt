@@ -11,6 +11,7 @@ use nodes::leaves::relation_member;
 use nodes::slots::turn_node;
 use nodes::words::kind_of;
 use pack::kinds::Pack;
+use records::directory::Words;
 ghost use mathlib.Core.Path.{_≡_};
 ghost use mathlib.Core.Logic.{_⊎_};
 ghost use Prim.Native.Nat.{_<_, _≤_};
@@ -18,11 +19,12 @@ ghost use lib.ListN.{getD};
 ghost use Rattle.pack.specs.Table.{kindOf};
 ghost use Rattle.directions.specs.Words.{membershipIn};
 ghost use Rattle.nodes.specs.Walk.{TreeAsked, RowAsked, TreeTurned, RowTurned};
+ghost use Rattle.chains.specs.Entry.{startsIn};
 
 // A row of scalars.
 fn scalars(
     pack: &[u32],
-    records: &[u32; 4096],
+    dir: &Words,
     marks: &[u32; 4096],
     taken: &[u32; 4096],
     cited: Cited,
@@ -33,8 +35,8 @@ fn scalars(
     count: u32,
     left: u32,
 ) -> u64
-    requires { ⌜ RowAsked (now records) left 0 count (now work) place entity (cited .blocks) (cited .count) ⌝ }
-    ensures { λ r. ⌜ RowTurned (now (pack .entry)) (now (records .entry)) (now (marks .entry)) (now (taken .entry)) (cited .blocks) (cited .count) (cited .origin) left 0 count entity (membershipIn m) place (now (work .entry)) r (now (work .exit)) ⌝ }
+    requires { ⌜ RowAsked (startsIn (now dir)) left 0 count (now work) place entity (cited .blocks) (cited .count) ⌝ }
+    ensures { λ r. ⌜ RowTurned (now (pack .entry)) (startsIn (now (dir .entry))) (now (marks .entry)) (now (taken .entry)) (cited .blocks) (cited .count) (cited .origin) left 0 count entity (membershipIn m) place (now (work .entry)) r (now (work .exit)) ⌝ }
 {
     let mut at: usize = 0;
     let mut k = count;
@@ -46,7 +48,7 @@ fn scalars(
         } else {
             let code = scalar(
                 pack,
-                records,
+                dir,
                 marks,
                 taken,
                 cited,
@@ -69,7 +71,7 @@ fn scalars(
 // A row of judgments.
 fn judgments(
     pack: &[u32],
-    records: &[u32; 4096],
+    dir: &Words,
     marks: &[u32; 4096],
     taken: &[u32; 4096],
     cited: Cited,
@@ -80,8 +82,8 @@ fn judgments(
     count: u32,
     left: u32,
 ) -> u64
-    requires { ⌜ RowAsked (now records) left 1 count (now work) place entity (cited .blocks) (cited .count) ⌝ }
-    ensures { λ r. ⌜ RowTurned (now (pack .entry)) (now (records .entry)) (now (marks .entry)) (now (taken .entry)) (cited .blocks) (cited .count) (cited .origin) left 1 count entity (membershipIn m) place (now (work .entry)) r (now (work .exit)) ⌝ }
+    requires { ⌜ RowAsked (startsIn (now dir)) left 1 count (now work) place entity (cited .blocks) (cited .count) ⌝ }
+    ensures { λ r. ⌜ RowTurned (now (pack .entry)) (startsIn (now (dir .entry))) (now (marks .entry)) (now (taken .entry)) (cited .blocks) (cited .count) (cited .origin) left 1 count entity (membershipIn m) place (now (work .entry)) r (now (work .exit)) ⌝ }
 {
     let mut at: usize = 0;
     let mut k = count;
@@ -91,7 +93,7 @@ fn judgments(
             Pack::COMPARISON | Pack::RELATION_MEMBER => {
                 let code = judgment(
                     pack,
-                    records,
+                    dir,
                     marks,
                     taken,
                     cited,
@@ -119,7 +121,7 @@ fn judgments(
 // A scalar whose children do not all join its row, by its kind.
 fn scalar(
     pack: &[u32],
-    records: &[u32; 4096],
+    dir: &Words,
     marks: &[u32; 4096],
     taken: &[u32; 4096],
     cited: Cited,
@@ -129,13 +131,13 @@ fn scalar(
     m: u64,
     left: u32,
 ) -> u64
-    requires { ⌜ TreeAsked (now records) left 0 (now work) place entity (cited .blocks) (cited .count) × (71 ≤ kindOf (getD (now work) 0 0)) ⌝ }
-    ensures { λ r. ⌜ TreeTurned (now (pack .entry)) (now (records .entry)) (now (marks .entry)) (now (taken .entry)) (cited .blocks) (cited .count) (cited .origin) left 0 entity (membershipIn m) place (now (work .entry)) r (now (work .exit)) ⌝ }
+    requires { ⌜ TreeAsked (startsIn (now dir)) left 0 (now work) place entity (cited .blocks) (cited .count) × (71 ≤ kindOf (getD (now work) 0 0)) ⌝ }
+    ensures { λ r. ⌜ TreeTurned (now (pack .entry)) (startsIn (now (dir .entry))) (now (marks .entry)) (now (taken .entry)) (cited .blocks) (cited .count) (cited .origin) left 0 entity (membershipIn m) place (now (work .entry)) r (now (work .exit)) ⌝ }
 {
     match kind_of(work[0]) {
         Pack::COUNT..=Pack::SINGLE => aggregate(
             pack,
-            records,
+            dir,
             marks,
             taken,
             cited,
@@ -145,26 +147,15 @@ fn scalar(
             m,
             left,
         ),
-        Pack::ONLY_RELATED => only_related(pack, records, marks, taken, cited, work, place, entity),
-        _ => parted(
-            pack,
-            records,
-            marks,
-            taken,
-            cited,
-            work,
-            place,
-            entity,
-            m,
-            left,
-        ),
+        Pack::ONLY_RELATED => only_related(pack, dir, marks, taken, cited, work, place, entity),
+        _ => parted(pack, dir, marks, taken, cited, work, place, entity, m, left),
     }
 }
 
 // An If, a NoMatch or an OverPeriods.
 fn parted(
     pack: &[u32],
-    records: &[u32; 4096],
+    dir: &Words,
     marks: &[u32; 4096],
     taken: &[u32; 4096],
     cited: Cited,
@@ -174,53 +165,20 @@ fn parted(
     m: u64,
     left: u32,
 ) -> u64
-    requires { ⌜ TreeAsked (now records) left 0 (now work) place entity (cited .blocks) (cited .count) × (71 ≤ kindOf (getD (now work) 0 0)) × (kindOf (getD (now work) 0 0) ≤ 73) ⌝ }
-    ensures { λ r. ⌜ TreeTurned (now (pack .entry)) (now (records .entry)) (now (marks .entry)) (now (taken .entry)) (cited .blocks) (cited .count) (cited .origin) left 0 entity (membershipIn m) place (now (work .entry)) r (now (work .exit)) ⌝ }
+    requires { ⌜ TreeAsked (startsIn (now dir)) left 0 (now work) place entity (cited .blocks) (cited .count) × (71 ≤ kindOf (getD (now work) 0 0)) × (kindOf (getD (now work) 0 0) ≤ 73) ⌝ }
+    ensures { λ r. ⌜ TreeTurned (now (pack .entry)) (startsIn (now (dir .entry))) (now (marks .entry)) (now (taken .entry)) (cited .blocks) (cited .count) (cited .origin) left 0 entity (membershipIn m) place (now (work .entry)) r (now (work .exit)) ⌝ }
 {
     match kind_of(work[0]) {
-        Pack::IF => choice(
-            pack,
-            records,
-            marks,
-            taken,
-            cited,
-            work,
-            place,
-            entity,
-            m,
-            left,
-        ),
-        Pack::NO_MATCH => no_match(
-            pack,
-            records,
-            marks,
-            taken,
-            cited,
-            work,
-            place,
-            entity,
-            m,
-            left,
-        ),
-        _ => periods(
-            pack,
-            records,
-            marks,
-            taken,
-            cited,
-            work,
-            place,
-            entity,
-            m,
-            left,
-        ),
+        Pack::IF => choice(pack, dir, marks, taken, cited, work, place, entity, m, left),
+        Pack::NO_MATCH => no_match(pack, dir, marks, taken, cited, work, place, entity, m, left),
+        _ => periods(pack, dir, marks, taken, cited, work, place, entity, m, left),
     }
 }
 
 // A Comparison, two scalars; or a RelationMember.
 fn judgment(
     pack: &[u32],
-    records: &[u32; 4096],
+    dir: &Words,
     marks: &[u32; 4096],
     taken: &[u32; 4096],
     cited: Cited,
@@ -230,15 +188,15 @@ fn judgment(
     m: u64,
     left: u32,
 ) -> u64
-    requires { ⌜ TreeAsked (now records) left 1 (now work) place entity (cited .blocks) (cited .count) × ((kindOf (getD (now work) 0 0) ≡ 96) ⊎ (kindOf (getD (now work) 0 0) ≡ 101)) ⌝ }
-    ensures { λ r. ⌜ TreeTurned (now (pack .entry)) (now (records .entry)) (now (marks .entry)) (now (taken .entry)) (cited .blocks) (cited .count) (cited .origin) left 1 entity (membershipIn m) place (now (work .entry)) r (now (work .exit)) ⌝ }
+    requires { ⌜ TreeAsked (startsIn (now dir)) left 1 (now work) place entity (cited .blocks) (cited .count) × ((kindOf (getD (now work) 0 0) ≡ 96) ⊎ (kindOf (getD (now work) 0 0) ≡ 101)) ⌝ }
+    ensures { λ r. ⌜ TreeTurned (now (pack .entry)) (startsIn (now (dir .entry))) (now (marks .entry)) (now (taken .entry)) (cited .blocks) (cited .count) (cited .origin) left 1 entity (membershipIn m) place (now (work .entry)) r (now (work .exit)) ⌝ }
 {
     if kind_of(work[0]) == Pack::RELATION_MEMBER {
-        return relation_member(pack, records, work, place, entity, m);
+        return relation_member(pack, dir, work, place, entity, m);
     }
     let code = scalars(
         pack,
-        records,
+        dir,
         marks,
         taken,
         cited,
@@ -258,7 +216,7 @@ fn judgment(
 // An If: a judgment, and two scalars.
 fn choice(
     pack: &[u32],
-    records: &[u32; 4096],
+    dir: &Words,
     marks: &[u32; 4096],
     taken: &[u32; 4096],
     cited: Cited,
@@ -268,12 +226,12 @@ fn choice(
     m: u64,
     left: u32,
 ) -> u64
-    requires { ⌜ TreeAsked (now records) left 0 (now work) place entity (cited .blocks) (cited .count) × (kindOf (getD (now work) 0 0) ≡ 71) ⌝ }
-    ensures { λ r. ⌜ TreeTurned (now (pack .entry)) (now (records .entry)) (now (marks .entry)) (now (taken .entry)) (cited .blocks) (cited .count) (cited .origin) left 0 entity (membershipIn m) place (now (work .entry)) r (now (work .exit)) ⌝ }
+    requires { ⌜ TreeAsked (startsIn (now dir)) left 0 (now work) place entity (cited .blocks) (cited .count) × (kindOf (getD (now work) 0 0) ≡ 71) ⌝ }
+    ensures { λ r. ⌜ TreeTurned (now (pack .entry)) (startsIn (now (dir .entry))) (now (marks .entry)) (now (taken .entry)) (cited .blocks) (cited .count) (cited .origin) left 0 entity (membershipIn m) place (now (work .entry)) r (now (work .exit)) ⌝ }
 {
     let first = judgments(
         pack,
-        records,
+        dir,
         marks,
         taken,
         cited,
@@ -290,7 +248,7 @@ fn choice(
     let next = 1 + first as usize;
     let cases = scalars(
         pack,
-        records,
+        dir,
         marks,
         taken,
         cited,
@@ -310,7 +268,7 @@ fn choice(
 // A NoMatch: a subject, and patterns without membership.
 fn no_match(
     pack: &[u32],
-    records: &[u32; 4096],
+    dir: &Words,
     marks: &[u32; 4096],
     taken: &[u32; 4096],
     cited: Cited,
@@ -320,13 +278,13 @@ fn no_match(
     m: u64,
     left: u32,
 ) -> u64
-    requires { ⌜ TreeAsked (now records) left 0 (now work) place entity (cited .blocks) (cited .count) × (kindOf (getD (now work) 0 0) ≡ 72) ⌝ }
-    ensures { λ r. ⌜ TreeTurned (now (pack .entry)) (now (records .entry)) (now (marks .entry)) (now (taken .entry)) (cited .blocks) (cited .count) (cited .origin) left 0 entity (membershipIn m) place (now (work .entry)) r (now (work .exit)) ⌝ }
+    requires { ⌜ TreeAsked (startsIn (now dir)) left 0 (now work) place entity (cited .blocks) (cited .count) × (kindOf (getD (now work) 0 0) ≡ 72) ⌝ }
+    ensures { λ r. ⌜ TreeTurned (now (pack .entry)) (startsIn (now (dir .entry))) (now (marks .entry)) (now (taken .entry)) (cited .blocks) (cited .count) (cited .origin) left 0 entity (membershipIn m) place (now (work .entry)) r (now (work .exit)) ⌝ }
 {
     let many = work[0] % Pack::VALUES;
     let subject = scalars(
         pack,
-        records,
+        dir,
         marks,
         taken,
         cited,
@@ -343,7 +301,7 @@ fn no_match(
     let next = 1 + subject as usize;
     let patterns = scalars(
         pack,
-        records,
+        dir,
         marks,
         taken,
         cited,
@@ -363,7 +321,7 @@ fn no_match(
 // An OverPeriods: its value, and n when odd, both without membership.
 fn periods(
     pack: &[u32],
-    records: &[u32; 4096],
+    dir: &Words,
     marks: &[u32; 4096],
     taken: &[u32; 4096],
     cited: Cited,
@@ -373,13 +331,13 @@ fn periods(
     m: u64,
     left: u32,
 ) -> u64
-    requires { ⌜ TreeAsked (now records) left 0 (now work) place entity (cited .blocks) (cited .count) × (kindOf (getD (now work) 0 0) ≡ 73) ⌝ }
-    ensures { λ r. ⌜ TreeTurned (now (pack .entry)) (now (records .entry)) (now (marks .entry)) (now (taken .entry)) (cited .blocks) (cited .count) (cited .origin) left 0 entity (membershipIn m) place (now (work .entry)) r (now (work .exit)) ⌝ }
+    requires { ⌜ TreeAsked (startsIn (now dir)) left 0 (now work) place entity (cited .blocks) (cited .count) × (kindOf (getD (now work) 0 0) ≡ 73) ⌝ }
+    ensures { λ r. ⌜ TreeTurned (now (pack .entry)) (startsIn (now (dir .entry))) (now (marks .entry)) (now (taken .entry)) (cited .blocks) (cited .count) (cited .origin) left 0 entity (membershipIn m) place (now (work .entry)) r (now (work .exit)) ⌝ }
 {
     let many = 1 + work[0] % Pack::VALUES % 2;
     let parts = scalars(
         pack,
-        records,
+        dir,
         marks,
         taken,
         cited,
@@ -399,7 +357,7 @@ fn periods(
 // An aggregate: its slots are set, then its where tree is resolved with the kind that results and without membership.
 fn aggregate(
     pack: &[u32],
-    records: &[u32; 4096],
+    dir: &Words,
     marks: &[u32; 4096],
     taken: &[u32; 4096],
     cited: Cited,
@@ -409,11 +367,11 @@ fn aggregate(
     m: u64,
     left: u32,
 ) -> u64
-    requires { ⌜ TreeAsked (now records) left 0 (now work) place entity (cited .blocks) (cited .count) × (74 ≤ kindOf (getD (now work) 0 0)) × (kindOf (getD (now work) 0 0) < 78) ⌝ }
-    ensures { λ r. ⌜ TreeTurned (now (pack .entry)) (now (records .entry)) (now (marks .entry)) (now (taken .entry)) (cited .blocks) (cited .count) (cited .origin) left 0 entity (membershipIn m) place (now (work .entry)) r (now (work .exit)) ⌝ }
+    requires { ⌜ TreeAsked (startsIn (now dir)) left 0 (now work) place entity (cited .blocks) (cited .count) × (74 ≤ kindOf (getD (now work) 0 0)) × (kindOf (getD (now work) 0 0) < 78) ⌝ }
+    ensures { λ r. ⌜ TreeTurned (now (pack .entry)) (startsIn (now (dir .entry))) (now (marks .entry)) (now (taken .entry)) (cited .blocks) (cited .count) (cited .origin) left 0 entity (membershipIn m) place (now (work .entry)) r (now (work .exit)) ⌝ }
 {
     let flag = work[4] % Pack::VALUES;
-    let code = turn_node(pack, records, marks, taken, work, place, entity);
+    let code = turn_node(pack, dir, marks, taken, work, place, entity);
     if Pack::VALUES as u64 <= code {
         return code;
     }
@@ -422,7 +380,7 @@ fn aggregate(
     }
     let under = judgments(
         pack,
-        records,
+        dir,
         marks,
         taken,
         cited,
@@ -442,7 +400,7 @@ fn aggregate(
 // A tree of a sort.
 pub fn tree(
     pack: &[u32],
-    records: &[u32; 4096],
+    dir: &Words,
     marks: &[u32; 4096],
     taken: &[u32; 4096],
     cited: Cited,
@@ -453,13 +411,13 @@ pub fn tree(
     sort: u32,
     left: u32,
 ) -> u64
-    requires { ⌜ TreeAsked (now records) left sort (now work) place entity (cited .blocks) (cited .count) × (sort ≤ 1) ⌝ }
-    ensures { λ r. ⌜ TreeTurned (now (pack .entry)) (now (records .entry)) (now (marks .entry)) (now (taken .entry)) (cited .blocks) (cited .count) (cited .origin) left sort entity (membershipIn m) place (now (work .entry)) r (now (work .exit)) ⌝ }
+    requires { ⌜ TreeAsked (startsIn (now dir)) left sort (now work) place entity (cited .blocks) (cited .count) × (sort ≤ 1) ⌝ }
+    ensures { λ r. ⌜ TreeTurned (now (pack .entry)) (startsIn (now (dir .entry))) (now (marks .entry)) (now (taken .entry)) (cited .blocks) (cited .count) (cited .origin) left sort entity (membershipIn m) place (now (work .entry)) r (now (work .exit)) ⌝ }
 {
     if sort == Pack::SCALAR {
         return scalars(
             pack,
-            records,
+            dir,
             marks,
             taken,
             cited,
@@ -473,7 +431,7 @@ pub fn tree(
     }
     judgments(
         pack,
-        records,
+        dir,
         marks,
         taken,
         cited,

@@ -12,20 +12,20 @@ use Rattle.chains.proofs.settle.read_name.Reads as read-name-reads
 use Rattle.chains.proofs.settle.+walk.{statement}
 use Rattle.chains.proofs.settle.+walk.Tie.{close}
 
-abbrev μ-walk : Measures 4 walk-kinds.ps ℕ
-μ-walk κs a = a .1 .1 .1 .1 .1 .0
+abbrev μ-walk : Measures 3 walk-kinds.ps ℕ
+μ-walk κs a = a .1 .1 .1 .1 .0
 
-abbrev walk-at : ℕ → In 4 walk-kinds.ps
-walk-at t = and 4 walk-kinds.ps (is 4 walk-kinds.ps μ-walk t) walk.Pre
+abbrev walk-at : ℕ → In 3 walk-kinds.ps
+walk-at t = and 3 walk-kinds.ps (is 3 walk-kinds.ps μ-walk t) walk.Pre
 
-abbrev walk-below : ℕ → In 4 walk-kinds.ps
-walk-below t = and 4 walk-kinds.ps (falls 4 walk-kinds.ps _<_ μ-walk t) walk.Pre
+abbrev walk-below : ℕ → In 3 walk-kinds.ps
+walk-below t = and 3 walk-kinds.ps (falls 3 walk-kinds.ps _<_ μ-walk t) walk.Pre
 
 abbrev walk-calls : ℕ → walk-lts.Claims
 walk-calls t = (read-name-reads.Asked, read-name-reads.Learnt, walk-below t, walk.Post)
 
 walk-returns : (t : ℕ) → walk-lts.Need-returns (walk-calls t) (walk-at t) walk.Post
-walk-returns t c = out-of-fuel _ _ _ _ (c .before .before .pre .1 .1 .marked) (c .before .before .pre .1 .1 .long) _ (c .if1 .taken)
+walk-returns t c = out-of-fuel _ _ _ _ (c .before .pre .1 .marked) (c .before .pre .1 .long) _ (c .if1 .taken)
 
 walk-mul-m : (t : ℕ) → walk-lts.Need-mul-m (walk-calls t) (walk-at t) walk.Post
 walk-mul-m t c = search needs
@@ -34,10 +34,10 @@ walk-element-copy-out-m : (t : ℕ) → walk-lts.Need-element-copy-out-m (walk-c
 walk-element-copy-out-m t c = search needs
 
 walk-returns-2 : (t : ℕ) → walk-lts.Need-returns-2 (walk-calls t) (walk-at t) walk.Post
-walk-returns-2 t c = at-settled _ _ _ _ (c .before .before .before .before .pre .1 .1 .marked) (c .before .before .before .before .pre .1 .1 .long) _ (c .before .before .if1 .left) (c .if2 .taken)
+walk-returns-2 t c = at-settled _ _ _ _ (c .before .before .before .pre .1 .marked) (c .before .before .before .pre .1 .long) _ (c .before .before .if1 .left) (c .if2 .taken)
 
 walk-returns-3 : (t : ℕ) → walk-lts.Need-returns-3 (walk-calls t) (walk-at t) walk.Post
-walk-returns-3 t c = at-ring _ _ _ _ (c .before .before .before .before .before .pre .1 .1 .marked) (c .before .before .before .before .before .pre .1 .1 .long) _ (c .before .before .before .if1 .left) (omega arith) (c .if3 .taken)
+walk-returns-3 t c = at-ring _ _ _ _ (c .before .before .before .before .pre .1 .marked) (c .before .before .before .before .pre .1 .long) _ (c .before .before .before .if1 .left) (omega arith) (c .if3 .taken)
 
 walk-mul-marks : (t : ℕ) → walk-lts.Need-mul-marks (walk-calls t) (walk-at t) walk.Post
 walk-mul-marks t c = search needs
@@ -46,7 +46,7 @@ walk-element-write-marks : (t : ℕ) → walk-lts.Need-element-write-marks (walk
 walk-element-write-marks t c = search needs
 
 walk-read-name-requires : (t : ℕ) → walk-lts.Need-read-name-requires (walk-calls t) (walk-at t) walk.Post
-walk-read-name-requires t c κs = ((c .before .before .before .before .before .before .pre .1 .0), (c .before .before .before .before .before .before .pre .1 .1 .name), omega (arith, (c .before .before .before .before .before .before .pre .1 .1 .room), (c .before .before .before .before .if1 .left)))
+walk-read-name-requires t c κs = ((c .before .before .before .before .before .pre .1 .name), omega (arith, (c .before .before .before .before .before .pre .1 .room), (c .before .before .before .before .if1 .left)))
 
 walk-add-marks : (t : ℕ) → walk-lts.Need-add-marks (walk-calls t) (walk-at t) walk.Post
 walk-add-marks t c = search needs
@@ -58,7 +58,7 @@ walk-element-write-marks-2 : (t : ℕ) → walk-lts.Need-element-write-marks-2 (
 walk-element-write-marks-2 t c = search needs
 
 walk-returns-4 : (t : ℕ) → walk-lts.Need-returns-4 (walk-calls t) (walk-at t) walk.Post
-walk-returns-4 t c = rw ((c .before .read-name .ensures .counts), (c .before .read-name .ensures .says)) (at-end _ _ _ _ (c .before .before .before .before .before .before .before .before .pre .1 .1 .marked) (c .before .before .before .before .before .before .before .before .pre .1 .1 .long) (c .before .before .before .before .before .before .before .before .pre .1 .1 .name) (omega arith) (c .before .before .before .if3 .left) _ (c .before .before .before .before .before .before .if1 .left) (rw (c .before .read-name .ensures .says) at (c .if4 .taken)))
+walk-returns-4 t c = rw ((c .before .read-name .ensures .counts), (c .before .read-name .ensures .says)) (at-end _ _ _ _ (c .before .before .before .before .before .before .before .pre .1 .marked) (c .before .before .before .before .before .before .before .pre .1 .long) (c .before .before .before .before .before .before .before .pre .1 .name) (omega arith) (c .before .before .before .if3 .left) _ (c .before .before .before .before .before .before .if1 .left) (rw (c .before .read-name .ensures .says) at (c .if4 .taken)))
 
 walk-cast-walk : (t : ℕ) → walk-lts.Need-cast-walk (walk-calls t) (walk-at t) walk.Post
 walk-cast-walk t c = search needs
@@ -67,7 +67,7 @@ walk-sub-walk : (t : ℕ) → walk-lts.Need-sub-walk (walk-calls t) (walk-at t) 
 walk-sub-walk t c = search needs
 
 walk-walk-requires : (t : ℕ) → walk-lts.Need-walk-requires (walk-calls t) (walk-at t) walk.Post
-walk-walk-requires t c κs = (omega arith, ((c .before .before .before .before .before .before .before .before .before .before .pre .1 .0), walkable-next (c .before .before .before .before .before .before .before .before .before .before .pre .1 .1) (c .before .before .before .before .before .before .before .before .if1 .left) (c .before .before .before .read-name .ensures .says) (c .before .before .if4 .left) (c .before .before .before .read-name .ensures .counts)))
+walk-walk-requires t c κs = (omega arith, (walkable-next (c .before .before .before .before .before .before .before .before .before .pre .1) (c .before .before .before .before .before .before .before .before .if1 .left) (c .before .before .before .read-name .ensures .says) (c .before .before .if4 .left) (c .before .before .before .read-name .ensures .counts)))
 
 walk-add-marks-2 : (t : ℕ) → walk-lts.Need-add-marks-2 (walk-calls t) (walk-at t) walk.Post
 walk-add-marks-2 t c = search needs
@@ -79,7 +79,7 @@ walk-element-write-marks-3 : (t : ℕ) → walk-lts.Need-element-write-marks-3 (
 walk-element-write-marks-3 t c = search needs
 
 walk-returns-5 : (t : ℕ) → walk-lts.Need-returns-5 (walk-calls t) (walk-at t) walk.Post
-walk-returns-5 t c = at-next _ _ _ _ (c .before .before .before .before .before .before .before .before .before .before .before .pre .1 .1 .marked) (c .before .before .before .before .before .before .before .before .before .before .before .pre .1 .1 .long) (c .before .before .before .before .before .before .before .before .before .before .before .pre .1 .1 .name) (omega arith) (c .before .before .before .before .before .before .if3 .left) _ (c .before .before .before .before .before .before .before .before .before .if1 .left) (rw (c .before .before .before .before .read-name .ensures .says) at (c .before .before .before .if4 .left)) (rw ((c .before .before .before .before .read-name .ensures .counts), (c .before .before .before .before .read-name .ensures .says)) at (c .walk .ensures))
+walk-returns-5 t c = at-next _ _ _ _ (c .before .before .before .before .before .before .before .before .before .before .pre .1 .marked) (c .before .before .before .before .before .before .before .before .before .before .pre .1 .long) (c .before .before .before .before .before .before .before .before .before .before .pre .1 .name) (omega arith) (c .before .before .before .before .before .before .if3 .left) _ (c .before .before .before .before .before .before .before .before .before .if1 .left) (rw (c .before .before .before .before .read-name .ensures .says) at (c .before .before .before .if4 .left)) (rw ((c .before .before .before .before .read-name .ensures .counts), (c .before .before .before .before .read-name .ensures .says)) at (c .walk .ensures))
 
 pub +walk-spec : {M : Type 1} → statement M
 +walk-spec = close μ-walk λ t. walk-lts.spec (walk-calls t) (walk-at t)

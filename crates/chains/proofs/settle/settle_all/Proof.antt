@@ -1,33 +1,34 @@
 -- `chains::settle::settle_all` meets its contract.
+use Prim.Native.Nat.{_+_, _-_}
 use native.Mathlib.Omega.{arith}
-use Prim.Native.Nat.{_-_}
-use lib.ListN.{length}
-use Rattle.chains.specs.Declaration.{declarations}
-use Rattle.chains.proofs.SettleLaws.{Settling, begin, name-here, walkable, walk-on, all-settled}
+use mathlib.Core.Path.{_∙_, sym}
+use Rattle.chains.proofs.EntryLaws.{name-here, names-long}
 use borrow.Author.Needs.{needs}
+use Rattle.chains.specs.Entry.{declarationsIn, namesIn}
+use Rattle.chains.proofs.SettleLaws.{Settling, begin, walkable, walk-on, all-settled}
 use Rattle.chains.proofs.settle.settle_all.Statement.{statement}
 use Rattle.chains.proofs.settle.settle_all.Tie as tie
 
 abbrev Inv-loop : tie.InvT-loop
-Inv-loop pack records marks₀ steps₀ starts fuel j₀ marks steps j = Settling (declarations pack records) marks₀ starts steps₀ fuel marks steps j
+Inv-loop dir marks₀ count steps₀ j₀ marks steps j = Settling (declarationsIn dir) marks₀ (namesIn dir count) 0 (count + 1) marks steps j
 
 abbrev μ-loop : tie.MeasureT-loop
-μ-loop pack records marks₀ steps₀ starts fuel j₀ marks steps j = length starts - j
+μ-loop dir marks₀ count steps₀ j₀ marks steps j = count - j
 
 loop-holds : tie.Need-loop-holds Inv-loop μ-loop
-loop-holds c = begin _ _ _ _ _ (c .before .before .pre .1)
+loop-holds c = begin _ _ _ _ _ (c .pre .1)
 
-mul-walk : tie.Need-mul-walk Inv-loop μ-loop
-mul-walk c = search needs
+cast-name-at : tie.Need-cast-name-at Inv-loop μ-loop
+cast-name-at c = search needs
 
-shared-slice-read-walk : tie.Need-shared-slice-read-walk Inv-loop μ-loop
-shared-slice-read-walk c = search needs
+name-at-requires : tie.Need-name-at-requires Inv-loop μ-loop
+name-at-requires c κs = omega (arith, (c .before .before .before .before .pre) .0)
 
-cast-walk : tie.Need-cast-walk Inv-loop μ-loop
-cast-walk c = omega (arith, name-here _ _ _ _ _ (c .before .before .before .before .before .before .before .pre .1) (c .before .before .before .before .loop .inv))
+add-walk : tie.Need-add-walk Inv-loop μ-loop
+add-walk c = omega (arith, (c .before .before .before .before .before .pre) .0)
 
 walk-requires : tie.Need-walk-requires Inv-loop μ-loop
-walk-requires c κs = ((c .before .before .before .before .before .before .before .pre .0), walkable _ _ _ _ _ (c .before .before .before .before .before .before .before .pre .1) (c .before .before .before .before .loop .inv) (omega arith))
+walk-requires c κs = rw (c .name-at .ensures ∙ sym (name-here (c .before .before .before .before .before .args .dir .now) (c .before .before .before .before .before .args .count) (c .before .before .before .before .loop .j) (omega arith))) (walkable _ _ _ _ _ ((c .before .before .before .before .before .pre) .1) (c .before .before .before .before .loop .inv) (omega (arith, names-long (c .before .before .before .before .before .args .dir .now) (c .before .before .before .before .before .args .count))))
 
 add-j : tie.Need-add-j Inv-loop μ-loop
 add-j c = search needs
@@ -36,10 +37,10 @@ loop-less : tie.Need-loop-less Inv-loop μ-loop
 loop-less c = search needs
 
 loop-again : tie.Need-loop-again Inv-loop μ-loop
-loop-again c = walk-on _ _ _ _ _ (c .before .before .before .before .before .before .before .before .pre .1) (c .before .before .before .before .before .loop .inv) (omega arith) (c .walk .ensures)
+loop-again c = walk-on _ _ _ _ _ ((c .before .before .before .before .before .before .pre) .1) (c .before .before .before .before .before .loop .inv) (omega (arith, names-long (c .before .before .before .before .before .before .args .dir .now) (c .before .before .before .before .before .before .args .count))) (rw (c .before .name-at .ensures ∙ sym (name-here (c .before .before .before .before .before .before .args .dir .now) (c .before .before .before .before .before .before .args .count) (c .before .before .before .before .before .loop .j) (omega arith))) at (c .walk .ensures))
 
 returns : tie.Need-returns Inv-loop μ-loop
-returns c = all-settled _ _ _ _ _ (c .before .before .before .before .pre .1) (c .before .loop .inv) (omega arith)
+returns c = all-settled _ _ _ _ _ ((c .before .before .pre) .1) (c .before .loop .inv) (omega (arith, names-long (c .before .before .args .dir .now) (c .before .before .args .count)))
 
 pub settle-all-spec : {M : Type 1} → statement M
 settle-all-spec =
@@ -48,9 +49,9 @@ settle-all-spec =
     Inv-loop
     μ-loop
     loop-holds
-    mul-walk
-    shared-slice-read-walk
-    cast-walk
+    cast-name-at
+    name-at-requires
+    add-walk
     walk-requires
     add-j
     loop-less

@@ -1,60 +1,65 @@
 -- `checking::check::check` meets its contract.
+use Rattle.checking.specs.Checked.{namesSaid}
 use mathlib.Core.Path.{_∙_}
 use native.Mathlib.Omega.{arith}
-use Rattle.checking.proofs.CheckLaws.{check-short, check-long, check-refused, check-left, check-yes}
+use Rattle.checking.proofs.CheckLaws.{clear-zeros, said-most}
 use borrow.Author.Needs.{needs}
 use Rattle.checking.proofs.check.check.Statement.{statement}
 use Rattle.checking.proofs.check.check.Tie as tie
 
-refuse-requires : tie.Need-refuse-requires
-refuse-requires c κs = search needs
+names-said-requires : tie.Need-names-said-requires
+names-said-requires c κs = search needs
+
+slice-aggregate-check-directory : tie.Need-slice-aggregate-check-directory
+slice-aggregate-check-directory c = search needs
+
+check-directory-requires : tie.Need-check-directory-requires
+check-directory-requires c κs = clear-zeros (namesSaid (c .before .before .before .before .args .pack .now)) 640 (omega (arith, c .before .before .names-said .ensures))
+
+answer-requires : tie.Need-answer-requires
+answer-requires c κs = search needs
 
 returns : tie.Need-returns
-returns c = (c .refuse .ensures) ∙ check-short _ (omega arith)
+returns c = (c .answer .ensures) ∙ (c .before .before .check-directory .ensures) .answers
 
-refuse-requires-2 : tie.Need-refuse-requires-2
-refuse-requires-2 c κs = search needs
+slice-aggregate-check-directory-2 : tie.Need-slice-aggregate-check-directory-2
+slice-aggregate-check-directory-2 c = search needs
+
+check-directory-requires-2 : tie.Need-check-directory-requires-2
+check-directory-requires-2 c κs = clear-zeros (namesSaid (c .before .before .before .before .before .args .pack .now)) 1536 (omega (arith, c .before .before .before .names-said .ensures))
+
+answer-requires-2 : tie.Need-answer-requires-2
+answer-requires-2 c κs = search needs
 
 returns-2 : tie.Need-returns-2
-returns-2 c = (c .refuse2 .ensures) ∙ check-long _ (omega arith) (omega arith)
+returns-2 c = (c .answer2 .ensures) ∙ (c .before .before .check-directory2 .ensures) .answers
 
-cast-layout : tie.Need-cast-layout
-cast-layout c = search needs
+slice-aggregate-check-directory-3 : tie.Need-slice-aggregate-check-directory-3
+slice-aggregate-check-directory-3 c = search needs
 
-layout-requires : tie.Need-layout-requires
-layout-requires c κs = omega arith
+check-directory-requires-3 : tie.Need-check-directory-requires-3
+check-directory-requires-3 c κs = clear-zeros (namesSaid (c .before .before .before .before .before .args .pack .now)) 4608 (omega (arith, said-most (c .before .before .before .before .before .args .pack .now)))
 
-enum-known-r : tie.Need-enum-known-r
-enum-known-r c = search needs
-
-enum-known-c : tie.Need-enum-known-c
-enum-known-c c = search needs
-
-refuse-requires-3 : tie.Need-refuse-requires-3
-refuse-requires-3 c κs = search needs
+answer-requires-3 : tie.Need-answer-requires-3
+answer-requires-3 c κs = search needs
 
 returns-3 : tie.Need-returns-3
-returns-3 c = check-refused _ (omega arith) (omega arith) (c .before .before .before .layout .ensures) (c .before .r .given .1)
-
-returns-4 : tie.Need-returns-4
-returns-4 c = (c .refuse3 .ensures) ∙ check-left _ (omega arith) (omega arith) (c .before .before .before .before .before .layout .ensures) (c .before .before .before .c .given .1) (omega arith)
-
-returns-5 : tie.Need-returns-5
-returns-5 c = check-yes _ (omega arith) (omega arith) (c .before .before .before .before .layout .ensures) (c .before .before .c .given .1) (omega arith)
+returns-3 c = (c .answer3 .ensures) ∙ (c .before .before .check-directory3 .ensures) .answers
 
 pub check-spec : {M : Type 1} → statement M
 check-spec =
     tie.close
     (tie.spec
-    refuse-requires
+    names-said-requires
+    slice-aggregate-check-directory
+    check-directory-requires
+    answer-requires
     returns
-    refuse-requires-2
+    slice-aggregate-check-directory-2
+    check-directory-requires-2
+    answer-requires-2
     returns-2
-    cast-layout
-    layout-requires
-    enum-known-r
-    enum-known-c
-    refuse-requires-3
-    returns-3
-    returns-4
-    returns-5)
+    slice-aggregate-check-directory-3
+    check-directory-requires-3
+    answer-requires-3
+    returns-3)

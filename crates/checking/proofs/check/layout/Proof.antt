@@ -1,9 +1,10 @@
 -- `checking::check::layout` meets its contract.
-use mathlib.Core.Path.{refl}
+use mathlib.Core.Path.{refl, sym}
+use native.Mathlib.Omega.{arith}
 use Rattle.pack.specs.Pack.{layout, inner}
-use Rattle.pack.proofs.StepLaws.{walks}
-use Rattle.checking.proofs.CheckLaws.{from-start, names-most}
 use Rattle.pack.specs.Table.{entryOf, table}
+use Rattle.pack.proofs.StepLaws.{walks}
+use Rattle.checking.proofs.CheckLaws.{from-start, names-most, clear-read, whole-no, whole-on}
 use borrow.Author.Needs.{needs}
 use Rattle.checking.proofs.check.layout.Statement.{statement}
 use Rattle.checking.proofs.check.layout.Tie as tie
@@ -24,9 +25,12 @@ enum-known-f1 c = search needs
 enum-told : tie.Need-enum-told
 enum-told c = search needs
 
+refused-requires : tie.Need-refused-requires
+refused-requires c κs = search needs
+
 returns : tie.Need-returns
 unfolding layout inner
-returns c = from-start _ _ (c .before .before .before .start .ensures) (search walks depth 12)
+returns c = whole-no _ _ _ (from-start _ _ (c .before .before .before .before .start .ensures) (search walks depth 12)) (c .before .enum-told .given .1) (c .refused .ensures)
 
 field-requires : tie.Need-field-requires
 unfolding entryOf table
@@ -38,16 +42,21 @@ enum-known-f2 c = search needs
 enum-told-2 : tie.Need-enum-told-2
 enum-told-2 c = search needs
 
+refused-requires-2 : tie.Need-refused-requires-2
+refused-requires-2 c κs = search needs
+
 returns-2 : tie.Need-returns-2
 unfolding layout inner
-returns-2 c = from-start _ _ (c .before .before .before .before .before .before .before .start .ensures) (search walks depth 12)
+returns-2 c = whole-no _ _ _ (from-start _ _ (c .before .before .before .before .before .before .before .before .start .ensures) (search walks depth 12)) (c .before .enum-told2 .given .1) (c .refused2 .ensures)
 
 records-requires : tie.Need-records-requires
-records-requires c κs = (names-most _ _ _ (c .before .before .before .before .field .ensures) (c .before .before .f2 .given .1), record { most = (c .before .before .before .before .before .before .before .before .before .before .before .before .pre); tabled = (c .before .before .before .before .before .before .before .before .before .before .table .ensures) })
+records-requires c κs = (names-most _ _ _ (c .before .before .before .before .before .field .ensures) (c .before .before .before .f2 .given .1), record { most = (c .before .before .before .before .before .before .before .before .before .before .before .before .before .before .pre) .0; tabled = (c .before .before .before .before .before .before .before .before .before .before .before .table .ensures) }, clear-read _ _ (c .before .before .before .before .before .before .before .before .before .before .start .ensures) (c .before .before .before .before .before .before .before .before .before .skip .ensures) (c .before .before .before .before .before .before .before .f1 .given .1) (c .before .before .before .before .before .field .ensures) (c .before .before .before .f2 .given .1) ((c .before .before .before .before .before .before .before .before .before .before .before .before .before .before .pre) .1))
+
+same-length : tie.Need-same-length
+same-length c = search needs
 
 returns-3 : tie.Need-returns-3
-unfolding layout inner
-returns-3 c = from-start _ _ (c .before .before .before .before .before .before .before .before .before .before .start .ensures) (search walks depth 12)
+returns-3 c = whole-on _ _ _ (c .before .before .before .before .before .before .before .before .before .before .before .before .before .start .ensures) (c .before .before .before .before .before .before .before .before .before .before .before .before .skip .ensures) (c .before .before .before .before .before .before .before .before .before .before .f1 .given .1) (c .before .before .before .before .before .before .before .before .field .ensures) (c .before .before .before .before .before .before .f2 .given .1) (c .before .before .records .ensures)
 
 pub layout-spec : {M : Type 1} → statement M
 layout-spec =
@@ -58,10 +67,13 @@ layout-spec =
     skip-requires
     enum-known-f1
     enum-told
+    refused-requires
     returns
     field-requires
     enum-known-f2
     enum-told-2
+    refused-requires-2
     returns-2
     records-requires
+    same-length
     returns-3)

@@ -1,15 +1,16 @@
 -- `directions::equal::first_equal` meets its contract.
 use Prim.Native.Nat.{_-_}
+use Rattle.chains.specs.Entry.{startsIn}
 use Rattle.directions.proofs.EqualLaws.{Looking, look, found, look-on, looked, named, counted}
 use borrow.Author.Needs.{needs}
 use Rattle.directions.proofs.equal.first_equal.Statement.{statement}
 use Rattle.directions.proofs.equal.first_equal.Tie as tie
 
 abbrev Inv-loop : tie.InvT-loop
-Inv-loop pack records marks count i₀ i = Looking pack records marks count i
+Inv-loop pack dir marks count i₀ i = Looking pack (startsIn dir) marks count i
 
 abbrev μ-loop : tie.MeasureT-loop
-μ-loop pack records marks count i₀ i = count - i
+μ-loop pack dir marks count i₀ i = count - i
 
 value-at-requires : tie.Need-value-at-requires Inv-loop μ-loop
 value-at-requires c κs = search needs
@@ -30,7 +31,7 @@ cast-equal-kinds : tie.Need-cast-equal-kinds Inv-loop μ-loop
 cast-equal-kinds c = search needs
 
 equal-kinds-requires : tie.Need-equal-kinds-requires Inv-loop μ-loop
-equal-kinds-requires c κs = ((c .before .before .before .before .before .pre) .0, named _ _ ((c .before .before .before .before .before .pre) .1) ((c .before .before .before .value-at) .ensures .0) ((c .before .loop-test) .taken) ((c .value-at2) .ensures .0))
+equal-kinds-requires c κs = (named _ _ (c .before .before .before .before .before .pre) ((c .before .before .before .value-at) .ensures .0) ((c .before .loop-test) .taken) ((c .value-at2) .ensures .0))
 
 returns : tie.Need-returns Inv-loop μ-loop
 returns c = counted _ _ _ ((c .before .before .before .before .before .value-at) .ensures .0) (found _ _ _ ((c .before .before .before .before .loop) .inv) ((c .before .before .before .loop-test) .taken) ((c .before .before .value-at2) .ensures .0) ((c .before .equal-kinds) .ensures) ((c .if1) .taken))

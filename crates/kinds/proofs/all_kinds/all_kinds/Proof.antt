@@ -1,69 +1,81 @@
 -- `kinds::all_kinds::all_kinds` meets its contract.
 use native.Mathlib.Omega.{arith}
-use Rattle.chains.proofs.AnswerLaws.{checked, kinds-asked}
+use mathlib.Core.Path.{_∙_, ap}
+use Rattle.checking.specs.Checked.{answerIn}
+use Rattle.chains.proofs.CheckedLaws.{few-relations, settleable, kinds-marked, placeable}
+use Rattle.chains.proofs.AnswerLaws.{front-length}
+use Rattle.chains.proofs.EntryLaws.{clear-all, directed}
+use Rattle.kinds.proofs.PartLaws.{kinds-left}
 use Rattle.kinds.proofs.OperationLaws.{kinds-refused, kinds-room, kinds-done}
-use Rattle.chains.proofs.CheckedLaws.{few-counted}
 use borrow.Author.Needs.{needs}
 use Rattle.kinds.proofs.all_kinds.all_kinds.Statement.{statement}
 use Rattle.kinds.proofs.all_kinds.all_kinds.Tie as tie
 
-check-requires : tie.Need-check-requires
-check-requires c κs = search needs
+slice-aggregate-check-directory : tie.Need-slice-aggregate-check-directory
+slice-aggregate-check-directory c = search needs
+
+check-directory-requires : tie.Need-check-directory-requires
+check-directory-requires c κs = clear-all _
+
+enum-known-r : tie.Need-enum-known-r
+enum-known-r c = search needs
 
 enum-told : tie.Need-enum-told
 enum-told c = search needs
 
-enum-told-2 : tie.Need-enum-told-2
-enum-told-2 c = search needs
+answer-requires : tie.Need-answer-requires
+answer-requires c κs = search needs
 
 returns : tie.Need-returns
-returns c = kinds-refused _ _ (c .before .before .check .ensures) ((c .enum-told2 .given) .1)
+returns c = kinds-refused _ _ ((c .answer .ensures) ∙ (c .before .before .before .before .check-directory .ensures .answers)) ((c .answer .ensures) ∙ ap answerIn (c .before .enum-told .given .1))
 
-relation-count-requires : tie.Need-relation-count-requires
-relation-count-requires c κs = (checked _ (c .before .before .check .ensures) ((c .enum-told .given) .1))
+cast-count : tie.Need-cast-count
+cast-count c = search needs
 
 refuse-requires : tie.Need-refuse-requires
 refuse-requires c κs = search needs
 
 returns-2 : tie.Need-returns-2
-returns-2 c = kinds-room _ _ (checked _ (c .before .before .before .before .before .check .ensures) ((c .before .before .before .enum-told .given) .1)) (c .before .before .relation-count .ensures) (omega arith) (c .refuse .ensures)
+returns-2 c = let d = directed (clear-all _) (c .before .before .before .before .before .before .check-directory .ensures) (c .before .before .before .r .given .1) in kinds-room _ _ (d .checked) (d .counted) (omega arith) (c .refuse .ensures)
 
-sub-settle-kinds : tie.Need-sub-settle-kinds
-sub-settle-kinds c = search needs
+settle-all-requires : tie.Need-settle-all-requires
+settle-all-requires c κs = let d = directed (clear-all _) (c .before .before .before .before .before .before .before .check-directory .ensures) (c .before .before .before .before .r .given .1) in (few-relations d, settleable d)
 
-part-settle-kinds-start : tie.Need-part-settle-kinds-start
-part-settle-kinds-start c = search needs
+sub-places : tie.Need-sub-places
+sub-places c = search needs
 
-part-settle-kinds-end : tie.Need-part-settle-kinds-end
-part-settle-kinds-end c = search needs
+part-places-start : tie.Need-part-places-start
+part-places-start c = search needs
 
-settle-kinds-requires : tie.Need-settle-kinds-requires
-settle-kinds-requires c κs = kinds-asked _ _ (checked _ (c .before .before .before .before .before .check .ensures) ((c .before .before .before .enum-told .given) .1)) (c .before .before .relation-count .ensures) (omega arith)
+part-places-end : tie.Need-part-places-end
+part-places-end c = search needs
 
-cast-t11 : tie.Need-cast-t11
-cast-t11 c = omega (arith, few-counted _ (checked _ (c .before .before .before .before .before .before .before .before .check .ensures) ((c .before .before .before .before .before .before .enum-told .given) .1)) (c .before .before .before .before .before .relation-count .ensures))
+places-requires : tie.Need-places-requires
+places-requires c κs = let d = directed (clear-all _) (c .before .before .before .before .before .before .before .before .before .before .before .check-directory .ensures) (c .before .before .before .before .before .before .before .before .r .given .1) in let l = front-length (c .before .before .before .before .before .before .before .before .before .before .before .before .before .before .before .args .out .now) (c .before .before .before .before .before .before .before .before .r .given .0 .0 .relations) (omega arith) in (omega (arith, few-relations d), rw l (placeable (d .checked) (kinds-marked d (c .before .before .before .settle-all .ensures))))
 
 same-length : tie.Need-same-length
 same-length c = search needs
 
 returns-3 : tie.Need-returns-3
-returns-3 c = kinds-done _ _ (checked _ (c .before .before .before .before .before .before .before .before .check .ensures) ((c .before .before .before .before .before .before .enum-told .given) .1)) (c .before .before .before .before .before .relation-count .ensures) (omega arith) (c .before .before .settle-kinds .ensures)
+returns-3 c = let d = directed (clear-all _) (c .before .before .before .before .before .before .before .before .before .before .before .before .before .before .check-directory .ensures) (c .before .before .before .before .before .before .before .before .before .before .before .r .given .1) in kinds-done _ _ (d .checked) (d .counted) (omega arith) (kinds-left _ _ (kinds-marked d (c .before .before .before .before .before .before .settle-all .ensures)) (front-length (c .before .before .before .before .before .before .before .before .before .before .before .before .before .before .before .before .before .before .args .out .now) _ (omega arith)) (c .before .before .places .ensures))
 
 pub all-kinds-spec : {M : Type 1} → statement M
 all-kinds-spec =
     tie.close
     (tie.spec
-    check-requires
+    slice-aggregate-check-directory
+    check-directory-requires
+    enum-known-r
     enum-told
-    enum-told-2
+    answer-requires
     returns
-    relation-count-requires
+    cast-count
     refuse-requires
     returns-2
-    sub-settle-kinds
-    part-settle-kinds-start
-    part-settle-kinds-end
-    settle-kinds-requires
-    cast-t11
+    settle-all-requires
+    sub-places
+    part-places-start
+    part-places-end
+    places-requires
     same-length
     returns-3)

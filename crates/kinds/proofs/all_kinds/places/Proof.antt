@@ -1,38 +1,35 @@
 -- `kinds::all_kinds::places` meets its contract.
+use Prim.Native.Nat.{_-_, _<_}
 use native.Mathlib.Omega.{arith}
-use Prim.Native.Nat.{_-_}
+use mathlib.Core.Path.{refl}
 use lib.ListN.{length}
-use Rattle.kinds.proofs.PlaceLaws.{Placing, begin, name-below, name-settled, next-place, all-placed}
 use borrow.Author.Needs.{needs}
+use Rattle.kinds.specs.Parts.{placeAt}
+use Rattle.chains.proofs.FillLaws.{Filling, begin, next, done}
+use Rattle.kinds.proofs.PartLaws.{named-low, named-settled}
 use Rattle.kinds.proofs.all_kinds.places.Statement.{statement}
 use Rattle.kinds.proofs.all_kinds.places.Tie as tie
 
 abbrev Inv-loop : tie.InvT-loop
-Inv-loop marks out₀ j₀ out j = Placing marks out₀ out j
+Inv-loop dir marks out₀ j₀ out j = Filling (placeAt marks dir) out₀ out j
 
 abbrev μ-loop : tie.MeasureT-loop
-μ-loop marks out₀ j₀ out j = length out₀ - j
+μ-loop dir marks out₀ j₀ out j = length out₀ - j
 
 loop-holds : tie.Need-loop-holds Inv-loop μ-loop
 loop-holds c = begin _ _
 
-mul-n : tie.Need-mul-n Inv-loop μ-loop
-mul-n c = search needs
-
-slice-read-n : tie.Need-slice-read-n Inv-loop μ-loop
-slice-read-n c = search needs
-
-cast-n : tie.Need-cast-n Inv-loop μ-loop
-cast-n c = omega (arith, name-below _ _ (c .before .before .before .pre) (c .before .before .loop .inv) (omega arith))
+name-at-requires : tie.Need-name-at-requires Inv-loop μ-loop
+name-at-requires c κs = omega (arith, (c .before .loop .inv) .long, (c .before .before .before .pre) .0)
 
 mul-out : tie.Need-mul-out Inv-loop μ-loop
-mul-out c = omega (arith, name-below _ _ (c .before .before .before .pre) (c .before .before .loop .inv) (omega arith))
+mul-out c = omega (arith, named-low _ _ _ (c .before .before .before .before .pre .1) _ (omega (arith, (c .before .before .loop .inv) .long)) (c .name-at .ensures))
 
 element-copy-out-out : tie.Need-element-copy-out-out Inv-loop μ-loop
-element-copy-out-out c = omega (arith, name-below _ _ (c .before .before .before .pre) (c .before .before .loop .inv) (omega arith))
+element-copy-out-out c = omega (arith, named-low _ _ _ (c .before .before .before .before .pre .1) _ (omega (arith, (c .before .before .loop .inv) .long)) (c .name-at .ensures))
 
 sub-out : tie.Need-sub-out Inv-loop μ-loop
-sub-out c = omega (arith, name-settled _ _ (c .before .before .before .before .pre) (c .before .before .before .loop .inv) (omega arith))
+sub-out c = omega (arith, named-settled _ _ _ (c .before .before .before .before .before .pre .1) _ (omega (arith, (c .before .before .before .loop .inv) .long)) (c .before .name-at .ensures))
 
 mul-out-2 : tie.Need-mul-out-2 Inv-loop μ-loop
 mul-out-2 c = search needs
@@ -44,16 +41,17 @@ add-j : tie.Need-add-j Inv-loop μ-loop
 add-j c = search needs
 
 loop-less : tie.Need-loop-less Inv-loop μ-loop
-loop-less c = search needs
+loop-less c = omega (arith, (c .before .before .before .loop .inv) .long)
 
 loop-again : tie.Need-loop-again Inv-loop μ-loop
-loop-again c = next-place _ _ (c .before .before .before .before .pre) (c .before .before .before .loop .inv) (omega arith)
+unfolding placeAt
+loop-again c = next _ _ (c .before .before .before .loop .inv) (omega (arith, (c .before .before .before .loop .inv) .long)) (rw (c .before .name-at .ensures) refl)
 
 same-length : tie.Need-same-length Inv-loop μ-loop
-same-length c = (c .before .loop .inv .long)
+same-length c = (c .before .loop .inv) .long
 
 returns : tie.Need-returns Inv-loop μ-loop
-returns c = all-placed _ _ (c .before .before .pre) (c .before .loop .inv) (omega arith)
+returns c = done _ _ (c .before .loop .inv) (omega (arith, (c .before .loop .inv) .long))
 
 pub places-spec : {M : Type 1} → statement M
 places-spec =
@@ -62,9 +60,7 @@ places-spec =
     Inv-loop
     μ-loop
     loop-holds
-    mul-n
-    slice-read-n
-    cast-n
+    name-at-requires
     mul-out
     element-copy-out-out
     sub-out

@@ -1,50 +1,60 @@
 -- `kinds::kinds_of::kinds_of` meets its contract.
 use native.Mathlib.Omega.{arith}
-use mathlib.Core.Path.{_∙_}
-use Rattle.chains.proofs.CheckedLaws.{below-most}
-use Rattle.chains.proofs.AnswerLaws.{checked}
+use mathlib.Core.Path.{_∙_, ap}
+use Rattle.checking.specs.Checked.{answerIn}
+use Rattle.chains.proofs.CheckedLaws.{few-relations, below-most}
+use Rattle.chains.proofs.EntryLaws.{clear-all, directed}
+use Rattle.kinds.proofs.PartLaws.{walkable-own, own-place}
 use Rattle.kinds.proofs.OperationLaws.{name-refused, name-unknown, name-place}
 use borrow.Author.Needs.{needs}
 use Rattle.kinds.proofs.kinds_of.kinds_of.Statement.{statement}
 use Rattle.kinds.proofs.kinds_of.kinds_of.Tie as tie
 
-check-requires : tie.Need-check-requires
-check-requires c κs = search needs
+slice-aggregate-check-directory : tie.Need-slice-aggregate-check-directory
+slice-aggregate-check-directory c = search needs
+
+check-directory-requires : tie.Need-check-directory-requires
+check-directory-requires c κs = clear-all _
+
+enum-known-r : tie.Need-enum-known-r
+enum-known-r c = search needs
 
 enum-told : tie.Need-enum-told
 enum-told c = search needs
 
-enum-told-2 : tie.Need-enum-told-2
-enum-told-2 c = search needs
+answer-requires : tie.Need-answer-requires
+answer-requires c κs = search needs
 
 returns : tie.Need-returns
-returns c = name-refused _ _ (c .before .before .check .ensures) ((c .enum-told2 .given) .1)
-
-name-count-requires : tie.Need-name-count-requires
-name-count-requires c κs = (checked _ (c .before .before .check .ensures) ((c .enum-told .given) .1))
+returns c = name-refused _ _ ((c .answer .ensures) ∙ (c .before .before .before .before .check-directory .ensures .answers)) ((c .answer .ensures) ∙ ap answerIn (c .before .enum-told .given .1))
 
 unknown-name-requires : tie.Need-unknown-name-requires
 unknown-name-requires c κs = search needs
 
 returns-2 : tie.Need-returns-2
-returns-2 c = (c .unknown-name .ensures) ∙ name-unknown _ _ (checked _ (c .before .before .before .before .before .check .ensures) ((c .before .before .before .enum-told .given) .1)) (c .before .before .name-count .ensures) (omega arith)
+returns-2 c = let d = directed (clear-all _) (c .before .before .before .before .before .before .before .check-directory .ensures) (c .before .before .before .before .r .given .1) in (c .unknown-name .ensures) ∙ name-unknown _ _ (d .checked) (d .named) (omega arith)
 
-own-place-requires : tie.Need-own-place-requires
-own-place-requires c κs = ((checked _ (c .before .before .before .before .check .ensures) ((c .before .before .enum-told .given) .1)), omega (arith, below-most (checked _ (c .before .before .before .before .check .ensures) ((c .before .before .enum-told .given) .1)) (c .before .name-count .ensures)))
+add-fuel : tie.Need-add-fuel
+add-fuel c = let d = directed (clear-all _) (c .before .before .before .before .before .before .before .check-directory .ensures) (c .before .before .before .before .r .given .1) in omega (arith, few-relations d)
+
+walk-requires : tie.Need-walk-requires
+walk-requires c κs = let d = directed (clear-all _) (c .before .before .before .before .before .before .before .before .before .before .check-directory .ensures) (c .before .before .before .before .before .before .before .r .given .1) in walkable-own d (omega (arith, below-most (d .checked) (d .named)))
 
 returns-3 : tie.Need-returns-3
-returns-3 c = name-place _ _ (checked _ (c .before .before .before .before .before .check .ensures) ((c .before .before .before .enum-told .given) .1)) (c .before .before .name-count .ensures) (omega arith) (c .own-place .ensures)
+returns-3 c = let d = directed (clear-all _) (c .before .before .before .before .before .before .before .before .before .before .before .check-directory .ensures) (c .before .before .before .before .before .before .before .before .r .given .1) in name-place _ _ (d .checked) (d .named) (omega arith) (own-place d (c .walk .ensures))
 
 pub kinds-of-spec : {M : Type 1} → statement M
 kinds-of-spec =
     tie.close
     (tie.spec
-    check-requires
+    slice-aggregate-check-directory
+    check-directory-requires
+    enum-known-r
     enum-told
-    enum-told-2
+    answer-requires
     returns
-    name-count-requires
     unknown-name-requires
     returns-2
-    own-place-requires
+    add-fuel
+    walk-requires
     returns-3)

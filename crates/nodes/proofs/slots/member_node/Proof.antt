@@ -19,7 +19,7 @@ slice-read-related : tie.Need-slice-read-related
 slice-read-related c = omega (arith, three-words ((c .before .before .before .before .before .pre) .node))
 
 member-requires : tie.Need-member-requires
-member-requires c κs = ((c .before .before .before .before .before .pre) .recorded, relation-below ((c .before .before .before .before .before .pre) .node))
+member-requires c κs = relation-below ((c .before .before .before .before .before .pre) .node)
 
 set-slots-requires : tie.Need-set-slots-requires
 set-slots-requires c κs = ((c .before .before .before .before .before .before .before .pre) .node, member-fits-code _ _ _ _ _ _ (omega arith) (omega arith) ((c .before .member) .ensures))

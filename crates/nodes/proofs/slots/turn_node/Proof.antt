@@ -18,7 +18,7 @@ slice-read-related : tie.Need-slice-read-related
 slice-read-related c = omega (arith, three-words ((c .before .before .before .before .before .pre) .node))
 
 turn-requires : tie.Need-turn-requires
-turn-requires c κs = ((c .before .before .before .before .before .pre) .recorded, relation-below ((c .before .before .before .before .before .pre) .node))
+turn-requires c κs = relation-below ((c .before .before .before .before .before .pre) .node)
 
 set-slots-requires : tie.Need-set-slots-requires
 set-slots-requires c κs = ((c .before .before .before .before .before .before .before .pre) .node, turned-fits _ _ _ _ _ _ _ _ (omega arith) (omega arith) ((c .before .turn) .ensures))

@@ -1,6 +1,7 @@
 -- `records::all::records` meets its contract.
 use Rattle.pack.specs.Pack.{records}
 use Rattle.pack.proofs.StepLaws.{by-then, then-stop}
+use Rattle.records.proofs.DirectoryLaws.{laid-no, laid-yes}
 use borrow.Author.Needs.{needs}
 use Rattle.records.proofs.all.records.Statement.{statement}
 use Rattle.records.proofs.all.records.Tie as tie
@@ -14,9 +15,12 @@ enum-known-f1 c = search needs
 enum-told : tie.Need-enum-told
 enum-told c = search needs
 
+refused-requires : tie.Need-refused-requires
+refused-requires c κs = search needs
+
 returns : tie.Need-returns
 unfolding records
-returns c = search (by-then, then-stop) depth 12
+returns c = laid-no _ _ _ _ (search (by-then, then-stop) depth 12) (c .before .enum-told .given .1) (c .refused .ensures)
 
 relations-requires : tie.Need-relations-requires
 relations-requires c κs = search needs
@@ -27,9 +31,15 @@ enum-known-f2 c = search needs
 enum-told-2 : tie.Need-enum-told-2
 enum-told-2 c = search needs
 
+refused-requires-2 : tie.Need-refused-requires-2
+refused-requires-2 c κs = search needs
+
+same-length : tie.Need-same-length
+same-length c = search needs
+
 returns-2 : tie.Need-returns-2
 unfolding records
-returns-2 c = search (by-then, then-stop) depth 12
+returns-2 c = laid-no _ _ _ _ (by-then _ _ _ _ (c .before .before .before .before .before .before .before .before .before .before .defaulted .ensures) _ _ (c .before .before .before .before .before .before .before .before .f1 .given .1) (λ _. then-stop _ _ _ _ ((c .before .before .before .before .before .relations .ensures) .answers) _ _ (c .before .enum-told2 .given .1))) (c .before .enum-told2 .given .1) (c .refused2 .ensures)
 
 rules-requires : tie.Need-rules-requires
 rules-requires c κs = search needs
@@ -40,16 +50,40 @@ enum-known-f3 c = search needs
 enum-told-3 : tie.Need-enum-told-3
 enum-told-3 c = search needs
 
+refused-requires-3 : tie.Need-refused-requires-3
+refused-requires-3 c κs = search needs
+
+same-length-2 : tie.Need-same-length-2
+same-length-2 c = search needs
+
 returns-3 : tie.Need-returns-3
 unfolding records
-returns-3 c = search (by-then, then-stop) depth 12
+returns-3 c = laid-no _ _ _ _ (by-then _ _ _ _ (c .before .before .before .before .before .before .before .before .before .before .before .before .before .before .defaulted .ensures) _ _ (c .before .before .before .before .before .before .before .before .before .before .before .before .f1 .given .1) (λ _. by-then _ _ _ _ ((c .before .before .before .before .before .before .before .before .before .relations .ensures) .answers) _ _ (c .before .before .before .before .before .f2 .given .1) (λ _. then-stop _ _ _ _ (c .before .before .before .rules .ensures) _ _ (c .before .enum-told3 .given .1)))) (c .before .enum-told3 .given .1) (c .refused3 .ensures)
 
 blocks-requires : tie.Need-blocks-requires
 blocks-requires c κs = search needs
 
+enum-known-f4 : tie.Need-enum-known-f4
+enum-known-f4 c = search needs
+
+enum-told-4 : tie.Need-enum-told-4
+enum-told-4 c = search needs
+
+refused-requires-4 : tie.Need-refused-requires-4
+refused-requires-4 c κs = search needs
+
+same-length-3 : tie.Need-same-length-3
+same-length-3 c = search needs
+
 returns-4 : tie.Need-returns-4
 unfolding records
-returns-4 c = search (by-then, then-stop) depth 12
+returns-4 c = laid-no _ _ _ _ (by-then _ _ _ _ (c .before .before .before .before .before .before .before .before .before .before .before .before .before .before .before .before .before .before .defaulted .ensures) _ _ (c .before .before .before .before .before .before .before .before .before .before .before .before .before .before .before .before .f1 .given .1) (λ _. by-then _ _ _ _ ((c .before .before .before .before .before .before .before .before .before .before .before .before .before .relations .ensures) .answers) _ _ (c .before .before .before .before .before .before .before .before .before .f2 .given .1) (λ _. by-then _ _ _ _ (c .before .before .before .before .before .before .before .rules .ensures) _ _ (c .before .before .before .before .before .f3 .given .1) (λ _. (c .before .before .before .blocks2 .ensures))))) (c .before .enum-told4 .given .1) (c .refused4 .ensures)
+
+same-length-4 : tie.Need-same-length-4
+same-length-4 c = search needs
+
+returns-5 : tie.Need-returns-5
+returns-5 c = laid-yes _ _ _ _ (c .before .before .before .before .before .before .before .before .before .before .before .before .before .before .before .before .before .before .defaulted .ensures) (c .before .before .before .before .before .before .before .before .before .before .before .before .before .before .before .before .f1 .given .1) (c .before .before .before .before .before .before .before .before .before .before .before .before .before .relations .ensures) (c .before .before .before .before .before .before .before .before .before .f2 .given .1) (c .before .before .before .before .before .before .before .rules .ensures) (c .before .before .before .before .before .f3 .given .1) (c .before .before .before .blocks2 .ensures) (c .before .f4 .given .1)
 
 pub records-spec : {M : Type 1} → statement M
 records-spec =
@@ -58,14 +92,25 @@ records-spec =
     defaulted-requires
     enum-known-f1
     enum-told
+    refused-requires
     returns
     relations-requires
     enum-known-f2
     enum-told-2
+    refused-requires-2
+    same-length
     returns-2
     rules-requires
     enum-known-f3
     enum-told-3
+    refused-requires-3
+    same-length-2
     returns-3
     blocks-requires
-    returns-4)
+    enum-known-f4
+    enum-told-4
+    refused-requires-4
+    same-length-3
+    returns-4
+    same-length-4
+    returns-5)

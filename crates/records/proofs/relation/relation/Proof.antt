@@ -1,6 +1,12 @@
 -- `records::relation::relation` meets its contract.
+use lib.ListN.{length-set}
+use mathlib.Core.Path.{refl}
+use native.Mathlib.Omega.{arith}
 use Rattle.pack.specs.Pack.{relation}
-use Rattle.pack.proofs.StepLaws.{walks}
+use Rattle.pack.proofs.StepLaws.{walks, by-via, by-then, last-stop}
+use Rattle.records.specs.Directory.{noteRelation}
+use Rattle.records.proofs.KeptLaws.{noted-no, noted-pair}
+use Rattle.records.proofs.DirectoryLaws.{name-read, note-fits}
 use borrow.Author.Needs.{needs}
 use Rattle.records.proofs.relation.relation.Statement.{statement}
 use Rattle.records.proofs.relation.relation.Tie as tie
@@ -14,9 +20,12 @@ enum-known-f1 c = search needs
 enum-told : tie.Need-enum-told
 enum-told c = search needs
 
+same-length : tie.Need-same-length
+same-length c = search needs
+
 returns : tie.Need-returns
 unfolding relation
-returns c = search walks depth 16
+returns c = noted-no _ _ _ _ _ _ (search walks depth 16) (c .enum-told .given .1)
 
 relation-tail-requires : tie.Need-relation-tail-requires
 relation-tail-requires c κs = search needs
@@ -27,13 +36,46 @@ enum-known-f2 c = search needs
 enum-told-2 : tie.Need-enum-told-2
 enum-told-2 c = search needs
 
+same-length-2 : tie.Need-same-length-2
+same-length-2 c = search needs
+
 returns-2 : tie.Need-returns-2
 unfolding relation
-returns-2 c = search walks depth 16
+returns-2 c = noted-no _ _ _ _ _ _ (by-via _ _ _ _ _ _ _ _ (by-then _ _ _ _ (c .before .before .before .before .before .before .new-name .ensures) _ _ (c .before .before .before .before .f1 .given .1) (λ _. last-stop _ _ _ _ (c .before .before .relation-tail .ensures) _ (c .enum-told2 .given .1)))) (c .enum-told2 .given .1)
+
+mul-dir : tie.Need-mul-dir
+mul-dir c = search needs
+
+slice-write-dir : tie.Need-slice-write-dir
+slice-write-dir c = search needs
+
+cast-dir : tie.Need-cast-dir
+cast-dir c = let r = name-read _ _ _ _ (c .before .before .before .before .before .before .before .new-name .ensures) (c .before .before .before .before .before .f1 .given .1) in omega (arith, (c .before .before .before .before .before .before .before .before .before .before .before .pre) .1 .most)
+
+mul-dir-2 : tie.Need-mul-dir-2
+mul-dir-2 c = omega (arith, note-fits _ _ _ (c .before .before .before .relation-tail .ensures) (c .before .f2 .given .1) ((c .before .before .before .before .before .before .before .before .before .before .before .pre) .0))
+
+add-dir : tie.Need-add-dir
+add-dir c = let r = name-read _ _ _ _ (c .before .before .before .before .before .before .before .new-name .ensures) (c .before .before .before .before .before .f1 .given .1) in omega (arith, note-fits _ _ _ (c .before .before .before .relation-tail .ensures) (c .before .f2 .given .1) ((c .before .before .before .before .before .before .before .before .before .before .before .pre) .0), (c .before .before .before .before .before .before .before .before .before .before .before .pre) .1 .most)
+
+cast-dir-2 : tie.Need-cast-dir-2
+cast-dir-2 c = search needs
+
+add-dir-2 : tie.Need-add-dir-2
+add-dir-2 c = search needs
+
+mul-dir-3 : tie.Need-mul-dir-3
+mul-dir-3 c = search needs
+
+slice-write-dir-2 : tie.Need-slice-write-dir-2
+slice-write-dir-2 c = let r = name-read _ _ _ _ (c .before .before .before .before .before .before .before .new-name .ensures) (c .before .before .before .before .before .f1 .given .1) in simp length-set (omega (arith, (c .before .before .before .before .before .before .before .before .before .before .before .pre) .3))
+
+same-length-3 : tie.Need-same-length-3
+same-length-3 c = search needs
 
 returns-3 : tie.Need-returns-3
-unfolding relation
-returns-3 c = search walks depth 16
+unfolding relation noteRelation
+returns-3 c = noted-pair _ _ _ _ _ _ _ _ _ _ _ _ _ (c .before .before .before .before .before .before .before .new-name .ensures) (c .before .before .before .before .before .f1 .given .1) (λ _. (c .before .before .before .relation-tail .ensures)) (c .before .f2 .given .1) (λ t s. (t .kept, rw (s .kept, t .kept) refl))
 
 pub relation-spec : {M : Type 1} → statement M
 relation-spec =
@@ -42,9 +84,21 @@ relation-spec =
     new-name-requires
     enum-known-f1
     enum-told
+    same-length
     returns
     relation-tail-requires
     enum-known-f2
     enum-told-2
+    same-length-2
     returns-2
+    mul-dir
+    slice-write-dir
+    cast-dir
+    mul-dir-2
+    add-dir
+    cast-dir-2
+    add-dir-2
+    mul-dir-3
+    slice-write-dir-2
+    same-length-3
     returns-3)

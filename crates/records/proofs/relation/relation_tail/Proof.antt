@@ -1,8 +1,11 @@
 -- `records::relation::relation_tail` meets its contract.
 use mathlib.Core.Path.{refl}
 use Rattle.pack.specs.Pack.{relationTail}
-use Rattle.pack.proofs.StepLaws.{by-then, then-stop}
+use Rattle.pack.specs.Form.{count}
 use Rattle.pack.specs.Table.{entryOf, table}
+use Rattle.pack.proofs.StepLaws.{by-then, then-stop, last-stop}
+use Rattle.records.proofs.KeptLaws.{kept-then}
+use Rattle.records.proofs.DirectoryLaws.{list-few}
 use borrow.Author.Needs.{needs}
 use Rattle.records.proofs.relation.relation_tail.Statement.{statement}
 use Rattle.records.proofs.relation.relation_tail.Tie as tie
@@ -19,7 +22,7 @@ enum-told c = search needs
 
 returns : tie.Need-returns
 unfolding relationTail
-returns c = search (by-then, then-stop) depth 12
+returns c = last-stop (λ a. 0) _ _ _ (search (by-then, then-stop) depth 16) _ (c .enum-told .given .1)
 
 skip-requires-2 : tie.Need-skip-requires-2
 unfolding entryOf table
@@ -33,7 +36,7 @@ enum-told-2 c = search needs
 
 returns-2 : tie.Need-returns-2
 unfolding relationTail
-returns-2 c = search (by-then, then-stop) depth 12
+returns-2 c = last-stop (λ a. 0) _ _ _ (search (by-then, then-stop) depth 16) _ (c .enum-told2 .given .1)
 
 name-list-requires : tie.Need-name-list-requires
 unfolding entryOf table
@@ -47,14 +50,14 @@ enum-told-3 c = search needs
 
 returns-3 : tie.Need-returns-3
 unfolding relationTail
-returns-3 c = search (by-then, then-stop) depth 12
+returns-3 c = last-stop (λ a. 0) _ _ _ (search (by-then, then-stop) depth 16) _ (c .enum-told3 .given .1)
 
 optional-derivation-requires : tie.Need-optional-derivation-requires
-optional-derivation-requires c κs = search needs
+optional-derivation-requires c κs = let p = (c .before .before .before .before .before .before .before .before .before .before .before .before .before .pre) in (p .0, p .1, list-few _ _ _ (c .before .before .before .name-list .ensures) (c .before .f3 .given .1))
 
 returns-4 : tie.Need-returns-4
-unfolding relationTail
-returns-4 c = search (by-then, then-stop) depth 12
+unfolding relationTail count
+returns-4 c = kept-then _ _ _ _ (c .before .before .before .before .before .before .before .before .before .before .before .before .skip .ensures) (c .before .before .before .before .before .before .before .before .before .before .f1 .given .1) _ _ (λ _. kept-then _ _ _ _ (c .before .before .before .before .before .before .before .before .skip2 .ensures) (c .before .before .before .before .before .before .f2 .given .1) _ _ (λ _. kept-then _ _ _ _ (c .before .before .before .before .name-list .ensures) (c .before .before .f3 .given .1) _ _ (λ t. rw (t .kept) (c .optional-derivation .ensures))))
 
 pub relation-tail-spec : {M : Type 1} → statement M
 relation-tail-spec =

@@ -1,34 +1,22 @@
 -- `records::relation::relations` meets its contract.
-use mathlib.Core.Path.{_≡_, refl, _∙_}
+use mathlib.Core.Path.{_∙_}
+use mathlib.Core.Path.{refl}
 use native.Mathlib.Omega.{arith}
-use mathlib.Core.List.{List, [], _∷_}
-use Prim.Native.Nat.{ℕ}
-use Rattle.pack.specs.declared.cursor.Step.{Step}
-use Rattle.pack.specs.Pack.{relations, relation, nextUsed}
-use Rattle.pack.specs.Form.{says, among}
-use Rattle.pack.specs.Steps.{walkAll}
-use Rattle.pack.proofs.StepLaws.{walks, by-left, by-inv, all-done, all-stop, all-next}
-use Rattle.records.proofs.RecordLaws.{marksOf, relation-below, by-marks, marks-none, marks-more}
-use Rattle.pack.specs.Table.{entryOf, table}
 use borrow.Author.Needs.{needs}
+use Rattle.pack.specs.Pack.{relations}
+use Rattle.pack.specs.Form.{says}
+use Rattle.pack.specs.Table.{entryOf, table}
+use Rattle.pack.proofs.StepLaws.{walks, last-stop, by-left, by-inv, all-stop}
+use Rattle.records.proofs.KeptLaws.{noted-no, noted-all}
+use Rattle.records.proofs.DirectoryLaws.{Relating, relating, relating-on, count-read, noted-used}
 use Rattle.records.proofs.relation.relations.Statement.{statement}
 use Rattle.records.proofs.relation.relations.Tie as tie
 
--- so many relations, with the names used before
-abbrev left-over : ℕ → ℕ → List ℕ → List ℕ → ℕ → Step
-left-over n k used = walkAll nextUsed (λ used. relation n (λ v. among v used)) k used
-
--- the marks are those of the names used
-record Marked (n : ℕ) (s marks : List ℕ) (at₀ left₀ at left : ℕ) : Type 0 where
-  used : List ℕ
-  set : marks ≡ marksOf used
-  todo : left-over n left₀ [] s at₀ ≡ left-over n left used s at
-
 abbrev Inv-loop : tie.InvT-loop
-Inv-loop s t n count marks₀ c₀ left₀ marks c left = Marked n s marks (c₀ .at) left₀ (c .at) left
+Inv-loop s t n dir₀ count c₀ i₀ left₀ dir c i left = Relating n s dir₀ (c₀ .at) left₀ dir (c .at) i left
 
 abbrev μ-loop : tie.MeasureT-loop
-μ-loop s t n count marks₀ c₀ left₀ marks c left = left
+μ-loop s t n dir₀ count c₀ i₀ left₀ dir c i left = left
 
 field-requires : tie.Need-field-requires Inv-loop μ-loop
 unfolding entryOf table
@@ -42,13 +30,13 @@ enum-told c = search needs
 
 returns : tie.Need-returns Inv-loop μ-loop
 unfolding relations
-returns c = search walks depth 16
+returns c = noted-no _ _ _ _ _ _ (last-stop (λ a. 0) _ _ _ (search walks depth 16) _ (c .enum-told .given .1)) (c .enum-told .given .1)
 
 loop-holds : tie.Need-loop-holds Inv-loop μ-loop
-loop-holds c = record { used = []; set = marks-none; todo = refl }
+loop-holds c = let r = count-read _ _ _ (c .before .before .before .field .ensures) (c .before .f .given .1) in relating _ _ ((c .before .before .before .before .before .before .pre) .2) (r .few) (r .late)
 
 relation-requires : tie.Need-relation-requires Inv-loop μ-loop
-relation-requires c κs = search needs
+relation-requires c κs = let g = (c .before .before .loop .inv) in let p = (c .before .before .before .before .before .before .before .before .before .pre) in (p .0, p .1, omega (arith, g .many, g .few), g .names .long)
 
 enum-known-g : tie.Need-enum-known-g Inv-loop μ-loop
 enum-known-g c = search needs
@@ -56,15 +44,15 @@ enum-known-g c = search needs
 enum-told-2 : tie.Need-enum-told-2 Inv-loop μ-loop
 enum-told-2 c = search needs
 
+same-length : tie.Need-same-length Inv-loop μ-loop
+same-length c = ((c .before .before .before .before .relation) .kept .1 .1 .1 .1 .0) ∙ ((c .before .before .before .before .before .before .before .loop .inv) .kept)
+
 returns-2 : tie.Need-returns-2 Inv-loop μ-loop
 unfolding relations says
-returns-2 c = by-left _ _ _ _ _ _ _ _ _ (c .before .before .before .before .before .before .before .before .before .field .ensures) (c .before .before .before .before .before .before .before .f .given .1) refl (by-inv (c .before .before .before .before .before .loop .inv .todo) (all-stop _ _ _ _ _ _ (omega arith) _ (by-marks _ _ _ _ _ (omega arith) (c .before .before .before .before .before .loop .inv .set) (c .before .before .relation .ensures)) (c .enum-told2 .given .1)))
+returns-2 c = let g = (c .before .before .before .before .before .before .before .loop .inv) in noted-no _ _ _ _ _ _ (last-stop (λ a. 0) _ _ _ (by-left _ _ _ _ _ _ _ _ _ (c .before .before .before .before .before .before .before .before .before .before .before .field .ensures) (c .before .before .before .before .before .before .before .before .before .f .given .1) refl (by-inv (g .work .walks) (all-stop _ _ _ _ _ _ (omega arith) _ (noted-used _ _ (g .names) (c .before .before .before .before .relation .ensures) .answers) (c .enum-told2 .given .1)))) _ (c .enum-told2 .given .1)) (c .enum-told2 .given .1)
 
-cast-i : tie.Need-cast-i Inv-loop μ-loop
-cast-i c = omega (arith, relation-below _ _ _ _ (c .before .before .before .relation .ensures) (c .before .g .given .1))
-
-array-write-marks : tie.Need-array-write-marks Inv-loop μ-loop
-array-write-marks c = omega (arith, relation-below _ _ _ _ (c .before .before .before .relation .ensures) (c .before .g .given .1))
+add-i : tie.Need-add-i Inv-loop μ-loop
+add-i c = let g = (c .before .before .before .before .before .before .before .before .loop .inv) in omega (arith, g .many, g .few)
 
 sub-left : tie.Need-sub-left Inv-loop μ-loop
 sub-left c = search needs
@@ -73,17 +61,14 @@ loop-less : tie.Need-loop-less Inv-loop μ-loop
 loop-less c = search needs
 
 loop-again : tie.Need-loop-again Inv-loop μ-loop
-loop-again c = let i = (c .before .before .before .before .before .before .loop .inv) in
-    let v : ℕ = (c .before .g .given .0 .0) in
-    record {
-      used = v ∷ i .used;
-      set = marks-more _ (i .used) v (i .set);
-      todo = i .todo ∙ all-next _ _ _ _ _ _ (omega arith) _ (by-marks _ _ _ _ _ (omega arith) (c .before .before .before .before .before .before .loop .inv .set) (c .before .before .before .relation .ensures)) (λ (v : ℕ). v ∷ i .used) (λ _. refl) (c .before .g .given .1);
-    }
+loop-again c = relating-on _ _ (c .before .before .before .before .before .before .before .before .loop .inv) (omega arith) (c .before .before .before .before .before .relation .ensures) (c .before .g .given .1)
+
+same-length-2 : tie.Need-same-length-2 Inv-loop μ-loop
+same-length-2 c = (c .before .loop .inv) .kept
 
 returns-3 : tie.Need-returns-3 Inv-loop μ-loop
-unfolding relations says
-returns-3 c = by-left _ _ _ _ _ _ _ _ _ (c .before .before .before .before .before .field .ensures) (c .before .before .before .f .given .1) refl (by-inv (c .before .loop .inv .todo) (all-done _ _ _ _ _ _ (omega arith)))
+unfolding relations
+returns-3 c = noted-all _ _ _ _ _ _ _ _ _ _ _ _ (c .before .before .before .before .before .field .ensures) (c .before .before .before .f .given .1) ((c .before .loop .inv) .work) (omega arith)
 
 pub relations-spec : {M : Type 1} → statement M
 relations-spec =
@@ -99,10 +84,11 @@ relations-spec =
     relation-requires
     enum-known-g
     enum-told-2
+    same-length
     returns-2
-    cast-i
-    array-write-marks
+    add-i
     sub-left
     loop-less
     loop-again
+    same-length-2
     returns-3)

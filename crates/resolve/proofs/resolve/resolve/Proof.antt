@@ -1,23 +1,31 @@
 -- `resolve::resolve::resolve` meets its contract: either copy has room for the words.
 use native.Mathlib.Omega.{arith}
+use mathlib.Core.Path.{_∙_, ap}
+use Rattle.checking.specs.Checked.{answerIn}
 use Rattle.chains.proofs.CheckedLaws.{short-checked}
-use Rattle.chains.proofs.AnswerLaws.{checked}
+use Rattle.chains.proofs.EntryLaws.{clear-all, directed}
 use Rattle.resolve.proofs.ResolveLaws.{in-asked, resolve-refused}
 use borrow.Author.Needs.{needs}
 use Rattle.resolve.proofs.resolve.resolve.Statement.{statement}
 use Rattle.resolve.proofs.resolve.resolve.Tie as tie
 
-check-requires : tie.Need-check-requires
-check-requires c κs = search needs
+slice-aggregate-check-directory : tie.Need-slice-aggregate-check-directory
+slice-aggregate-check-directory c = search needs
+
+check-directory-requires : tie.Need-check-directory-requires
+check-directory-requires c κs = clear-all _
+
+enum-known-r : tie.Need-enum-known-r
+enum-known-r c = search needs
 
 enum-told : tie.Need-enum-told
 enum-told c = search needs
 
-enum-told-2 : tie.Need-enum-told-2
-enum-told-2 c = search needs
+answer-requires : tie.Need-answer-requires
+answer-requires c κs = search needs
 
 returns : tie.Need-returns
-returns c = resolve-refused _ _ ((c .before .before .check) .ensures) ((c .enum-told2) .given .1)
+returns c = resolve-refused _ _ ((c .answer .ensures) ∙ (c .before .before .before .before .check-directory .ensures .answers)) ((c .answer .ensures) ∙ ap answerIn (c .before .enum-told .given .1))
 
 sub-resolve-in : tie.Need-sub-resolve-in
 sub-resolve-in c = search needs
@@ -29,7 +37,7 @@ part-few-end : tie.Need-part-few-end
 part-few-end c = search needs
 
 resolve-in-requires : tie.Need-resolve-in-requires
-resolve-in-requires c κs = in-asked 256 (checked _ ((c .before .before .before .before .before .check) .ensures) ((c .before .before .before .enum-told) .given .1)) (omega arith)
+resolve-in-requires c κs = in-asked 256 (directed (clear-all _) (c .before .before .before .before .before .before .before .before .check-directory .ensures) (c .before .before .before .before .before .r .given .1)) (omega arith)
 
 same-length : tie.Need-same-length
 same-length c = search needs
@@ -44,12 +52,10 @@ part-words-start : tie.Need-part-words-start
 part-words-start c = search needs
 
 part-words-end : tie.Need-part-words-end
-part-words-end c = omega (arith, short-checked (checked _ ((c .before .before .before .check) .ensures) ((c .before .enum-told) .given .1)))
+part-words-end c = let d = directed (clear-all _) (c .before .before .before .before .before .before .check-directory .ensures) (c .before .before .before .r .given .1) in omega (arith, short-checked (d .checked))
 
 resolve-in-requires-2 : tie.Need-resolve-in-requires-2
-resolve-in-requires-2 c κs =
-    let pack = checked _ ((c .before .before .before .before .before .check) .ensures) ((c .before .before .before .enum-told) .given .1) in
-    in-asked 8192 pack (short-checked pack)
+resolve-in-requires-2 c κs = let d = directed (clear-all _) (c .before .before .before .before .before .before .before .before .check-directory .ensures) (c .before .before .before .before .before .r .given .1) in in-asked 8192 d (short-checked (d .checked))
 
 same-length-2 : tie.Need-same-length-2
 same-length-2 c = search needs
@@ -61,9 +67,11 @@ pub resolve-spec : {M : Type 1} → statement M
 resolve-spec =
     tie.close
     (tie.spec
-    check-requires
+    slice-aggregate-check-directory
+    check-directory-requires
+    enum-known-r
     enum-told
-    enum-told-2
+    answer-requires
     returns
     sub-resolve-in
     part-few-start

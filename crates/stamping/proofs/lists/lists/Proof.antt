@@ -3,8 +3,7 @@ use native.Mathlib.Omega.{arith}
 use Prim.Native.Nat.{_-_}
 use mathlib.Core.Path.{sym, _∙_}
 use lib.ListN.{length}
-use Rattle.directions.proofs.WordLaws.{recorded}
-use Rattle.stamping.proofs.ListForLaws.{Listing, listing-begin, listing-next, listing-all}
+use Rattle.stamping.proofs.ListForLaws.{recorded, Listing, listing-begin, listing-next, listing-all}
 use borrow.Author.Needs.{needs}
 use Rattle.stamping.proofs.lists.lists.Statement.{statement}
 use Rattle.stamping.proofs.lists.lists.Tie as tie

@@ -1,3 +1,4 @@
+use Rattle.chains.specs.Entry.{startsIn}
 use Rattle.trees.proofs.BodyLaws.{body-inside}
 use native.Mathlib.Omega.{arith}
 use borrow.Author.Needs.{needs}
@@ -6,11 +7,11 @@ use Rattle.trees.proofs.bodies.bodies.Statement.{statement}
 use Rattle.trees.proofs.bodies.bodies.Tie as tie
 
 abbrev Inv-loop : tie.InvT-loop
-Inv-loop pack records marks taken cited name work₀ first many entity at₀ k₀ work at k =
-    BodiesGoing pack records marks taken (cited .blocks) (cited .count) name (cited .origin) entity many first work₀ at k work
+Inv-loop pack dir marks taken cited name work₀ first many entity at₀ k₀ work at k =
+    BodiesGoing pack (startsIn dir) marks taken (cited .blocks) (cited .count) name (cited .origin) entity many first work₀ at k work
 
 abbrev μ-loop : tie.MeasureT-loop
-μ-loop pack records marks taken cited name work₀ first many entity at₀ k₀ work at k = k
+μ-loop pack dir marks taken cited name work₀ first many entity at₀ k₀ work at k = k
 
 cast-at : tie.Need-cast-at Inv-loop μ-loop
 cast-at c = omega (arith, bodies-inside ((c .before .before .pre) .1), ((c .before .before .pre) .0 .short))

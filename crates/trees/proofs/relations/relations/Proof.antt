@@ -1,4 +1,5 @@
 -- `trees::relations::relations` meets its contract.
+use Rattle.chains.specs.Entry.{startsIn}
 use native.Mathlib.Omega.{arith}
 use mathlib.Core.Path.{sym, _∙_}
 use Rattle.trees.specs.Passes.{RelationsAsked}
@@ -8,10 +9,10 @@ use Rattle.trees.proofs.relations.relations.Statement.{statement}
 use Rattle.trees.proofs.relations.relations.Tie as tie
 
 abbrev Inv-loop : tie.InvT-loop
-Inv-loop pack records marks taken blocks count work₀ first many order₀ at₀ k₀ work order at k = (h : RelationsAsked pack records marks taken blocks count many first work₀) → RelationsGoing h at k work order
+Inv-loop pack dir marks taken blocks count work₀ first many order₀ at₀ k₀ work order at k = (h : RelationsAsked pack (startsIn dir) marks taken blocks count many first work₀) → RelationsGoing h at k work order
 
 abbrev μ-loop : tie.MeasureT-loop
-μ-loop pack records marks taken blocks count work₀ first many order₀ at₀ k₀ work order at k = k
+μ-loop pack dir marks taken blocks count work₀ first many order₀ at₀ k₀ work order at k = k
 
 cast-at : tie.Need-cast-at Inv-loop μ-loop
 cast-at c = omega (arith, relations-inside ((c .before .before .before .pre) .0), ((c .before .before .before .pre) .0 .ready .short))

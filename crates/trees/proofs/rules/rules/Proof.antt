@@ -1,3 +1,4 @@
+use Rattle.chains.specs.Entry.{startsIn}
 use mathlib.Core.Path.{_∙_}
 use native.Mathlib.Omega.{arith}
 use borrow.Author.Needs.{needs}
@@ -7,11 +8,11 @@ use Rattle.trees.proofs.rules.rules.Statement.{statement}
 use Rattle.trees.proofs.rules.rules.Tie as tie
 
 abbrev Inv-loop : tie.InvT-loop
-Inv-loop pack records marks taken blocks count work₀ first many at₀ k₀ work at k =
-    (h : RulesAsked pack records marks taken blocks count many first work₀) → RulesGoing h at k work
+Inv-loop pack dir marks taken blocks count work₀ first many at₀ k₀ work at k =
+    (h : RulesAsked pack (startsIn dir) marks taken blocks count many first work₀) → RulesGoing h at k work
 
 abbrev μ-loop : tie.MeasureT-loop
-μ-loop pack records marks taken blocks count work₀ first many at₀ k₀ work at k = k
+μ-loop pack dir marks taken blocks count work₀ first many at₀ k₀ work at k = k
 
 cast-at : tie.Need-cast-at Inv-loop μ-loop
 cast-at c = omega (arith, rules-inside (c .before .before .pre), ((c .before .before .pre) .ready .short))

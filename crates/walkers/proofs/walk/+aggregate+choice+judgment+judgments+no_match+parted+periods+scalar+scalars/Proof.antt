@@ -1,3 +1,4 @@
+use Rattle.chains.specs.Entry.{startsIn}
 use native.Mathlib.Omega.{arith}
 use mathlib.Core.Path.{refl, sym, _∙_}
 use mathlib.Core.Logic.{inl, inr, ⊎-elim}
@@ -348,11 +349,11 @@ judgment-returns-3 : (t : ℕ) → judgment-lts.Need-returns-3 (judgment-calls t
 judgment-returns-3 t c = all-done 0 (λ v. 2) compared-form (c .before .before .before .before .before .before .before .before .before .before .pre .1 .0) (is-compared (c .before .before .before .before .before .before .kind-of .ensures .0) (c .before .before .before .before .before .before .before .before .before .before .pre .1 .1) (c .before .before .before .before .before .if1 .left)) _ (c .before .before .before .scalars .ensures) (c .if2 .left)
 
 abbrev judgments-Inv-loop : judgments-lts.InvT-loop
-judgments-Inv-loop pack records marks taken cited work₀ place entity m count left at₀ k₀ work at k =
-    Row pack records marks taken cited work₀ place entity m count left 1 work at k
+judgments-Inv-loop pack dir marks taken cited work₀ place entity m count left at₀ k₀ work at k =
+    Row pack (startsIn dir) marks taken cited work₀ place entity m count left 1 work at k
 
 abbrev judgments-μ-loop : judgments-lts.MeasureT-loop
-judgments-μ-loop pack records marks taken cited work₀ place entity m count left at₀ k₀ work at k = length work₀ - at
+judgments-μ-loop pack dir marks taken cited work₀ place entity m count left at₀ k₀ work at k = length work₀ - at
 
 judgments-loop-holds : (t : ℕ) → judgments-lts.Need-loop-holds (judgments-calls t) (judgments-at t) judgments.Post judgments-Inv-loop judgments-μ-loop
 judgments-loop-holds t c = row-begins _ _ _ _ _ _ _ _ _ _ _ _
@@ -619,11 +620,11 @@ scalar-returns-3 : (t : ℕ) → scalar-lts.Need-returns-3 (scalar-calls t) (sca
 scalar-returns-3 t c = (c .before .before .parted .ensures)
 
 abbrev scalars-Inv-loop : scalars-lts.InvT-loop
-scalars-Inv-loop pack records marks taken cited work₀ place entity m count left at₀ k₀ work at k =
-    Row pack records marks taken cited work₀ place entity m count left 0 work at k
+scalars-Inv-loop pack dir marks taken cited work₀ place entity m count left at₀ k₀ work at k =
+    Row pack (startsIn dir) marks taken cited work₀ place entity m count left 0 work at k
 
 abbrev scalars-μ-loop : scalars-lts.MeasureT-loop
-scalars-μ-loop pack records marks taken cited work₀ place entity m count left at₀ k₀ work at k = length work₀ - at
+scalars-μ-loop pack dir marks taken cited work₀ place entity m count left at₀ k₀ work at k = length work₀ - at
 
 scalars-loop-holds : (t : ℕ) → scalars-lts.Need-loop-holds (scalars-calls t) (scalars-at t) scalars.Post scalars-Inv-loop scalars-μ-loop
 scalars-loop-holds t c = row-begins _ _ _ _ _ _ _ _ _ _ _ _

@@ -1,0 +1,17 @@
+// The refusal of a name that a pack does not have.
+use pack::answer::Answer;
+use pack::answer::Refusal;
+ghost use mathlib.Core.Path.{_≡_};
+ghost use Rattle.chains.specs.Answers.{unknown};
+
+// The refusal of a name that is not below N.
+pub fn unknown_name(name: u32) -> Answer
+    ensures { λ r. ⌜ r ≡ unknown name ⌝ }
+{
+    Answer::Refused(Refusal {
+        number: 17,
+        place: 0,
+        name,
+        other: 0,
+    })
+}

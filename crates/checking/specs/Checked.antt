@@ -1,0 +1,36 @@
+-- What Check with a directory promises.
+use Prim.Native.Nat.{ℕ}
+use mathlib.Core.Path.{_≡_}
+use mathlib.Core.List.{List}
+use lib.ListN.{length, getD}
+use lib.Dec.{leb}
+use Rattle.pack.specs.declared.answer.Answer.{Answer}
+use Rattle.pack.specs.declared.answer.Answer.the-variants.{Given, Refused}
+use Rattle.pack.specs.Table.{pick, valueOf}
+use Rattle.pack.specs.Form.{got, readBy}
+use Rattle.pack.specs.Pack.{Records, undated, layout, Pack, yes, read, toRow}
+use Rattle.pack.specs.Steps.{walk}
+use Rattle.pack.specs.Operations.{checkAnswer}
+use Rattle.records.specs.declared.directory.Laid.{Laid}
+use Rattle.records.specs.declared.directory.Laid.the-variants.{Yes, No}
+use Rattle.records.specs.Directory.{stepIn, layoutOf, directoryOf}
+
+-- N as word 1 says it, where that may be N; else 0
+unfoldable pub namesSaid : List ℕ → ℕ
+namesSaid ws = pick (leb (valueOf (getD ws 1 0)) 4096) (valueOf (getD ws 1 0)) 0
+
+-- all the words of a slice of so many, of which the records start at word 2
+pub record LaidWhole (len : ℕ) (ws d : List ℕ) (r : Laid) (d′ : List ℕ) : Type 0 where
+  pub answers : stepIn r ≡ walk (layout undated len) ws 0
+  pub lays : (t : ℕ × (ℕ × Records)) (next : ℕ) (rest : List ℕ) → readBy (layout undated len) 0 ws ≡ got t next rest → r ≡ Yes (layoutOf (t .1 .0) 2 next (t .1 .1))
+  pub notes : (t : ℕ × (ℕ × Records)) (next : ℕ) (rest : List ℕ) → readBy (layout undated len) 0 ws ≡ got t next rest → d′ ≡ directoryOf (t .1 .0) 2 (t .1 .1) d
+
+abbrev pub answerIn : Laid → Answer
+answerIn (Yes l) = Given 1 0
+answerIn (No r) = Refused r
+
+-- Check's answer; and of a pack, where its records stand and the directory of its relations
+pub record Checked (ws d : List ℕ) (r : Laid) (d′ : List ℕ) : Type 0 where
+  pub answers : answerIn r ≡ checkAnswer ws
+  pub lays : (p : Pack) → read ws ≡ yes p → r ≡ Yes (layoutOf (p .names) 2 (length ws) (toRow p .1))
+  pub notes : (p : Pack) → read ws ≡ yes p → d′ ≡ directoryOf (p .names) 2 (toRow p .1) d
