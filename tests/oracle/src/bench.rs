@@ -1,9 +1,10 @@
-//! How long Resolve takes, the original's and ours, on the same packs in the same rounds.
+//! How long Resolve takes, the original's, ours and the floor's, on the same packs in the same rounds.
 //!
-//! Ours goes from bytes to bytes, Check included. The original resolves a program in memory; its copy, which it rewrites,
-//! is made outside the time.
+//! Ours goes from bytes to bytes, Check included, and so does the floor, which is C that does the same unproved. The
+//! original resolves a program in memory; its copy, which it rewrites, is made outside the time.
 
 use crate::cases::{count, derivation, derived, holds, member, plain, rule, typed};
+use crate::floor;
 use crate::original::Texts;
 use crate::records::{Derivation, Pack, Relation, Rule, Tree};
 use std::hint::black_box;
@@ -80,6 +81,7 @@ struct Times {
     long: f64,
     ours: f64,
     check: f64,
+    floor: f64,
 }
 
 fn timed(call: impl FnOnce()) -> Duration {
@@ -98,19 +100,27 @@ fn measure(pack: &Pack) -> Times {
         let result = texts.resolved(pack).expect("a pack that resolves").words();
         assert_eq!(cogunwa::resolve(&bytes, &mut out).unwrap().words, result.len());
         assert_eq!(cogunwa::words_of(&out[..4 * result.len()]), result);
+        out.fill(0);
+        assert_eq!(floor::resolve(&bytes, &mut out), Some(result.len()));
+        assert_eq!(cogunwa::words_of(&out[..4 * result.len()]), result);
         texts.input(pack)
     });
-    let (mut originals, mut ours, mut check) = ([vec![], vec![]], vec![], vec![]);
-    for _ in 0..ROUNDS {
-        for (input, times) in inputs.iter().zip(&mut originals) {
+    let (mut originals, mut ours, mut check, mut floor) = ([vec![], vec![]], vec![], vec![], vec![]);
+    for round in 0..ROUNDS {
+        for (i, (input, times)) in inputs.iter().zip(&mut originals).enumerate() {
             let mut copy = input.clone();
             times.push(timed(|| black_box(&mut copy).resolve().unwrap()));
+            // Ours and the floor's each come after the original, by turns after the one or the other.
+            if (round + i) % 2 == 0 {
+                floor.push(timed(|| assert!(black_box(floor::resolve(black_box(&bytes), &mut out)).is_some())));
+            } else {
+                ours.push(timed(|| assert!(black_box(cogunwa::resolve(black_box(&bytes), &mut out)).is_ok())));
+            }
         }
-        ours.push(timed(|| assert!(black_box(cogunwa::resolve(black_box(&bytes), &mut out)).is_ok())));
         check.push(timed(|| assert!(black_box(cogunwa::check(black_box(&bytes))).is_ok())));
     }
     let [short, long] = originals.map(median);
-    Times { words: words.len(), short, long, ours: median(ours), check: median(check) }
+    Times { words: words.len(), short, long, ours: median(ours), check: median(check), floor: median(floor) }
 }
 
 /// The bytes of stack that a call goes down to, found by what it has overwritten.
@@ -141,11 +151,11 @@ pub fn run() -> bool {
     println!(
         "Medians of {ROUNDS} rounds, in microseconds. Ours has Check in it and goes from bytes to bytes. The original's names"
     );
-    println!("have 5 bytes in the first column and 57 in the second; the ratios are to these.");
-    println!(
-        "{:<20} {:>6} {:>9} {:>9} {:>9} {:>7} {:>7} {:>6} {:>6} {:>6}",
-        "pack", "words", "relations", "original", "original", "ours", "(Check)", "ratio", "ratio", "wanted"
-    );
+    println!("have 5 bytes in the first column and 57 in the second; the ratios are to these. The floor is plain C");
+    println!("that does the same unproved; behind it is ours as a multiple of it.");
+    print!("{:<20} {:>6} {:>9} {:>9} {:>9}", "pack", "words", "relations", "original", "original");
+    print!(" {:>7} {:>7} {:>6} {:>6} {:>6}", "ours", "(Check)", "ratio", "ratio", "wanted");
+    println!(" {:>7} {:>8}", "floor", "multiple");
     let mut met = true;
     let micro = |nanos: f64| nanos / 1000.0;
     for (name, pack, wanted) in &shapes {
@@ -153,18 +163,22 @@ pub fn run() -> bool {
         let (short, long) = (t.short / t.ours, t.long / t.ours);
         met &= short >= *wanted;
         print!("{name:<20} {:>6} {:>9} {:>9.1} {:>9.1}", t.words, pack.relations.len(), micro(t.short), micro(t.long));
-        println!(" {:>7.1} {:>7.1} {short:>6.1} {long:>6.1} {wanted:>6}", micro(t.ours), micro(t.check));
+        print!(" {:>7.1} {:>7.1} {short:>6.1} {long:>6.1} {wanted:>6}", micro(t.ours), micro(t.check));
+        println!(" {:>7.2} {:>8.2}", micro(t.floor), t.ours / t.floor);
     }
     println!();
     println!("Nanoseconds a word.");
-    println!("{:<20} {:>6} {:>9} {:>9} {:>7} {:>7}", "pack", "words", "original", "original", "ours", "(Check)");
+    println!(
+        "{:<20} {:>6} {:>9} {:>9} {:>7} {:>7} {:>7}",
+        "pack", "words", "original", "original", "ours", "(Check)", "floor"
+    );
     for (typed_count, rules) in [(4, 4), (15, 19), (60, 77)] {
         let t = measure(&mixed(typed_count, rules));
-        let [a, b, c, d] = [t.short, t.long, t.ours, t.check].map(|nanos| nanos / t.words as f64);
-        println!("{:<20} {:>6} {a:>9.1} {b:>9.1} {c:>7.1} {d:>7.1}", "mixed", t.words);
+        let [a, b, c, d, e] = [t.short, t.long, t.ours, t.check, t.floor].map(|nanos| nanos / t.words as f64);
+        println!("{:<20} {:>6} {a:>9.1} {b:>9.1} {c:>7.1} {d:>7.1} {e:>7.1}", "mixed", t.words);
     }
     println!();
-    println!("{:<20} {:>13} {:>13}", "bytes of stack", "original", "ours");
+    println!("{:<20} {:>13} {:>13} {:>13}", "bytes of stack", "original", "ours", "floor");
     for (name, pack, _) in &shapes {
         let made = plain(pack.clone());
         let mut input = Texts::new(&made.texts).input(pack);
@@ -172,7 +186,8 @@ pub fn run() -> bool {
         let mut out = vec![0; 4 * 8192];
         let original = stack_of(&mut || input.resolve().unwrap());
         let ours = stack_of(&mut || assert!(cogunwa::resolve(&bytes, &mut out).is_ok()));
-        println!("{name:<20} {original:>13} {ours:>13}");
+        let floor = stack_of(&mut || assert!(floor::resolve(&bytes, &mut out).is_some()));
+        println!("{name:<20} {original:>13} {ours:>13} {floor:>13}");
     }
     met
 }

@@ -1,6 +1,7 @@
 //! Accepted packs: the original, the library and the tests' own reading, side by side.
 
 use crate::chance::{self, Chance, Made};
+use crate::floor;
 use crate::library::{self, OPERATIONS, Operation};
 use crate::original::{Refused, Tables, Texts};
 use crate::reading::{self, Fault, Refusal};
@@ -79,7 +80,8 @@ pub fn reading_differs(words: &[u32], told: &Told, room: usize, fault: Option<Fa
     (ours != told.answer(room)).then(|| format!("resolve: read {ours:?}, the original {:?}", told.answer(room)))
 }
 
-/// Where the library says otherwise than the tests' own reading: all operations, all fields, all words.
+/// Where the library says otherwise than the tests' own reading, in all operations, all fields and all words; or the floor
+/// otherwise than the library.
 pub fn library_differs(words: &[u32], room: usize) -> Option<String> {
     let bytes = cogunwa::bytes_of(words);
     let read = reading::read(words, None);
@@ -137,7 +139,7 @@ pub fn library_differs(words: &[u32], room: usize) -> Option<String> {
             return Some(format!("lean {name} {other}"));
         }
     }
-    None
+    floor::differs(&bytes, room)
 }
 
 /// The room for an operation that needs so many words: Resolve's own, and about as many for the others.

@@ -3,6 +3,7 @@
 use crate::cases::{count, derivation, derived, holds, rule, typed};
 use crate::chance::{self, Chance};
 use crate::compare::{self, Counts};
+use crate::floor;
 use crate::library;
 use crate::reading::{self, Fault, Refusal};
 use crate::records::{Block, Derivation, Item, NONE, Pack, Tree, word};
@@ -153,6 +154,7 @@ fn run_bytes(counts: &mut Counts) {
         for operation in library::OPERATIONS {
             right &= library::run(operation, bytes, 50).is_ok_and(|answer| answer == Err(wanted));
         }
+        right &= floor::differs(bytes, 50).is_none();
         if !right {
             counts.differ += 1;
             println!("{length} bytes");

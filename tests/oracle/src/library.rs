@@ -43,11 +43,20 @@ pub const OPERATIONS: [Operation; 7] = [
 /// What an operation wrote, and its steps; 0 where it counts none.
 pub type Written = Result<(Vec<u32>, u32), Refusal>;
 
+/// A room of so many words and some bytes more.
+pub fn room_in_bytes(bytes: &[u8], room: usize) -> usize {
+    4 * room + bytes.len() % 4 + room % 4
+}
+
+/// A buffer to lend: its bytes are such that it shows where one is changed.
+pub fn buffer(length: usize) -> Vec<u8> {
+    (0..length).map(|i| (i * 37 + 11) as u8 ^ 0xA5).collect()
+}
+
 /// Runs an operation in a room of so many words and some bytes more. Whatever it does not write must stay as it was; if
 /// not, that is said.
 pub fn run(operation: Operation, bytes: &[u8], room: usize) -> Result<Written, String> {
-    let length = 4 * room + bytes.len() % 4 + room % 4;
-    let before: Vec<u8> = (0..length).map(|i| (i * 37 + 11) as u8 ^ 0xA5).collect();
+    let before = buffer(room_in_bytes(bytes, room));
     let mut out = before.clone();
     let plain = |words: usize| (words, 0);
     let answer = match operation {

@@ -7,6 +7,7 @@ mod chance;
 mod compare;
 mod damage;
 mod faults;
+mod floor;
 mod formula;
 mod library;
 mod list;
@@ -24,7 +25,7 @@ exhaustive            all small graphs
 damaged SEED COUNT    damaged packs, against the tests' own reading
 faults SEED COUNT     mistakes on purpose in that reading; fails where one is not noticed
 list FILE             writes the fixed list of the original's answers
-bench                 how long Resolve takes, the original's and ours; fails where ours is not as fast as wanted
+bench                 how long Resolve takes, the original's, ours and the floor's; fails where ours is not as fast as wanted
 ";
 
 fn run(args: &[String]) -> Option<bool> {
