@@ -240,5 +240,6 @@ asked-of {ws} {l} {steps = steps} d t e =
 front-room : (ws : List ℕ) (most : ℕ) → length ws ≤ most → length {A = ℕ} (midOf 0 (length ws - 0) (replicate most 0)) ≡ length ws
 front-room ws most few = let whole : length ws - 0 ≡ length ws = omega arith in rw whole (length-take-le {A = ℕ} (length ws) (replicate most 0) (omega (arith, length-replicate {A = ℕ} most 0)))
 
-pub in-asked : {ws : List ℕ} {l : Layout} {dir : List ℕ} (most : ℕ) → IsDirectory ws l dir → length ws ≤ most → ResolveAsked ws l dir (midOf 0 (length ws - 0) (replicate most 0))
-in-asked {ws} most d few = record { directory = d; room = front-room ws most few }
+pub in-asked : {ws : List ℕ} {l : Layout} {dir marks taken : List ℕ} {steps : ℕ} (most : ℕ) → IsDirectory ws l dir → Filled ws (namesIn dir (l .relations)) (startsIn dir) marks taken steps → length ws ≤ most
+    → ResolveAsked ws l dir marks taken steps (midOf 0 (length ws - 0) (replicate most 0))
+in-asked {ws} most d f few = record { directory = d; filled = f; room = front-room ws most few }

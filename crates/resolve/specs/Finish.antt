@@ -10,6 +10,8 @@ use Rattle.pack.specs.Pack.{Pack, yes, read, words}
 use Rattle.chains.specs.Kinds.{allKinds}
 use Rattle.records.specs.declared.directory.Layout.{Layout}
 use Rattle.chains.specs.AllKinds.{IsDirectory}
+use Rattle.chains.specs.Entry.{startsIn, namesIn}
+use Rattle.filtered.specs.Taking.{Filled}
 use Rattle.directions.specs.Turning.{Outcome, done, refused}
 use Rattle.directions.specs.Tables.{tables}
 use Rattle.directions.specs.Resolving.{defaultedEqual, equalRefusal, stamp}
@@ -49,7 +51,8 @@ pub record FinishCame (ws lent : List ℕ) (answer : Answer) (left : List ℕ) :
   pub answers : (p q : Pack) → read ws ≡ yes p → turned p ≡ done q → answer ≡ givenOut (allKinds (p .relations) .steps) (length lent) (done (stampAll p q))
   pub leaves : (p q : Pack) → read ws ≡ yes p → turned p ≡ done q → left ≡ writtenOut lent (done (stampAll p q))
 
--- a checked pack with its directory, and a slice for as many words
-pub record ResolveAsked (ws : List ℕ) (l : Layout) (dir work : List ℕ) : Type 0 where
+-- a checked pack with its directory and its tables, and a slice for as many words
+pub record ResolveAsked (ws : List ℕ) (l : Layout) (dir marks taken : List ℕ) (steps : ℕ) (work : List ℕ) : Type 0 where
   pub directory : IsDirectory ws l dir
+  pub filled : Filled ws (namesIn dir (l .relations)) (startsIn dir) marks taken steps
   pub room : length work ≡ length ws

@@ -45,23 +45,29 @@ fn turn_pack(
     })
 }
 
-// A checked pack, with a slice for its words.
-fn resolve_in(pack: &[u32], l: Layout, dir: &Words, work: &mut [u32], out: &mut [u32]) -> Answer
-    requires { ⌜ ResolveAsked (now pack) l (now dir) (now work) ⌝ }
+// A checked pack with its tables, and a slice for its words.
+fn resolve_in(
+    pack: &[u32],
+    l: Layout,
+    dir: &Words,
+    marks: &[u32; 4096],
+    taken: &[u32; 4096],
+    steps: u32,
+    work: &mut [u32],
+    out: &mut [u32],
+) -> Answer
+    requires { ⌜ ResolveAsked (now pack) l (now dir) (now marks) (now taken) steps (now work) ⌝ }
     ensures { λ r. ⌜ Answered resolveAnswer resolveBuffer (now (pack .entry)) (now (out .entry)) r (now (out .exit)) ⌝ }
 {
-    let mut marks = [0u32; 4096];
-    let mut taken = [0u32; 4096];
-    let steps = read_tables(pack, l, dir, &mut marks, &mut taken);
     copy(pack, work);
     let mut places = [0u32; 512];
     let count = l.relations as usize;
     let order = &mut places[0..count];
-    let a = turn_pack(pack, l, dir, &marks, &taken, work, order);
+    let a = turn_pack(pack, l, dir, marks, taken, work, order);
     let Answer::Given(_, _) = a else {
         return a;
     };
-    finish(pack, &marks, work, order, steps, out)
+    finish(pack, marks, work, order, steps, out)
 }
 
 // The whole pack in record order, with slots and lists as resolving leaves them; the answer is its number of words and
@@ -74,11 +80,16 @@ pub fn resolve(pack: &[u32], out: &mut [u32]) -> Answer
     let Laid::Yes(l) = r else {
         return answer(r);
     };
+    let mut marks = [0u32; 4096];
+    let mut taken = [0u32; 4096];
+    let steps = read_tables(pack, l, &dir, &mut marks, &mut taken);
     // a small pack has a small copy, since clearing a large one would take longer than the work
     if pack.len() <= 256 {
         let mut few = [0u32; 256];
-        return resolve_in(pack, l, &dir, &mut few[0..pack.len()], out);
+        let work = &mut few[0..pack.len()];
+        return resolve_in(pack, l, &dir, &marks, &taken, steps, work, out);
     }
     let mut words = [0u32; 8192];
-    resolve_in(pack, l, &dir, &mut words[0..pack.len()], out)
+    let work = &mut words[0..pack.len()];
+    resolve_in(pack, l, &dir, &marks, &taken, steps, work, out)
 }
