@@ -57,7 +57,7 @@
 
 /* The stack that a call takes at most, in bytes, whatever the pack: call from a thread that has as much left.
  * rust/tests/stack.rs measures it over the packs that take most. */
-#define COGUNWA_STACK_BYTES 221184u
+#define COGUNWA_STACK_BYTES 196608u
 
 /* "None" in a word's value: what direct and innermost say of a name for which they have none. */
 #define COGUNWA_NONE 16777215u

@@ -31,7 +31,7 @@ MAX_RELATIONS = 512
 MAX_RULES = 1024
 MAX_BLOCKS = 64
 MAX_DEPTH = 32
-STACK_BYTES = 221184
+STACK_BYTES = 196608
 NONE = 16777215  # "none" in a word's value
 
 Pack = Union[Sequence[int], bytes, bytearray, memoryview]

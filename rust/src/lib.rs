@@ -71,7 +71,7 @@ pub const MAX_BLOCKS: usize = 64;
 pub const MAX_DEPTH: usize = 32;
 /// The stack that a call takes at most, in bytes, whatever the pack: call from a thread that has as much left. A thread of
 /// Rust has 2 MiB where nothing else is said. `tests/stack.rs` measures it over the packs that take most.
-pub const STACK_BYTES: usize = 216 * 1024;
+pub const STACK_BYTES: usize = 192 * 1024;
 /// "None" in a word's value: what [`direct`] and [`innermost`] write for a name that has none.
 pub const NONE: u32 = 16_777_215;
 
