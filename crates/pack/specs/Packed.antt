@@ -1,6 +1,7 @@
 -- How an entry of the code's table is packed into one number.
 use Prim.Native.Nat.{ℕ, _/_, _%_, _<_, _≤_}
 use mathlib.Core.Path.{_≡_}
+use mathlib.Core.Bool.{Bool, true, false}
 use mathlib.Core.List.{List}
 use lib.ListN.{length, getD}
 use lib.Dec.{eqb, leb}
@@ -45,6 +46,24 @@ followsFrom x = followsBy (x / 262144)
 abbrev pub entryFrom : ℕ → Entry
 entryFrom x = record { sort = x / 65536 % 4; rule = ruleFrom x; follows = followsFrom x }
 
+-- whether what follows is a row of children of one sort, of which there are one, two or as many as the value says
+abbrev pub inRow : Follows → Bool
+inRow Nothing = false
+inRow Counted = false
+inRow OneScalar = true
+inRow TwoScalars = true
+inRow Scalars = true
+inRow Patterns = false
+inRow Periods = false
+inRow OneJudgment = true
+inRow Judgments = true
+inRow Choice = false
+inRow Aggregate = false
+inRow OnlyRelated = false
+inRow Slots = false
+inRow Atom = false
+inRow Exists = false
+
 -- the rule by which the table allows a word of this kind its values
 abbrev pub Ruled : ℕ → Rule → Type 0
 Ruled kind rule = entryOf kind .rule ≡ rule
@@ -52,6 +71,13 @@ Ruled kind rule = entryOf kind .rule ≡ rule
 -- a list that holds the table: at each kind an entry's number
 unfoldable pub Tabled : List ℕ → Type 0
 Tabled t = (k : ℕ) → k < 256 → entryFrom (getD t k 0) ≡ entryOf k
+
+-- In an operation's copy of the table the entries of names, among the kinds of trees, have the bound of names as their limit.
+unfoldable pub boundOf : List ℕ → ℕ
+boundOf t = getD t 84 0 / 8 % 8192
+
+unfoldable pub Bounded : ℕ → List ℕ → Type 0
+Bounded n t = (k : ℕ) → 64 ≤ k → k < 256 → getD t k 0 % 8 ≡ 6 → getD t k 0 / 8 % 8192 ≡ n
 
 -- what is lent to a reader: words, of which there are no more than a pack may have, and the table
 pub record Lent (ws t : List ℕ) : Type 0 where

@@ -16,6 +16,18 @@ impl Pack {
     pub const CODES: usize = 65536;
 }
 
+// Notes: how many there are at most, and how long the array of them and their count is. A note's number has LOST more where membership is
+// lost, and INSIDE times the number of the note inside which it stands.
+impl Pack {
+    pub const MOST_NOTES: u32 = 8192;
+
+    pub const NOTES: usize = 8193;
+
+    pub const LOST: u32 = 8192;
+
+    pub const INSIDE: u32 = 16384;
+}
+
 // Limits.
 impl Pack {
     pub const MOST_NAMES: u32 = 4096;
@@ -157,6 +169,8 @@ impl Pack {
     pub const EXISTS: u32 = 103;
 
     pub const SAME_ENTITY: u32 = 104;
+
+    pub const ROLE_DERIVED: u32 = 106;
 }
 
 // The kinds of the fields of tree nodes.

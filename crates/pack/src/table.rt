@@ -1,10 +1,11 @@
 // The table: for each kind of word what its value may be, whether a tree begins with it, and what follows it.
 use crate::kinds::Pack;
 ghost use mathlib.Core.Path.{_≡_};
-ghost use Prim.Native.Nat.{_<_};
+ghost use mathlib.Core.Bool.{true};
+ghost use Prim.Native.Nat.{ℕ, _/_, _%_, _<_};
 ghost use Rattle.pack.specs.Table.{allowed, howMany, entryOf};
 ghost use Rattle.pack.specs.Form.{allowedHere};
-ghost use Rattle.pack.specs.Packed.{ruleFrom, followsFrom, Tabled};
+ghost use Rattle.pack.specs.Packed.{ruleFrom, followsFrom, entryFrom, Tabled, boundOf, Bounded, inRow};
 
 // What a word's value may be.
 pub enum Rule {
@@ -60,6 +61,8 @@ pub struct Entry {
 
 // An entry is one number: the rule in its last digit to the base LIMIT, the rule's limit, the sort, and what follows.
 const LIMIT: u32 = 8;
+
+const LIMITS: u32 = 8192;
 
 const SORT: u32 = 65536;
 
@@ -381,7 +384,7 @@ const TABLE: [u32; 256] = [
 fn rule_from(x: u32) -> Rule
     ensures { λ r. ⌜ r ≡ ruleFrom x ⌝ }
 {
-    let limit = x / LIMIT % 8192;
+    let limit = x / LIMIT % LIMITS;
     match x % LIMIT {
         ANY => Rule::Any,
         AT_MOST => Rule::AtMost(limit),
@@ -444,20 +447,53 @@ pub fn sort_of(t: &[u32; 256], kind: u32) -> u32
     t[kind as usize] / SORT % 4
 }
 
+// An entry of names with N as its limit; any other as it is.
+fn with_bound(x: u32, n: u32) -> u32
+    requires { ⌜ n < 8192 ⌝ }
+    ensures { λ r. ⌜ (entryFrom r ≡ entryFrom x) × (r % 8 ≡ 6 → r / 8 % 8192 ≡ n) ⌝ }
+{
+    if x % LIMIT != NAME {
+        return x;
+    }
+    x / SORT * SORT + LIMIT * n + NAME
+}
+
+// The table for a pack of so many names: among the kinds of trees, the entries of names have N as their limit.
+pub fn table_for(n: u32) -> [u32; 256]
+    requires { ⌜ n < 8192 ⌝ }
+    ensures { λ r. ⌜ Tabled r × Bounded n r ⌝ }
+{
+    let mut t = table();
+    let mut kind = Pack::FIRST_OF_TREES;
+    while kind <= Pack::ROLE_DERIVED {
+        t[kind as usize] = with_bound(t[kind as usize], n);
+        kind += 1;
+    }
+    t
+}
+
+// The N of such a table.
+pub fn bound(t: &[u32; 256]) -> u32
+    ensures { λ r. ⌜ r ≡ boundOf (now (t .entry)) ⌝ }
+{
+    t[Pack::DERIVED as usize] / LIMIT % LIMITS
+}
+
 // Whether a word of this kind, with which a tree begins, may have the value v: any, a name, or one up to a most.
-pub fn allows_head(t: &[u32; 256], kind: u32, n: u32, v: u32) -> bool
+pub fn allows_head(t: &[u32; 256], kind: u32, v: u32) -> bool
     requires { ⌜ (kind < 256) × Tabled (now t) × (entryOf kind .sort < 2) ⌝ }
-    ensures { λ r. ⌜ r ≡ allowedHere n kind v ⌝ }
+    ensures { λ r. ⌜ ((n : ℕ) → Bounded n (now (t .entry)) → r ≡ allowedHere n kind v) ⌝ }
 {
     let x = t[kind as usize];
     let rule = x % LIMIT;
     if rule == ANY {
         return true;
     }
+    let limit = x / LIMIT % LIMITS;
     if rule == NAME {
-        return v < n;
+        return v < limit;
     }
-    v <= x / LIMIT % 8192
+    v <= limit
 }
 
 // Whether a rule allows a value, which is held to n: the total to the number of words, a name to N.
@@ -491,4 +527,22 @@ pub fn how_many(follows: Follows, v: u32) -> u32
         Follows::Judgments => v,
         _ => 0,
     }
+}
+
+// How many children follow a word of this kind and the value v, where they are one, two or as many as the value says.
+pub fn children(t: &[u32; 256], kind: u32, v: u32) -> u32
+    requires { ⌜ (kind < 256) × Tabled (now t) × (inRow (entryOf kind .follows) ≡ true) ⌝ }
+    ensures { λ r. ⌜ r ≡ howMany (entryOf kind .follows) v ⌝ }
+{
+    let follows = t[kind as usize] / FOLLOWS;
+    if follows == TWO_SCALARS {
+        return 2;
+    }
+    if follows == ONE_SCALAR {
+        return 1;
+    }
+    if follows == ONE_JUDGMENT {
+        return 1;
+    }
+    v
 }

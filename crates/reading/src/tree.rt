@@ -1,26 +1,30 @@
 // Trees: scalar and judgment walkers, which call each other. With each level the number of levels left falls.
-// They answer a plain number: the place after the tree, or a refusal's code.
+// They answer a plain number: the place after the tree, or a refusal's code. On their way they note the nodes that resolving looks at.
 use pack::cursor::Cursor;
 use pack::cursor::Step;
 use pack::cursor::stop;
 use pack::kinds::Pack;
 use pack::table::Rule;
 use pack::table::allows_head;
+use pack::table::bound;
+use pack::table::children;
 use pack::table::entry_of;
 use pack::table::how_many;
 use pack::table::sort_of;
 ghost use mathlib.Core.Path.{_≡_};
-ghost use Prim.Native.Nat.{ℕ, _≤_, _<_};
+ghost use Prim.Native.Nat.{ℕ, _+_, _≤_, _<_};
 ghost use mathlib.Core.List.{[], _∷_};
-ghost use mathlib.Core.Bool.{true};
-ghost use lib.ListN.{length, replicate};
+ghost use mathlib.Core.Bool.{true, false};
+ghost use lib.ListN.{length, getD, replicate};
 ghost use Rattle.pack.specs.declared.cursor.Step.the-variants.{Refused};
 ghost use Rattle.pack.specs.declared.table.Follows.the-variants.{Aggregate, OnlyRelated, Slots, Atom, Exists};
 ghost use Rattle.pack.specs.Table.{scalar, judgment, kindOf, valueOf, entryOf, howMany, fieldsOf};
-ghost use Rattle.pack.specs.Packed.{Lent, Tabled, UpTo, Compares};
-ghost use Rattle.pack.specs.Form.{word, only, each};
-ghost use Rattle.pack.specs.Tree.{heads, fields, follow, tree};
+ghost use Rattle.pack.specs.Packed.{Tabled, boundOf, Bounded, UpTo, Compares};
+ghost use Rattle.pack.specs.Form.{word, only};
+ghost use Rattle.pack.specs.Tree.{heads, fields, root};
 ghost use Rattle.pack.specs.Steps.{walk, coded, fault, decoded};
+ghost use Rattle.reading.specs.Notes.{contextOf, noteCode, note};
+ghost use Rattle.reading.specs.Noting.{nextNote, Ready, Context, losing, push, inNext, noteTree, NotedStep, Sorted, Rows, Shape, After};
 
 // The code of a refusal.
 fn refused(number: u32, at: usize) -> usize
@@ -31,9 +35,9 @@ fn refused(number: u32, at: usize) -> usize
 }
 
 // The word that begins a tree of the sort, where so many levels are left: 0, or a refusal's code.
-fn head(s: &[u32], t: &[u32; 256], at: usize, n: u32, sort: u32, left: u32) -> usize
-    requires { ⌜ Lent (now s) (now t) × (at ≤ length (now s)) × (sort < 2) ⌝ }
-    ensures { λ r. ⌜ r ≡ fault (walk (word (heads sort left) n) (now (s .entry)) at) ⌝ }
+fn head(s: &[u32], t: &[u32; 256], at: usize, sort: u32, left: u32) -> usize
+    requires { ⌜ Ready (now s) (now t) × (at ≤ length (now s)) × (sort < 2) ⌝ }
+    ensures { λ r. ⌜ r ≡ fault (walk (word (heads sort left) (boundOf (now (t .entry)))) (now (s .entry)) at) ⌝ }
 {
     if s.len() <= at {
         return refused(3, at);
@@ -47,7 +51,7 @@ fn head(s: &[u32], t: &[u32; 256], at: usize, n: u32, sort: u32, left: u32) -> u
     if left == 0 {
         return refused(5, at);
     }
-    if allows_head(t, kind, n, w % Pack::VALUES) {
+    if allows_head(t, kind, w % Pack::VALUES) {
         0
     } else {
         refused(4, at)
@@ -101,9 +105,9 @@ fn atom(s: &[u32], at: usize) -> usize
 }
 
 // The slots of an OnlyRelated, and its input's or derived name.
-fn only_related(s: &[u32], at: usize, n: u32) -> usize
+fn only_related(s: &[u32], t: &[u32; 256], at: usize) -> usize
     requires { ⌜ (length (now s) ≤ 8192) × (at ≤ length (now s)) ⌝ }
-    ensures { λ r. ⌜ r ≡ coded (walk (fields n (fieldsOf OnlyRelated)) (now (s .entry)) at) ⌝ }
+    ensures { λ r. ⌜ r ≡ coded (walk (fields (boundOf (now (t .entry))) (fieldsOf OnlyRelated)) (now (s .entry)) at) ⌝ }
 {
     let f1 = up_to(s, at, Pack::CURRENT, Pack::NONE);
     if f1 != 0 {
@@ -114,7 +118,7 @@ fn only_related(s: &[u32], at: usize, n: u32) -> usize
         return f2;
     }
     let c = Cursor { at: at + 2 };
-    match c.either(s, n, Pack::INPUT, Pack::DERIVED, Rule::Name) {
+    match c.either(s, bound(t), Pack::INPUT, Pack::DERIVED, Rule::Name) {
         Step::On(_, next) => next.at,
         Step::Refused(r) => refused(r.number, r.place),
     }
@@ -133,25 +137,6 @@ fn compares(s: &[u32], at: usize, left: u32) -> bool
     s[at] / Pack::VALUES == Pack::COMPARISON
 }
 
-// How many children follow a OneChild up to a Max.
-fn children(kind: u32, v: u32) -> u32
-    requires { ⌜ (66 ≤ kind) × (kind ≤ 70) ⌝ }
-    ensures { λ r. ⌜ r ≡ howMany (entryOf kind .follows) v ⌝ }
-{
-    if kind == Pack::ONE_CHILD {
-        return 1;
-    }
-    if kind == Pack::TWO_CHILDREN { 2 } else { v }
-}
-
-// How many judgments follow an And up to a Not.
-fn joined(kind: u32, v: u32) -> u32
-    requires { ⌜ (97 ≤ kind) × (kind ≤ 100) ⌝ }
-    ensures { λ r. ⌜ r ≡ howMany (entryOf kind .follows) v ⌝ }
-{
-    if kind == Pack::NOT { 1 } else { v }
-}
-
 // How many follow a word, by the table.
 fn by_table(t: &[u32; 256], kind: u32, v: u32) -> u32
     requires { ⌜ (kind < 256) × Tabled (now t) × (v < 16777216) ⌝ }
@@ -162,79 +147,158 @@ fn by_table(t: &[u32; 256], kind: u32, v: u32) -> u32
     how_many(follows, v)
 }
 
+// One note more, and the context of the trees inside it.
+fn note(notes: &mut [u32; Pack::NOTES], code: u32) -> u32
+    ensures { λ r. ⌜ (r ≡ inNext (now (notes .entry))) × (now (notes .exit) ≡ push code (now (notes .entry))) ⌝ }
+{
+    let i = notes[0] % Pack::MOST_NOTES + 1;
+    notes[i as usize] = code;
+    notes[0] = i;
+    Pack::INSIDE * i + Pack::LOST
+}
+
+// A rule or relation at a place is noted, inside no other: the context of its trees.
+pub fn open(notes: &mut [u32; Pack::NOTES], at: usize) -> u32
+    requires { ⌜ at ≤ 8192 ⌝ }
+    ensures { λ r. ⌜ (r ≡ contextOf (nextNote (now (notes .entry))) false) × (now (notes .exit) ≡ push (noteCode (note at 0 false)) (now (notes .entry))) ⌝ }
+{
+    note(notes, at as u32 + 1) - Pack::LOST
+}
+
+// A context without membership.
+fn lost(context: u32) -> u32
+    requires { ⌜ Context context ⌝ }
+    ensures { λ r. ⌜ (r ≡ losing context) × Context r ⌝ }
+{
+    context - context % Pack::INSIDE + Pack::LOST
+}
+
 // A row of scalars. The last one's own row, where it has one, takes the place of the row that ends with it.
-fn scalars(s: &[u32], t: &[u32; 256], start: usize, n: u32, count: u32, levels: u32) -> usize
-    requires { ⌜ Lent (now s) (now t) × (start ≤ length (now s)) ⌝ }
-    ensures { λ r. ⌜ r ≡ coded (walk (each (tree n levels) (replicate count scalar)) (now (s .entry)) start) ⌝ }
+fn scalars(
+    s: &[u32],
+    t: &[u32; 256],
+    start: usize,
+    count: u32,
+    levels: u32,
+    context: u32,
+    notes: &mut [u32; Pack::NOTES],
+) -> usize
+    requires { ⌜ Ready (now s) (now t) × (start ≤ length (now s)) × Context context ⌝ }
+    ensures { λ r. ⌜ Rows (boundOf (now (t .entry))) levels scalar count context (now (s .entry)) start (now (notes .entry)) r (now (notes .exit)) ⌝ }
 {
     let mut at = start;
     let mut k = count;
     let mut left = levels;
     while 0 < k {
-        let f = head(s, t, at, n, Pack::SCALAR, left);
+        let f = head(s, t, at, Pack::SCALAR, left);
         if f != 0 {
             return f;
         }
         let w = s[at];
         let kind = w / Pack::VALUES;
-        at += 1;
         k -= 1;
         if Pack::ONE_CHILD <= kind {
             if k == 0 && kind <= Pack::MAX {
-                k = children(kind, w % Pack::VALUES);
+                at += 1;
+                k = children(t, kind, w % Pack::VALUES);
                 left -= 1;
             } else {
-                at = after_scalar(s, t, at, n, w, left - 1);
+                at = after_scalar(s, t, at, left - 1, context, notes);
                 if Pack::CODES <= at {
                     return at;
                 }
             }
+        } else {
+            at += 1;
         }
     }
     at
 }
 
 // A row of judgments.
-fn judgments(s: &[u32], t: &[u32; 256], start: usize, n: u32, count: u32, left: u32) -> usize
-    requires { ⌜ Lent (now s) (now t) × (start ≤ length (now s)) ⌝ }
-    ensures { λ r. ⌜ r ≡ coded (walk (each (tree n left) (replicate count judgment)) (now (s .entry)) start) ⌝ }
+fn judgments(
+    s: &[u32],
+    t: &[u32; 256],
+    start: usize,
+    count: u32,
+    left: u32,
+    context: u32,
+    notes: &mut [u32; Pack::NOTES],
+) -> usize
+    requires { ⌜ Ready (now s) (now t) × (start ≤ length (now s)) × Context context ⌝ }
+    ensures { λ r. ⌜ Rows (boundOf (now (t .entry))) left judgment count context (now (s .entry)) start (now (notes .entry)) r (now (notes .exit)) ⌝ }
 {
     let mut at = start;
     let mut k = count;
     while 0 < k {
-        let f = head(s, t, at, n, Pack::JUDGMENT, left);
+        let f = head(s, t, at, Pack::JUDGMENT, left);
         if f != 0 {
             return f;
         }
-        let w = s[at];
-        at += 1;
         k -= 1;
-        if w / Pack::VALUES <= Pack::EXISTS {
-            at = after_judgment(s, t, at, n, w, left - 1);
+        if s[at] / Pack::VALUES <= Pack::SAME_ENTITY {
+            at = after_judgment(s, t, at, left - 1, context, notes);
             if Pack::CODES <= at {
                 return at;
             }
+        } else {
+            at += 1;
         }
     }
     at
 }
 
 // The condition and the two cases of an If.
-fn choice(s: &[u32], t: &[u32; 256], at: usize, n: u32, left: u32) -> usize
-    requires { ⌜ Lent (now s) (now t) × (at ≤ length (now s)) ⌝ }
-    ensures { λ r. ⌜ r ≡ coded (walk (each (tree n left) (judgment ∷ scalar ∷ scalar ∷ [])) (now (s .entry)) at) ⌝ }
+fn choice(
+    s: &[u32],
+    t: &[u32; 256],
+    at: usize,
+    left: u32,
+    context: u32,
+    notes: &mut [u32; Pack::NOTES],
+) -> usize
+    requires { ⌜ Ready (now s) (now t) × (at ≤ length (now s)) × Context context ⌝ }
+    ensures { λ r. ⌜ Sorted (boundOf (now (t .entry))) left (judgment ∷ scalar ∷ scalar ∷ []) context context (now (s .entry)) at (now (notes .entry)) r (now (notes .exit)) ⌝ }
 {
-    let next = judgments(s, t, at, n, 1, left);
+    let next = judgments(s, t, at, 1, left, context, notes);
     if Pack::CODES <= next {
         return next;
     }
-    scalars(s, t, next, n, 2, left)
+    scalars(s, t, next, 2, left, context, notes)
 }
 
-// The fields of an aggregate, and its where tree. Of a Comparison the two scalars are walked at once.
-fn aggregate(s: &[u32], t: &[u32; 256], at: usize, n: u32, left: u32) -> usize
-    requires { ⌜ Lent (now s) (now t) × (at ≤ length (now s)) ⌝ }
-    ensures { λ r. ⌜ r ≡ coded (walk (follow n (tree n left) Aggregate 0) (now (s .entry)) at) ⌝ }
+// The subject of a NoMatch, and so many patterns, which lose the membership.
+fn patterns(
+    s: &[u32],
+    t: &[u32; 256],
+    at: usize,
+    count: u32,
+    left: u32,
+    context: u32,
+    notes: &mut [u32; Pack::NOTES],
+) -> usize
+    requires { ⌜ Ready (now s) (now t) × (at ≤ length (now s)) × Context context ⌝ }
+    ensures { λ r. ⌜ Sorted (boundOf (now (t .entry))) left (replicate (count + 1) scalar) context (losing context) (now (s .entry)) at (now (notes .entry)) r (now (notes .exit)) ⌝ }
+{
+    let next = scalars(s, t, at, 1, left, context, notes);
+    if Pack::CODES <= next {
+        return next;
+    }
+    let without = lost(context);
+    scalars(s, t, next, count, left, without, notes)
+}
+
+// The fields of an aggregate, which is noted, and its where tree. Of a Comparison the two scalars are walked at once.
+fn aggregate(
+    s: &[u32],
+    t: &[u32; 256],
+    at: usize,
+    left: u32,
+    context: u32,
+    notes: &mut [u32; Pack::NOTES],
+) -> usize
+    requires { ⌜ Ready (now s) (now t) × (at ≤ length (now s)) × Context context ⌝ }
+    ensures { λ r. ⌜ Shape (boundOf (now (t .entry))) left true Aggregate 0 context (now (s .entry)) at (now (notes .entry)) r (now (notes .exit)) ⌝ }
 {
     let f1 = up_to(s, at, Pack::CURRENT, Pack::NONE);
     if f1 != 0 {
@@ -252,57 +316,115 @@ fn aggregate(s: &[u32], t: &[u32; 256], at: usize, n: u32, left: u32) -> usize
     if f4 != 0 {
         return f4;
     }
+    let inner = note(notes, at as u32 + context);
     let flag = s[at + 3] % Pack::VALUES;
     if flag == 1 {
         if compares(s, at + 4, left) {
-            return scalars(s, t, at + 5, n, 2, left - 1);
+            return scalars(s, t, at + 5, 2, left - 1, inner, notes);
         }
     }
-    judgments(s, t, at + 4, n, flag, left)
+    judgments(s, t, at + 4, flag, left, inner, notes)
 }
 
-// The arguments of an Exists, and its body.
-fn exists(s: &[u32], t: &[u32; 256], at: usize, n: u32, left: u32) -> usize
-    requires { ⌜ Lent (now s) (now t) × (at ≤ length (now s)) ⌝ }
-    ensures { λ r. ⌜ r ≡ coded (walk (follow n (tree n left) Exists 0) (now (s .entry)) at) ⌝ }
+// The arguments of an Exists, which is noted, and its body.
+fn exists(
+    s: &[u32],
+    t: &[u32; 256],
+    at: usize,
+    left: u32,
+    context: u32,
+    notes: &mut [u32; Pack::NOTES],
+) -> usize
+    requires { ⌜ Ready (now s) (now t) × (at ≤ length (now s)) × Context context ⌝ }
+    ensures { λ r. ⌜ Shape (boundOf (now (t .entry))) left true Exists 0 context (now (s .entry)) at (now (notes .entry)) r (now (notes .exit)) ⌝ }
 {
     let f1 = up_to(s, at, Pack::ARGUMENTS, Pack::NONE);
     if f1 != 0 {
         return f1;
     }
-    judgments(s, t, at + 1, n, 1, left)
+    let _ = note(notes, at as u32 + context);
+    judgments(s, t, at + 1, 1, left, context, notes)
 }
 
-// What follows the head word w of a scalar.
-fn after_scalar(s: &[u32], t: &[u32; 256], at: usize, n: u32, w: u32, left: u32) -> usize
-    requires { ⌜ Lent (now s) (now t) × (at ≤ length (now s)) × (kindOf w ≤ 95) ⌝ }
-    ensures { λ r. ⌜ r ≡ coded (walk (follow n (tree n left) (entryOf (kindOf w) .follows) (valueOf w)) (now (s .entry)) at) ⌝ }
+// What follows the head word of a scalar at a place.
+fn after_scalar(
+    s: &[u32],
+    t: &[u32; 256],
+    at: usize,
+    left: u32,
+    context: u32,
+    notes: &mut [u32; Pack::NOTES],
+) -> usize
+    requires { ⌜ Ready (now s) (now t) × (at < length (now s)) × (kindOf (getD (now s) at 0) ≤ 95) × Context context ⌝ }
+    ensures { λ r. ⌜ After (boundOf (now (t .entry))) left context (now (s .entry)) at (now (notes .entry)) r (now (notes .exit)) ⌝ }
 {
+    let w = s[at];
     let kind = w / Pack::VALUES;
     let v = w % Pack::VALUES;
     match kind {
-        Pack::COUNT..=Pack::SINGLE => aggregate(s, t, at, n, left),
-        Pack::ONE_CHILD..=Pack::MAX => scalars(s, t, at, n, children(kind, v), left),
-        Pack::NO_MATCH..=Pack::OVER_PERIODS => scalars(s, t, at, n, by_table(t, kind, v), left),
-        Pack::IF => choice(s, t, at, n, left),
-        Pack::ONLY_RELATED => only_related(s, at, n),
-        _ => at,
+        Pack::COUNT..=Pack::SINGLE => aggregate(s, t, at + 1, left, context, notes),
+        Pack::ONE_CHILD..=Pack::MAX => {
+            let count = children(t, kind, v);
+            scalars(s, t, at + 1, count, left, context, notes)
+        }
+        Pack::NO_MATCH => patterns(s, t, at + 1, v, left, context, notes),
+        Pack::OVER_PERIODS => scalars(
+            s,
+            t,
+            at + 1,
+            by_table(t, kind, v),
+            left,
+            lost(context),
+            notes,
+        ),
+        Pack::IF => choice(s, t, at + 1, left, context, notes),
+        Pack::ONLY_RELATED => {
+            let _ = note(notes, at as u32 + 1 + context);
+            only_related(s, t, at + 1)
+        }
+        _ => at + 1,
     }
 }
 
-// What follows the head word w of a judgment.
-fn after_judgment(s: &[u32], t: &[u32; 256], at: usize, n: u32, w: u32, left: u32) -> usize
-    requires { ⌜ Lent (now s) (now t) × (at ≤ length (now s)) × (96 ≤ kindOf w) ⌝ }
-    ensures { λ r. ⌜ r ≡ coded (walk (follow n (tree n left) (entryOf (kindOf w) .follows) (valueOf w)) (now (s .entry)) at) ⌝ }
+// What follows the head word of a judgment at a place.
+fn after_judgment(
+    s: &[u32],
+    t: &[u32; 256],
+    at: usize,
+    left: u32,
+    context: u32,
+    notes: &mut [u32; Pack::NOTES],
+) -> usize
+    requires { ⌜ Ready (now s) (now t) × (at < length (now s)) × (96 ≤ kindOf (getD (now s) at 0)) × Context context ⌝ }
+    ensures { λ r. ⌜ After (boundOf (now (t .entry))) left context (now (s .entry)) at (now (notes .entry)) r (now (notes .exit)) ⌝ }
 {
+    let w = s[at];
     let kind = w / Pack::VALUES;
     match kind {
-        Pack::COMPARISON => scalars(s, t, at, n, 2, left),
-        Pack::AND..=Pack::NOT => judgments(s, t, at, n, joined(kind, w % Pack::VALUES), left),
-        Pack::RELATION_MEMBER => slots(s, at),
-        Pack::RELATION_ATOM => atom(s, at),
-        Pack::EXISTS => exists(s, t, at, n, left),
-        _ => at,
+        Pack::COMPARISON => scalars(s, t, at + 1, 2, left, context, notes),
+        Pack::AND..=Pack::NOT => judgments(
+            s,
+            t,
+            at + 1,
+            children(t, kind, w % Pack::VALUES),
+            left,
+            context,
+            notes,
+        ),
+        Pack::RELATION_MEMBER => {
+            let _ = note(notes, at as u32 + 1 + context);
+            slots(s, at + 1)
+        }
+        Pack::RELATION_ATOM => {
+            let _ = note(notes, at as u32 + 1 + context);
+            atom(s, at + 1)
+        }
+        Pack::EXISTS => exists(s, t, at + 1, left, context, notes),
+        Pack::SAME_ENTITY => {
+            let _ = note(notes, at as u32 + 1 + context);
+            at + 1
+        }
+        _ => at + 1,
     }
 }
 
@@ -317,16 +439,29 @@ fn step_of(code: usize) -> Step
     stop((code / Pack::CODES - 1) as u32, code % Pack::CODES)
 }
 
-pub fn scalar(s: &[u32], t: &[u32; 256], c: Cursor, n: u32, left: u32) -> Step
-    requires { ⌜ Lent (now s) (now t) × (c .at ≤ length (now s)) ⌝ }
-    ensures { λ r. ⌜ r ≡ walk (tree n left scalar) (now (s .entry)) (c .at) ⌝ }
+// The tree of a body or predicate in a context.
+pub fn scalar(
+    s: &[u32],
+    t: &[u32; 256],
+    c: Cursor,
+    context: u32,
+    notes: &mut [u32; Pack::NOTES],
+) -> Step
+    requires { ⌜ Ready (now s) (now t) × (c .at ≤ length (now s)) × Context context ⌝ }
+    ensures { λ r. ⌜ NotedStep (root (boundOf (now (t .entry))) scalar) (λ u. noteTree context u) (now (s .entry)) (c .at) (now (notes .entry)) r (now (notes .exit)) ⌝ }
 {
-    step_of(scalars(s, t, c.at, n, 1, left))
+    step_of(scalars(s, t, c.at, 1, Pack::DEPTH, context, notes))
 }
 
-pub fn judgment(s: &[u32], t: &[u32; 256], c: Cursor, n: u32, left: u32) -> Step
-    requires { ⌜ Lent (now s) (now t) × (c .at ≤ length (now s)) ⌝ }
-    ensures { λ r. ⌜ r ≡ walk (tree n left judgment) (now (s .entry)) (c .at) ⌝ }
+pub fn judgment(
+    s: &[u32],
+    t: &[u32; 256],
+    c: Cursor,
+    context: u32,
+    notes: &mut [u32; Pack::NOTES],
+) -> Step
+    requires { ⌜ Ready (now s) (now t) × (c .at ≤ length (now s)) × Context context ⌝ }
+    ensures { λ r. ⌜ NotedStep (root (boundOf (now (t .entry))) judgment) (λ u. noteTree context u) (now (s .entry)) (c .at) (now (notes .entry)) r (now (notes .exit)) ⌝ }
 {
-    step_of(judgments(s, t, c.at, n, 1, left))
+    step_of(judgments(s, t, c.at, 1, Pack::DEPTH, context, notes))
 }

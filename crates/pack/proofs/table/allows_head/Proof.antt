@@ -1,5 +1,5 @@
 -- `pack::table::allows_head` meets its contract: a kind with which a tree begins has one of three rules, by one computation over all 256.
-use Prim.Native.Nat.{ℕ, _/_, _%_, _<_}
+use Prim.Native.Nat.{ℕ, _/_, _%_, _<_, _≤_}
 use native.Mathlib.Omega.{arith}
 use mathlib.Core.Path.{_≡_, refl, ap}
 use mathlib.Core.List.{List}
@@ -7,13 +7,13 @@ use mathlib.Core.Bool.{Bool, true, false}
 use lib.Dec.{ltb, leb, eqb}
 use lib.ListN.{getD}
 use borrow.Author.Needs.{needs}
-use borrow.Author.Tests.{lt-ltb, ne-eqb}
+use borrow.Author.Tests.{lt-ltb, ne-eqb, ltb-true, ltb-false}
 use Rattle.pack.specs.declared.table.Entry.{Entry}
 use Rattle.pack.specs.declared.table.Rule.{Rule}
 use Rattle.pack.specs.declared.table.Rule.the-variants.{Unused, Any, AtMost, FromOne, AtMostOrNone, Total, Name, NameOrNone}
 use Rattle.pack.specs.Table.{pick, allowed, entryOf, table}
 use Rattle.pack.specs.Form.{allowedHere}
-use Rattle.pack.specs.Packed.{ruleFrom, Tabled}
+use Rattle.pack.specs.Packed.{ruleFrom, Tabled, Bounded}
 use Rattle.pack.proofs.Listed.{in-range}
 use Rattle.pack.proofs.table.allows_head.Statement.{statement}
 use Rattle.pack.proofs.table.allows_head.Tie as tie
@@ -34,6 +34,15 @@ unfolding entryOf table
 heads-plain k h s =
     let e : pick (ltb (entryOf k .sort) 2) (plain (entryOf k .rule)) true ≡ true = in-range (λ (k : ℕ). pick (ltb (entryOf k .sort) 2) (plain (entryOf k .rule)) true) true 0 256 refl k (omega arith) h in
     rw (lt-ltb (entryOf k .sort) 2 s) at e
+
+-- and is one of those of trees
+begins : (k : ℕ) → entryOf k .sort < 2 → 64 ≤ k
+unfolding entryOf table
+begins k s = go (ltb k 64) refl
+  where
+    go : (b : Bool) → ltb k 64 ≡ b → 64 ≤ k
+    go true e = absurd (omega (arith, s, in-range (λ (k : ℕ). entryOf k .sort) 2 0 64 refl k (omega arith) (ltb-true k 64 e)))
+    go false e = ltb-false k 64 e
 
 no : false ≡ true → ⊥
 no e = let z : _≡_ {A = ℕ} 0 1 = cc in omega arith
@@ -58,9 +67,9 @@ module _ (t : List ℕ) (kind n v : ℕ) (tabled : Tabled t) (h : kind < 256) wh
   unfolding allowedHere
   any e = rw (← rule-there) (rw e refl)
 
-  name : getD t kind 0 % 8 ≡ 6 → ltb v n ≡ allowedHere n kind v
-  unfolding allowedHere
-  name e = rw (← rule-there) (rw e refl)
+  name : entryOf kind .sort < 2 → Bounded n t → getD t kind 0 % 8 ≡ 6 → ltb v (getD t kind 0 / 8 % 8192) ≡ allowedHere n kind v
+  unfolding allowedHere Bounded
+  name s b e = rw (b kind (begins kind s) h e, ← rule-there) (rw e refl)
 
   most : entryOf kind .sort < 2 → (getD t kind 0 % 8 ≡ 1 → ⊥) → (getD t kind 0 % 8 ≡ 6 → ⊥) → leb v (getD t kind 0 / 8 % 8192) ≡ allowedHere n kind v
   unfolding allowedHere
@@ -78,13 +87,13 @@ element-copy-out-x : tie.Need-element-copy-out-x
 element-copy-out-x c = search needs
 
 returns : tie.Need-returns
-returns c = any _ _ _ _ (c .before .before .pre .1) (c .before .before .pre .0) (c .if1 .taken)
+returns c n b = let p = c .before .before .pre in any _ _ _ _ (p .1) (p .0) (c .if1 .taken)
 
 returns-2 : tie.Need-returns-2
-returns-2 c = name _ _ _ _ (c .before .before .before .pre .1) (c .before .before .before .pre .0) (c .if2 .taken)
+returns-2 c n b = let p = c .before .before .before .pre in name _ _ _ _ (p .1) (p .0) (p .2) b (c .if2 .taken)
 
 returns-3 : tie.Need-returns-3
-returns-3 c = most _ _ _ _ (c .before .before .before .pre .1) (c .before .before .before .pre .0) (c .before .before .before .pre .2) (c .before .if1 .left) (c .if2 .left)
+returns-3 c n b = let p = c .before .before .before .pre in most _ _ _ _ (p .1) (p .0) (p .2) (c .before .if1 .left) (c .if2 .left)
 
 pub allows-head-spec : {M : Type 1} → statement M
 allows-head-spec = tie.close (tie.spec mul-x element-copy-out-x returns returns-2 returns-3)

@@ -1,6 +1,7 @@
 -- `reading::tree::judgment` meets its contract.
-use mathlib.Core.Path.{_∙_}
+use Rattle.pack.specs.Tree.{root}
 use Rattle.reading.proofs.CodeLaws.{tree-code}
+use Rattle.reading.proofs.RowLaws.{step-noted}
 use borrow.Author.Needs.{needs}
 use Rattle.reading.proofs.tree.judgment.Statement.{statement}
 use Rattle.reading.proofs.tree.judgment.Tie as tie
@@ -9,10 +10,11 @@ judgments-requires : tie.Need-judgments-requires
 judgments-requires c κs = search needs
 
 step-of-requires : tie.Need-step-of-requires
-step-of-requires c κs = tree-code _ _ _ _ _ (c .before .before .pre .0 .most) (c .before .before .pre .1) (c .judgments .ensures) .small
+step-of-requires c κs = tree-code _ _ _ _ _ ((c .before .before .before .pre) .0 .most) ((c .before .before .before .pre) .1) ((c .judgments) .ensures .answers) .small
 
 returns : tie.Need-returns
-returns c = (c .step-of .ensures) ∙ tree-code _ _ _ _ _ (c .before .before .before .pre .0 .most) (c .before .before .before .pre .1) (c .before .judgments .ensures) .same
+unfolding root
+returns c = step-noted _ _ _ _ _ _ ((c .before .before .before .before .pre) .0 .most) ((c .before .before .before .before .pre) .1) ((c .before .judgments) .ensures) ((c .step-of) .ensures)
 
 pub judgment-spec : {M : Type 1} → statement M
 judgment-spec = tie.close (tie.spec judgments-requires step-of-requires returns)
