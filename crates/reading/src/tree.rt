@@ -15,7 +15,7 @@ ghost use mathlib.Core.Path.{_≡_};
 ghost use Prim.Native.Nat.{ℕ, _+_, _≤_, _<_};
 ghost use mathlib.Core.List.{[], _∷_};
 ghost use mathlib.Core.Bool.{true, false};
-ghost use lib.ListN.{length, getD, replicate};
+ghost use lib.ListN.{length, getD, set, replicate};
 ghost use Rattle.pack.specs.declared.cursor.Step.the-variants.{Refused};
 ghost use Rattle.pack.specs.declared.table.Follows.the-variants.{Aggregate, OnlyRelated, Slots, Atom, Exists};
 ghost use Rattle.pack.specs.Table.{scalar, judgment, kindOf, valueOf, entryOf, howMany, fieldsOf};
@@ -147,18 +147,37 @@ fn by_table(t: &[u32; 256], kind: u32, v: u32) -> u32
     how_many(follows, v)
 }
 
+// How many notes there are.
+pub fn count(notes: &[u32]) -> u32
+    ensures { λ r. ⌜ r ≡ getD (now (notes .entry)) 0 0 ⌝ }
+{
+    if notes.len() == 0 {
+        return 0;
+    }
+    notes[0]
+}
+
+// A word of the notes, where there is room for it.
+fn put(notes: &mut [u32], i: usize, word: u32)
+    ensures { λ r. ⌜ now (notes .exit) ≡ set (now (notes .entry)) i word ⌝ }
+{
+    if i < notes.len() {
+        notes[i] = word;
+    }
+}
+
 // One note more, and the context of the trees inside it.
-fn note(notes: &mut [u32; Pack::NOTES], code: u32) -> u32
+fn note(notes: &mut [u32], code: u32) -> u32
     ensures { λ r. ⌜ (r ≡ inNext (now (notes .entry))) × (now (notes .exit) ≡ push code (now (notes .entry))) ⌝ }
 {
-    let i = notes[0] % Pack::MOST_NOTES + 1;
-    notes[i as usize] = code;
-    notes[0] = i;
+    let i = count(notes) % Pack::MOST_NOTES + 1;
+    put(notes, i as usize, code);
+    put(notes, 0, i);
     Pack::INSIDE * i + Pack::LOST
 }
 
 // A rule or relation at a place is noted, inside no other: the context of its trees.
-pub fn open(notes: &mut [u32; Pack::NOTES], at: usize) -> u32
+pub fn open(notes: &mut [u32], at: usize) -> u32
     requires { ⌜ at ≤ 8192 ⌝ }
     ensures { λ r. ⌜ (r ≡ contextOf (nextNote (now (notes .entry))) false) × (now (notes .exit) ≡ push (noteCode (note at 0 false)) (now (notes .entry))) ⌝ }
 {
@@ -181,7 +200,7 @@ fn scalars(
     count: u32,
     levels: u32,
     context: u32,
-    notes: &mut [u32; Pack::NOTES],
+    notes: &mut [u32],
 ) -> usize
     requires { ⌜ Ready (now s) (now t) × (start ≤ length (now s)) × Context context ⌝ }
     ensures { λ r. ⌜ Rows (boundOf (now (t .entry))) levels scalar count context (now (s .entry)) start (now (notes .entry)) r (now (notes .exit)) ⌝ }
@@ -223,7 +242,7 @@ fn judgments(
     count: u32,
     left: u32,
     context: u32,
-    notes: &mut [u32; Pack::NOTES],
+    notes: &mut [u32],
 ) -> usize
     requires { ⌜ Ready (now s) (now t) × (start ≤ length (now s)) × Context context ⌝ }
     ensures { λ r. ⌜ Rows (boundOf (now (t .entry))) left judgment count context (now (s .entry)) start (now (notes .entry)) r (now (notes .exit)) ⌝ }
@@ -255,7 +274,7 @@ fn choice(
     at: usize,
     left: u32,
     context: u32,
-    notes: &mut [u32; Pack::NOTES],
+    notes: &mut [u32],
 ) -> usize
     requires { ⌜ Ready (now s) (now t) × (at ≤ length (now s)) × Context context ⌝ }
     ensures { λ r. ⌜ Sorted (boundOf (now (t .entry))) left (judgment ∷ scalar ∷ scalar ∷ []) context context (now (s .entry)) at (now (notes .entry)) r (now (notes .exit)) ⌝ }
@@ -275,7 +294,7 @@ fn patterns(
     count: u32,
     left: u32,
     context: u32,
-    notes: &mut [u32; Pack::NOTES],
+    notes: &mut [u32],
 ) -> usize
     requires { ⌜ Ready (now s) (now t) × (at ≤ length (now s)) × Context context ⌝ }
     ensures { λ r. ⌜ Sorted (boundOf (now (t .entry))) left (replicate (count + 1) scalar) context (losing context) (now (s .entry)) at (now (notes .entry)) r (now (notes .exit)) ⌝ }
@@ -295,7 +314,7 @@ fn aggregate(
     at: usize,
     left: u32,
     context: u32,
-    notes: &mut [u32; Pack::NOTES],
+    notes: &mut [u32],
 ) -> usize
     requires { ⌜ Ready (now s) (now t) × (at ≤ length (now s)) × Context context ⌝ }
     ensures { λ r. ⌜ Shape (boundOf (now (t .entry))) left true Aggregate 0 context (now (s .entry)) at (now (notes .entry)) r (now (notes .exit)) ⌝ }
@@ -333,7 +352,7 @@ fn exists(
     at: usize,
     left: u32,
     context: u32,
-    notes: &mut [u32; Pack::NOTES],
+    notes: &mut [u32],
 ) -> usize
     requires { ⌜ Ready (now s) (now t) × (at ≤ length (now s)) × Context context ⌝ }
     ensures { λ r. ⌜ Shape (boundOf (now (t .entry))) left true Exists 0 context (now (s .entry)) at (now (notes .entry)) r (now (notes .exit)) ⌝ }
@@ -353,7 +372,7 @@ fn after_scalar(
     at: usize,
     left: u32,
     context: u32,
-    notes: &mut [u32; Pack::NOTES],
+    notes: &mut [u32],
 ) -> usize
     requires { ⌜ Ready (now s) (now t) × (at < length (now s)) × (kindOf (getD (now s) at 0) ≤ 95) × Context context ⌝ }
     ensures { λ r. ⌜ After (boundOf (now (t .entry))) left context (now (s .entry)) at (now (notes .entry)) r (now (notes .exit)) ⌝ }
@@ -393,7 +412,7 @@ fn after_judgment(
     at: usize,
     left: u32,
     context: u32,
-    notes: &mut [u32; Pack::NOTES],
+    notes: &mut [u32],
 ) -> usize
     requires { ⌜ Ready (now s) (now t) × (at < length (now s)) × (96 ≤ kindOf (getD (now s) at 0)) × Context context ⌝ }
     ensures { λ r. ⌜ After (boundOf (now (t .entry))) left context (now (s .entry)) at (now (notes .entry)) r (now (notes .exit)) ⌝ }
@@ -445,7 +464,7 @@ pub fn scalar(
     t: &[u32; 256],
     c: Cursor,
     context: u32,
-    notes: &mut [u32; Pack::NOTES],
+    notes: &mut [u32],
 ) -> Step
     requires { ⌜ Ready (now s) (now t) × (c .at ≤ length (now s)) × Context context ⌝ }
     ensures { λ r. ⌜ NotedStep (root (boundOf (now (t .entry))) scalar) (λ u. noteTree context u) (now (s .entry)) (c .at) (now (notes .entry)) r (now (notes .exit)) ⌝ }
@@ -458,7 +477,7 @@ pub fn judgment(
     t: &[u32; 256],
     c: Cursor,
     context: u32,
-    notes: &mut [u32; Pack::NOTES],
+    notes: &mut [u32],
 ) -> Step
     requires { ⌜ Ready (now s) (now t) × (c .at ≤ length (now s)) × Context context ⌝ }
     ensures { λ r. ⌜ NotedStep (root (boundOf (now (t .entry))) judgment) (λ u. noteTree context u) (now (s .entry)) (c .at) (now (notes .entry)) r (now (notes .exit)) ⌝ }

@@ -176,415 +176,484 @@ abbrev scalars-calls : ℕ → scalars-lts.Claims
 scalars-calls t = (head-reads.Asked, head-reads.Learnt, children-reads.Asked, children-reads.Learnt, after-scalar-below t, after-scalar.Post)
 
 after-judgment-mul-w : (t : ℕ) → after-judgment-lts.Need-mul-w (after-judgment-calls t) (after-judgment-at t) after-judgment.Post
-after-judgment-mul-w t c = omega (arith, (c .before .pre) .1 .0 .most, (c .before .pre) .1 .1)
+after-judgment-mul-w t c = omega (arith, (c .before .before .pre) .1 .0 .most, (c .before .before .pre) .1 .1)
 
 after-judgment-shared-slice-read-w : (t : ℕ) → after-judgment-lts.Need-shared-slice-read-w (after-judgment-calls t) (after-judgment-at t) after-judgment.Post
-after-judgment-shared-slice-read-w t c = (c .before .before .pre) .1 .1
+after-judgment-shared-slice-read-w t c = (c .before .before .before .pre) .1 .1
 
 after-judgment-add-scalars : (t : ℕ) → after-judgment-lts.Need-add-scalars (after-judgment-calls t) (after-judgment-at t) after-judgment.Post
-after-judgment-add-scalars t c = omega (arith, (c .before .before .before .pre) .1 .0 .most, (c .before .before .before .pre) .1 .1)
+after-judgment-add-scalars t c = omega (arith, (c .before .before .before .before .pre) .1 .0 .most, (c .before .before .before .before .pre) .1 .1)
 
 after-judgment-scalars-requires : (t : ℕ) → after-judgment-lts.Need-scalars-requires (after-judgment-calls t) (after-judgment-at t) after-judgment.Post
-after-judgment-scalars-requires t c κs = (omega arith, ((c .before .before .before .before .pre) .1 .0, omega (arith, (c .before .before .before .before .pre) .1 .1), (c .before .before .before .before .pre) .1 .3))
+after-judgment-scalars-requires t c κs = (omega arith, ((c .before .before .before .before .before .pre) .1 .0, omega (arith, (c .before .before .before .before .before .pre) .1 .1), (c .before .before .before .before .before .pre) .1 .3))
 
 after-judgment-cast-note : (t : ℕ) → after-judgment-lts.Need-cast-note (after-judgment-calls t) (after-judgment-at t) after-judgment.Post
 after-judgment-cast-note t c = search needs
 
 after-judgment-add-note : (t : ℕ) → after-judgment-lts.Need-add-note (after-judgment-calls t) (after-judgment-at t) after-judgment.Post
-after-judgment-add-note t c = omega (arith, (c .before .before .before .before .pre) .1 .0 .most, (c .before .before .before .before .pre) .1 .1, (c .before .before .before .before .pre) .1 .3)
+after-judgment-add-note t c = omega (arith, (c .before .before .before .before .before .pre) .1 .0 .most, (c .before .before .before .before .before .pre) .1 .1, (c .before .before .before .before .before .pre) .1 .3)
 
 after-judgment-add-note-2 : (t : ℕ) → after-judgment-lts.Need-add-note-2 (after-judgment-calls t) (after-judgment-at t) after-judgment.Post
-after-judgment-add-note-2 t c = omega (arith, (c .before .before .before .before .pre) .1 .0 .most, (c .before .before .before .before .pre) .1 .1, (c .before .before .before .before .pre) .1 .3)
+after-judgment-add-note-2 t c = omega (arith, (c .before .before .before .before .before .pre) .1 .0 .most, (c .before .before .before .before .before .pre) .1 .1, (c .before .before .before .before .before .pre) .1 .3)
 
 after-judgment-note-requires : (t : ℕ) → after-judgment-lts.Need-note-requires (after-judgment-calls t) (after-judgment-at t) after-judgment.Post
 after-judgment-note-requires t c κs = search needs
 
 after-judgment-add-slots : (t : ℕ) → after-judgment-lts.Need-add-slots (after-judgment-calls t) (after-judgment-at t) after-judgment.Post
-after-judgment-add-slots t c = omega (arith, (c .before .before .before .before .before .pre) .1 .0 .most, (c .before .before .before .before .before .pre) .1 .1)
+after-judgment-add-slots t c = omega (arith, (c .before .before .before .before .before .before .before .before .pre) .1 .0 .most, (c .before .before .before .before .before .before .before .before .pre) .1 .1)
 
 after-judgment-slots-requires : (t : ℕ) → after-judgment-lts.Need-slots-requires (after-judgment-calls t) (after-judgment-at t) after-judgment.Post
-after-judgment-slots-requires t c κs = ((c .before .before .before .before .before .pre) .1 .0 .most, omega (arith, (c .before .before .before .before .before .pre) .1 .1))
+after-judgment-slots-requires t c κs = ((c .before .before .before .before .before .before .before .before .pre) .1 .0 .most, omega (arith, (c .before .before .before .before .before .before .before .before .pre) .1 .1))
 
 after-judgment-cast-note-2 : (t : ℕ) → after-judgment-lts.Need-cast-note-2 (after-judgment-calls t) (after-judgment-at t) after-judgment.Post
 after-judgment-cast-note-2 t c = search needs
 
 after-judgment-add-note-3 : (t : ℕ) → after-judgment-lts.Need-add-note-3 (after-judgment-calls t) (after-judgment-at t) after-judgment.Post
-after-judgment-add-note-3 t c = omega (arith, (c .before .before .before .before .pre) .1 .0 .most, (c .before .before .before .before .pre) .1 .1, (c .before .before .before .before .pre) .1 .3)
+after-judgment-add-note-3 t c = omega (arith, (c .before .before .before .before .before .pre) .1 .0 .most, (c .before .before .before .before .before .pre) .1 .1, (c .before .before .before .before .before .pre) .1 .3)
 
 after-judgment-add-note-4 : (t : ℕ) → after-judgment-lts.Need-add-note-4 (after-judgment-calls t) (after-judgment-at t) after-judgment.Post
-after-judgment-add-note-4 t c = omega (arith, (c .before .before .before .before .pre) .1 .0 .most, (c .before .before .before .before .pre) .1 .1, (c .before .before .before .before .pre) .1 .3)
+after-judgment-add-note-4 t c = omega (arith, (c .before .before .before .before .before .pre) .1 .0 .most, (c .before .before .before .before .before .pre) .1 .1, (c .before .before .before .before .before .pre) .1 .3)
 
 after-judgment-note-requires-2 : (t : ℕ) → after-judgment-lts.Need-note-requires-2 (after-judgment-calls t) (after-judgment-at t) after-judgment.Post
 after-judgment-note-requires-2 t c κs = search needs
 
 after-judgment-add-atom : (t : ℕ) → after-judgment-lts.Need-add-atom (after-judgment-calls t) (after-judgment-at t) after-judgment.Post
-after-judgment-add-atom t c = omega (arith, (c .before .before .before .before .before .pre) .1 .0 .most, (c .before .before .before .before .before .pre) .1 .1)
+after-judgment-add-atom t c = omega (arith, (c .before .before .before .before .before .before .before .before .pre) .1 .0 .most, (c .before .before .before .before .before .before .before .before .pre) .1 .1)
 
 after-judgment-atom-requires : (t : ℕ) → after-judgment-lts.Need-atom-requires (after-judgment-calls t) (after-judgment-at t) after-judgment.Post
-after-judgment-atom-requires t c κs = ((c .before .before .before .before .before .pre) .1 .0 .most, omega (arith, (c .before .before .before .before .before .pre) .1 .1))
+after-judgment-atom-requires t c κs = ((c .before .before .before .before .before .before .before .before .pre) .1 .0 .most, omega (arith, (c .before .before .before .before .before .before .before .before .pre) .1 .1))
 
 after-judgment-add-exists : (t : ℕ) → after-judgment-lts.Need-add-exists (after-judgment-calls t) (after-judgment-at t) after-judgment.Post
-after-judgment-add-exists t c = omega (arith, (c .before .before .before .pre) .1 .0 .most, (c .before .before .before .pre) .1 .1)
+after-judgment-add-exists t c = omega (arith, (c .before .before .before .before .pre) .1 .0 .most, (c .before .before .before .before .pre) .1 .1)
 
 after-judgment-exists-requires : (t : ℕ) → after-judgment-lts.Need-exists-requires (after-judgment-calls t) (after-judgment-at t) after-judgment.Post
-after-judgment-exists-requires t c κs = (omega arith, ((c .before .before .before .before .pre) .1 .0, omega (arith, (c .before .before .before .before .pre) .1 .1), (c .before .before .before .before .pre) .1 .3))
+after-judgment-exists-requires t c κs = (omega arith, ((c .before .before .before .before .before .pre) .1 .0, omega (arith, (c .before .before .before .before .before .pre) .1 .1), (c .before .before .before .before .before .pre) .1 .3))
 
 after-judgment-cast-note-3 : (t : ℕ) → after-judgment-lts.Need-cast-note-3 (after-judgment-calls t) (after-judgment-at t) after-judgment.Post
 after-judgment-cast-note-3 t c = search needs
 
 after-judgment-add-note-5 : (t : ℕ) → after-judgment-lts.Need-add-note-5 (after-judgment-calls t) (after-judgment-at t) after-judgment.Post
-after-judgment-add-note-5 t c = omega (arith, (c .before .before .before .before .pre) .1 .0 .most, (c .before .before .before .before .pre) .1 .1, (c .before .before .before .before .pre) .1 .3)
+after-judgment-add-note-5 t c = omega (arith, (c .before .before .before .before .before .pre) .1 .0 .most, (c .before .before .before .before .before .pre) .1 .1, (c .before .before .before .before .before .pre) .1 .3)
 
 after-judgment-add-note-6 : (t : ℕ) → after-judgment-lts.Need-add-note-6 (after-judgment-calls t) (after-judgment-at t) after-judgment.Post
-after-judgment-add-note-6 t c = omega (arith, (c .before .before .before .before .pre) .1 .0 .most, (c .before .before .before .before .pre) .1 .1, (c .before .before .before .before .pre) .1 .3)
+after-judgment-add-note-6 t c = omega (arith, (c .before .before .before .before .before .pre) .1 .0 .most, (c .before .before .before .before .before .pre) .1 .1, (c .before .before .before .before .before .pre) .1 .3)
 
 after-judgment-note-requires-3 : (t : ℕ) → after-judgment-lts.Need-note-requires-3 (after-judgment-calls t) (after-judgment-at t) after-judgment.Post
 after-judgment-note-requires-3 t c κs = search needs
 
 after-judgment-add-result : (t : ℕ) → after-judgment-lts.Need-add-result (after-judgment-calls t) (after-judgment-at t) after-judgment.Post
-after-judgment-add-result t c = omega (arith, (c .before .before .before .before .before .pre) .1 .0 .most, (c .before .before .before .before .before .pre) .1 .1)
+after-judgment-add-result t c = omega (arith, (c .before .before .before .before .before .before .before .before .pre) .1 .0 .most, (c .before .before .before .before .before .before .before .before .pre) .1 .1)
 
 after-judgment-add-judgments : (t : ℕ) → after-judgment-lts.Need-add-judgments (after-judgment-calls t) (after-judgment-at t) after-judgment.Post
-after-judgment-add-judgments t c = omega (arith, (c .before .before .before .before .before .pre) .1 .0 .most, (c .before .before .before .before .before .pre) .1 .1)
+after-judgment-add-judgments t c = omega (arith, (c .before .before .before .before .before .before .pre) .1 .0 .most, (c .before .before .before .before .before .before .pre) .1 .1)
 
 after-judgment-children-requires : (t : ℕ) → after-judgment-lts.Need-children-requires (after-judgment-calls t) (after-judgment-at t) after-judgment.Post
-after-judgment-children-requires t c κs = let k = kindOf (getD ((c .before .before .before .before .before .args) .s .now) ((c .before .before .before .before .before .args) .at) 0) in (omega (arith, (c .before .before .before .shared-slice-known2) .given ((c .before .before .before .before .before .args) .at)), (c .before .before .before .before .before .pre) .1 .0 .tabled, judgments-in-row k (above 96 k ((c .before .if1) .left) ((c .before .before .match) .rest .0 .0 .0 .0 .1)) ((c .if2) .taken))
+after-judgment-children-requires t c κs = let k = kindOf (getD ((c .before .before .before .before .before .before .args) .s .now) ((c .before .before .before .before .before .before .args) .at) 0) in (omega (arith, (c .before .before .before .shared-slice-known2) .given ((c .before .before .before .before .before .before .args) .at)), (c .before .before .before .before .before .before .pre) .1 .0 .tabled, judgments-in-row k (above 96 k ((c .before .if1) .left) ((c .before .before .match) .rest .0 .0 .0 .0 .1)) ((c .if2) .taken))
 
 after-judgment-judgments-requires : (t : ℕ) → after-judgment-lts.Need-judgments-requires (after-judgment-calls t) (after-judgment-at t) after-judgment.Post
-after-judgment-judgments-requires t c κs = (omega arith, ((c .before .before .before .before .before .before .before .pre) .1 .0, omega (arith, (c .before .before .before .before .before .before .before .pre) .1 .1), (c .before .before .before .before .before .before .before .pre) .1 .3))
+after-judgment-judgments-requires t c κs = (omega arith, ((c .before .before .before .before .before .before .before .before .pre) .1 .0, omega (arith, (c .before .before .before .before .before .before .before .before .pre) .1 .1), (c .before .before .before .before .before .before .before .before .pre) .1 .3))
 
 after-judgment-add-result-2 : (t : ℕ) → after-judgment-lts.Need-add-result-2 (after-judgment-calls t) (after-judgment-at t) after-judgment.Post
-after-judgment-add-result-2 t c = omega (arith, (c .before .before .before .before .pre) .1 .0 .most, (c .before .before .before .before .pre) .1 .1)
+after-judgment-add-result-2 t c = omega (arith, (c .before .before .before .before .before .pre) .1 .0 .most, (c .before .before .before .before .before .pre) .1 .1)
+
+after-judgment-same-length : (t : ℕ) → after-judgment-lts.Need-same-length (after-judgment-calls t) (after-judgment-at t) after-judgment.Post
+after-judgment-same-length t c = search needs
 
 after-judgment-returns : (t : ℕ) → after-judgment-lts.Need-returns (after-judgment-calls t) (after-judgment-at t) after-judgment.Post
-after-judgment-returns t c = let k = kindOf (getD ((c .before .before .before .before .before .args) .s .now) ((c .before .before .before .before .before .args) .at) 0) in let e = (c .before .before .match) .keys1 in after-row _ _ _ _ k (valueOf (getD ((c .before .before .before .before .before .args) .s .now) ((c .before .before .before .before .before .args) .at) 0)) _ scalar-sort (comparison-row (valueOf (getD ((c .before .before .before .before .before .args) .s .now) ((c .before .before .before .before .before .args) .at) 0)) k e) (compared k (valueOf (getD ((c .before .before .before .before .before .args) .s .now) ((c .before .before .before .before .before .args) .at) 0)) e) (steady-judgment k (omega (arith, e)) (omega (arith, e))) ((c .scalars) .ensures)
+after-judgment-returns t c = let k = kindOf (getD ((c .before .before .before .before .before .before .before .before .args) .s .now) ((c .before .before .before .before .before .before .before .before .args) .at) 0) in let e = (c .before .before .before .before .match) .keys1 in after-row _ _ _ _ k (valueOf (getD ((c .before .before .before .before .before .before .before .before .args) .s .now) ((c .before .before .before .before .before .before .before .before .args) .at) 0)) _ scalar-sort (comparison-row (valueOf (getD ((c .before .before .before .before .before .before .before .before .args) .s .now) ((c .before .before .before .before .before .before .before .before .args) .at) 0)) k e) (compared k (valueOf (getD ((c .before .before .before .before .before .before .before .before .args) .s .now) ((c .before .before .before .before .before .before .before .before .args) .at) 0)) e) (steady-judgment k (omega (arith, e)) (omega (arith, e))) ((c .before .before .scalars) .ensures)
+
+after-judgment-same-length-2 : (t : ℕ) → after-judgment-lts.Need-same-length-2 (after-judgment-calls t) (after-judgment-at t) after-judgment.Post
+after-judgment-same-length-2 t c = search needs
 
 after-judgment-returns-2 : (t : ℕ) → after-judgment-lts.Need-returns-2 (after-judgment-calls t) (after-judgment-at t) after-judgment.Post
 unfolding entryOf table fieldsOf childrenOf noted lookBy
-after-judgment-returns-2 t c = after-words _ _ _ _ (kindOf (getD ((c .before .before .before .before .before .before .args) .s .now) ((c .before .before .before .before .before .before .args) .at) 0)) (valueOf (getD ((c .before .before .before .before .before .before .args) .s .now) ((c .before .before .before .before .before .before .args) .at) 0)) _ Slots (ap (λ (k : ℕ). entryOf k .follows) ((c .before .before .before .match) .keys2)) (ap noted ((c .before .before .before .match) .keys2)) (λ last. refl) ((c .slots) .ensures _) ((c .before .note) .ensures .1)
+after-judgment-returns-2 t c = after-words _ _ _ _ (kindOf (getD ((c .before .before .before .before .before .before .before .before .before .args) .s .now) ((c .before .before .before .before .before .before .before .before .before .args) .at) 0)) (valueOf (getD ((c .before .before .before .before .before .before .before .before .before .args) .s .now) ((c .before .before .before .before .before .before .before .before .before .args) .at) 0)) _ Slots (ap (λ (k : ℕ). entryOf k .follows) ((c .before .before .before .before .before .match) .keys2)) (ap noted ((c .before .before .before .before .before .match) .keys2)) (λ last. refl) ((c .slots) .ensures _) ((c .before .before .before .note) .ensures .1)
+
+after-judgment-same-length-3 : (t : ℕ) → after-judgment-lts.Need-same-length-3 (after-judgment-calls t) (after-judgment-at t) after-judgment.Post
+after-judgment-same-length-3 t c = search needs
 
 after-judgment-returns-3 : (t : ℕ) → after-judgment-lts.Need-returns-3 (after-judgment-calls t) (after-judgment-at t) after-judgment.Post
 unfolding entryOf table fieldsOf childrenOf noted lookBy
-after-judgment-returns-3 t c = after-words _ _ _ _ (kindOf (getD ((c .before .before .before .before .before .before .args) .s .now) ((c .before .before .before .before .before .before .args) .at) 0)) (valueOf (getD ((c .before .before .before .before .before .before .args) .s .now) ((c .before .before .before .before .before .before .args) .at) 0)) _ Atom (ap (λ (k : ℕ). entryOf k .follows) ((c .before .before .before .match) .keys3)) (ap noted ((c .before .before .before .match) .keys3)) (λ last. refl) ((c .atom) .ensures _) ((c .before .note2) .ensures .1)
+after-judgment-returns-3 t c = after-words _ _ _ _ (kindOf (getD ((c .before .before .before .before .before .before .before .before .before .args) .s .now) ((c .before .before .before .before .before .before .before .before .before .args) .at) 0)) (valueOf (getD ((c .before .before .before .before .before .before .before .before .before .args) .s .now) ((c .before .before .before .before .before .before .before .before .before .args) .at) 0)) _ Atom (ap (λ (k : ℕ). entryOf k .follows) ((c .before .before .before .before .before .match) .keys3)) (ap noted ((c .before .before .before .before .before .match) .keys3)) (λ last. refl) ((c .atom) .ensures _) ((c .before .before .before .note2) .ensures .1)
+
+after-judgment-same-length-4 : (t : ℕ) → after-judgment-lts.Need-same-length-4 (after-judgment-calls t) (after-judgment-at t) after-judgment.Post
+after-judgment-same-length-4 t c = search needs
 
 after-judgment-returns-4 : (t : ℕ) → after-judgment-lts.Need-returns-4 (after-judgment-calls t) (after-judgment-at t) after-judgment.Post
 unfolding entryOf table fieldsOf childrenOf noted lookBy follow
-after-judgment-returns-4 t c = by-shape _ _ _ _ (kindOf (getD ((c .before .before .before .before .before .args) .s .now) ((c .before .before .before .before .before .args) .at) 0)) (valueOf (getD ((c .before .before .before .before .before .args) .s .now) ((c .before .before .before .before .before .args) .at) 0)) _ true Exists (ap (λ (k : ℕ). entryOf k .follows) ((c .before .before .match) .keys4)) (ap noted ((c .before .before .match) .keys4)) ((c .exists) .ensures)
+after-judgment-returns-4 t c = by-shape _ _ _ _ (kindOf (getD ((c .before .before .before .before .before .before .before .before .args) .s .now) ((c .before .before .before .before .before .before .before .before .args) .at) 0)) (valueOf (getD ((c .before .before .before .before .before .before .before .before .args) .s .now) ((c .before .before .before .before .before .before .before .before .args) .at) 0)) _ true Exists (ap (λ (k : ℕ). entryOf k .follows) ((c .before .before .before .before .match) .keys4)) (ap noted ((c .before .before .before .before .match) .keys4)) ((c .before .before .exists) .ensures)
+
+after-judgment-same-length-5 : (t : ℕ) → after-judgment-lts.Need-same-length-5 (after-judgment-calls t) (after-judgment-at t) after-judgment.Post
+after-judgment-same-length-5 t c = search needs
 
 after-judgment-returns-5 : (t : ℕ) → after-judgment-lts.Need-returns-5 (after-judgment-calls t) (after-judgment-at t) after-judgment.Post
 unfolding entryOf table noted lookBy
-after-judgment-returns-5 t c = after-leaf _ _ _ _ (kindOf (getD ((c .before .before .before .before .before .args) .s .now) ((c .before .before .before .before .before .args) .at) 0)) (valueOf (getD ((c .before .before .before .before .before .args) .s .now) ((c .before .before .before .before .before .args) .at) 0)) _ (leaf-last (valueOf (getD ((c .before .before .before .before .before .args) .s .now) ((c .before .before .before .before .before .args) .at) 0)) (kindOf (getD ((c .before .before .before .before .before .args) .s .now) ((c .before .before .before .before .before .args) .at) 0)) (omega (arith, (c .before .before .match) .keys5)) (omega (arith, (c .before .before .match) .keys5))) true (ap noted ((c .before .before .match) .keys5)) _ ((c .note3) .ensures .1)
+after-judgment-returns-5 t c = after-leaf _ _ _ _ (kindOf (getD ((c .before .before .before .before .before .before .before .before .args) .s .now) ((c .before .before .before .before .before .before .before .before .args) .at) 0)) (valueOf (getD ((c .before .before .before .before .before .before .before .before .args) .s .now) ((c .before .before .before .before .before .before .before .before .args) .at) 0)) _ (leaf-last (valueOf (getD ((c .before .before .before .before .before .before .before .before .args) .s .now) ((c .before .before .before .before .before .before .before .before .args) .at) 0)) (kindOf (getD ((c .before .before .before .before .before .before .before .before .args) .s .now) ((c .before .before .before .before .before .before .before .before .args) .at) 0)) (omega (arith, (c .before .before .before .before .match) .keys5)) (omega (arith, (c .before .before .before .before .match) .keys5))) true (ap noted ((c .before .before .before .before .match) .keys5)) _ ((c .before .before .note3) .ensures .1)
+
+after-judgment-same-length-6 : (t : ℕ) → after-judgment-lts.Need-same-length-6 (after-judgment-calls t) (after-judgment-at t) after-judgment.Post
+after-judgment-same-length-6 t c = search needs
 
 after-judgment-returns-6 : (t : ℕ) → after-judgment-lts.Need-returns-6 (after-judgment-calls t) (after-judgment-at t) after-judgment.Post
-after-judgment-returns-6 t c = let k = kindOf (getD ((c .before .before .before .before .before .before .before .before .args) .s .now) ((c .before .before .before .before .before .before .before .before .args) .at) 0) in let lo = above 96 k ((c .before .before .before .before .if1) .left) ((c .before .before .before .before .before .match) .rest .0 .0 .0 .0 .1) in after-row _ _ _ _ k (valueOf (getD ((c .before .before .before .before .before .before .before .before .args) .s .now) ((c .before .before .before .before .before .before .before .before .args) .at) 0)) _ judgment-sort (judgment-row (valueOf (getD ((c .before .before .before .before .before .before .before .before .args) .s .now) ((c .before .before .before .before .before .before .before .before .args) .at) 0)) k lo ((c .before .before .before .if2) .taken)) ((c .before .before .children) .ensures) (steady-judgment k (omega (arith, lo)) ((c .before .before .before .if2) .taken)) ((c .judgments) .ensures)
+after-judgment-returns-6 t c = let k = kindOf (getD ((c .before .before .before .before .before .before .before .before .before .before .before .args) .s .now) ((c .before .before .before .before .before .before .before .before .before .before .before .args) .at) 0) in let lo = above 96 k ((c .before .before .before .before .before .before .if1) .left) ((c .before .before .before .before .before .before .before .match) .rest .0 .0 .0 .0 .1) in after-row _ _ _ _ k (valueOf (getD ((c .before .before .before .before .before .before .before .before .before .before .before .args) .s .now) ((c .before .before .before .before .before .before .before .before .before .before .before .args) .at) 0)) _ judgment-sort (judgment-row (valueOf (getD ((c .before .before .before .before .before .before .before .before .before .before .before .args) .s .now) ((c .before .before .before .before .before .before .before .before .before .before .before .args) .at) 0)) k lo ((c .before .before .before .before .before .if2) .taken)) ((c .before .before .before .before .children) .ensures) (steady-judgment k (omega (arith, lo)) ((c .before .before .before .before .before .if2) .taken)) ((c .before .before .judgments) .ensures)
 
 after-judgment-returns-7 : (t : ℕ) → after-judgment-lts.Need-returns-7 (after-judgment-calls t) (after-judgment-at t) after-judgment.Post
-after-judgment-returns-7 t c = let k : ℕ = kindOf (getD ((c .before .before .before .before .args) .s .now) ((c .before .before .before .before .args) .at) 0) in let m = (c .before .match) .rest in let lo : 104 < k = ⊎-elim (λ x. absurd (omega (arith, x .taken, (c .before .before .before .before .pre) .1 .2))) (λ y. leaf-past k (y .1 .left) (m .0 .0 .0 .1) (m .0 .0 .1) (m .0 .1) (m .1)) ((c .if1) .came) in let hi : k < 256 = omega (arith, (c .before .before .shared-slice-known2) .given ((c .before .before .before .before .args) .at)) in after-leaf _ _ _ _ k (valueOf (getD ((c .before .before .before .before .args) .s .now) ((c .before .before .before .before .args) .at) 0)) _ (leaf-last (valueOf (getD ((c .before .before .before .before .args) .s .now) ((c .before .before .before .before .args) .at) 0)) k (omega (arith, lo)) hi) false (plain-last k lo hi) _ refl
+after-judgment-returns-7 t c = let k : ℕ = kindOf (getD ((c .before .before .before .before .before .args) .s .now) ((c .before .before .before .before .before .args) .at) 0) in let m = (c .before .match) .rest in let lo : 104 < k = ⊎-elim (λ x. absurd (omega (arith, x .taken, (c .before .before .before .before .before .pre) .1 .2))) (λ y. leaf-past k (y .1 .left) (m .0 .0 .0 .1) (m .0 .0 .1) (m .0 .1) (m .1)) ((c .if1) .came) in let hi : k < 256 = omega (arith, (c .before .before .shared-slice-known2) .given ((c .before .before .before .before .before .args) .at)) in after-leaf _ _ _ _ k (valueOf (getD ((c .before .before .before .before .before .args) .s .now) ((c .before .before .before .before .before .args) .at) 0)) _ (leaf-last (valueOf (getD ((c .before .before .before .before .before .args) .s .now) ((c .before .before .before .before .before .args) .at) 0)) k (omega (arith, lo)) hi) false (plain-last k lo hi) _ refl
 
 after-scalar-mul-w : (t : ℕ) → after-scalar-lts.Need-mul-w (after-scalar-calls t) (after-scalar-at t) after-scalar.Post
-after-scalar-mul-w t c = omega (arith, (c .before .pre) .1 .0 .most, (c .before .pre) .1 .1)
+after-scalar-mul-w t c = omega (arith, (c .before .before .pre) .1 .0 .most, (c .before .before .pre) .1 .1)
 
 after-scalar-shared-slice-read-w : (t : ℕ) → after-scalar-lts.Need-shared-slice-read-w (after-scalar-calls t) (after-scalar-at t) after-scalar.Post
-after-scalar-shared-slice-read-w t c = (c .before .before .pre) .1 .1
+after-scalar-shared-slice-read-w t c = (c .before .before .before .pre) .1 .1
 
 after-scalar-add-patterns : (t : ℕ) → after-scalar-lts.Need-add-patterns (after-scalar-calls t) (after-scalar-at t) after-scalar.Post
-after-scalar-add-patterns t c = omega (arith, (c .before .before .before .pre) .1 .0 .most, (c .before .before .before .pre) .1 .1)
+after-scalar-add-patterns t c = omega (arith, (c .before .before .before .before .pre) .1 .0 .most, (c .before .before .before .before .pre) .1 .1)
 
 after-scalar-patterns-requires : (t : ℕ) → after-scalar-lts.Need-patterns-requires (after-scalar-calls t) (after-scalar-at t) after-scalar.Post
-after-scalar-patterns-requires t c κs = (omega arith, ((c .before .before .before .before .pre) .1 .0, omega (arith, (c .before .before .before .before .pre) .1 .1), (c .before .before .before .before .pre) .1 .3))
+after-scalar-patterns-requires t c κs = (omega arith, ((c .before .before .before .before .before .pre) .1 .0, omega (arith, (c .before .before .before .before .before .pre) .1 .1), (c .before .before .before .before .before .pre) .1 .3))
 
 after-scalar-add-scalars : (t : ℕ) → after-scalar-lts.Need-add-scalars (after-scalar-calls t) (after-scalar-at t) after-scalar.Post
-after-scalar-add-scalars t c = omega (arith, (c .before .before .before .pre) .1 .0 .most, (c .before .before .before .pre) .1 .1)
+after-scalar-add-scalars t c = omega (arith, (c .before .before .before .before .pre) .1 .0 .most, (c .before .before .before .before .pre) .1 .1)
 
 after-scalar-by-table-requires : (t : ℕ) → after-scalar-lts.Need-by-table-requires (after-scalar-calls t) (after-scalar-at t) after-scalar.Post
-after-scalar-by-table-requires t c κs = (omega (arith, (c .before .shared-slice-known2) .given ((c .before .before .before .args) .at)), (c .before .before .before .pre) .1 .0 .tabled, omega arith)
+after-scalar-by-table-requires t c κs = (omega (arith, (c .before .shared-slice-known2) .given ((c .before .before .before .before .args) .at)), (c .before .before .before .before .pre) .1 .0 .tabled, omega arith)
 
 after-scalar-lost-requires : (t : ℕ) → after-scalar-lts.Need-lost-requires (after-scalar-calls t) (after-scalar-at t) after-scalar.Post
-after-scalar-lost-requires t c κs = (c .before .before .before .before .pre) .1 .3
+after-scalar-lost-requires t c κs = (c .before .before .before .before .before .pre) .1 .3
 
 after-scalar-scalars-requires : (t : ℕ) → after-scalar-lts.Need-scalars-requires (after-scalar-calls t) (after-scalar-at t) after-scalar.Post
-after-scalar-scalars-requires t c κs = (omega arith, ((c .before .before .before .before .before .before .pre) .1 .0, omega (arith, (c .before .before .before .before .before .before .pre) .1 .1), (c .before .lost) .ensures .1))
+after-scalar-scalars-requires t c κs = (omega arith, ((c .before .before .before .before .before .before .before .pre) .1 .0, omega (arith, (c .before .before .before .before .before .before .before .pre) .1 .1), (c .before .lost) .ensures .1))
 
 after-scalar-add-choice : (t : ℕ) → after-scalar-lts.Need-add-choice (after-scalar-calls t) (after-scalar-at t) after-scalar.Post
-after-scalar-add-choice t c = omega (arith, (c .before .before .before .pre) .1 .0 .most, (c .before .before .before .pre) .1 .1)
+after-scalar-add-choice t c = omega (arith, (c .before .before .before .before .pre) .1 .0 .most, (c .before .before .before .before .pre) .1 .1)
 
 after-scalar-choice-requires : (t : ℕ) → after-scalar-lts.Need-choice-requires (after-scalar-calls t) (after-scalar-at t) after-scalar.Post
-after-scalar-choice-requires t c κs = (omega arith, ((c .before .before .before .before .pre) .1 .0, omega (arith, (c .before .before .before .before .pre) .1 .1), (c .before .before .before .before .pre) .1 .3))
+after-scalar-choice-requires t c κs = (omega arith, ((c .before .before .before .before .before .pre) .1 .0, omega (arith, (c .before .before .before .before .before .pre) .1 .1), (c .before .before .before .before .before .pre) .1 .3))
 
 after-scalar-cast-note : (t : ℕ) → after-scalar-lts.Need-cast-note (after-scalar-calls t) (after-scalar-at t) after-scalar.Post
 after-scalar-cast-note t c = search needs
 
 after-scalar-add-note : (t : ℕ) → after-scalar-lts.Need-add-note (after-scalar-calls t) (after-scalar-at t) after-scalar.Post
-after-scalar-add-note t c = omega (arith, (c .before .before .before .before .pre) .1 .0 .most, (c .before .before .before .before .pre) .1 .1, (c .before .before .before .before .pre) .1 .3)
+after-scalar-add-note t c = omega (arith, (c .before .before .before .before .before .pre) .1 .0 .most, (c .before .before .before .before .before .pre) .1 .1, (c .before .before .before .before .before .pre) .1 .3)
 
 after-scalar-add-note-2 : (t : ℕ) → after-scalar-lts.Need-add-note-2 (after-scalar-calls t) (after-scalar-at t) after-scalar.Post
-after-scalar-add-note-2 t c = omega (arith, (c .before .before .before .before .pre) .1 .0 .most, (c .before .before .before .before .pre) .1 .1, (c .before .before .before .before .pre) .1 .3)
+after-scalar-add-note-2 t c = omega (arith, (c .before .before .before .before .before .pre) .1 .0 .most, (c .before .before .before .before .before .pre) .1 .1, (c .before .before .before .before .before .pre) .1 .3)
 
 after-scalar-note-requires : (t : ℕ) → after-scalar-lts.Need-note-requires (after-scalar-calls t) (after-scalar-at t) after-scalar.Post
 after-scalar-note-requires t c κs = search needs
 
 after-scalar-add-only-related : (t : ℕ) → after-scalar-lts.Need-add-only-related (after-scalar-calls t) (after-scalar-at t) after-scalar.Post
-after-scalar-add-only-related t c = omega (arith, (c .before .before .before .before .before .pre) .1 .0 .most, (c .before .before .before .before .before .pre) .1 .1)
+after-scalar-add-only-related t c = omega (arith, (c .before .before .before .before .before .before .before .before .pre) .1 .0 .most, (c .before .before .before .before .before .before .before .before .pre) .1 .1)
 
 after-scalar-only-related-requires : (t : ℕ) → after-scalar-lts.Need-only-related-requires (after-scalar-calls t) (after-scalar-at t) after-scalar.Post
-after-scalar-only-related-requires t c κs = ((c .before .before .before .before .before .pre) .1 .0 .most, omega (arith, (c .before .before .before .before .before .pre) .1 .1))
+after-scalar-only-related-requires t c κs = ((c .before .before .before .before .before .before .before .before .pre) .1 .0 .most, omega (arith, (c .before .before .before .before .before .before .before .before .pre) .1 .1))
 
 after-scalar-children-requires : (t : ℕ) → after-scalar-lts.Need-children-requires (after-scalar-calls t) (after-scalar-at t) after-scalar.Post
-after-scalar-children-requires t c κs = let k = kindOf (getD ((c .before .before .before .before .before .args) .s .now) ((c .before .before .before .before .before .args) .at) 0) in (omega (arith, (c .before .before .before .shared-slice-known2) .given ((c .before .before .before .before .before .args) .at)), (c .before .before .before .before .before .pre) .1 .0 .tabled, scalars-in-row k ((c .before .if1) .left) ((c .if2) .taken))
+after-scalar-children-requires t c κs = let k = kindOf (getD ((c .before .before .before .before .before .before .args) .s .now) ((c .before .before .before .before .before .before .args) .at) 0) in (omega (arith, (c .before .before .before .shared-slice-known2) .given ((c .before .before .before .before .before .before .args) .at)), (c .before .before .before .before .before .before .pre) .1 .0 .tabled, scalars-in-row k ((c .before .if1) .left) ((c .if2) .taken))
 
 after-scalar-add-scalars-2 : (t : ℕ) → after-scalar-lts.Need-add-scalars-2 (after-scalar-calls t) (after-scalar-at t) after-scalar.Post
-after-scalar-add-scalars-2 t c = omega (arith, (c .before .before .before .before .before .before .pre) .1 .0 .most, (c .before .before .before .before .before .before .pre) .1 .1)
+after-scalar-add-scalars-2 t c = omega (arith, (c .before .before .before .before .before .before .before .pre) .1 .0 .most, (c .before .before .before .before .before .before .before .pre) .1 .1)
 
 after-scalar-scalars-requires-2 : (t : ℕ) → after-scalar-lts.Need-scalars-requires-2 (after-scalar-calls t) (after-scalar-at t) after-scalar.Post
-after-scalar-scalars-requires-2 t c κs = (omega arith, ((c .before .before .before .before .before .before .before .pre) .1 .0, omega (arith, (c .before .before .before .before .before .before .before .pre) .1 .1), (c .before .before .before .before .before .before .before .pre) .1 .3))
+after-scalar-scalars-requires-2 t c κs = (omega arith, ((c .before .before .before .before .before .before .before .before .pre) .1 .0, omega (arith, (c .before .before .before .before .before .before .before .before .pre) .1 .1), (c .before .before .before .before .before .before .before .before .pre) .1 .3))
 
 after-scalar-add-aggregate : (t : ℕ) → after-scalar-lts.Need-add-aggregate (after-scalar-calls t) (after-scalar-at t) after-scalar.Post
-after-scalar-add-aggregate t c = omega (arith, (c .before .before .before .before .before .before .pre) .1 .0 .most, (c .before .before .before .before .before .before .pre) .1 .1)
+after-scalar-add-aggregate t c = omega (arith, (c .before .before .before .before .before .before .before .pre) .1 .0 .most, (c .before .before .before .before .before .before .before .pre) .1 .1)
 
 after-scalar-aggregate-requires : (t : ℕ) → after-scalar-lts.Need-aggregate-requires (after-scalar-calls t) (after-scalar-at t) after-scalar.Post
-after-scalar-aggregate-requires t c κs = (omega arith, ((c .before .before .before .before .before .before .before .pre) .1 .0, omega (arith, (c .before .before .before .before .before .before .before .pre) .1 .1), (c .before .before .before .before .before .before .before .pre) .1 .3))
+after-scalar-aggregate-requires t c κs = (omega arith, ((c .before .before .before .before .before .before .before .before .pre) .1 .0, omega (arith, (c .before .before .before .before .before .before .before .before .pre) .1 .1), (c .before .before .before .before .before .before .before .before .pre) .1 .3))
 
 after-scalar-add-result : (t : ℕ) → after-scalar-lts.Need-add-result (after-scalar-calls t) (after-scalar-at t) after-scalar.Post
-after-scalar-add-result t c = omega (arith, (c .before .before .before .before .pre) .1 .0 .most, (c .before .before .before .before .pre) .1 .1)
+after-scalar-add-result t c = omega (arith, (c .before .before .before .before .before .pre) .1 .0 .most, (c .before .before .before .before .before .pre) .1 .1)
+
+after-scalar-same-length : (t : ℕ) → after-scalar-lts.Need-same-length (after-scalar-calls t) (after-scalar-at t) after-scalar.Post
+after-scalar-same-length t c = search needs
 
 after-scalar-returns : (t : ℕ) → after-scalar-lts.Need-returns (after-scalar-calls t) (after-scalar-at t) after-scalar.Post
 unfolding entryOf table fieldsOf childrenOf noted lookBy
-after-scalar-returns t c = after-bare _ _ _ _ (kindOf (getD ((c .before .before .before .before .before .args) .s .now) ((c .before .before .before .before .before .args) .at) 0)) (valueOf (getD ((c .before .before .before .before .before .args) .s .now) ((c .before .before .before .before .before .args) .at) 0)) _ Patterns (ap (λ (k : ℕ). entryOf k .follows) ((c .before .before .match) .keys1)) (ap noted ((c .before .before .match) .keys1)) refl ((c .patterns) .ensures)
+after-scalar-returns t c = after-bare _ _ _ _ (kindOf (getD ((c .before .before .before .before .before .before .before .before .args) .s .now) ((c .before .before .before .before .before .before .before .before .args) .at) 0)) (valueOf (getD ((c .before .before .before .before .before .before .before .before .args) .s .now) ((c .before .before .before .before .before .before .before .before .args) .at) 0)) _ Patterns (ap (λ (k : ℕ). entryOf k .follows) ((c .before .before .before .before .match) .keys1)) (ap noted ((c .before .before .before .before .match) .keys1)) refl ((c .before .before .patterns) .ensures)
+
+after-scalar-same-length-2 : (t : ℕ) → after-scalar-lts.Need-same-length-2 (after-scalar-calls t) (after-scalar-at t) after-scalar.Post
+after-scalar-same-length-2 t c = search needs
 
 after-scalar-returns-2 : (t : ℕ) → after-scalar-lts.Need-returns-2 (after-scalar-calls t) (after-scalar-at t) after-scalar.Post
 unfolding entryOf table fieldsOf childrenOf noted lookBy
-after-scalar-returns-2 t c = after-bare _ _ _ _ (kindOf (getD ((c .before .before .before .before .before .before .before .args) .s .now) ((c .before .before .before .before .before .before .before .args) .at) 0)) (valueOf (getD ((c .before .before .before .before .before .before .before .args) .s .now) ((c .before .before .before .before .before .before .before .args) .at) 0)) _ Periods (ap (λ (k : ℕ). entryOf k .follows) ((c .before .before .before .before .match) .keys2)) (ap noted ((c .before .before .before .before .match) .keys2)) refl (rows-as _ _ scalar-sort _ ((c .before .before .before .by-table) .ensures ∙ ap (λ (k : ℕ). howMany (entryOf k .follows) (valueOf (getD ((c .before .before .before .before .before .before .before .args) .s .now) ((c .before .before .before .before .before .before .before .args) .at) 0))) ((c .before .before .before .before .match) .keys2)) ((c .before .before .lost) .ensures .0) ((c .scalars) .ensures))
+after-scalar-returns-2 t c = after-bare _ _ _ _ (kindOf (getD ((c .before .before .before .before .before .before .before .before .before .before .args) .s .now) ((c .before .before .before .before .before .before .before .before .before .before .args) .at) 0)) (valueOf (getD ((c .before .before .before .before .before .before .before .before .before .before .args) .s .now) ((c .before .before .before .before .before .before .before .before .before .before .args) .at) 0)) _ Periods (ap (λ (k : ℕ). entryOf k .follows) ((c .before .before .before .before .before .before .match) .keys2)) (ap noted ((c .before .before .before .before .before .before .match) .keys2)) refl (rows-as _ _ scalar-sort _ ((c .before .before .before .before .before .by-table) .ensures ∙ ap (λ (k : ℕ). howMany (entryOf k .follows) (valueOf (getD ((c .before .before .before .before .before .before .before .before .before .before .args) .s .now) ((c .before .before .before .before .before .before .before .before .before .before .args) .at) 0))) ((c .before .before .before .before .before .before .match) .keys2)) ((c .before .before .before .before .lost) .ensures .0) ((c .before .before .scalars) .ensures))
+
+after-scalar-same-length-3 : (t : ℕ) → after-scalar-lts.Need-same-length-3 (after-scalar-calls t) (after-scalar-at t) after-scalar.Post
+after-scalar-same-length-3 t c = search needs
 
 after-scalar-returns-3 : (t : ℕ) → after-scalar-lts.Need-returns-3 (after-scalar-calls t) (after-scalar-at t) after-scalar.Post
 unfolding entryOf table fieldsOf childrenOf noted lookBy
-after-scalar-returns-3 t c = after-bare _ _ _ _ (kindOf (getD ((c .before .before .before .before .before .args) .s .now) ((c .before .before .before .before .before .args) .at) 0)) (valueOf (getD ((c .before .before .before .before .before .args) .s .now) ((c .before .before .before .before .before .args) .at) 0)) _ Choice (ap (λ (k : ℕ). entryOf k .follows) ((c .before .before .match) .keys3)) (ap noted ((c .before .before .match) .keys3)) refl ((c .choice) .ensures)
+after-scalar-returns-3 t c = after-bare _ _ _ _ (kindOf (getD ((c .before .before .before .before .before .before .before .before .args) .s .now) ((c .before .before .before .before .before .before .before .before .args) .at) 0)) (valueOf (getD ((c .before .before .before .before .before .before .before .before .args) .s .now) ((c .before .before .before .before .before .before .before .before .args) .at) 0)) _ Choice (ap (λ (k : ℕ). entryOf k .follows) ((c .before .before .before .before .match) .keys3)) (ap noted ((c .before .before .before .before .match) .keys3)) refl ((c .before .before .choice) .ensures)
+
+after-scalar-same-length-4 : (t : ℕ) → after-scalar-lts.Need-same-length-4 (after-scalar-calls t) (after-scalar-at t) after-scalar.Post
+after-scalar-same-length-4 t c = search needs
 
 after-scalar-returns-4 : (t : ℕ) → after-scalar-lts.Need-returns-4 (after-scalar-calls t) (after-scalar-at t) after-scalar.Post
 unfolding entryOf table fieldsOf childrenOf noted lookBy
-after-scalar-returns-4 t c = after-words _ _ _ _ (kindOf (getD ((c .before .before .before .before .before .before .args) .s .now) ((c .before .before .before .before .before .before .args) .at) 0)) (valueOf (getD ((c .before .before .before .before .before .before .args) .s .now) ((c .before .before .before .before .before .before .args) .at) 0)) _ OnlyRelated (ap (λ (k : ℕ). entryOf k .follows) ((c .before .before .before .match) .keys4)) (ap noted ((c .before .before .before .match) .keys4)) (λ last. refl) ((c .only-related) .ensures) ((c .before .note) .ensures .1)
+after-scalar-returns-4 t c = after-words _ _ _ _ (kindOf (getD ((c .before .before .before .before .before .before .before .before .before .args) .s .now) ((c .before .before .before .before .before .before .before .before .before .args) .at) 0)) (valueOf (getD ((c .before .before .before .before .before .before .before .before .before .args) .s .now) ((c .before .before .before .before .before .before .before .before .before .args) .at) 0)) _ OnlyRelated (ap (λ (k : ℕ). entryOf k .follows) ((c .before .before .before .before .before .match) .keys4)) (ap noted ((c .before .before .before .before .before .match) .keys4)) (λ last. refl) ((c .only-related) .ensures) ((c .before .before .before .note) .ensures .1)
+
+after-scalar-same-length-5 : (t : ℕ) → after-scalar-lts.Need-same-length-5 (after-scalar-calls t) (after-scalar-at t) after-scalar.Post
+after-scalar-same-length-5 t c = search needs
 
 after-scalar-returns-5 : (t : ℕ) → after-scalar-lts.Need-returns-5 (after-scalar-calls t) (after-scalar-at t) after-scalar.Post
-after-scalar-returns-5 t c = let k = kindOf (getD ((c .before .before .before .before .before .before .before .before .args) .s .now) ((c .before .before .before .before .before .before .before .before .args) .at) 0) in let lo = (c .before .before .before .before .if1) .left in let hi : k < 71 = omega (arith, (c .before .before .before .if2) .taken) in after-row _ _ _ _ k (valueOf (getD ((c .before .before .before .before .before .before .before .before .args) .s .now) ((c .before .before .before .before .before .before .before .before .args) .at) 0)) _ scalar-sort (scalar-row (valueOf (getD ((c .before .before .before .before .before .before .before .before .args) .s .now) ((c .before .before .before .before .before .before .before .before .args) .at) 0)) k lo (omega (arith, hi)) ((c .before .before .before .before .before .match) .rest .0 .1)) ((c .before .before .children) .ensures) (steady-scalar k lo hi) ((c .scalars2) .ensures)
+after-scalar-returns-5 t c = let k = kindOf (getD ((c .before .before .before .before .before .before .before .before .before .before .before .args) .s .now) ((c .before .before .before .before .before .before .before .before .before .before .before .args) .at) 0) in let lo = (c .before .before .before .before .before .before .if1) .left in let hi : k < 71 = omega (arith, (c .before .before .before .before .before .if2) .taken) in after-row _ _ _ _ k (valueOf (getD ((c .before .before .before .before .before .before .before .before .before .before .before .args) .s .now) ((c .before .before .before .before .before .before .before .before .before .before .before .args) .at) 0)) _ scalar-sort (scalar-row (valueOf (getD ((c .before .before .before .before .before .before .before .before .before .before .before .args) .s .now) ((c .before .before .before .before .before .before .before .before .before .before .before .args) .at) 0)) k lo (omega (arith, hi)) ((c .before .before .before .before .before .before .before .match) .rest .0 .1)) ((c .before .before .before .before .children) .ensures) (steady-scalar k lo hi) ((c .before .before .scalars2) .ensures)
+
+after-scalar-same-length-6 : (t : ℕ) → after-scalar-lts.Need-same-length-6 (after-scalar-calls t) (after-scalar-at t) after-scalar.Post
+after-scalar-same-length-6 t c = search needs
 
 after-scalar-returns-6 : (t : ℕ) → after-scalar-lts.Need-returns-6 (after-scalar-calls t) (after-scalar-at t) after-scalar.Post
 unfolding follow childrenOf
-after-scalar-returns-6 t c = let k = kindOf (getD ((c .before .before .before .before .before .before .before .before .args) .s .now) ((c .before .before .before .before .before .before .before .before .args) .at) 0) in let m = (c .before .before .before .before .before .match) .rest in let lo : 74 ≤ k = omega (arith, (c .before .before .before .if2) .left, m .0 .1, m .0 .0 .1, m .0 .0 .0 .1) in by-shape _ _ _ _ k (valueOf (getD ((c .before .before .before .before .before .before .before .before .args) .s .now) ((c .before .before .before .before .before .before .before .before .args) .at) 0)) _ true Aggregate (aggregate-kind k lo ((c .before .before .if3) .taken)) (noted-aggregate k lo ((c .before .before .if3) .taken)) ((c .aggregate) .ensures)
+after-scalar-returns-6 t c = let k = kindOf (getD ((c .before .before .before .before .before .before .before .before .before .before .before .args) .s .now) ((c .before .before .before .before .before .before .before .before .before .before .before .args) .at) 0) in let m = (c .before .before .before .before .before .before .before .match) .rest in let lo : 74 ≤ k = omega (arith, (c .before .before .before .before .before .if2) .left, m .0 .1, m .0 .0 .1, m .0 .0 .0 .1) in by-shape _ _ _ _ k (valueOf (getD ((c .before .before .before .before .before .before .before .before .before .before .before .args) .s .now) ((c .before .before .before .before .before .before .before .before .before .before .before .args) .at) 0)) _ true Aggregate (aggregate-kind k lo ((c .before .before .before .before .if3) .taken)) (noted-aggregate k lo ((c .before .before .before .before .if3) .taken)) ((c .before .before .aggregate) .ensures)
 
 after-scalar-returns-7 : (t : ℕ) → after-scalar-lts.Need-returns-7 (after-scalar-calls t) (after-scalar-at t) after-scalar.Post
-after-scalar-returns-7 t c = ⊎-elim (λ x. after-leaf _ _ _ _ (kindOf (getD ((c .before .before .before .before .args) .s .now) ((c .before .before .before .before .args) .at) 0)) (valueOf (getD ((c .before .before .before .before .args) .s .now) ((c .before .before .before .before .args) .at) 0)) _ (leaf-low (valueOf (getD ((c .before .before .before .before .args) .s .now) ((c .before .before .before .before .args) .at) 0)) (kindOf (getD ((c .before .before .before .before .args) .s .now) ((c .before .before .before .before .args) .at) 0)) (x .taken)) false (plain-low (kindOf (getD ((c .before .before .before .before .args) .s .now) ((c .before .before .before .before .args) .at) 0)) (x .taken)) _ refl) (λ y. let k = kindOf (getD ((c .before .before .before .before .args) .s .now) ((c .before .before .before .before .args) .at) 0) in let z = (c .before .match) .rest .1 in let hi : k < 96 = omega (arith, (c .before .before .before .before .pre) .1 .2) in let lo : 78 < k = omega (arith, above 78 k (y .2 .left) z) in after-leaf _ _ _ _ k (valueOf (getD ((c .before .before .before .before .args) .s .now) ((c .before .before .before .before .args) .at) 0)) _ (leaf-between (valueOf (getD ((c .before .before .before .before .args) .s .now) ((c .before .before .before .before .args) .at) 0)) k (y .2 .left) z hi) false (plain-between k lo hi) _ refl) ((c .if1) .came)
+after-scalar-returns-7 t c = ⊎-elim (λ x. after-leaf _ _ _ _ (kindOf (getD ((c .before .before .before .before .before .args) .s .now) ((c .before .before .before .before .before .args) .at) 0)) (valueOf (getD ((c .before .before .before .before .before .args) .s .now) ((c .before .before .before .before .before .args) .at) 0)) _ (leaf-low (valueOf (getD ((c .before .before .before .before .before .args) .s .now) ((c .before .before .before .before .before .args) .at) 0)) (kindOf (getD ((c .before .before .before .before .before .args) .s .now) ((c .before .before .before .before .before .args) .at) 0)) (x .taken)) false (plain-low (kindOf (getD ((c .before .before .before .before .before .args) .s .now) ((c .before .before .before .before .before .args) .at) 0)) (x .taken)) _ refl) (λ y. let k = kindOf (getD ((c .before .before .before .before .before .args) .s .now) ((c .before .before .before .before .before .args) .at) 0) in let z = (c .before .match) .rest .1 in let hi : k < 96 = omega (arith, (c .before .before .before .before .before .pre) .1 .2) in let lo : 78 < k = omega (arith, above 78 k (y .2 .left) z) in after-leaf _ _ _ _ k (valueOf (getD ((c .before .before .before .before .before .args) .s .now) ((c .before .before .before .before .before .args) .at) 0)) _ (leaf-between (valueOf (getD ((c .before .before .before .before .before .args) .s .now) ((c .before .before .before .before .before .args) .at) 0)) k (y .2 .left) z hi) false (plain-between k lo hi) _ refl) ((c .if1) .came)
 
 aggregate-up-to-requires : (t : ℕ) → aggregate-lts.Need-up-to-requires (aggregate-calls t) (aggregate-at t) aggregate.Post
 unfolding entryOf table
-aggregate-up-to-requires t c κs = ((c .before .pre) .1 .0 .most, (c .before .pre) .1 .1, up-to-any 80 refl)
+aggregate-up-to-requires t c κs = ((c .before .before .pre) .1 .0 .most, (c .before .before .pre) .1 .1, up-to-any 80 refl)
 
 aggregate-returns : (t : ℕ) → aggregate-lts.Need-returns (aggregate-calls t) (aggregate-at t) aggregate.Post
 unfolding follow fields fieldsOf
-aggregate-returns t c = let g = fault-large _ _ _ _ ((c .before .up-to) .ensures (boundOf ((c .before .before .before .args) .t .now))) ((c .if1) .taken) in let q = fault-code _ _ _ _ ((c .before .up-to) .ensures (boundOf ((c .before .before .before .args) .t .now))) ((c .if1) .taken) in refuses _ (then-code _ _ _ _ (first-code _ _ _ _ _ q ((c .before .before .before .pre) .1 .0 .most) ((c .before .before .before .pre) .1 .1) g) ((c .before .before .before .pre) .1 .0 .most) ((c .before .before .before .pre) .1 .1) g) g
+aggregate-returns t c = let g = fault-large _ _ _ _ ((c .before .up-to) .ensures (boundOf ((c .before .before .before .before .args) .t .now))) ((c .if1) .taken) in let q = fault-code _ _ _ _ ((c .before .up-to) .ensures (boundOf ((c .before .before .before .before .args) .t .now))) ((c .if1) .taken) in refuses _ (then-code _ _ _ _ (first-code _ _ _ _ _ q ((c .before .before .before .before .pre) .1 .0 .most) ((c .before .before .before .before .pre) .1 .1) g) ((c .before .before .before .before .pre) .1 .0 .most) ((c .before .before .before .before .pre) .1 .1) g) g
 
 aggregate-add-up-to : (t : ℕ) → aggregate-lts.Need-add-up-to (aggregate-calls t) (aggregate-at t) aggregate.Post
-aggregate-add-up-to t c = omega (arith, (c .before .before .before .pre) .1 .0 .most, (c .before .before .before .pre) .1 .1)
+aggregate-add-up-to t c = omega (arith, (c .before .before .before .before .pre) .1 .0 .most, (c .before .before .before .before .pre) .1 .1)
 
 aggregate-up-to-requires-2 : (t : ℕ) → aggregate-lts.Need-up-to-requires-2 (aggregate-calls t) (aggregate-at t) aggregate.Post
 unfolding entryOf table
-aggregate-up-to-requires-2 t c κs = let m1 = passed _ _ _ _ ((c .before .up-to) .ensures (boundOf ((c .before .before .before .args) .t .now))) ((c .before .before .before .pre) .1 .0 .most) ((c .before .before .before .pre) .1 .1) ((c .if1) .left) ((c .before .before .before .args) .at + 1) refl in ((c .before .before .before .pre) .1 .0 .most, m1 .there, up-to-any 81 refl)
+aggregate-up-to-requires-2 t c κs = let m1 = passed _ _ _ _ ((c .before .up-to) .ensures (boundOf ((c .before .before .before .before .args) .t .now))) ((c .before .before .before .before .pre) .1 .0 .most) ((c .before .before .before .before .pre) .1 .1) ((c .if1) .left) ((c .before .before .before .before .args) .at + 1) refl in ((c .before .before .before .before .pre) .1 .0 .most, m1 .there, up-to-any 81 refl)
 
 aggregate-returns-2 : (t : ℕ) → aggregate-lts.Need-returns-2 (aggregate-calls t) (aggregate-at t) aggregate.Post
 unfolding follow fields fieldsOf
-aggregate-returns-2 t c = let m1 = passed _ _ _ _ ((c .before .before .before .up-to) .ensures (boundOf ((c .before .before .before .before .before .args) .t .now))) ((c .before .before .before .before .before .pre) .1 .0 .most) ((c .before .before .before .before .before .pre) .1 .1) ((c .before .before .if1) .left) ((c .before .before .before .before .before .args) .at + 1) refl in let g = fault-large _ _ _ _ ((c .before .up-to2) .ensures (boundOf ((c .before .before .before .before .before .args) .t .now))) ((c .if2) .taken) in let q = fault-code _ _ _ _ ((c .before .up-to2) .ensures (boundOf ((c .before .before .before .before .before .args) .t .now))) ((c .if2) .taken) in refuses _ (then-code _ _ _ _ (next-code _ _ _ _ _ (m1 .same) (m1 .small) (first-code _ _ _ _ _ q ((c .before .before .before .before .before .pre) .1 .0 .most) (m1 .there) g)) ((c .before .before .before .before .before .pre) .1 .0 .most) ((c .before .before .before .before .before .pre) .1 .1) g) g
+aggregate-returns-2 t c = let m1 = passed _ _ _ _ ((c .before .before .before .up-to) .ensures (boundOf ((c .before .before .before .before .before .before .args) .t .now))) ((c .before .before .before .before .before .before .pre) .1 .0 .most) ((c .before .before .before .before .before .before .pre) .1 .1) ((c .before .before .if1) .left) ((c .before .before .before .before .before .before .args) .at + 1) refl in let g = fault-large _ _ _ _ ((c .before .up-to2) .ensures (boundOf ((c .before .before .before .before .before .before .args) .t .now))) ((c .if2) .taken) in let q = fault-code _ _ _ _ ((c .before .up-to2) .ensures (boundOf ((c .before .before .before .before .before .before .args) .t .now))) ((c .if2) .taken) in refuses _ (then-code _ _ _ _ (next-code _ _ _ _ _ (m1 .same) (m1 .small) (first-code _ _ _ _ _ q ((c .before .before .before .before .before .before .pre) .1 .0 .most) (m1 .there) g)) ((c .before .before .before .before .before .before .pre) .1 .0 .most) ((c .before .before .before .before .before .before .pre) .1 .1) g) g
 
 aggregate-add-up-to-2 : (t : ℕ) → aggregate-lts.Need-add-up-to-2 (aggregate-calls t) (aggregate-at t) aggregate.Post
-aggregate-add-up-to-2 t c = omega (arith, (c .before .before .before .before .before .pre) .1 .0 .most, (c .before .before .before .before .before .pre) .1 .1)
+aggregate-add-up-to-2 t c = omega (arith, (c .before .before .before .before .before .before .pre) .1 .0 .most, (c .before .before .before .before .before .before .pre) .1 .1)
 
 aggregate-up-to-requires-3 : (t : ℕ) → aggregate-lts.Need-up-to-requires-3 (aggregate-calls t) (aggregate-at t) aggregate.Post
 unfolding entryOf table
-aggregate-up-to-requires-3 t c κs = let m1 = passed _ _ _ _ ((c .before .before .before .up-to) .ensures (boundOf ((c .before .before .before .before .before .args) .t .now))) ((c .before .before .before .before .before .pre) .1 .0 .most) ((c .before .before .before .before .before .pre) .1 .1) ((c .before .before .if1) .left) ((c .before .before .before .before .before .args) .at + 1) refl in let m2 = passed _ _ _ _ ((c .before .up-to2) .ensures (boundOf ((c .before .before .before .before .before .args) .t .now))) ((c .before .before .before .before .before .pre) .1 .0 .most) (m1 .there) ((c .if2) .left) ((c .before .before .before .before .before .args) .at + 2) (omega arith) in ((c .before .before .before .before .before .pre) .1 .0 .most, m2 .there, up-to-any 86 refl)
+aggregate-up-to-requires-3 t c κs = let m1 = passed _ _ _ _ ((c .before .before .before .up-to) .ensures (boundOf ((c .before .before .before .before .before .before .args) .t .now))) ((c .before .before .before .before .before .before .pre) .1 .0 .most) ((c .before .before .before .before .before .before .pre) .1 .1) ((c .before .before .if1) .left) ((c .before .before .before .before .before .before .args) .at + 1) refl in let m2 = passed _ _ _ _ ((c .before .up-to2) .ensures (boundOf ((c .before .before .before .before .before .before .args) .t .now))) ((c .before .before .before .before .before .before .pre) .1 .0 .most) (m1 .there) ((c .if2) .left) ((c .before .before .before .before .before .before .args) .at + 2) (omega arith) in ((c .before .before .before .before .before .before .pre) .1 .0 .most, m2 .there, up-to-any 86 refl)
 
 aggregate-returns-3 : (t : ℕ) → aggregate-lts.Need-returns-3 (aggregate-calls t) (aggregate-at t) aggregate.Post
 unfolding follow fields fieldsOf
-aggregate-returns-3 t c = let m1 = passed _ _ _ _ ((c .before .before .before .before .before .up-to) .ensures (boundOf ((c .before .before .before .before .before .before .before .args) .t .now))) ((c .before .before .before .before .before .before .before .pre) .1 .0 .most) ((c .before .before .before .before .before .before .before .pre) .1 .1) ((c .before .before .before .before .if1) .left) ((c .before .before .before .before .before .before .before .args) .at + 1) refl in let m2 = passed _ _ _ _ ((c .before .before .before .up-to2) .ensures (boundOf ((c .before .before .before .before .before .before .before .args) .t .now))) ((c .before .before .before .before .before .before .before .pre) .1 .0 .most) (m1 .there) ((c .before .before .if2) .left) ((c .before .before .before .before .before .before .before .args) .at + 2) (omega arith) in let g = fault-large _ _ _ _ ((c .before .up-to3) .ensures (boundOf ((c .before .before .before .before .before .before .before .args) .t .now))) ((c .if3) .taken) in let q = fault-code _ _ _ _ ((c .before .up-to3) .ensures (boundOf ((c .before .before .before .before .before .before .before .args) .t .now))) ((c .if3) .taken) in refuses _ (then-code _ _ _ _ (next-code _ _ _ _ _ (m1 .same) (m1 .small) (next-code _ _ _ _ _ (m2 .same) (m2 .small) (first-code _ _ _ _ _ q ((c .before .before .before .before .before .before .before .pre) .1 .0 .most) (m2 .there) g))) ((c .before .before .before .before .before .before .before .pre) .1 .0 .most) ((c .before .before .before .before .before .before .before .pre) .1 .1) g) g
+aggregate-returns-3 t c = let m1 = passed _ _ _ _ ((c .before .before .before .before .before .up-to) .ensures (boundOf ((c .before .before .before .before .before .before .before .before .args) .t .now))) ((c .before .before .before .before .before .before .before .before .pre) .1 .0 .most) ((c .before .before .before .before .before .before .before .before .pre) .1 .1) ((c .before .before .before .before .if1) .left) ((c .before .before .before .before .before .before .before .before .args) .at + 1) refl in let m2 = passed _ _ _ _ ((c .before .before .before .up-to2) .ensures (boundOf ((c .before .before .before .before .before .before .before .before .args) .t .now))) ((c .before .before .before .before .before .before .before .before .pre) .1 .0 .most) (m1 .there) ((c .before .before .if2) .left) ((c .before .before .before .before .before .before .before .before .args) .at + 2) (omega arith) in let g = fault-large _ _ _ _ ((c .before .up-to3) .ensures (boundOf ((c .before .before .before .before .before .before .before .before .args) .t .now))) ((c .if3) .taken) in let q = fault-code _ _ _ _ ((c .before .up-to3) .ensures (boundOf ((c .before .before .before .before .before .before .before .before .args) .t .now))) ((c .if3) .taken) in refuses _ (then-code _ _ _ _ (next-code _ _ _ _ _ (m1 .same) (m1 .small) (next-code _ _ _ _ _ (m2 .same) (m2 .small) (first-code _ _ _ _ _ q ((c .before .before .before .before .before .before .before .before .pre) .1 .0 .most) (m2 .there) g))) ((c .before .before .before .before .before .before .before .before .pre) .1 .0 .most) ((c .before .before .before .before .before .before .before .before .pre) .1 .1) g) g
 
 aggregate-add-up-to-3 : (t : ℕ) → aggregate-lts.Need-add-up-to-3 (aggregate-calls t) (aggregate-at t) aggregate.Post
-aggregate-add-up-to-3 t c = omega (arith, (c .before .before .before .before .before .before .before .pre) .1 .0 .most, (c .before .before .before .before .before .before .before .pre) .1 .1)
+aggregate-add-up-to-3 t c = omega (arith, (c .before .before .before .before .before .before .before .before .pre) .1 .0 .most, (c .before .before .before .before .before .before .before .before .pre) .1 .1)
 
 aggregate-up-to-requires-4 : (t : ℕ) → aggregate-lts.Need-up-to-requires-4 (aggregate-calls t) (aggregate-at t) aggregate.Post
 unfolding entryOf table
-aggregate-up-to-requires-4 t c κs = let m1 = passed _ _ _ _ ((c .before .before .before .before .before .up-to) .ensures (boundOf ((c .before .before .before .before .before .before .before .args) .t .now))) ((c .before .before .before .before .before .before .before .pre) .1 .0 .most) ((c .before .before .before .before .before .before .before .pre) .1 .1) ((c .before .before .before .before .if1) .left) ((c .before .before .before .before .before .before .before .args) .at + 1) refl in let m2 = passed _ _ _ _ ((c .before .before .before .up-to2) .ensures (boundOf ((c .before .before .before .before .before .before .before .args) .t .now))) ((c .before .before .before .before .before .before .before .pre) .1 .0 .most) (m1 .there) ((c .before .before .if2) .left) ((c .before .before .before .before .before .before .before .args) .at + 2) (omega arith) in let m3 = passed _ _ _ _ ((c .before .up-to3) .ensures (boundOf ((c .before .before .before .before .before .before .before .args) .t .now))) ((c .before .before .before .before .before .before .before .pre) .1 .0 .most) (m2 .there) ((c .if3) .left) ((c .before .before .before .before .before .before .before .args) .at + 3) (omega arith) in ((c .before .before .before .before .before .before .before .pre) .1 .0 .most, m3 .there, up-to-most 83 1 refl)
+aggregate-up-to-requires-4 t c κs = let m1 = passed _ _ _ _ ((c .before .before .before .before .before .up-to) .ensures (boundOf ((c .before .before .before .before .before .before .before .before .args) .t .now))) ((c .before .before .before .before .before .before .before .before .pre) .1 .0 .most) ((c .before .before .before .before .before .before .before .before .pre) .1 .1) ((c .before .before .before .before .if1) .left) ((c .before .before .before .before .before .before .before .before .args) .at + 1) refl in let m2 = passed _ _ _ _ ((c .before .before .before .up-to2) .ensures (boundOf ((c .before .before .before .before .before .before .before .before .args) .t .now))) ((c .before .before .before .before .before .before .before .before .pre) .1 .0 .most) (m1 .there) ((c .before .before .if2) .left) ((c .before .before .before .before .before .before .before .before .args) .at + 2) (omega arith) in let m3 = passed _ _ _ _ ((c .before .up-to3) .ensures (boundOf ((c .before .before .before .before .before .before .before .before .args) .t .now))) ((c .before .before .before .before .before .before .before .before .pre) .1 .0 .most) (m2 .there) ((c .if3) .left) ((c .before .before .before .before .before .before .before .before .args) .at + 3) (omega arith) in ((c .before .before .before .before .before .before .before .before .pre) .1 .0 .most, m3 .there, up-to-most 83 1 refl)
 
 aggregate-returns-4 : (t : ℕ) → aggregate-lts.Need-returns-4 (aggregate-calls t) (aggregate-at t) aggregate.Post
 unfolding follow fields fieldsOf
-aggregate-returns-4 t c = let m1 = passed _ _ _ _ ((c .before .before .before .before .before .before .before .up-to) .ensures (boundOf ((c .before .before .before .before .before .before .before .before .before .args) .t .now))) ((c .before .before .before .before .before .before .before .before .before .pre) .1 .0 .most) ((c .before .before .before .before .before .before .before .before .before .pre) .1 .1) ((c .before .before .before .before .before .before .if1) .left) ((c .before .before .before .before .before .before .before .before .before .args) .at + 1) refl in let m2 = passed _ _ _ _ ((c .before .before .before .before .before .up-to2) .ensures (boundOf ((c .before .before .before .before .before .before .before .before .before .args) .t .now))) ((c .before .before .before .before .before .before .before .before .before .pre) .1 .0 .most) (m1 .there) ((c .before .before .before .before .if2) .left) ((c .before .before .before .before .before .before .before .before .before .args) .at + 2) (omega arith) in let m3 = passed _ _ _ _ ((c .before .before .before .up-to3) .ensures (boundOf ((c .before .before .before .before .before .before .before .before .before .args) .t .now))) ((c .before .before .before .before .before .before .before .before .before .pre) .1 .0 .most) (m2 .there) ((c .before .before .if3) .left) ((c .before .before .before .before .before .before .before .before .before .args) .at + 3) (omega arith) in let g = fault-large _ _ _ _ ((c .before .up-to4) .ensures (boundOf ((c .before .before .before .before .before .before .before .before .before .args) .t .now))) ((c .if4) .taken) in let q = fault-code _ _ _ _ ((c .before .up-to4) .ensures (boundOf ((c .before .before .before .before .before .before .before .before .before .args) .t .now))) ((c .if4) .taken) in refuses _ (then-code _ _ _ _ (next-code _ _ _ _ _ (m1 .same) (m1 .small) (next-code _ _ _ _ _ (m2 .same) (m2 .small) (next-code _ _ _ _ _ (m3 .same) (m3 .small) (last-code _ _ _ _ q)))) ((c .before .before .before .before .before .before .before .before .before .pre) .1 .0 .most) ((c .before .before .before .before .before .before .before .before .before .pre) .1 .1) g) g
+aggregate-returns-4 t c = let m1 = passed _ _ _ _ ((c .before .before .before .before .before .before .before .up-to) .ensures (boundOf ((c .before .before .before .before .before .before .before .before .before .before .args) .t .now))) ((c .before .before .before .before .before .before .before .before .before .before .pre) .1 .0 .most) ((c .before .before .before .before .before .before .before .before .before .before .pre) .1 .1) ((c .before .before .before .before .before .before .if1) .left) ((c .before .before .before .before .before .before .before .before .before .before .args) .at + 1) refl in let m2 = passed _ _ _ _ ((c .before .before .before .before .before .up-to2) .ensures (boundOf ((c .before .before .before .before .before .before .before .before .before .before .args) .t .now))) ((c .before .before .before .before .before .before .before .before .before .before .pre) .1 .0 .most) (m1 .there) ((c .before .before .before .before .if2) .left) ((c .before .before .before .before .before .before .before .before .before .before .args) .at + 2) (omega arith) in let m3 = passed _ _ _ _ ((c .before .before .before .up-to3) .ensures (boundOf ((c .before .before .before .before .before .before .before .before .before .before .args) .t .now))) ((c .before .before .before .before .before .before .before .before .before .before .pre) .1 .0 .most) (m2 .there) ((c .before .before .if3) .left) ((c .before .before .before .before .before .before .before .before .before .before .args) .at + 3) (omega arith) in let g = fault-large _ _ _ _ ((c .before .up-to4) .ensures (boundOf ((c .before .before .before .before .before .before .before .before .before .before .args) .t .now))) ((c .if4) .taken) in let q = fault-code _ _ _ _ ((c .before .up-to4) .ensures (boundOf ((c .before .before .before .before .before .before .before .before .before .before .args) .t .now))) ((c .if4) .taken) in refuses _ (then-code _ _ _ _ (next-code _ _ _ _ _ (m1 .same) (m1 .small) (next-code _ _ _ _ _ (m2 .same) (m2 .small) (next-code _ _ _ _ _ (m3 .same) (m3 .small) (last-code _ _ _ _ q)))) ((c .before .before .before .before .before .before .before .before .before .before .pre) .1 .0 .most) ((c .before .before .before .before .before .before .before .before .before .before .pre) .1 .1) g) g
 
 aggregate-cast-note : (t : ℕ) → aggregate-lts.Need-cast-note (aggregate-calls t) (aggregate-at t) aggregate.Post
 aggregate-cast-note t c = search needs
 
 aggregate-add-note : (t : ℕ) → aggregate-lts.Need-add-note (aggregate-calls t) (aggregate-at t) aggregate.Post
-aggregate-add-note t c = omega (arith, (c .before .before .before .before .before .before .before .before .before .before .pre) .1 .0 .most, (c .before .before .before .before .before .before .before .before .before .before .pre) .1 .1, (c .before .before .before .before .before .before .before .before .before .before .pre) .1 .2)
+aggregate-add-note t c = omega (arith, (c .before .before .before .before .before .before .before .before .before .before .before .pre) .1 .0 .most, (c .before .before .before .before .before .before .before .before .before .before .before .pre) .1 .1, (c .before .before .before .before .before .before .before .before .before .before .before .pre) .1 .2)
 
 aggregate-note-requires : (t : ℕ) → aggregate-lts.Need-note-requires (aggregate-calls t) (aggregate-at t) aggregate.Post
 aggregate-note-requires t c κs = search needs
 
 aggregate-add-flag : (t : ℕ) → aggregate-lts.Need-add-flag (aggregate-calls t) (aggregate-at t) aggregate.Post
-aggregate-add-flag t c = omega (arith, (c .before .before .before .before .before .before .before .before .before .before .before .pre) .1 .0 .most, (c .before .before .before .before .before .before .before .before .before .before .before .pre) .1 .1)
+aggregate-add-flag t c = omega (arith, (c .before .before .before .before .before .before .before .before .before .before .before .before .before .before .pre) .1 .0 .most, (c .before .before .before .before .before .before .before .before .before .before .before .before .before .before .pre) .1 .1)
 
 aggregate-mul-flag : (t : ℕ) → aggregate-lts.Need-mul-flag (aggregate-calls t) (aggregate-at t) aggregate.Post
-aggregate-mul-flag t c = let f = fielded (boundOf ((c .before .before .before .before .before .before .before .before .before .before .before .args) .t .now)) _ _ ((c .before .before .before .before .before .before .before .before .before .before .before .pre) .1 .0 .most) ((c .before .before .before .before .before .before .before .before .before .before .before .pre) .1 .1) ((c .before .before .before .before .before .before .before .before .before .up-to) .ensures (boundOf ((c .before .before .before .before .before .before .before .before .before .before .before .args) .t .now))) ((c .before .before .before .before .before .before .before .before .if1) .left) ((c .before .before .before .before .before .before .before .up-to2) .ensures (boundOf ((c .before .before .before .before .before .before .before .before .before .before .before .args) .t .now))) ((c .before .before .before .before .before .before .if2) .left) ((c .before .before .before .before .before .up-to3) .ensures (boundOf ((c .before .before .before .before .before .before .before .before .before .before .before .args) .t .now))) ((c .before .before .before .before .if3) .left) ((c .before .before .before .up-to4) .ensures (boundOf ((c .before .before .before .before .before .before .before .before .before .before .before .args) .t .now))) ((c .before .before .if4) .left) in omega (arith, f .flag .there, (c .before .before .before .before .before .before .before .before .before .before .before .pre) .1 .0 .most)
+aggregate-mul-flag t c = let f = fielded (boundOf ((c .before .before .before .before .before .before .before .before .before .before .before .before .before .before .args) .t .now)) _ _ ((c .before .before .before .before .before .before .before .before .before .before .before .before .before .before .pre) .1 .0 .most) ((c .before .before .before .before .before .before .before .before .before .before .before .before .before .before .pre) .1 .1) ((c .before .before .before .before .before .before .before .before .before .before .before .up-to) .ensures (boundOf ((c .before .before .before .before .before .before .before .before .before .before .before .before .before .before .args) .t .now))) ((c .before .before .before .before .before .before .before .before .before .before .if1) .left) ((c .before .before .before .before .before .before .before .before .before .up-to2) .ensures (boundOf ((c .before .before .before .before .before .before .before .before .before .before .before .before .before .before .args) .t .now))) ((c .before .before .before .before .before .before .before .before .if2) .left) ((c .before .before .before .before .before .before .before .up-to3) .ensures (boundOf ((c .before .before .before .before .before .before .before .before .before .before .before .before .before .before .args) .t .now))) ((c .before .before .before .before .before .before .if3) .left) ((c .before .before .before .before .before .up-to4) .ensures (boundOf ((c .before .before .before .before .before .before .before .before .before .before .before .before .before .before .args) .t .now))) ((c .before .before .before .before .if4) .left) in omega (arith, f .flag .there, (c .before .before .before .before .before .before .before .before .before .before .before .before .before .before .pre) .1 .0 .most)
 
 aggregate-shared-slice-read-flag : (t : ℕ) → aggregate-lts.Need-shared-slice-read-flag (aggregate-calls t) (aggregate-at t) aggregate.Post
-aggregate-shared-slice-read-flag t c = let f = fielded (boundOf ((c .before .before .before .before .before .before .before .before .before .before .before .before .args) .t .now)) _ _ ((c .before .before .before .before .before .before .before .before .before .before .before .before .pre) .1 .0 .most) ((c .before .before .before .before .before .before .before .before .before .before .before .before .pre) .1 .1) ((c .before .before .before .before .before .before .before .before .before .before .up-to) .ensures (boundOf ((c .before .before .before .before .before .before .before .before .before .before .before .before .args) .t .now))) ((c .before .before .before .before .before .before .before .before .before .if1) .left) ((c .before .before .before .before .before .before .before .before .up-to2) .ensures (boundOf ((c .before .before .before .before .before .before .before .before .before .before .before .before .args) .t .now))) ((c .before .before .before .before .before .before .before .if2) .left) ((c .before .before .before .before .before .before .up-to3) .ensures (boundOf ((c .before .before .before .before .before .before .before .before .before .before .before .before .args) .t .now))) ((c .before .before .before .before .before .if3) .left) ((c .before .before .before .before .up-to4) .ensures (boundOf ((c .before .before .before .before .before .before .before .before .before .before .before .before .args) .t .now))) ((c .before .before .before .if4) .left) in omega (arith, f .flag .there)
+aggregate-shared-slice-read-flag t c = let f = fielded (boundOf ((c .before .before .before .before .before .before .before .before .before .before .before .before .before .before .before .args) .t .now)) _ _ ((c .before .before .before .before .before .before .before .before .before .before .before .before .before .before .before .pre) .1 .0 .most) ((c .before .before .before .before .before .before .before .before .before .before .before .before .before .before .before .pre) .1 .1) ((c .before .before .before .before .before .before .before .before .before .before .before .before .up-to) .ensures (boundOf ((c .before .before .before .before .before .before .before .before .before .before .before .before .before .before .before .args) .t .now))) ((c .before .before .before .before .before .before .before .before .before .before .before .if1) .left) ((c .before .before .before .before .before .before .before .before .before .before .up-to2) .ensures (boundOf ((c .before .before .before .before .before .before .before .before .before .before .before .before .before .before .before .args) .t .now))) ((c .before .before .before .before .before .before .before .before .before .if2) .left) ((c .before .before .before .before .before .before .before .before .up-to3) .ensures (boundOf ((c .before .before .before .before .before .before .before .before .before .before .before .before .before .before .before .args) .t .now))) ((c .before .before .before .before .before .before .before .if3) .left) ((c .before .before .before .before .before .before .up-to4) .ensures (boundOf ((c .before .before .before .before .before .before .before .before .before .before .before .before .before .before .before .args) .t .now))) ((c .before .before .before .before .before .if4) .left) in omega (arith, f .flag .there)
 
 aggregate-add-compares : (t : ℕ) → aggregate-lts.Need-add-compares (aggregate-calls t) (aggregate-at t) aggregate.Post
-aggregate-add-compares t c = omega (arith, (c .before .before .before .before .before .before .before .before .before .before .before .before .before .pre) .1 .0 .most, (c .before .before .before .before .before .before .before .before .before .before .before .before .before .pre) .1 .1)
+aggregate-add-compares t c = omega (arith, (c .before .before .before .before .before .before .before .before .before .before .before .before .before .before .before .before .pre) .1 .0 .most, (c .before .before .before .before .before .before .before .before .before .before .before .before .before .before .before .before .pre) .1 .1)
 
 aggregate-compares-requires : (t : ℕ) → aggregate-lts.Need-compares-requires (aggregate-calls t) (aggregate-at t) aggregate.Post
 aggregate-compares-requires t c κs = search needs
 
 aggregate-add-scalars : (t : ℕ) → aggregate-lts.Need-add-scalars (aggregate-calls t) (aggregate-at t) aggregate.Post
-aggregate-add-scalars t c = omega (arith, (c .before .before .before .before .before .before .before .before .before .before .before .before .before .before .before .pre) .1 .0 .most, (c .before .before .before .before .before .before .before .before .before .before .before .before .before .before .before .pre) .1 .1)
+aggregate-add-scalars t c = omega (arith, (c .before .before .before .before .before .before .before .before .before .before .before .before .before .before .before .before .before .before .pre) .1 .0 .most, (c .before .before .before .before .before .before .before .before .before .before .before .before .before .before .before .before .before .before .pre) .1 .1)
 
 aggregate-sub-scalars : (t : ℕ) → aggregate-lts.Need-sub-scalars (aggregate-calls t) (aggregate-at t) aggregate.Post
 aggregate-sub-scalars t c = omega (arith, (c .before .compares) .ensures ((c .if6) .taken) .level)
 
 aggregate-scalars-requires : (t : ℕ) → aggregate-lts.Need-scalars-requires (aggregate-calls t) (aggregate-at t) aggregate.Post
-aggregate-scalars-requires t c κs = let p = (c .before .before .compares) .ensures ((c .before .if6) .taken) in (omega (arith, p .level, (c .before .before .before .before .before .before .before .before .before .before .before .before .before .before .before .before .pre) .0), ((c .before .before .before .before .before .before .before .before .before .before .before .before .before .before .before .before .pre) .1 .0, omega (arith, p .inside), omega (arith, (c .before .before .before .before .before .note) .ensures .0)))
+aggregate-scalars-requires t c κs = let p = (c .before .before .compares) .ensures ((c .before .if6) .taken) in (omega (arith, p .level, (c .before .before .before .before .before .before .before .before .before .before .before .before .before .before .before .before .before .before .before .pre) .0), ((c .before .before .before .before .before .before .before .before .before .before .before .before .before .before .before .before .before .before .before .pre) .1 .0, omega (arith, p .inside), omega (arith, (c .before .before .before .before .before .before .before .note) .ensures .0)))
+
+aggregate-same-length : (t : ℕ) → aggregate-lts.Need-same-length (aggregate-calls t) (aggregate-at t) aggregate.Post
+aggregate-same-length t c = search needs
 
 aggregate-returns-5 : (t : ℕ) → aggregate-lts.Need-returns-5 (aggregate-calls t) (aggregate-at t) aggregate.Post
-aggregate-returns-5 t c = let f = fielded (boundOf ((c .before .before .before .before .before .before .before .before .before .before .before .before .before .before .before .before .before .args) .t .now)) _ _ ((c .before .before .before .before .before .before .before .before .before .before .before .before .before .before .before .before .before .pre) .1 .0 .most) ((c .before .before .before .before .before .before .before .before .before .before .before .before .before .before .before .before .before .pre) .1 .1) ((c .before .before .before .before .before .before .before .before .before .before .before .before .before .before .before .up-to) .ensures (boundOf ((c .before .before .before .before .before .before .before .before .before .before .before .before .before .before .before .before .before .args) .t .now))) ((c .before .before .before .before .before .before .before .before .before .before .before .before .before .before .if1) .left) ((c .before .before .before .before .before .before .before .before .before .before .before .before .before .up-to2) .ensures (boundOf ((c .before .before .before .before .before .before .before .before .before .before .before .before .before .before .before .before .before .args) .t .now))) ((c .before .before .before .before .before .before .before .before .before .before .before .before .if2) .left) ((c .before .before .before .before .before .before .before .before .before .before .before .up-to3) .ensures (boundOf ((c .before .before .before .before .before .before .before .before .before .before .before .before .before .before .before .before .before .args) .t .now))) ((c .before .before .before .before .before .before .before .before .before .before .if3) .left) ((c .before .before .before .before .before .before .before .before .before .up-to4) .ensures (boundOf ((c .before .before .before .before .before .before .before .before .before .before .before .before .before .before .before .before .before .args) .t .now))) ((c .before .before .before .before .before .before .before .before .if4) .left) in where-rows _ _ ((c .before .before .before .before .before .before .before .before .before .before .before .before .before .before .before .before .before .args) .context) _ _ f ((c .before .before .before .before .before .before .note) .ensures .0) ((c .before .before .before .before .before .before .note) .ensures .1) (compared-rows _ _ _ _ _ ((c .before .before .before .before .before .before .before .before .before .before .before .before .before .before .before .before .before .pre) .1 .0 .most) ((c .before .before .before .compares) .ensures ((c .before .before .if6) .taken)) ((c .before .before .before .before .if5) .taken) _ (omega arith) ((c .scalars) .ensures))
+aggregate-returns-5 t c = let f = fielded (boundOf ((c .before .before .before .before .before .before .before .before .before .before .before .before .before .before .before .before .before .before .before .before .before .before .args) .t .now)) _ _ ((c .before .before .before .before .before .before .before .before .before .before .before .before .before .before .before .before .before .before .before .before .before .before .pre) .1 .0 .most) ((c .before .before .before .before .before .before .before .before .before .before .before .before .before .before .before .before .before .before .before .before .before .before .pre) .1 .1) ((c .before .before .before .before .before .before .before .before .before .before .before .before .before .before .before .before .before .before .before .up-to) .ensures (boundOf ((c .before .before .before .before .before .before .before .before .before .before .before .before .before .before .before .before .before .before .before .before .before .before .args) .t .now))) ((c .before .before .before .before .before .before .before .before .before .before .before .before .before .before .before .before .before .before .if1) .left) ((c .before .before .before .before .before .before .before .before .before .before .before .before .before .before .before .before .before .up-to2) .ensures (boundOf ((c .before .before .before .before .before .before .before .before .before .before .before .before .before .before .before .before .before .before .before .before .before .before .args) .t .now))) ((c .before .before .before .before .before .before .before .before .before .before .before .before .before .before .before .before .if2) .left) ((c .before .before .before .before .before .before .before .before .before .before .before .before .before .before .before .up-to3) .ensures (boundOf ((c .before .before .before .before .before .before .before .before .before .before .before .before .before .before .before .before .before .before .before .before .before .before .args) .t .now))) ((c .before .before .before .before .before .before .before .before .before .before .before .before .before .before .if3) .left) ((c .before .before .before .before .before .before .before .before .before .before .before .before .before .up-to4) .ensures (boundOf ((c .before .before .before .before .before .before .before .before .before .before .before .before .before .before .before .before .before .before .before .before .before .before .args) .t .now))) ((c .before .before .before .before .before .before .before .before .before .before .before .before .if4) .left) in where-rows _ _ ((c .before .before .before .before .before .before .before .before .before .before .before .before .before .before .before .before .before .before .before .before .before .before .args) .context) _ _ f ((c .before .before .before .before .before .before .before .before .before .before .note) .ensures .0) ((c .before .before .before .before .before .before .before .before .before .before .note) .ensures .1) (compared-rows _ _ _ _ _ ((c .before .before .before .before .before .before .before .before .before .before .before .before .before .before .before .before .before .before .before .before .before .before .pre) .1 .0 .most) ((c .before .before .before .before .before .compares) .ensures ((c .before .before .before .before .if6) .taken)) ((c .before .before .before .before .before .before .if5) .taken) _ (omega arith) ((c .before .before .scalars) .ensures))
 
 aggregate-add-judgments : (t : ℕ) → aggregate-lts.Need-add-judgments (aggregate-calls t) (aggregate-at t) aggregate.Post
-aggregate-add-judgments t c = omega (arith, (c .before .before .before .before .before .before .before .before .before .before .before .before .before .pre) .1 .0 .most, (c .before .before .before .before .before .before .before .before .before .before .before .before .before .pre) .1 .1)
+aggregate-add-judgments t c = omega (arith, (c .before .before .before .before .before .before .before .before .before .before .before .before .before .before .before .before .pre) .1 .0 .most, (c .before .before .before .before .before .before .before .before .before .before .before .before .before .before .before .before .pre) .1 .1)
 
 aggregate-judgments-requires : (t : ℕ) → aggregate-lts.Need-judgments-requires (aggregate-calls t) (aggregate-at t) aggregate.Post
-aggregate-judgments-requires t c κs = let f = fielded (boundOf ((c .before .before .before .before .before .before .before .before .before .before .before .before .before .before .args) .t .now)) _ _ ((c .before .before .before .before .before .before .before .before .before .before .before .before .before .before .pre) .1 .0 .most) ((c .before .before .before .before .before .before .before .before .before .before .before .before .before .before .pre) .1 .1) ((c .before .before .before .before .before .before .before .before .before .before .before .before .up-to) .ensures (boundOf ((c .before .before .before .before .before .before .before .before .before .before .before .before .before .before .args) .t .now))) ((c .before .before .before .before .before .before .before .before .before .before .before .if1) .left) ((c .before .before .before .before .before .before .before .before .before .before .up-to2) .ensures (boundOf ((c .before .before .before .before .before .before .before .before .before .before .before .before .before .before .args) .t .now))) ((c .before .before .before .before .before .before .before .before .before .if2) .left) ((c .before .before .before .before .before .before .before .before .up-to3) .ensures (boundOf ((c .before .before .before .before .before .before .before .before .before .before .before .before .before .before .args) .t .now))) ((c .before .before .before .before .before .before .before .if3) .left) ((c .before .before .before .before .before .before .up-to4) .ensures (boundOf ((c .before .before .before .before .before .before .before .before .before .before .before .before .before .before .args) .t .now))) ((c .before .before .before .before .before .if4) .left) in (omega arith, ((c .before .before .before .before .before .before .before .before .before .before .before .before .before .before .pre) .1 .0, f .flag .there, omega (arith, (c .before .before .before .note) .ensures .0)))
+aggregate-judgments-requires t c κs = let f = fielded (boundOf ((c .before .before .before .before .before .before .before .before .before .before .before .before .before .before .before .before .before .args) .t .now)) _ _ ((c .before .before .before .before .before .before .before .before .before .before .before .before .before .before .before .before .before .pre) .1 .0 .most) ((c .before .before .before .before .before .before .before .before .before .before .before .before .before .before .before .before .before .pre) .1 .1) ((c .before .before .before .before .before .before .before .before .before .before .before .before .before .before .up-to) .ensures (boundOf ((c .before .before .before .before .before .before .before .before .before .before .before .before .before .before .before .before .before .args) .t .now))) ((c .before .before .before .before .before .before .before .before .before .before .before .before .before .if1) .left) ((c .before .before .before .before .before .before .before .before .before .before .before .before .up-to2) .ensures (boundOf ((c .before .before .before .before .before .before .before .before .before .before .before .before .before .before .before .before .before .args) .t .now))) ((c .before .before .before .before .before .before .before .before .before .before .before .if2) .left) ((c .before .before .before .before .before .before .before .before .before .before .up-to3) .ensures (boundOf ((c .before .before .before .before .before .before .before .before .before .before .before .before .before .before .before .before .before .args) .t .now))) ((c .before .before .before .before .before .before .before .before .before .if3) .left) ((c .before .before .before .before .before .before .before .before .up-to4) .ensures (boundOf ((c .before .before .before .before .before .before .before .before .before .before .before .before .before .before .before .before .before .args) .t .now))) ((c .before .before .before .before .before .before .before .if4) .left) in (omega arith, ((c .before .before .before .before .before .before .before .before .before .before .before .before .before .before .before .before .before .pre) .1 .0, f .flag .there, omega (arith, (c .before .before .before .before .before .note) .ensures .0)))
+
+aggregate-same-length-2 : (t : ℕ) → aggregate-lts.Need-same-length-2 (aggregate-calls t) (aggregate-at t) aggregate.Post
+aggregate-same-length-2 t c = search needs
 
 aggregate-returns-6 : (t : ℕ) → aggregate-lts.Need-returns-6 (aggregate-calls t) (aggregate-at t) aggregate.Post
-aggregate-returns-6 t c = let f = fielded (boundOf ((c .before .before .before .before .before .before .before .before .before .before .before .before .before .before .before .args) .t .now)) _ _ ((c .before .before .before .before .before .before .before .before .before .before .before .before .before .before .before .pre) .1 .0 .most) ((c .before .before .before .before .before .before .before .before .before .before .before .before .before .before .before .pre) .1 .1) ((c .before .before .before .before .before .before .before .before .before .before .before .before .before .up-to) .ensures (boundOf ((c .before .before .before .before .before .before .before .before .before .before .before .before .before .before .before .args) .t .now))) ((c .before .before .before .before .before .before .before .before .before .before .before .before .if1) .left) ((c .before .before .before .before .before .before .before .before .before .before .before .up-to2) .ensures (boundOf ((c .before .before .before .before .before .before .before .before .before .before .before .before .before .before .before .args) .t .now))) ((c .before .before .before .before .before .before .before .before .before .before .if2) .left) ((c .before .before .before .before .before .before .before .before .before .up-to3) .ensures (boundOf ((c .before .before .before .before .before .before .before .before .before .before .before .before .before .before .before .args) .t .now))) ((c .before .before .before .before .before .before .before .before .if3) .left) ((c .before .before .before .before .before .before .before .up-to4) .ensures (boundOf ((c .before .before .before .before .before .before .before .before .before .before .before .before .before .before .before .args) .t .now))) ((c .before .before .before .before .before .before .if4) .left) in where-rows _ _ ((c .before .before .before .before .before .before .before .before .before .before .before .before .before .before .before .args) .context) _ _ f ((c .before .before .before .before .note) .ensures .0) ((c .before .before .before .before .note) .ensures .1) ((c .judgments) .ensures)
+aggregate-returns-6 t c = let f = fielded (boundOf ((c .before .before .before .before .before .before .before .before .before .before .before .before .before .before .before .before .before .before .before .before .args) .t .now)) _ _ ((c .before .before .before .before .before .before .before .before .before .before .before .before .before .before .before .before .before .before .before .before .pre) .1 .0 .most) ((c .before .before .before .before .before .before .before .before .before .before .before .before .before .before .before .before .before .before .before .before .pre) .1 .1) ((c .before .before .before .before .before .before .before .before .before .before .before .before .before .before .before .before .before .up-to) .ensures (boundOf ((c .before .before .before .before .before .before .before .before .before .before .before .before .before .before .before .before .before .before .before .before .args) .t .now))) ((c .before .before .before .before .before .before .before .before .before .before .before .before .before .before .before .before .if1) .left) ((c .before .before .before .before .before .before .before .before .before .before .before .before .before .before .before .up-to2) .ensures (boundOf ((c .before .before .before .before .before .before .before .before .before .before .before .before .before .before .before .before .before .before .before .before .args) .t .now))) ((c .before .before .before .before .before .before .before .before .before .before .before .before .before .before .if2) .left) ((c .before .before .before .before .before .before .before .before .before .before .before .before .before .up-to3) .ensures (boundOf ((c .before .before .before .before .before .before .before .before .before .before .before .before .before .before .before .before .before .before .before .before .args) .t .now))) ((c .before .before .before .before .before .before .before .before .before .before .before .before .if3) .left) ((c .before .before .before .before .before .before .before .before .before .before .before .up-to4) .ensures (boundOf ((c .before .before .before .before .before .before .before .before .before .before .before .before .before .before .before .before .before .before .before .before .args) .t .now))) ((c .before .before .before .before .before .before .before .before .before .before .if4) .left) in where-rows _ _ ((c .before .before .before .before .before .before .before .before .before .before .before .before .before .before .before .before .before .before .before .before .args) .context) _ _ f ((c .before .before .before .before .before .before .before .before .note) .ensures .0) ((c .before .before .before .before .before .before .before .before .note) .ensures .1) ((c .before .before .judgments) .ensures)
 
 choice-judgments-requires : (t : ℕ) → choice-lts.Need-judgments-requires (choice-calls t) (choice-at t) choice.Post
-choice-judgments-requires t c κs = (omega arith, ((c .before .before .pre) .1 .0, (c .before .before .pre) .1 .1, (c .before .before .pre) .1 .2))
+choice-judgments-requires t c κs = (omega arith, ((c .before .before .before .pre) .1 .0, (c .before .before .before .pre) .1 .1, (c .before .before .before .pre) .1 .2))
+
+choice-same-length : (t : ℕ) → choice-lts.Need-same-length (choice-calls t) (choice-at t) choice.Post
+choice-same-length t c = search needs
 
 choice-returns : (t : ℕ) → choice-lts.Need-returns (choice-calls t) (choice-at t) choice.Post
-choice-returns t c = first-refused _ _ _ _ _ judgment-sort _ ((c .before .judgments) .ensures) ((c .before .before .before .before .pre) .1 .0 .most) ((c .before .before .before .before .pre) .1 .1) ((c .if1) .taken) _
+choice-returns t c = first-refused _ _ _ _ _ judgment-sort _ ((c .before .before .before .judgments) .ensures) ((c .before .before .before .before .before .before .before .pre) .1 .0 .most) ((c .before .before .before .before .before .before .before .pre) .1 .1) ((c .if1) .taken) _
 
 choice-scalars-requires : (t : ℕ) → choice-lts.Need-scalars-requires (choice-calls t) (choice-at t) choice.Post
-choice-scalars-requires t c κs = (omega arith, ((c .before .before .before .before .before .pre) .1 .0, code-within _ _ _ ((c .before .before .judgments) .ensures .answers) ((c .before .before .before .before .before .pre) .1 .1) ((c .before .if1) .left), (c .before .before .before .before .before .pre) .1 .2))
+choice-scalars-requires t c κs = (omega arith, ((c .before .before .before .before .before .before .before .before .pre) .1 .0, code-within _ _ _ ((c .before .before .before .before .judgments) .ensures .answers) ((c .before .before .before .before .before .before .before .before .pre) .1 .1) ((c .before .if1) .left), (c .before .before .before .before .before .before .before .before .pre) .1 .2))
+
+choice-same-length-2 : (t : ℕ) → choice-lts.Need-same-length-2 (choice-calls t) (choice-at t) choice.Post
+choice-same-length-2 t c = search needs
 
 choice-returns-2 : (t : ℕ) → choice-lts.Need-returns-2 (choice-calls t) (choice-at t) choice.Post
-choice-returns-2 t c = first-then _ _ _ _ _ judgment-sort _ ((c .before .before .before .judgments) .ensures) ((c .before .before .if1) .left) _ ((c .scalars) .ensures)
+choice-returns-2 t c = first-then _ _ _ _ _ judgment-sort _ ((c .before .before .before .before .before .before .before .judgments) .ensures) ((c .before .before .before .before .if1) .left) _ ((c .before .before .scalars) .ensures)
 
 exists-up-to-requires : (t : ℕ) → exists-lts.Need-up-to-requires (exists-calls t) (exists-at t) exists.Post
 unfolding entryOf table
-exists-up-to-requires t c κs = ((c .before .pre) .1 .0 .most, (c .before .pre) .1 .1, up-to-any 85 refl)
+exists-up-to-requires t c κs = ((c .before .before .pre) .1 .0 .most, (c .before .before .pre) .1 .1, up-to-any 85 refl)
 
 exists-returns : (t : ℕ) → exists-lts.Need-returns (exists-calls t) (exists-at t) exists.Post
 unfolding follow fields fieldsOf
-exists-returns t c = let g = fault-large _ _ _ _ ((c .before .up-to) .ensures (boundOf ((c .before .before .before .args) .t .now))) ((c .if1) .taken) in let q = fault-code _ _ _ _ ((c .before .up-to) .ensures (boundOf ((c .before .before .before .args) .t .now))) ((c .if1) .taken) in refuses _ (then-code _ _ _ _ (last-code _ _ _ _ q) ((c .before .before .before .pre) .1 .0 .most) ((c .before .before .before .pre) .1 .1) g) g
+exists-returns t c = let g = fault-large _ _ _ _ ((c .before .up-to) .ensures (boundOf ((c .before .before .before .before .args) .t .now))) ((c .if1) .taken) in let q = fault-code _ _ _ _ ((c .before .up-to) .ensures (boundOf ((c .before .before .before .before .args) .t .now))) ((c .if1) .taken) in refuses _ (then-code _ _ _ _ (last-code _ _ _ _ q) ((c .before .before .before .before .pre) .1 .0 .most) ((c .before .before .before .before .pre) .1 .1) g) g
 
 exists-cast-note : (t : ℕ) → exists-lts.Need-cast-note (exists-calls t) (exists-at t) exists.Post
 exists-cast-note t c = search needs
 
 exists-add-note : (t : ℕ) → exists-lts.Need-add-note (exists-calls t) (exists-at t) exists.Post
-exists-add-note t c = omega (arith, (c .before .before .before .before .pre) .1 .0 .most, (c .before .before .before .before .pre) .1 .1, (c .before .before .before .before .pre) .1 .2)
+exists-add-note t c = omega (arith, (c .before .before .before .before .before .pre) .1 .0 .most, (c .before .before .before .before .before .pre) .1 .1, (c .before .before .before .before .before .pre) .1 .2)
 
 exists-note-requires : (t : ℕ) → exists-lts.Need-note-requires (exists-calls t) (exists-at t) exists.Post
 exists-note-requires t c κs = search needs
 
 exists-add-judgments : (t : ℕ) → exists-lts.Need-add-judgments (exists-calls t) (exists-at t) exists.Post
-exists-add-judgments t c = omega (arith, (c .before .before .before .before .before .pre) .1 .0 .most, (c .before .before .before .before .before .pre) .1 .1)
+exists-add-judgments t c = omega (arith, (c .before .before .before .before .before .before .before .before .pre) .1 .0 .most, (c .before .before .before .before .before .before .before .before .pre) .1 .1)
 
 exists-judgments-requires : (t : ℕ) → exists-lts.Need-judgments-requires (exists-calls t) (exists-at t) exists.Post
-exists-judgments-requires t c κs = let m = passed _ _ _ _ ((c .before .before .before .before .up-to) .ensures (boundOf ((c .before .before .before .before .before .before .args) .t .now))) ((c .before .before .before .before .before .before .pre) .1 .0 .most) ((c .before .before .before .before .before .before .pre) .1 .1) ((c .before .before .before .if1) .left) ((c .before .before .before .before .before .before .args) .at + 1) refl in (omega arith, ((c .before .before .before .before .before .before .pre) .1 .0, m .there, (c .before .before .before .before .before .before .pre) .1 .2))
+exists-judgments-requires t c κs = let m = passed _ _ _ _ ((c .before .before .before .before .before .before .up-to) .ensures (boundOf ((c .before .before .before .before .before .before .before .before .before .args) .t .now))) ((c .before .before .before .before .before .before .before .before .before .pre) .1 .0 .most) ((c .before .before .before .before .before .before .before .before .before .pre) .1 .1) ((c .before .before .before .before .before .if1) .left) ((c .before .before .before .before .before .before .before .before .before .args) .at + 1) refl in (omega arith, ((c .before .before .before .before .before .before .before .before .before .pre) .1 .0, m .there, (c .before .before .before .before .before .before .before .before .before .pre) .1 .2))
+
+exists-same-length : (t : ℕ) → exists-lts.Need-same-length (exists-calls t) (exists-at t) exists.Post
+exists-same-length t c = search needs
 
 exists-returns-2 : (t : ℕ) → exists-lts.Need-returns-2 (exists-calls t) (exists-at t) exists.Post
-exists-returns-2 t c = let m = passed _ _ _ _ ((c .before .before .before .before .before .up-to) .ensures (boundOf ((c .before .before .before .before .before .before .before .args) .t .now))) ((c .before .before .before .before .before .before .before .pre) .1 .0 .most) ((c .before .before .before .before .before .before .before .pre) .1 .1) ((c .before .before .before .before .if1) .left) ((c .before .before .before .before .before .before .before .args) .at + 1) refl in exists-rows _ _ _ _ _ m ((c .before .before .before .before .before .before .before .pre) .1 .1) ((c .before .before .note) .ensures .1) ((c .judgments) .ensures)
+exists-returns-2 t c = let m = passed _ _ _ _ ((c .before .before .before .before .before .before .before .before .before .up-to) .ensures (boundOf ((c .before .before .before .before .before .before .before .before .before .before .before .before .args) .t .now))) ((c .before .before .before .before .before .before .before .before .before .before .before .before .pre) .1 .0 .most) ((c .before .before .before .before .before .before .before .before .before .before .before .before .pre) .1 .1) ((c .before .before .before .before .before .before .before .before .if1) .left) ((c .before .before .before .before .before .before .before .before .before .before .before .before .args) .at + 1) refl in exists-rows _ _ _ _ _ m ((c .before .before .before .before .before .before .before .before .before .before .before .before .pre) .1 .1) ((c .before .before .before .before .before .before .note) .ensures .1) ((c .before .before .judgments) .ensures)
 
 abbrev judgments-Inv-loop : judgments-lts.InvT-loop
 judgments-Inv-loop s t start count left context notes₀ at₀ k₀ notes at k =
-    Walking (boundOf t) judgment-sort context s left count start notes₀ left k at notes
+    Walking (boundOf t) judgment-sort context s left count start notes₀ left k at notes × (length notes ≡ length notes₀)
 
 abbrev judgments-μ-loop : judgments-lts.MeasureT-loop
 judgments-μ-loop s t start count left context notes₀ at₀ k₀ notes at k = length s - at
 
 judgments-loop-holds : (t : ℕ) → judgments-lts.Need-loop-holds (judgments-calls t) (judgments-at t) judgments.Post judgments-Inv-loop judgments-μ-loop
-judgments-loop-holds t c = walking _ _ _ _ _ _ _ _ ((c .before .pre) .1 .1)
+judgments-loop-holds t c = (walking _ _ _ _ _ _ _ _ ((c .before .before .pre) .1 .1), refl)
 
 judgments-head-requires : (t : ℕ) → judgments-lts.Need-head-requires (judgments-calls t) (judgments-at t) judgments.Post judgments-Inv-loop judgments-μ-loop
-judgments-head-requires t c κs = ((c .before .before .before .pre) .1 .0, (c .before .loop) .inv .there, omega arith)
+judgments-head-requires t c κs = ((c .before .before .before .before .pre) .1 .0, (c .before .loop) .inv .0 .there, omega arith)
+
+judgments-same-length : (t : ℕ) → judgments-lts.Need-same-length (judgments-calls t) (judgments-at t) judgments.Post judgments-Inv-loop judgments-μ-loop
+judgments-same-length t c = search needs
 
 judgments-returns : (t : ℕ) → judgments-lts.Need-returns (judgments-calls t) (judgments-at t) judgments.Post judgments-Inv-loop judgments-μ-loop
-judgments-returns t c = head-refused ((c .before .before .before .loop) .inv) ((c .before .before .before .before .before .pre) .1 .0 .most) (omega arith) ((c .before .head) .ensures) ((c .if1) .taken)
+judgments-returns t c = head-refused ((c .before .before .before .loop) .inv .0) ((c .before .before .before .before .before .before .pre) .1 .0 .most) (omega arith) ((c .before .head) .ensures) ((c .if1) .taken)
 
 judgments-sub-k : (t : ℕ) → judgments-lts.Need-sub-k (judgments-calls t) (judgments-at t) judgments.Post judgments-Inv-loop judgments-μ-loop
 judgments-sub-k t c = search needs
 
 judgments-mul-if2 : (t : ℕ) → judgments-lts.Need-mul-if2 (judgments-calls t) (judgments-at t) judgments.Post judgments-Inv-loop judgments-μ-loop
-judgments-mul-if2 t c = omega (arith, begun ((c .before .before .before .loop) .inv) ((c .before .before .before .before .before .pre) .1 .0 .most) (omega arith) ((c .before .head) .ensures) ((c .if1) .left) .inside, (c .before .before .before .before .before .pre) .1 .0 .most)
+judgments-mul-if2 t c = omega (arith, begun ((c .before .before .before .loop) .inv .0) ((c .before .before .before .before .before .before .pre) .1 .0 .most) (omega arith) ((c .before .head) .ensures) ((c .if1) .left) .inside, (c .before .before .before .before .before .before .pre) .1 .0 .most)
 
 judgments-shared-slice-read-if2 : (t : ℕ) → judgments-lts.Need-shared-slice-read-if2 (judgments-calls t) (judgments-at t) judgments.Post judgments-Inv-loop judgments-μ-loop
-judgments-shared-slice-read-if2 t c = begun ((c .before .before .before .before .loop) .inv) ((c .before .before .before .before .before .before .pre) .1 .0 .most) (omega arith) ((c .before .before .head) .ensures) ((c .before .if1) .left) .inside
+judgments-shared-slice-read-if2 t c = begun ((c .before .before .before .before .loop) .inv .0) ((c .before .before .before .before .before .before .before .pre) .1 .0 .most) (omega arith) ((c .before .before .head) .ensures) ((c .before .if1) .left) .inside
 
 judgments-sub-after-judgment : (t : ℕ) → judgments-lts.Need-sub-after-judgment (judgments-calls t) (judgments-at t) judgments.Post judgments-Inv-loop judgments-μ-loop
-judgments-sub-after-judgment t c = begun ((c .before .before .before .before .before .loop) .inv) ((c .before .before .before .before .before .before .before .pre) .1 .0 .most) (omega arith) ((c .before .before .before .head) .ensures) ((c .before .before .if1) .left) .level
+judgments-sub-after-judgment t c = begun ((c .before .before .before .before .before .loop) .inv .0) ((c .before .before .before .before .before .before .before .before .pre) .1 .0 .most) (omega arith) ((c .before .before .before .head) .ensures) ((c .before .before .if1) .left) .level
 
 judgments-after-judgment-requires : (t : ℕ) → judgments-lts.Need-after-judgment-requires (judgments-calls t) (judgments-at t) judgments.Post judgments-Inv-loop judgments-μ-loop
-judgments-after-judgment-requires t c κs = let u = begun ((c .before .before .before .before .before .before .loop) .inv) ((c .before .before .before .before .before .before .before .before .pre) .1 .0 .most) (omega arith) ((c .before .before .before .before .head) .ensures) ((c .before .before .before .if1) .left) in (omega (arith, u .level, (c .before .before .before .before .before .before .loop) .inv .deep), ((c .before .before .before .before .before .before .before .before .pre) .1 .0, u .inside, judgment-kind (kindOf (getD ((c .before .before .before .before .before .before .before .before .args) .s .now) ((c .before .before .before .before .before .before .loop) .at) 0)) (u .kind), (c .before .before .before .before .before .before .before .before .pre) .1 .2))
+judgments-after-judgment-requires t c κs = let u = begun ((c .before .before .before .before .before .before .loop) .inv .0) ((c .before .before .before .before .before .before .before .before .before .pre) .1 .0 .most) (omega arith) ((c .before .before .before .before .head) .ensures) ((c .before .before .before .if1) .left) in (omega (arith, u .level, (c .before .before .before .before .before .before .loop) .inv .0 .deep), ((c .before .before .before .before .before .before .before .before .before .pre) .1 .0, u .inside, judgment-kind (kindOf (getD ((c .before .before .before .before .before .before .before .before .before .args) .s .now) ((c .before .before .before .before .before .before .loop) .at) 0)) (u .kind), (c .before .before .before .before .before .before .before .before .before .pre) .1 .2))
+
+judgments-same-length-2 : (t : ℕ) → judgments-lts.Need-same-length-2 (judgments-calls t) (judgments-at t) judgments.Post judgments-Inv-loop judgments-μ-loop
+judgments-same-length-2 t c = search needs
 
 judgments-returns-2 : (t : ℕ) → judgments-lts.Need-returns-2 (judgments-calls t) (judgments-at t) judgments.Post judgments-Inv-loop judgments-μ-loop
-judgments-returns-2 t c = node-refused ((c .before .before .before .before .before .before .before .before .loop) .inv) ((c .before .before .before .before .before .before .before .before .before .before .pre) .1 .0 .most) (omega arith) ((c .before .before .before .before .before .before .head) .ensures) ((c .before .before .before .before .before .if1) .left) ((c .before .after-judgment) .ensures) ((c .if3) .taken)
+judgments-returns-2 t c = node-refused ((c .before .before .before .before .before .before .before .before .before .before .loop) .inv .0) ((c .before .before .before .before .before .before .before .before .before .before .before .before .before .pre) .1 .0 .most) (omega arith) ((c .before .before .before .before .before .before .before .before .head) .ensures) ((c .before .before .before .before .before .before .before .if1) .left) ((c .before .before .before .after-judgment) .ensures) ((c .if3) .taken)
 
 judgments-loop-less : (t : ℕ) → judgments-lts.Need-loop-less (judgments-calls t) (judgments-at t) judgments.Post judgments-Inv-loop judgments-μ-loop
-judgments-loop-less t c = let w = forward ((c .before .before .before .before .before .before .before .before .loop) .inv) ((c .before .before .before .before .before .before .before .before .before .before .pre) .1 .0 .most) (omega arith) ((c .before .before .before .before .before .before .head) .ensures) ((c .before .before .before .before .before .if1) .left) ((c .before .after-judgment) .ensures) ((c .if3) .left) in omega (arith, w .0, w .1)
+judgments-loop-less t c = let w = forward ((c .before .before .before .before .before .before .before .before .before .before .loop) .inv .0) ((c .before .before .before .before .before .before .before .before .before .before .before .before .before .pre) .1 .0 .most) (omega arith) ((c .before .before .before .before .before .before .before .before .head) .ensures) ((c .before .before .before .before .before .before .before .if1) .left) ((c .before .before .before .after-judgment) .ensures) ((c .if3) .left) in omega (arith, w .0, w .1)
 
 judgments-loop-again : (t : ℕ) → judgments-lts.Need-loop-again (judgments-calls t) (judgments-at t) judgments.Post judgments-Inv-loop judgments-μ-loop
-judgments-loop-again t c = past-node ((c .before .before .before .before .before .before .before .before .loop) .inv) ((c .before .before .before .before .before .before .before .before .before .before .pre) .1 .0 .most) (omega arith) ((c .before .before .before .before .before .before .head) .ensures) ((c .before .before .before .before .before .if1) .left) ((c .before .after-judgment) .ensures) ((c .if3) .left)
+judgments-loop-again t c = (past-node ((c .before .before .before .before .before .before .before .before .before .before .loop) .inv .0) ((c .before .before .before .before .before .before .before .before .before .before .before .before .before .pre) .1 .0 .most) (omega arith) ((c .before .before .before .before .before .before .before .before .head) .ensures) ((c .before .before .before .before .before .before .before .if1) .left) ((c .before .before .before .after-judgment) .ensures) ((c .if3) .left), omega (arith, (c .before .before .before .before .before .before .before .before .before .before .loop) .inv .1))
 
 judgments-add-at : (t : ℕ) → judgments-lts.Need-add-at (judgments-calls t) (judgments-at t) judgments.Post judgments-Inv-loop judgments-μ-loop
 judgments-add-at t c = search needs
 
 judgments-loop-less-2 : (t : ℕ) → judgments-lts.Need-loop-less-2 (judgments-calls t) (judgments-at t) judgments.Post judgments-Inv-loop judgments-μ-loop
-judgments-loop-less-2 t c = omega (arith, begun ((c .before .before .before .before .before .loop) .inv) ((c .before .before .before .before .before .before .before .pre) .1 .0 .most) (omega arith) ((c .before .before .before .head) .ensures) ((c .before .before .if1) .left) .inside)
+judgments-loop-less-2 t c = omega (arith, begun ((c .before .before .before .before .before .loop) .inv .0) ((c .before .before .before .before .before .before .before .before .pre) .1 .0 .most) (omega arith) ((c .before .before .before .head) .ensures) ((c .before .before .if1) .left) .inside)
 
 judgments-loop-again-2 : (t : ℕ) → judgments-lts.Need-loop-again-2 (judgments-calls t) (judgments-at t) judgments.Post judgments-Inv-loop judgments-μ-loop
-judgments-loop-again-2 t c = let k = kindOf (getD ((c .before .before .before .before .before .before .before .args) .s .now) ((c .before .before .before .before .before .loop) .at) 0) in let lo : 104 < k = (c .if2) .left in let hi : k < 256 = omega (arith, (c .before .shared-slice-known2) .given ((c .before .before .before .before .before .loop) .at)) in past-leaf ((c .before .before .before .before .before .loop) .inv) ((c .before .before .before .before .before .before .before .pre) .1 .0 .most) (omega arith) ((c .before .before .before .head) .ensures) ((c .before .before .if1) .left) (leaf-last (valueOf (getD ((c .before .before .before .before .before .before .before .args) .s .now) ((c .before .before .before .before .before .loop) .at) 0)) k (omega (arith, lo)) hi) (plain-last k lo hi)
+judgments-loop-again-2 t c = (let k = kindOf (getD ((c .before .before .before .before .before .before .before .before .args) .s .now) ((c .before .before .before .before .before .loop) .at) 0) in let lo : 104 < k = (c .if2) .left in let hi : k < 256 = omega (arith, (c .before .shared-slice-known2) .given ((c .before .before .before .before .before .loop) .at)) in past-leaf ((c .before .before .before .before .before .loop) .inv .0) ((c .before .before .before .before .before .before .before .before .pre) .1 .0 .most) (omega arith) ((c .before .before .before .head) .ensures) ((c .before .before .if1) .left) (leaf-last (valueOf (getD ((c .before .before .before .before .before .before .before .before .args) .s .now) ((c .before .before .before .before .before .loop) .at) 0)) k (omega (arith, lo)) hi) (plain-last k lo hi), omega (arith, (c .before .before .before .before .before .loop) .inv .1))
+
+judgments-same-length-3 : (t : ℕ) → judgments-lts.Need-same-length-3 (judgments-calls t) (judgments-at t) judgments.Post judgments-Inv-loop judgments-μ-loop
+judgments-same-length-3 t c = search needs
 
 judgments-returns-3 : (t : ℕ) → judgments-lts.Need-returns-3 (judgments-calls t) (judgments-at t) judgments.Post judgments-Inv-loop judgments-μ-loop
-judgments-returns-3 t c = walked ((c .before .loop) .inv) (omega arith)
+judgments-returns-3 t c = walked ((c .before .loop) .inv .0) (omega arith)
 
 patterns-scalars-requires : (t : ℕ) → patterns-lts.Need-scalars-requires (patterns-calls t) (patterns-at t) patterns.Post
-patterns-scalars-requires t c κs = (omega arith, ((c .before .before .pre) .1 .0, (c .before .before .pre) .1 .1, (c .before .before .pre) .1 .2))
+patterns-scalars-requires t c κs = (omega arith, ((c .before .before .before .pre) .1 .0, (c .before .before .before .pre) .1 .1, (c .before .before .before .pre) .1 .2))
+
+patterns-same-length : (t : ℕ) → patterns-lts.Need-same-length (patterns-calls t) (patterns-at t) patterns.Post
+patterns-same-length t c = search needs
 
 patterns-returns : (t : ℕ) → patterns-lts.Need-returns (patterns-calls t) (patterns-at t) patterns.Post
-patterns-returns t c = let z : (c .before .before .before .before .args) .count + 1 ≡ suc ((c .before .before .before .before .args) .count) = omega arith in rw z (first-refused _ _ _ _ _ scalar-sort _ ((c .before .scalars) .ensures) ((c .before .before .before .before .pre) .1 .0 .most) ((c .before .before .before .before .pre) .1 .1) ((c .if1) .taken) _)
+patterns-returns t c = let z : (c .before .before .before .before .before .before .before .args) .count + 1 ≡ suc ((c .before .before .before .before .before .before .before .args) .count) = omega arith in rw z (first-refused _ _ _ _ _ scalar-sort _ ((c .before .before .before .scalars) .ensures) ((c .before .before .before .before .before .before .before .pre) .1 .0 .most) ((c .before .before .before .before .before .before .before .pre) .1 .1) ((c .if1) .taken) _)
 
 patterns-lost-requires : (t : ℕ) → patterns-lts.Need-lost-requires (patterns-calls t) (patterns-at t) patterns.Post
-patterns-lost-requires t c κs = (c .before .before .before .before .pre) .1 .2
+patterns-lost-requires t c κs = (c .before .before .before .before .before .before .before .pre) .1 .2
 
 patterns-scalars-requires-2 : (t : ℕ) → patterns-lts.Need-scalars-requires-2 (patterns-calls t) (patterns-at t) patterns.Post
-patterns-scalars-requires-2 t c κs = (omega arith, ((c .before .before .before .before .before .before .pre) .1 .0, code-within _ _ _ ((c .before .before .before .scalars) .ensures .answers) ((c .before .before .before .before .before .before .pre) .1 .1) ((c .before .before .if1) .left), omega (arith, (c .before .lost) .ensures .1, (c .before .before .before .before .before .before .pre) .1 .2)))
+patterns-scalars-requires-2 t c κs = (omega arith, ((c .before .before .before .before .before .before .before .before .before .pre) .1 .0, code-within _ _ _ ((c .before .before .before .before .before .scalars) .ensures .answers) ((c .before .before .before .before .before .before .before .before .before .pre) .1 .1) ((c .before .before .if1) .left), omega (arith, (c .before .lost) .ensures .1, (c .before .before .before .before .before .before .before .before .before .pre) .1 .2)))
+
+patterns-same-length-2 : (t : ℕ) → patterns-lts.Need-same-length-2 (patterns-calls t) (patterns-at t) patterns.Post
+patterns-same-length-2 t c = search needs
 
 patterns-returns-2 : (t : ℕ) → patterns-lts.Need-returns-2 (patterns-calls t) (patterns-at t) patterns.Post
-patterns-returns-2 t c = let z : (c .before .before .before .before .before .before .before .args) .count + 1 ≡ suc ((c .before .before .before .before .before .before .before .args) .count) = omega arith in rw z (first-then _ _ _ _ _ scalar-sort _ ((c .before .before .before .before .scalars) .ensures) ((c .before .before .before .if1) .left) _ (rows-as _ _ scalar-sort _ {m = (c .before .before .before .before .before .before .before .args) .count} refl ((c .before .before .lost) .ensures .0) ((c .scalars2) .ensures)))
+patterns-returns-2 t c = let z : (c .before .before .before .before .before .before .before .before .before .before .before .before .args) .count + 1 ≡ suc ((c .before .before .before .before .before .before .before .before .before .before .before .before .args) .count) = omega arith in rw z (first-then _ _ _ _ _ scalar-sort _ ((c .before .before .before .before .before .before .before .before .scalars) .ensures) ((c .before .before .before .before .before .if1) .left) _ (rows-as _ _ scalar-sort _ {m = (c .before .before .before .before .before .before .before .before .before .before .before .before .args) .count} refl ((c .before .before .before .before .lost) .ensures .0) ((c .before .before .scalars2) .ensures)))
 
 abbrev scalars-Inv-loop : scalars-lts.InvT-loop
 scalars-Inv-loop s t start count levels context notes₀ at₀ k₀ left₀ notes at k left =
-    Walking (boundOf t) scalar-sort context s levels count start notes₀ left k at notes
+    Walking (boundOf t) scalar-sort context s levels count start notes₀ left k at notes × (length notes ≡ length notes₀)
 
 abbrev scalars-μ-loop : scalars-lts.MeasureT-loop
 scalars-μ-loop s t start count levels context notes₀ at₀ k₀ left₀ notes at k left = length s - at
 
 scalars-loop-holds : (t : ℕ) → scalars-lts.Need-loop-holds (scalars-calls t) (scalars-at t) scalars.Post scalars-Inv-loop scalars-μ-loop
-scalars-loop-holds t c = walking _ _ _ _ _ _ _ _ ((c .before .pre) .1 .1)
+scalars-loop-holds t c = (walking _ _ _ _ _ _ _ _ ((c .before .before .pre) .1 .1), refl)
 
 scalars-head-requires : (t : ℕ) → scalars-lts.Need-head-requires (scalars-calls t) (scalars-at t) scalars.Post scalars-Inv-loop scalars-μ-loop
-scalars-head-requires t c κs = ((c .before .before .before .pre) .1 .0, (c .before .loop) .inv .there, omega arith)
+scalars-head-requires t c κs = ((c .before .before .before .before .pre) .1 .0, (c .before .loop) .inv .0 .there, omega arith)
+
+scalars-same-length : (t : ℕ) → scalars-lts.Need-same-length (scalars-calls t) (scalars-at t) scalars.Post scalars-Inv-loop scalars-μ-loop
+scalars-same-length t c = search needs
 
 scalars-returns : (t : ℕ) → scalars-lts.Need-returns (scalars-calls t) (scalars-at t) scalars.Post scalars-Inv-loop scalars-μ-loop
-scalars-returns t c = head-refused ((c .before .before .before .loop) .inv) ((c .before .before .before .before .before .pre) .1 .0 .most) (omega arith) ((c .before .head) .ensures) ((c .if1) .taken)
+scalars-returns t c = head-refused ((c .before .before .before .loop) .inv .0) ((c .before .before .before .before .before .before .pre) .1 .0 .most) (omega arith) ((c .before .head) .ensures) ((c .if1) .taken)
 
 scalars-mul-w : (t : ℕ) → scalars-lts.Need-mul-w (scalars-calls t) (scalars-at t) scalars.Post scalars-Inv-loop scalars-μ-loop
-scalars-mul-w t c = omega (arith, begun ((c .before .before .before .loop) .inv) ((c .before .before .before .before .before .pre) .1 .0 .most) (omega arith) ((c .before .head) .ensures) ((c .if1) .left) .inside, (c .before .before .before .before .before .pre) .1 .0 .most)
+scalars-mul-w t c = omega (arith, begun ((c .before .before .before .loop) .inv .0) ((c .before .before .before .before .before .before .pre) .1 .0 .most) (omega arith) ((c .before .head) .ensures) ((c .if1) .left) .inside, (c .before .before .before .before .before .before .pre) .1 .0 .most)
 
 scalars-shared-slice-read-w : (t : ℕ) → scalars-lts.Need-shared-slice-read-w (scalars-calls t) (scalars-at t) scalars.Post scalars-Inv-loop scalars-μ-loop
-scalars-shared-slice-read-w t c = begun ((c .before .before .before .before .loop) .inv) ((c .before .before .before .before .before .before .pre) .1 .0 .most) (omega arith) ((c .before .before .head) .ensures) ((c .before .if1) .left) .inside
+scalars-shared-slice-read-w t c = begun ((c .before .before .before .before .loop) .inv .0) ((c .before .before .before .before .before .before .before .pre) .1 .0 .most) (omega arith) ((c .before .before .head) .ensures) ((c .before .if1) .left) .inside
 
 scalars-sub-k : (t : ℕ) → scalars-lts.Need-sub-k (scalars-calls t) (scalars-at t) scalars.Post scalars-Inv-loop scalars-μ-loop
 scalars-sub-k t c = search needs
@@ -593,43 +662,49 @@ scalars-add-at : (t : ℕ) → scalars-lts.Need-add-at (scalars-calls t) (scalar
 scalars-add-at t c = search needs
 
 scalars-children-requires : (t : ℕ) → scalars-lts.Need-children-requires (scalars-calls t) (scalars-at t) scalars.Post scalars-Inv-loop scalars-μ-loop
-scalars-children-requires t c κs = let k = kindOf (getD ((c .before .before .before .before .before .before .before .before .before .args) .s .now) ((c .before .before .before .before .before .before .before .loop) .at) 0) in (omega (arith, (c .before .before .before .shared-slice-known2) .given ((c .before .before .before .before .before .before .before .loop) .at)), (c .before .before .before .before .before .before .before .before .before .pre) .1 .0 .tabled, scalars-in-row k ((c .before .before .if2) .taken) (omega (arith, leb-true k 70 ((c .if4) .taken))))
+scalars-children-requires t c κs = let k = kindOf (getD ((c .before .before .before .before .before .before .before .before .before .before .args) .s .now) ((c .before .before .before .before .before .before .before .loop) .at) 0) in (omega (arith, (c .before .before .before .shared-slice-known2) .given ((c .before .before .before .before .before .before .before .loop) .at)), (c .before .before .before .before .before .before .before .before .before .before .pre) .1 .0 .tabled, scalars-in-row k ((c .before .before .if2) .taken) (omega (arith, leb-true k 70 ((c .if4) .taken))))
 
 scalars-sub-left : (t : ℕ) → scalars-lts.Need-sub-left (scalars-calls t) (scalars-at t) scalars.Post scalars-Inv-loop scalars-μ-loop
-scalars-sub-left t c = begun ((c .before .before .before .before .before .before .before .before .loop) .inv) ((c .before .before .before .before .before .before .before .before .before .before .pre) .1 .0 .most) (omega arith) ((c .before .before .before .before .before .before .head) .ensures) ((c .before .before .before .before .before .if1) .left) .level
+scalars-sub-left t c = begun ((c .before .before .before .before .before .before .before .before .loop) .inv .0) ((c .before .before .before .before .before .before .before .before .before .before .before .pre) .1 .0 .most) (omega arith) ((c .before .before .before .before .before .before .head) .ensures) ((c .before .before .before .before .before .if1) .left) .level
 
 scalars-loop-less : (t : ℕ) → scalars-lts.Need-loop-less (scalars-calls t) (scalars-at t) scalars.Post scalars-Inv-loop scalars-μ-loop
-scalars-loop-less t c = omega (arith, begun ((c .before .before .before .before .before .before .before .before .loop) .inv) ((c .before .before .before .before .before .before .before .before .before .before .pre) .1 .0 .most) (omega arith) ((c .before .before .before .before .before .before .head) .ensures) ((c .before .before .before .before .before .if1) .left) .inside)
+scalars-loop-less t c = omega (arith, begun ((c .before .before .before .before .before .before .before .before .loop) .inv .0) ((c .before .before .before .before .before .before .before .before .before .before .before .pre) .1 .0 .most) (omega arith) ((c .before .before .before .before .before .before .head) .ensures) ((c .before .before .before .before .before .if1) .left) .inside)
 
 scalars-loop-again : (t : ℕ) → scalars-lts.Need-loop-again (scalars-calls t) (scalars-at t) scalars.Post scalars-Inv-loop scalars-μ-loop
-scalars-loop-again t c = let k = kindOf (getD ((c .before .before .before .before .before .before .before .before .before .before .args) .s .now) ((c .before .before .before .before .before .before .before .before .loop) .at) 0) in let lo : 66 ≤ k = (c .before .before .before .if2) .taken in let hi : k < 71 = omega (arith, leb-true k 70 ((c .before .if4) .taken)) in let one : (c .before .before .before .before .before .before .before .before .loop) .k ≡ 1 = omega arith in past-last ((c .before .before .before .before .before .before .before .before .loop) .inv) ((c .before .before .before .before .before .before .before .before .before .before .pre) .1 .0 .most) (omega arith) ((c .before .before .before .before .before .before .head) .ensures) ((c .before .before .before .before .before .if1) .left) one (scalar-row (valueOf (getD ((c .before .before .before .before .before .before .before .before .before .before .args) .s .now) ((c .before .before .before .before .before .before .before .before .loop) .at) 0)) k lo (omega (arith, hi)) (λ z. omega (arith, hi))) ((c .children) .ensures) (steady-scalar k lo hi)
+scalars-loop-again t c = (let k = kindOf (getD ((c .before .before .before .before .before .before .before .before .before .before .before .args) .s .now) ((c .before .before .before .before .before .before .before .before .loop) .at) 0) in let lo : 66 ≤ k = (c .before .before .before .if2) .taken in let hi : k < 71 = omega (arith, leb-true k 70 ((c .before .if4) .taken)) in let one : (c .before .before .before .before .before .before .before .before .loop) .k ≡ 1 = omega arith in past-last ((c .before .before .before .before .before .before .before .before .loop) .inv .0) ((c .before .before .before .before .before .before .before .before .before .before .before .pre) .1 .0 .most) (omega arith) ((c .before .before .before .before .before .before .head) .ensures) ((c .before .before .before .before .before .if1) .left) one (scalar-row (valueOf (getD ((c .before .before .before .before .before .before .before .before .before .before .before .args) .s .now) ((c .before .before .before .before .before .before .before .before .loop) .at) 0)) k lo (omega (arith, hi)) (λ z. omega (arith, hi))) ((c .children) .ensures) (steady-scalar k lo hi), omega (arith, (c .before .before .before .before .before .before .before .before .loop) .inv .1))
 
 scalars-sub-after-scalar : (t : ℕ) → scalars-lts.Need-sub-after-scalar (scalars-calls t) (scalars-at t) scalars.Post scalars-Inv-loop scalars-μ-loop
-scalars-sub-after-scalar t c = begun ((c .before .before .before .before .before .before .loop) .inv) ((c .before .before .before .before .before .before .before .before .pre) .1 .0 .most) (omega arith) ((c .before .before .before .before .head) .ensures) ((c .before .before .before .if1) .left) .level
+scalars-sub-after-scalar t c = begun ((c .before .before .before .before .before .before .loop) .inv .0) ((c .before .before .before .before .before .before .before .before .before .pre) .1 .0 .most) (omega arith) ((c .before .before .before .before .head) .ensures) ((c .before .before .before .if1) .left) .level
 
 scalars-after-scalar-requires : (t : ℕ) → scalars-lts.Need-after-scalar-requires (scalars-calls t) (scalars-at t) scalars.Post scalars-Inv-loop scalars-μ-loop
-scalars-after-scalar-requires t c κs = let u = begun ((c .before .before .before .before .before .before .before .loop) .inv) ((c .before .before .before .before .before .before .before .before .before .pre) .1 .0 .most) (omega arith) ((c .before .before .before .before .before .head) .ensures) ((c .before .before .before .before .if1) .left) in (omega (arith, u .level, (c .before .before .before .before .before .before .before .loop) .inv .deep), ((c .before .before .before .before .before .before .before .before .before .pre) .1 .0, u .inside, scalar-kind (kindOf (getD ((c .before .before .before .before .before .before .before .before .before .args) .s .now) ((c .before .before .before .before .before .before .before .loop) .at) 0)) (omega (arith, (c .before .before .before .shared-slice-known2) .given ((c .before .before .before .before .before .before .before .loop) .at))) (u .kind), (c .before .before .before .before .before .before .before .before .before .pre) .1 .2))
+scalars-after-scalar-requires t c κs = let u = begun ((c .before .before .before .before .before .before .before .loop) .inv .0) ((c .before .before .before .before .before .before .before .before .before .before .pre) .1 .0 .most) (omega arith) ((c .before .before .before .before .before .head) .ensures) ((c .before .before .before .before .if1) .left) in (omega (arith, u .level, (c .before .before .before .before .before .before .before .loop) .inv .0 .deep), ((c .before .before .before .before .before .before .before .before .before .before .pre) .1 .0, u .inside, scalar-kind (kindOf (getD ((c .before .before .before .before .before .before .before .before .before .before .args) .s .now) ((c .before .before .before .before .before .before .before .loop) .at) 0)) (omega (arith, (c .before .before .before .shared-slice-known2) .given ((c .before .before .before .before .before .before .before .loop) .at))) (u .kind), (c .before .before .before .before .before .before .before .before .before .before .pre) .1 .2))
+
+scalars-same-length-2 : (t : ℕ) → scalars-lts.Need-same-length-2 (scalars-calls t) (scalars-at t) scalars.Post scalars-Inv-loop scalars-μ-loop
+scalars-same-length-2 t c = search needs
 
 scalars-returns-2 : (t : ℕ) → scalars-lts.Need-returns-2 (scalars-calls t) (scalars-at t) scalars.Post scalars-Inv-loop scalars-μ-loop
-scalars-returns-2 t c = node-refused ((c .before .before .before .before .before .before .before .before .before .loop) .inv) ((c .before .before .before .before .before .before .before .before .before .before .before .pre) .1 .0 .most) (omega arith) ((c .before .before .before .before .before .before .before .head) .ensures) ((c .before .before .before .before .before .before .if1) .left) ((c .before .after-scalar) .ensures) ((c .if5) .taken)
+scalars-returns-2 t c = node-refused ((c .before .before .before .before .before .before .before .before .before .before .before .loop) .inv .0) ((c .before .before .before .before .before .before .before .before .before .before .before .before .before .before .pre) .1 .0 .most) (omega arith) ((c .before .before .before .before .before .before .before .before .before .head) .ensures) ((c .before .before .before .before .before .before .before .before .if1) .left) ((c .before .before .before .after-scalar) .ensures) ((c .if5) .taken)
 
 scalars-loop-less-2 : (t : ℕ) → scalars-lts.Need-loop-less-2 (scalars-calls t) (scalars-at t) scalars.Post scalars-Inv-loop scalars-μ-loop
-scalars-loop-less-2 t c = let w = forward ((c .before .before .before .before .before .before .before .before .before .loop) .inv) ((c .before .before .before .before .before .before .before .before .before .before .before .pre) .1 .0 .most) (omega arith) ((c .before .before .before .before .before .before .before .head) .ensures) ((c .before .before .before .before .before .before .if1) .left) ((c .before .after-scalar) .ensures) ((c .if5) .left) in omega (arith, w .0, w .1)
+scalars-loop-less-2 t c = let w = forward ((c .before .before .before .before .before .before .before .before .before .before .before .loop) .inv .0) ((c .before .before .before .before .before .before .before .before .before .before .before .before .before .before .pre) .1 .0 .most) (omega arith) ((c .before .before .before .before .before .before .before .before .before .head) .ensures) ((c .before .before .before .before .before .before .before .before .if1) .left) ((c .before .before .before .after-scalar) .ensures) ((c .if5) .left) in omega (arith, w .0, w .1)
 
 scalars-loop-again-2 : (t : ℕ) → scalars-lts.Need-loop-again-2 (scalars-calls t) (scalars-at t) scalars.Post scalars-Inv-loop scalars-μ-loop
-scalars-loop-again-2 t c = past-node ((c .before .before .before .before .before .before .before .before .before .loop) .inv) ((c .before .before .before .before .before .before .before .before .before .before .before .pre) .1 .0 .most) (omega arith) ((c .before .before .before .before .before .before .before .head) .ensures) ((c .before .before .before .before .before .before .if1) .left) ((c .before .after-scalar) .ensures) ((c .if5) .left)
+scalars-loop-again-2 t c = (past-node ((c .before .before .before .before .before .before .before .before .before .before .before .loop) .inv .0) ((c .before .before .before .before .before .before .before .before .before .before .before .before .before .before .pre) .1 .0 .most) (omega arith) ((c .before .before .before .before .before .before .before .before .before .head) .ensures) ((c .before .before .before .before .before .before .before .before .if1) .left) ((c .before .before .before .after-scalar) .ensures) ((c .if5) .left), omega (arith, (c .before .before .before .before .before .before .before .before .before .before .before .loop) .inv .1))
 
 scalars-add-at-2 : (t : ℕ) → scalars-lts.Need-add-at-2 (scalars-calls t) (scalars-at t) scalars.Post scalars-Inv-loop scalars-μ-loop
 scalars-add-at-2 t c = search needs
 
 scalars-loop-less-3 : (t : ℕ) → scalars-lts.Need-loop-less-3 (scalars-calls t) (scalars-at t) scalars.Post scalars-Inv-loop scalars-μ-loop
-scalars-loop-less-3 t c = omega (arith, begun ((c .before .before .before .before .before .loop) .inv) ((c .before .before .before .before .before .before .before .pre) .1 .0 .most) (omega arith) ((c .before .before .before .head) .ensures) ((c .before .before .if1) .left) .inside)
+scalars-loop-less-3 t c = omega (arith, begun ((c .before .before .before .before .before .loop) .inv .0) ((c .before .before .before .before .before .before .before .before .pre) .1 .0 .most) (omega arith) ((c .before .before .before .head) .ensures) ((c .before .before .if1) .left) .inside)
 
 scalars-loop-again-3 : (t : ℕ) → scalars-lts.Need-loop-again-3 (scalars-calls t) (scalars-at t) scalars.Post scalars-Inv-loop scalars-μ-loop
-scalars-loop-again-3 t c = past-leaf ((c .before .before .before .before .before .loop) .inv) ((c .before .before .before .before .before .before .before .pre) .1 .0 .most) (omega arith) ((c .before .before .before .head) .ensures) ((c .before .before .if1) .left) (leaf-low (valueOf (getD ((c .before .before .before .before .before .before .before .args) .s .now) ((c .before .before .before .before .before .loop) .at) 0)) (kindOf (getD ((c .before .before .before .before .before .before .before .args) .s .now) ((c .before .before .before .before .before .loop) .at) 0)) ((c .if2) .left)) (plain-low (kindOf (getD ((c .before .before .before .before .before .before .before .args) .s .now) ((c .before .before .before .before .before .loop) .at) 0)) ((c .if2) .left))
+scalars-loop-again-3 t c = (past-leaf ((c .before .before .before .before .before .loop) .inv .0) ((c .before .before .before .before .before .before .before .before .pre) .1 .0 .most) (omega arith) ((c .before .before .before .head) .ensures) ((c .before .before .if1) .left) (leaf-low (valueOf (getD ((c .before .before .before .before .before .before .before .before .args) .s .now) ((c .before .before .before .before .before .loop) .at) 0)) (kindOf (getD ((c .before .before .before .before .before .before .before .before .args) .s .now) ((c .before .before .before .before .before .loop) .at) 0)) ((c .if2) .left)) (plain-low (kindOf (getD ((c .before .before .before .before .before .before .before .before .args) .s .now) ((c .before .before .before .before .before .loop) .at) 0)) ((c .if2) .left)), omega (arith, (c .before .before .before .before .before .loop) .inv .1))
+
+scalars-same-length-3 : (t : ℕ) → scalars-lts.Need-same-length-3 (scalars-calls t) (scalars-at t) scalars.Post scalars-Inv-loop scalars-μ-loop
+scalars-same-length-3 t c = search needs
 
 scalars-returns-3 : (t : ℕ) → scalars-lts.Need-returns-3 (scalars-calls t) (scalars-at t) scalars.Post scalars-Inv-loop scalars-μ-loop
-scalars-returns-3 t c = walked ((c .before .loop) .inv) (omega arith)
+scalars-returns-3 t c = walked ((c .before .loop) .inv .0) (omega arith)
 
 pub +after-judgment+after-scalar+aggregate+choice+exists+judgments+patterns+scalars-spec :
     {M : Type 1} → statement M
@@ -672,11 +747,17 @@ pub +after-judgment+after-scalar+aggregate+choice+exists+judgments+patterns+scal
     (after-judgment-children-requires t)
     (after-judgment-judgments-requires t)
     (after-judgment-add-result-2 t)
+    (after-judgment-same-length t)
     (after-judgment-returns t)
+    (after-judgment-same-length-2 t)
     (after-judgment-returns-2 t)
+    (after-judgment-same-length-3 t)
     (after-judgment-returns-3 t)
+    (after-judgment-same-length-4 t)
     (after-judgment-returns-4 t)
+    (after-judgment-same-length-5 t)
     (after-judgment-returns-5 t)
+    (after-judgment-same-length-6 t)
     (after-judgment-returns-6 t)
     (after-judgment-returns-7 t))
     (λ t. after-scalar-lts.spec (after-scalar-calls t) (after-scalar-at t)
@@ -703,11 +784,17 @@ pub +after-judgment+after-scalar+aggregate+choice+exists+judgments+patterns+scal
     (after-scalar-add-aggregate t)
     (after-scalar-aggregate-requires t)
     (after-scalar-add-result t)
+    (after-scalar-same-length t)
     (after-scalar-returns t)
+    (after-scalar-same-length-2 t)
     (after-scalar-returns-2 t)
+    (after-scalar-same-length-3 t)
     (after-scalar-returns-3 t)
+    (after-scalar-same-length-4 t)
     (after-scalar-returns-4 t)
+    (after-scalar-same-length-5 t)
     (after-scalar-returns-5 t)
+    (after-scalar-same-length-6 t)
     (after-scalar-returns-6 t)
     (after-scalar-returns-7 t))
     (λ t. aggregate-lts.spec (aggregate-calls t) (aggregate-at t)
@@ -734,15 +821,19 @@ pub +after-judgment+after-scalar+aggregate+choice+exists+judgments+patterns+scal
     (aggregate-add-scalars t)
     (aggregate-sub-scalars t)
     (aggregate-scalars-requires t)
+    (aggregate-same-length t)
     (aggregate-returns-5 t)
     (aggregate-add-judgments t)
     (aggregate-judgments-requires t)
+    (aggregate-same-length-2 t)
     (aggregate-returns-6 t))
     (λ t. choice-lts.spec (choice-calls t) (choice-at t)
     choice.Post
     (choice-judgments-requires t)
+    (choice-same-length t)
     (choice-returns t)
     (choice-scalars-requires t)
+    (choice-same-length-2 t)
     (choice-returns-2 t))
     (λ t. exists-lts.spec (exists-calls t) (exists-at t)
     exists.Post
@@ -753,6 +844,7 @@ pub +after-judgment+after-scalar+aggregate+choice+exists+judgments+patterns+scal
     (exists-note-requires t)
     (exists-add-judgments t)
     (exists-judgments-requires t)
+    (exists-same-length t)
     (exists-returns-2 t))
     (λ t. judgments-lts.spec (judgments-calls t) (judgments-at t)
     judgments.Post
@@ -760,25 +852,30 @@ pub +after-judgment+after-scalar+aggregate+choice+exists+judgments+patterns+scal
     judgments-μ-loop
     (judgments-loop-holds t)
     (judgments-head-requires t)
+    (judgments-same-length t)
     (judgments-returns t)
     (judgments-sub-k t)
     (judgments-mul-if2 t)
     (judgments-shared-slice-read-if2 t)
     (judgments-sub-after-judgment t)
     (judgments-after-judgment-requires t)
+    (judgments-same-length-2 t)
     (judgments-returns-2 t)
     (judgments-loop-less t)
     (judgments-loop-again t)
     (judgments-add-at t)
     (judgments-loop-less-2 t)
     (judgments-loop-again-2 t)
+    (judgments-same-length-3 t)
     (judgments-returns-3 t))
     (λ t. patterns-lts.spec (patterns-calls t) (patterns-at t)
     patterns.Post
     (patterns-scalars-requires t)
+    (patterns-same-length t)
     (patterns-returns t)
     (patterns-lost-requires t)
     (patterns-scalars-requires-2 t)
+    (patterns-same-length-2 t)
     (patterns-returns-2 t))
     λ t. scalars-lts.spec (scalars-calls t) (scalars-at t)
     scalars.Post
@@ -786,6 +883,7 @@ pub +after-judgment+after-scalar+aggregate+choice+exists+judgments+patterns+scal
     scalars-μ-loop
     (scalars-loop-holds t)
     (scalars-head-requires t)
+    (scalars-same-length t)
     (scalars-returns t)
     (scalars-mul-w t)
     (scalars-shared-slice-read-w t)
@@ -797,10 +895,12 @@ pub +after-judgment+after-scalar+aggregate+choice+exists+judgments+patterns+scal
     (scalars-loop-again t)
     (scalars-sub-after-scalar t)
     (scalars-after-scalar-requires t)
+    (scalars-same-length-2 t)
     (scalars-returns-2 t)
     (scalars-loop-less-2 t)
     (scalars-loop-again-2 t)
     (scalars-add-at-2 t)
     (scalars-loop-less-3 t)
     (scalars-loop-again-3 t)
+    (scalars-same-length-3 t)
     (scalars-returns-3 t)

@@ -10,11 +10,14 @@ judgments-requires : tie.Need-judgments-requires
 judgments-requires c κs = search needs
 
 step-of-requires : tie.Need-step-of-requires
-step-of-requires c κs = tree-code _ _ _ _ _ ((c .before .before .before .pre) .0 .most) ((c .before .before .before .pre) .1) ((c .judgments) .ensures .answers) .small
+step-of-requires c κs = tree-code _ _ _ _ _ ((c .before .before .before .before .before .before .pre) .0 .most) ((c .before .before .before .before .before .before .pre) .1) ((c .before .before .judgments) .ensures .answers) .small
+
+same-length : tie.Need-same-length
+same-length c = search needs
 
 returns : tie.Need-returns
 unfolding root
-returns c = step-noted _ _ _ _ _ _ ((c .before .before .before .before .pre) .0 .most) ((c .before .before .before .before .pre) .1) ((c .before .judgments) .ensures) ((c .step-of) .ensures)
+returns c = step-noted _ _ _ _ _ _ ((c .before .before .before .before .before .before .before .pre) .0 .most) ((c .before .before .before .before .before .before .before .pre) .1) ((c .before .before .before .judgments) .ensures) ((c .step-of) .ensures)
 
 pub judgment-spec : {M : Type 1} → statement M
-judgment-spec = tie.close (tie.spec judgments-requires step-of-requires returns)
+judgment-spec = tie.close (tie.spec judgments-requires step-of-requires same-length returns)

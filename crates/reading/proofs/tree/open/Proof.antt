@@ -26,8 +26,11 @@ note-requires c κs = search needs
 sub-result : tie.Need-sub-result
 sub-result c = search needs
 
+same-length : tie.Need-same-length
+same-length c = search needs
+
 returns : tie.Need-returns
-returns c = (omega (arith, c .note .ensures .0), opened _ _ (c .note .ensures .1))
+returns c = (omega (arith, c .before .before .note .ensures .0), opened _ _ (c .before .before .note .ensures .1))
 
 pub open-spec : {M : Type 1} → statement M
-open-spec = tie.close (tie.spec cast-note add-note note-requires sub-result returns)
+open-spec = tie.close (tie.spec cast-note add-note note-requires sub-result same-length returns)

@@ -10,11 +10,14 @@ scalars-requires : tie.Need-scalars-requires
 scalars-requires c κs = search needs
 
 step-of-requires : tie.Need-step-of-requires
-step-of-requires c κs = tree-code _ _ _ _ _ ((c .before .before .before .pre) .0 .most) ((c .before .before .before .pre) .1) ((c .scalars) .ensures .answers) .small
+step-of-requires c κs = tree-code _ _ _ _ _ ((c .before .before .before .before .before .before .pre) .0 .most) ((c .before .before .before .before .before .before .pre) .1) ((c .before .before .scalars) .ensures .answers) .small
+
+same-length : tie.Need-same-length
+same-length c = search needs
 
 returns : tie.Need-returns
 unfolding root
-returns c = step-noted _ _ _ _ _ _ ((c .before .before .before .before .pre) .0 .most) ((c .before .before .before .before .pre) .1) ((c .before .scalars) .ensures) ((c .step-of) .ensures)
+returns c = step-noted _ _ _ _ _ _ ((c .before .before .before .before .before .before .before .pre) .0 .most) ((c .before .before .before .before .before .before .before .pre) .1) ((c .before .before .before .scalars) .ensures) ((c .step-of) .ensures)
 
 pub scalar-spec : {M : Type 1} → statement M
-scalar-spec = tie.close (tie.spec scalars-requires step-of-requires returns)
+scalar-spec = tie.close (tie.spec scalars-requires step-of-requires same-length returns)
