@@ -268,14 +268,7 @@ fn judgments(
 }
 
 // The condition and the two cases of an If.
-fn choice(
-    s: &[u32],
-    t: &[u32; 256],
-    at: usize,
-    left: u32,
-    context: u32,
-    notes: &mut [u32],
-) -> usize
+fn choice(s: &[u32], t: &[u32; 256], at: usize, left: u32, context: u32, notes: &mut [u32]) -> usize
     requires { ⌜ Ready (now s) (now t) × (at ≤ length (now s)) × Context context ⌝ }
     ensures { λ r. ⌜ Sorted (boundOf (now (t .entry))) left (judgment ∷ scalar ∷ scalar ∷ []) context context (now (s .entry)) at (now (notes .entry)) r (now (notes .exit)) ⌝ }
 {
@@ -346,14 +339,7 @@ fn aggregate(
 }
 
 // The arguments of an Exists, which is noted, and its body.
-fn exists(
-    s: &[u32],
-    t: &[u32; 256],
-    at: usize,
-    left: u32,
-    context: u32,
-    notes: &mut [u32],
-) -> usize
+fn exists(s: &[u32], t: &[u32; 256], at: usize, left: u32, context: u32, notes: &mut [u32]) -> usize
     requires { ⌜ Ready (now s) (now t) × (at ≤ length (now s)) × Context context ⌝ }
     ensures { λ r. ⌜ Shape (boundOf (now (t .entry))) left true Exists 0 context (now (s .entry)) at (now (notes .entry)) r (now (notes .exit)) ⌝ }
 {
@@ -459,26 +445,14 @@ fn step_of(code: usize) -> Step
 }
 
 // The tree of a body or predicate in a context.
-pub fn scalar(
-    s: &[u32],
-    t: &[u32; 256],
-    c: Cursor,
-    context: u32,
-    notes: &mut [u32],
-) -> Step
+pub fn scalar(s: &[u32], t: &[u32; 256], c: Cursor, context: u32, notes: &mut [u32]) -> Step
     requires { ⌜ Ready (now s) (now t) × (c .at ≤ length (now s)) × Context context ⌝ }
     ensures { λ r. ⌜ NotedStep (root (boundOf (now (t .entry))) scalar) (λ u. noteTree context u) (now (s .entry)) (c .at) (now (notes .entry)) r (now (notes .exit)) ⌝ }
 {
     step_of(scalars(s, t, c.at, 1, Pack::DEPTH, context, notes))
 }
 
-pub fn judgment(
-    s: &[u32],
-    t: &[u32; 256],
-    c: Cursor,
-    context: u32,
-    notes: &mut [u32],
-) -> Step
+pub fn judgment(s: &[u32], t: &[u32; 256], c: Cursor, context: u32, notes: &mut [u32]) -> Step
     requires { ⌜ Ready (now s) (now t) × (c .at ≤ length (now s)) × Context context ⌝ }
     ensures { λ r. ⌜ NotedStep (root (boundOf (now (t .entry))) judgment) (λ u. noteTree context u) (now (s .entry)) (c .at) (now (notes .entry)) r (now (notes .exit)) ⌝ }
 {

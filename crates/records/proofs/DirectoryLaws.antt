@@ -23,7 +23,8 @@ use Rattle.pack.specs.Pack.{defaulted, relations, rules, blocks, records, Recor
 use Rattle.pack.specs.Pack.{Hop, Derivation, Relation, Chain, Member, RelationTail, toDerivation, hop, path, chain, member, nameList, derivation, optionalDerivation, newName, relationTail, relation}
 use Rattle.pack.specs.Steps.{stepOf, walk, same, nameOf, fieldStep}
 use Rattle.pack.proofs.StepLaws.{at-most, field-fine, step-no}
-use Rattle.records.specs.Directory.{Noted, hops, leadOf, leadIn, chainLead, entities, derivedBy, noteIn, tailNote, entered, entry, noteRelation, Clear, relationWords, noteRelations, relationsAt, rulesAt, blocksAt, layoutOf, directoryOf, stepIn, refusal, LaidOut}
+use Rattle.records.specs.Directory.{Noted, hops, leadOf, leadIn, chainLead, entities, derivedBy, noteIn, tailNote, entered, entry, noteRelation, Clear, relationWords, noteRelations, notesAll, relationsAt, rulesAt, blocksAt, layoutOf, directoryOf, stepIn, refusal}
+use Rattle.records.specs.Notes.{noteRules, notePredicate, notePredicates, Both, noteBoth, noteAll, relationsLeft, notesLeft, LaidOut}
 use Rattle.records.proofs.KeptLaws.{there, within, noted-there, Left, left-all, left-turn}
 use Rattle.records.proofs.RecordLaws.{name-alike, relation-below}
 
@@ -39,7 +40,7 @@ unfolding path wordsBy count items
 path-words n none = refl
 path-words n (some l) = let e = hop-words n l in omega arith
 
-chain-words : (n : ℕ) (t : Chain) → length (wordsBy (chain n) t) ≡ 4 + 3 * hops (t .1 .0)
+pub chain-words : (n : ℕ) (t : Chain) → length (wordsBy (chain n) t) ≡ 4 + 3 * hops (t .1 .0)
 unfolding chain wordsBy
 chain-words n t = omega (arith, length-append (wordsBy (path n) (t .1 .0)) (wordsBy (field n 17) (t .1 .1 .0) ++ wordsBy (field n 18) (t .1 .1 .1)), path-words n (t .1 .0))
 
@@ -181,11 +182,11 @@ relation-alike : (n : ℕ) (p q : ℕ → Bool) → ((v : ℕ) → v < n → p v
 unfolding relation readBy
 relation-alike n p q h at ws = simp (name-alike n p q h)
 
-pub noted-used : (n : ℕ) (i : ℕ) {d used ws : List ℕ} {at : ℕ} {y : Step} {d′ : List ℕ} → Used n d used
-    → Noted nameOf (relation n (entered d)) (noteRelation i at) ws at d y d′ → Noted nameOf (relation n (λ v. among v used)) (noteRelation i at) ws at d y d′
+pub noted-used : (n : ℕ) (i : ℕ) {used ws : List ℕ} {d : Both} {at : ℕ} {y : Step} {d′ : Both} → Used n (d .0) used
+    → Noted nameOf (relation n (entered (d .0))) (noteBoth i at) ws at d y d′ → Noted nameOf (relation n (λ v. among v used)) (noteBoth i at) ws at d y d′
 unfolding stepOf
-noted-used n i {d} {used} {ws} {at} u k =
-    let e = relation-alike n (entered d) (λ v. among v used) (λ v h. u .alike v h) at (drop at ws) in
+noted-used n i {used} {ws} {d} {at} u k =
+    let e = relation-alike n (entered (d .0)) (λ v. among v used) (λ v h. u .alike v h) at (drop at ws) in
     record { answers = k .answers ∙ rw e refl; notes = λ a next rest h. k .notes a next rest (e ∙ h) }
 
 pub relation-words : (n : ℕ) (used : ℕ → Bool) (r : Relation) → wordsBy (relation n used) r ≡ relationWords n r
@@ -214,33 +215,37 @@ module _ (n : ℕ) (ws : List ℕ) where
   words-alike used r = relation-words n (λ v. among v used) r
 
   -- relations are left to read and to note, of which none has a name used before
-  pub record Relating (d₀ : List ℕ) (at₀ m₀ : ℕ) (d : List ℕ) (at i m : ℕ) : Type 0 where
+  pub record Relating (d₀ : Both) (at₀ m₀ : ℕ) (d : Both) (at i m : ℕ) : Type 0 where
     pub used : List ℕ
-    pub work : Left nextUsed fresh (relationWords n) words-alike noteRelation ws m₀ [] at₀ d₀ m i used at d
-    pub names : Used n d used
+    pub work : Left nextUsed fresh (relationWords n) words-alike noteBoth ws m₀ [] at₀ d₀ m i used at d
+    pub names : Used n (d .0) used
     pub many : i + m ≡ m₀
     pub few : m₀ ≤ 512
     pub late : 0 < at
-    pub kept : length d ≡ length d₀
+    pub kept : length (d .0) ≡ length (d₀ .0)
+    pub stays : length (d .1) ≡ length (d₀ .1)
 
-  pub relating : {d : List ℕ} {at m : ℕ} → Clear n d → m ≤ 512 → 0 < at → Relating d at m d at 0 m
+  pub relating : {d : Both} {at m : ℕ} → Clear n (d .0) → m ≤ 512 → 0 < at → Relating d at m d at 0 m
   relating {d} {at} {m} c h l =
-      record { used = []; work = left-all nextUsed fresh (relationWords n) words-alike noteRelation ws m [] at d; names = used-none c; many = omega arith; few = h; late = l; kept = refl }
+      record { used = []; work = left-all nextUsed fresh (relationWords n) words-alike noteBoth ws m [] at d; names = used-none c; many = omega arith; few = h; late = l; kept = refl; stays = refl }
 
-  pub relating-on : {d₀ d : List ℕ} {at₀ m₀ at i m : ℕ} → Relating d₀ at₀ m₀ d at i m → 0 < m → {y : Step} {d′ : List ℕ} → Noted nameOf (relation n (entered d)) (noteRelation i at) ws at d y d′
-      → {v : ℕ} {k : Cursor} → y ≡ On v k → Relating d₀ at₀ m₀ d′ (k .at) (i + 1) (m - 1)
-  relating-on {d = d} {at = at} {i = i} {m = m} g h {d′ = d′} k {v} o =
+  pub relating-on : {d₀ d : Both} {at₀ m₀ at i m : ℕ} → Relating d₀ at₀ m₀ d at i m → 0 < m → {y : Step} {d′ : Both} → Noted nameOf (relation n (entered (d .0))) (noteBoth i at) ws at d y d′
+      → {v : ℕ} {k : Cursor} → y ≡ On v k → length (d′ .1) ≡ length (d .1) → Relating d₀ at₀ m₀ d′ (k .at) (i + 1) (m - 1)
+  unfolding noteBoth
+  relating-on {d = d} {at = at} {i = i} {m = m} g h {d′ = d′} k {v} o s =
       let z = noted-used n i (g .names) k in
-      let p = noted-there nameOf (fresh (g .used)) (noteRelation i at) ws at d z o in
+      let p = noted-there nameOf (fresh (g .used)) (noteBoth i at) ws at d z o in
+      let q : d′ .0 ≡ noteRelation i at (p .0 .value) (d .0) = ap (λ (x : Both). x .0) (p .1) in
       let b = relation-below n (λ v. among v (g .used)) ws at (z .answers) o in
       record {
         used = v ∷ g .used;
-        work = left-turn nextUsed fresh (relationWords n) words-alike noteRelation ws (g .work) h nameOf z (λ v. v ∷ g .used) (λ _. refl) o;
-        names = subst (λ (x : ℕ). Used n d′ (x ∷ g .used)) (p .0 .kept) (used-more i at (p .0 .value) (omega (arith, g .many, g .few)) (g .late) (omega (arith, p .0 .kept)) (g .names) (p .1));
+        work = left-turn nextUsed fresh (relationWords n) words-alike noteBoth ws (g .work) h nameOf z (λ v. v ∷ g .used) (λ _. refl) o;
+        names = subst (λ (x : ℕ). Used n (d′ .0) (x ∷ g .used)) (p .0 .kept) (used-more i at (p .0 .value) (omega (arith, g .many, g .few)) (g .late) (omega (arith, p .0 .kept)) (g .names) q);
         many = omega (arith, g .many);
         few = g .few;
         late = omega (arith, p .0 .on, g .late);
-        kept = ap length (p .1) ∙ note-long i at (p .0 .value) d ∙ g .kept;
+        kept = ap length q ∙ note-long i at (p .0 .value) (d .0) ∙ g .kept;
+        stays = s ∙ g .stays;
       }
 
 -- the count of relations that was read
@@ -254,41 +259,57 @@ count-read n ws at {v = v} e o = record { few = at-most n 5 512 refl v (field-fi
 
 -- ---- all records
 
-layout-alike : (n e : ℕ) {a b c x y z : ℕ} → a ≡ x → b ≡ y → c ≡ z
-    → _≡_ {A = Laid} (Yes (record { names = n; relations = a; rules = b; blocks = c; end = e })) (Yes (record { names = n; relations = x; rules = y; blocks = z; end = e }))
-layout-alike n e p q r = rw (p, q, r) refl
+-- what is noted in both is noted in each
+pub both-apart : (n : ℕ) (l : List Relation) (i at : ℕ) (d e : List ℕ)
+    → notesAll (relationWords n) noteBoth i at l (d, e) ≡ (notesAll (relationWords n) noteRelation i at l d, notesAll (relationWords n) notePredicate i at l e)
+unfolding notesAll noteBoth
+both-apart n [] i at d e = refl
+both-apart n (r ∷ l) i at d e = both-apart n l (i + 1) (at + length (relationWords n r)) (noteRelation i at r d) (notePredicate i at r e)
 
-module _ (n : ℕ) (ws : List ℕ) (at : ℕ) (d : List ℕ) {d′ : List ℕ} where
-  pub laid-no : {x : Step} {e : Refusal} {r : Laid} → x ≡ walk (records undated n) ws at → x ≡ Refused e → r ≡ refusal x → LaidOut n ws at d r d′
+layout-alike : (n e : ℕ) {a b c f g x y z u v : ℕ} → a ≡ x → b ≡ y → c ≡ z → f ≡ u → g ≡ v
+    → _≡_ {A = Laid} (Yes (record { names = n; relations = a; rules = b; blocks = c; end = e; noted = f; all = g }))
+    (Yes (record { names = n; relations = x; rules = y; blocks = z; end = e; noted = u; all = v }))
+layout-alike n e p q r s t = rw (p, q, r, s, t) refl
+
+module _ (n : ℕ) (ws : List ℕ) (at : ℕ) (d e : List ℕ) {d′ e′ : List ℕ} where
+  pub laid-no : {x : Step} {w : Refusal} {r : Laid} → x ≡ walk (records undated n) ws at → x ≡ Refused w → r ≡ refusal x → LaidOut n ws at d e r d′ e′
   unfolding stepOf
-  laid-no {x} {e} {r} w o q =
-      let s : r ≡ No e = q ∙ ap refusal o in
-      let no = step-no (λ a. 0) (readBy (records undated n) at (drop at ws)) (sym w ∙ o) in
+  laid-no {x} {w} {r} y o q =
+      let s : r ≡ No w = q ∙ ap refusal o in
+      let no = step-no (λ a. 0) (readBy (records undated n) at (drop at ws)) (sym y ∙ o) in
       record {
-        answers = ap stepIn s ∙ sym o ∙ w;
+        answers = ap stepIn s ∙ sym o ∙ y;
         lays = λ t next rest h. absurd (clash (sym no ∙ h));
+        enters = λ t next rest h. absurd (clash (sym no ∙ h));
         notes = λ t next rest h. absurd (clash (sym no ∙ h));
       }
 
-  module _ {y₁ y₂ y₃ y₄ : Step} {v₁ v₂ v₃ v₄ : ℕ} {k₁ k₂ k₃ k₄ : Cursor} where
-    pub laid-yes : y₁ ≡ walk (defaulted n) ws at → y₁ ≡ On v₁ k₁ → Noted (count list) (relations n) (noteRelations n (k₁ .at)) ws (k₁ .at) d y₂ d′ → y₂ ≡ On v₂ k₂
-        → y₃ ≡ walk (rules n) ws (k₂ .at) → y₃ ≡ On v₃ k₃ → y₄ ≡ walk (blocks n) ws (k₃ .at) → y₄ ≡ On v₄ k₄
-        → LaidOut n ws at d (Yes (record { names = n; relations = v₂; rules = k₂ .at; blocks = k₃ .at; end = k₄ .at })) d′
-    unfolding records readBy stepOf layoutOf directoryOf relationsAt rulesAt blocksAt count
-    laid-yes e₁ o₁ n₂ o₂ e₃ o₃ e₄ o₄ =
-        let a = there (λ a. 0) (defaulted n) ws at e₁ o₁ in
-        let p = noted-there (count list) (relations n) (noteRelations n (k₁ .at)) ws (k₁ .at) d n₂ o₂ in
+  module _ {y₁ y₂ y₃ y₄ : Step} {v₁ v₂ v₃ v₄ : ℕ} {k₁ k₂ k₃ k₄ : Cursor} {e₁ : List ℕ} {first all : ℕ} where
+    pub laid-yes : y₁ ≡ walk (defaulted n) ws at → y₁ ≡ On v₁ k₁ → Noted (count list) (relations n) (noteAll n (k₁ .at)) ws (k₁ .at) (d, e) y₂ (d′, e₁) → y₂ ≡ On v₂ k₂
+        → Noted (count list) (rules n) (noteRules n (k₂ .at)) ws (k₂ .at) e₁ y₃ e′ → y₃ ≡ On v₃ k₃ → y₄ ≡ walk (blocks n) ws (k₃ .at) → y₄ ≡ On v₄ k₄
+        → first ≡ getD e₁ 0 0 → all ≡ getD e′ 0 0
+        → LaidOut n ws at d e (Yes (record { names = n; relations = v₂; rules = k₂ .at; blocks = k₃ .at; end = k₄ .at; noted = first; all = all })) d′ e′
+    unfolding records readBy stepOf layoutOf directoryOf relationsAt rulesAt blocksAt relationsLeft notesLeft count
+    laid-yes x₁ o₁ n₂ o₂ n₃ o₃ x₄ o₄ c₁ c₂ =
+        let a = there (λ a. 0) (defaulted n) ws at x₁ o₁ in
+        let p = noted-there (count list) (relations n) (noteAll n (k₁ .at)) ws (k₁ .at) (d, e) n₂ o₂ in
         let b = p .0 in
-        let c = there (λ a. 0) (rules n) ws (k₂ .at) e₃ o₃ in
-        let f = there (λ a. 0) (blocks n) ws (k₃ .at) e₄ o₄ in
+        let s = noted-there (count list) (rules n) (noteRules n (k₂ .at)) ws (k₂ .at) e₁ n₃ o₃ in
+        let c = s .0 in
+        let f = there (λ a. 0) (blocks n) ws (k₃ .at) x₄ o₄ in
         let t : Records = (a .value, (b .value, (c .value, f .value))) in
         let w : readBy (records undated n) at (drop at ws) ≡ got t (k₄ .at) (drop (k₄ .at) ws) = rw (a .found) (rw (b .found) (rw (c .found) (rw (f .found) refl))) in
         let r : k₂ .at ≡ at + length (wordsBy (defaulted n) (a .value)) + length (wordsBy (relations n) (b .value)) = omega (arith, a .on, b .on) in
-        let s : k₃ .at ≡ at + length (wordsBy (defaulted n) (a .value)) + length (wordsBy (relations n) (b .value)) + length (wordsBy (rules n) (c .value)) = omega (arith, c .on) in
+        let q : k₃ .at ≡ at + length (wordsBy (defaulted n) (a .value)) + length (wordsBy (relations n) (b .value)) + length (wordsBy (rules n) (c .value)) = omega (arith, c .on) in
+        let g = p .1 ∙ both-apart n (b .value) 0 (k₁ .at + 1) d e in
+        let gd : d′ ≡ directoryOf n at t d = ap (λ (x : Both). x .0) g ∙ ap (λ (x : ℕ). noteRelations n x (b .value) d) (a .on) in
+        let ge : e₁ ≡ relationsLeft n at t e = ap (λ (x : Both). x .1) g ∙ ap (λ (x : ℕ). notePredicates n x (b .value) e) (a .on) in
+        let gn : e′ ≡ notesLeft n at t e = s .1 ∙ (λ i. noteRules n (r i) (c .value) (ge i)) in
         record {
           answers = sym (rw w refl);
           lays = λ u next rest h.
               (let z : t ≡ u = cc (w, h) in let m : k₄ .at ≡ next = cc (w, h) in
-              rw (← z, ← m) (layout-alike n (k₄ .at) (sym (b .kept)) r s));
-          notes = λ u next rest h. (let z : t ≡ u = cc (w, h) in rw (← z) (p .1 ∙ ap (λ (x : ℕ). noteRelations n x (b .value) d) (a .on)));
+              rw (← z, ← m) (layout-alike n (k₄ .at) (sym (b .kept)) r q (c₁ ∙ ap (λ (x : List ℕ). getD x 0 0) ge) (c₂ ∙ ap (λ (x : List ℕ). getD x 0 0) gn)));
+          enters = λ u next rest h. (let z : t ≡ u = cc (w, h) in rw (← z) gd);
+          notes = λ u next rest h. (let z : t ≡ u = cc (w, h) in rw (← z) gn);
         }

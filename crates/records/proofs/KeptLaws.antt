@@ -9,12 +9,13 @@ use Rattle.pack.specs.declared.answer.Refusal.{Refusal}
 use Rattle.pack.specs.declared.cursor.Cursor.{Cursor}
 use Rattle.pack.specs.declared.cursor.Step.{Step}
 use Rattle.pack.specs.declared.cursor.Step.the-variants.{On, Refused}
-use Rattle.pack.specs.declared.table.Rule.the-variants.{AtMost}
+use Rattle.pack.specs.declared.table.Rule.the-variants.{AtMost, FromOne}
 use Rattle.pack.specs.Table.{wordOf, entryOf}
-use Rattle.pack.specs.Form.{Read, got, refused, bind, mapRead, readField, readAll, Holder, list, option, count, says, whole, Suits, Form, field, _▹_, via, countedFrom, wordsBy, Fine, readBy}
+use Rattle.pack.specs.Form.{Read, got, refused, bind, mapRead, readField, readAll, Holder, list, option, count, says, whole, Suits, Form, field, _▹_, via, countedFrom, oneAndMore, wordsBy, Fine, readBy}
 use Rattle.pack.specs.Steps.{stepBy, stepOf, walk, same, fieldStep, walkAll}
 use Rattle.pack.proofs.FormLaws.{lawful, clash, bind-got, map-got}
-use Rattle.pack.proofs.StepLaws.{went, went-same, step-no, by-left, all-next, all-done, field-fine, at-most}
+use Rattle.pack.proofs.StepLaws.{went, went-same, step-no, by-via, by-left, by-more, all-next, all-done, field-fine, at-most}
+use Rattle.reading.specs.Noting.{State, NotedStep}
 use Rattle.records.specs.Directory.{Noted, notesAll}
 
 -- ---- what was read, and where it stood
@@ -50,6 +51,19 @@ module _ {A : Type 0} (f : A → ℕ) (F : Form A) (ws : List ℕ) (at : ℕ) {y
       → ((t : There f F ws at v k) → x ≡ stepOf (λ b. g (t .value, b)) (G (t .value)) ws (k .at)) → x ≡ stepOf g (F ▹ G) ws at
   unfolding stepOf readBy
   kept-then G g h = let t = there in h t ∙ sym (rw (t .found) (step-map g (λ b. (t .value, b)) (readBy (G (t .value)) (k .at) (drop (k .at) ws))))
+
+  -- likewise of a reader that notes
+  pub noted-then : {B D : Type 0} (G : A → Form B) (g : A × B → ℕ) (note : A × B → D → D) (d : D) {x : Step} {d′ : D}
+      → ((t : There f F ws at v k) → Noted (λ b. g (t .value, b)) (G (t .value)) (λ b. note (t .value, b)) ws (k .at) d x d′) → Noted g (F ▹ G) note ws at d x d′
+  unfolding readBy
+  noted-then {B} {D} G g note d h =
+      let t = there in
+      record {
+        answers = kept-then G g (λ u. h u .answers);
+        notes = λ ab next rest r.
+            (let m = map-got (λ (b : B). (t .value, b)) (readBy (G (t .value)) (k .at) (drop (k .at) ws)) (rw (t .found) at r) in
+            h t .notes (m .0) next rest (m .1) ∙ ap (λ (y : A × B). note y d) (m .2));
+      }
 
   -- another number of the same value
   pub kept-last : (g : A → ℕ) {c : ℕ} → ((t : There f F ws at v k) → g (t .value) ≡ c) → On c k ≡ stepOf g F ws at
@@ -92,7 +106,65 @@ module _ {A : Type 0} (n kind : ℕ) (flag : entryOf kind .rule ≡ AtMost 1) (F
       go (got a at′ ws′) h = h
       go (refused r) h = h
 
+  -- likewise of readers that note
+  module _ {D : Type 0} (note : Option A → D → D) (d : D) {d′ : D} where
+    pub noted-none : v ≡ 0 → {c : ℕ} → g none ≡ c → d′ ≡ note none d → Noted g optional note ws at d (On c k) d′
+    unfolding readBy says whole
+    noted-none z q n =
+        record {
+          answers = flag-none z q;
+          notes = λ a next rest r.
+              (let m : got none (k .at) (drop (k .at) ws) ≡ got a next rest = sym (rw flag-there (rw z refl)) ∙ r in
+              let y : none ≡ a = cc in
+              n ∙ ap (λ (x : Option A). note x d) y);
+        }
+
+    pub noted-some : {x : Step} → (v ≡ 0 → ⊥) → Noted (λ a. g (some a)) F (λ a. note (some a)) ws (k .at) d x d′ → Noted g optional note ws at d x d′
+    unfolding readBy says whole
+    noted-some {x} z h =
+        record {
+          answers = flag-some z (h .answers);
+          notes = λ a next rest r.
+              (let l : v ≤ 1 = at-most n kind 1 flag v (field-fine n kind ws at e o .1) in
+              let one : v ≡ 1 = omega arith in
+              go (readBy F (k .at) (drop (k .at) ws)) refl a next rest (sym (rw flag-there (rw one refl)) ∙ r));
+        }
+      where
+        go : (m : Read A) → readBy F (k .at) (drop (k .at) ws) ≡ m → (a : Option A) (next : ℕ) (rest : List ℕ)
+            → mapRead (whole option 1) (bind m (λ a at′ ws′. mapRead (λ l. a ∷ l) (got [] at′ ws′))) ≡ got a next rest → d′ ≡ note a d
+        go (got b at′ ws′) q a next rest r = let y : some b ≡ a = cc (r) in h .notes b at′ ws′ q ∙ ap (λ (x : Option A). note x d) y
+        go (refused w) q a next rest r = absurd (clash r)
+
 -- ---- noting
+
+-- the same words as another type
+pub noted-via : {A B D : Type 0} (to : A → B) (from : B → A) (tf : (b : B) → to (from b) ≡ b) (ft : (a : A) → from (to a) ≡ a) (g : B → ℕ) (F : Form A) (note : B → D → D) (ws : List ℕ) (at : ℕ) (d : D) {x : Step} {d′ : D}
+    → Noted (λ a. g (to a)) F (λ a. note (to a)) ws at d x d′ → Noted g (via to from tf ft F) note ws at d x d′
+unfolding readBy
+noted-via {B = B} to from tf ft g F note ws at d h =
+    record {
+      answers = by-via to from tf ft g F ws at (h .answers);
+      notes = λ b next rest r. (let m = map-got to (readBy F at (drop at ws)) r in h .notes (m .0) next rest (m .1) ∙ ap (λ (y : B). note y d) (m .2));
+    }
+
+-- what is noted in another way comes to the same
+pub noted-as : {A D : Type 0} (f : A → ℕ) (F : Form A) (note note₂ : A → D → D) (ws : List ℕ) (at : ℕ) (d d₂ : D) {x : Step} {d′ : D}
+    → Noted f F note ws at d x d′ → ((a : A) → note a d ≡ note₂ a d₂) → Noted f F note₂ ws at d₂ x d′
+noted-as f F note note₂ ws at d d₂ h q = record { answers = h .answers; notes = λ a next rest r. h .notes a next rest r ∙ q a }
+
+-- a tree that was noted
+pub tree-noted : {A : Type 0} (F : Form A) (note : A → State → State) (ws : List ℕ) (at : ℕ) (d : List ℕ) {r : Step} {e : List ℕ}
+    → NotedStep F note ws at d r e → Noted (λ a. 0) F (λ a d. note a (at, d) .1) ws at d r e
+unfolding stepOf
+tree-noted {A} F note ws at d {r} {e} h =
+    record {
+      answers = h .answers;
+      notes = λ a next rest q.
+          (let o : r ≡ On 0 (record { at = next }) = h .answers ∙ rw q refl in
+          let c = h .notes o in
+          let z : c .value ≡ a = cc (c .found, q) in
+          sym (ap (λ (s : State). s .1) (c .noted)) ∙ ap (λ (a : A). note a (at, d) .1) z);
+    }
 
 module _ {A D : Type 0} (f : A → ℕ) (F : Form A) (note : A → D → D) (ws : List ℕ) (at : ℕ) (d : D) {y : Step} {d′ : D} where
   -- of a refusal nothing is to be shown but the answer
@@ -102,6 +174,10 @@ module _ {A D : Type 0} (f : A → ℕ) (F : Form A) (note : A → D → D) (ws 
 
   pub noted-there : Noted f F note ws at d y d′ → {v : ℕ} {k : Cursor} → y ≡ On v k → (t : There f F ws at v k) × (d′ ≡ note (t .value) d)
   noted-there n {v} {k} o = let t = there f F ws at (n .answers) o in (t, n .notes (t .value) (k .at) (drop (k .at) ws) (t .found))
+
+  -- another number of the same value
+  pub noted-last : Noted f F note ws at d y d′ → {v : ℕ} {k : Cursor} → y ≡ On v k → (g : A → ℕ) {c : ℕ} → ((t : There f F ws at v k) → g (t .value) ≡ c) → Noted g F note ws at d (On c k) d′
+  noted-last n o g h = record { answers = kept-last f F ws at (n .answers) o g h; notes = n .notes }
 
 -- ---- a loop of readers that note
 
@@ -185,4 +261,50 @@ module _ {A B C D : Type 0} (to : A × B → C) (from : C → A × B) (tf : (c :
       record {
         answers = sym (rw (t .found) (rw (s .found) (rw (h t s .0) refl)));
         notes = λ a next rest r. (let z : to (t .value, s .value) ≡ a = cc (q, r) in h t s .1 ∙ ap (λ (b : C). note b d) z);
+      }
+
+-- ---- a loop without a state, and an array that keeps its length
+
+module _ {A : Type 0} (F : Form A) (note : ℕ → ℕ → A → List ℕ → List ℕ) (ws : List ℕ) where
+  pub record Noting (e₀ : List ℕ) (at₀ m₀ : ℕ) (e : List ℕ) (at m : ℕ) : Type 0 where
+    pub i : ℕ
+    pub work : Left {S = Unit {0}} (λ u a. u) (λ u. F) (wordsBy F) (λ u a. refl) note ws m₀ tt at₀ e₀ m i tt at e
+    pub kept : length e ≡ length e₀
+
+  pub noting : (e : List ℕ) (at m : ℕ) → Noting e at m e at m
+  noting e at m = record { i = 0; work = left-all {S = Unit {0}} (λ u a. u) (λ u. F) (wordsBy F) (λ u a. refl) note ws m tt at e; kept = refl }
+
+  pub noting-on : {e₀ e : List ℕ} {at₀ m₀ at m : ℕ} → Noting e₀ at₀ m₀ e at m → 0 < m → {y : Step} {e′ : List ℕ} → ((i : ℕ) → Noted (λ a. 0) F (note i at) ws at e y e′)
+      → {v : ℕ} {k : Cursor} → y ≡ On v k → length e′ ≡ length e → Noting e₀ at₀ m₀ e′ (k .at) (m - 1)
+  noting-on g h n o l =
+      record {
+        i = g .i + 1;
+        work = left-turn {S = Unit {0}} (λ u a. u) (λ u. F) (wordsBy F) (λ u a. refl) note ws (g .work) h (λ a. 0) (n (g .i)) (λ v. tt) (λ _. refl) o;
+        kept = l ∙ g .kept;
+      }
+
+-- a count, one and so many more
+module _ {A B : Type 0} (n kind most : ℕ) (rule : entryOf kind .rule ≡ FromOne most) (F : Form A) (G : Form B) (first : ℕ → A → List ℕ → List ℕ) (note : ℕ → ℕ → B → List ℕ → List ℕ) (ws : List ℕ) (at : ℕ) (d : List ℕ) {y : Step} (e : y ≡ fieldStep n kind ws at) {v : ℕ} {k : Cursor} (o : y ≡ On v k) where
+  abbrev pub noteMore : A × List B → List ℕ → List ℕ
+  noteMore t d = notesAll (wordsBy G) note 0 (at + 1 + length (wordsBy F (t .0))) (t .1) (first (at + 1) (t .0) d)
+
+  alike : (l : List B) {a b : ℕ} {x z : List ℕ} → a ≡ b → x ≡ z → notesAll (wordsBy G) note 0 a l x ≡ notesAll (wordsBy G) note 0 b l z
+  alike l p q = λ i. notesAll (wordsBy G) note 0 (p i) l (q i)
+
+  pub noted-more : {x : Step} {d₁ : List ℕ} → Noted (λ a. 0) F (first (k .at)) ws (k .at) d x d₁ → {u : ℕ} {j : Cursor} → x ≡ On u j
+      → {c : Cursor} {m : ℕ} {d′ : List ℕ} → Noting G note ws d₁ (j .at) (v - 1) d′ (c .at) m → m ≤ 0 → Noted (λ t. 0) (oneAndMore n kind most rule F G) noteMore ws at d (On 0 c) d′
+  unfolding readBy wordsBy
+  noted-more {d₁ = d₁} h {j = j} p {c} {m} {d′} g z =
+      let a = noted-there (λ a. 0) F (first (k .at)) ws (k .at) d h p in
+      let t = a .0 in
+      let b = there same (field n kind) ws at e o in
+      let q : readField n kind at (drop at ws) ≡ got v (k .at) (drop (k .at) ws) = went-same (field n kind) ws at e o .0 in
+      let on : k .at ≡ at + 1 = b .on in
+      record {
+        answers = by-more n kind most rule F G ws at e o (λ a. 0) (h .answers) p (all-done {S = Unit {0}} (λ u b. u) (λ u. G) tt ws (c .at) m z ∙ sym (g .work .walks));
+        notes = λ w next rest r.
+            (let s = map-got (λ (l : List B). (t .value, l)) (readAll {S = Unit {0}} (λ u b. u) (λ u b vs. readBy G b vs) (v - 1) tt (j .at) (drop (j .at) ws)) (rw (q, t .found) at r) in
+            left-none {S = Unit {0}} (λ u a. u) (λ u. G) (wordsBy G) (λ u a. refl) note ws (g .work) z (s .0) next rest (s .1)
+            ∙ alike (s .0) (t .on ∙ ap (λ (x : ℕ). x + length (wordsBy F (t .value))) on) (a .1 ∙ ap (λ (x : ℕ). first x (t .value) d) on)
+            ∙ ap (λ (x : A × List B). noteMore x d) (s .2));
       }

@@ -14,8 +14,8 @@ use Rattle.records.specs.declared.directory.Layout.{Layout}
 use Rattle.pack.specs.Table.{pick}
 use Rattle.pack.specs.Table as table
 use Rattle.pack.specs.Form.{Read, got, refused, Form, wordsBy, readBy}
-use Rattle.pack.specs.Pack.{Hop, Derivation, Relation, Chain, Member, RelationTail, Records, Edition, undated, defaulted, relation, relations, rules, records}
-use Rattle.pack.specs.Steps.{stepOf, walk}
+use Rattle.pack.specs.Pack.{Hop, Derivation, Relation, Chain, Member, RelationTail, Records, defaulted, relation, relations, rules}
+use Rattle.pack.specs.Steps.{stepOf}
 
 -- ---- readers that note
 
@@ -107,9 +107,10 @@ rulesAt n at t = relationsAt n at t + length (wordsBy (relations n) (t .1 .0))
 unfoldable pub blocksAt : ℕ → ℕ → Records → ℕ
 blocksAt n at t = rulesAt n at t + length (wordsBy (rules n) (t .1 .1 .0))
 
-unfoldable pub layoutOf : ℕ → ℕ → ℕ → Records → Layout
-layoutOf n at end t =
-    record { names = n; relations = length (t .1 .0); rules = rulesAt n at t; blocks = blocksAt n at t; end = end }
+-- with so many notes of relations, and so many in all
+unfoldable pub layoutOf : ℕ → ℕ → ℕ → Records → ℕ → ℕ → Layout
+layoutOf n at end t first all =
+    record { names = n; relations = length (t .1 .0); rules = rulesAt n at t; blocks = blocksAt n at t; end = end; noted = first; all = all }
 
 unfoldable pub directoryOf : ℕ → ℕ → Records → List ℕ → List ℕ
 directoryOf n at t d = noteRelations n (relationsAt n at t) (t .1 .0) d
@@ -123,9 +124,3 @@ stepIn (No r) = Refused r
 abbrev pub refusal : Step → Laid
 refusal (On v k) = No (record { number = 0; place = 0; name = 0; other = 0 })
 refusal (Refused r) = No r
-
--- of all records from a place on: the answer; and if they were read, where they stand and what is noted of them
-pub record LaidOut (n : ℕ) (ws : List ℕ) (at : ℕ) (d : List ℕ) (r : Laid) (d′ : List ℕ) : Type 0 where
-  pub answers : stepIn r ≡ walk (records undated n) ws at
-  pub lays : (t : Records) (next : ℕ) (rest : List ℕ) → readBy (records undated n) at (drop at ws) ≡ got t next rest → r ≡ Yes (layoutOf n at next t)
-  pub notes : (t : Records) (next : ℕ) (rest : List ℕ) → readBy (records undated n) at (drop at ws) ≡ got t next rest → d′ ≡ directoryOf n at t d

@@ -8,10 +8,12 @@ use crate::rule::rules;
 use pack::answer::Refusal;
 use pack::cursor::Cursor;
 use pack::cursor::Step;
+use reading::tree::count;
 ghost use mathlib.Core.Path.{_≡_};
-ghost use Rattle.pack.specs.Packed.{Lent};
 ghost use Prim.Native.Nat.{_≤_};
-ghost use Rattle.records.specs.Directory.{Clear, LaidOut, refusal};
+ghost use Rattle.reading.specs.Noting.{ReadyFor};
+ghost use Rattle.records.specs.Directory.{Clear, refusal};
+ghost use Rattle.records.specs.Notes.{LaidOut};
 
 // What a refused step says.
 pub fn refused(f: Step) -> Laid
@@ -28,20 +30,28 @@ pub fn refused(f: Step) -> Laid
     }
 }
 
-// All the records: where they stand, with the relations noted.
-pub fn records(from: Cursor, s: &[u32], t: &[u32; 256], n: u32, dir: &mut [u32]) -> Laid
-    requires { ⌜ (n ≤ 4096) × Lent (now s) (now t) × Clear n (now dir) ⌝ }
-    ensures { λ r. ⌜ LaidOut n (now (s .entry)) (from .at) (now (dir .entry)) r (now (dir .exit)) ⌝ }
+// All the records: where they stand, with the relations in the directory, and the notes.
+pub fn records(
+    from: Cursor,
+    s: &[u32],
+    t: &[u32; 256],
+    n: u32,
+    dir: &mut [u32],
+    notes: &mut [u32],
+) -> Laid
+    requires { ⌜ (n ≤ 4096) × ReadyFor (now s) (now t) n × Clear n (now dir) ⌝ }
+    ensures { λ r. ⌜ LaidOut n (now (s .entry)) (from .at) (now (dir .entry)) (now (notes .entry)) r (now (dir .exit)) (now (notes .exit)) ⌝ }
 {
     let f1 = defaulted(from, s, n);
     let Step::On(_, c1) = f1 else {
         return refused(f1);
     };
-    let f2 = relations(c1, s, t, n, dir);
-    let Step::On(count, c2) = f2 else {
+    let f2 = relations(c1, s, t, n, dir, notes);
+    let Step::On(relations, c2) = f2 else {
         return refused(f2);
     };
-    let f3 = rules(c2, s, t, n);
+    let noted = count(notes);
+    let f3 = rules(c2, s, t, n, notes);
     let Step::On(_, c3) = f3 else {
         return refused(f3);
     };
@@ -49,11 +59,14 @@ pub fn records(from: Cursor, s: &[u32], t: &[u32; 256], n: u32, dir: &mut [u32])
     let Step::On(_, c4) = f4 else {
         return refused(f4);
     };
+    let all = count(notes);
     Laid::Yes(Layout {
         names: n,
-        relations: count,
+        relations,
         rules: c2.at,
         blocks: c3.at,
         end: c4.at,
+        noted,
+        all,
     })
 }

@@ -6,15 +6,18 @@ use pack::cursor::Step;
 use pack::kinds::Pack;
 use pack::table::Rule;
 use reading::tree::judgment;
+use reading::tree::open;
 ghost use mathlib.Core.Path.{_≡_};
 ghost use Rattle.pack.specs.declared.table.Rule.the-variants.{AtMost};
-ghost use Rattle.pack.specs.Packed.{Lent, Ruled};
+ghost use Rattle.pack.specs.Packed.{Ruled};
 ghost use Rattle.pack.specs.Pack.{nameList, hop, path, chain, member, derivation, optionalDerivation};
 ghost use Rattle.pack.specs.Steps.{walk, stepOf};
 ghost use Rattle.pack.specs.Form.{count, list, listOrNone};
 ghost use mathlib.Core.Option.{some};
 ghost use Prim.Native.Nat.{_≤_};
-ghost use Rattle.records.specs.Directory.{leadIn, chainLead, entities, plainBy, derivedBy, noteIn};
+ghost use Rattle.reading.specs.Noting.{ReadyFor, Context};
+ghost use Rattle.records.specs.Directory.{Noted, leadIn, chainLead, entities, plainBy, derivedBy, noteIn};
+ghost use Rattle.records.specs.Notes.{noteMember, noteDerivation, noteOptional};
 
 // A count of this kind, and as many names: how many.
 pub fn name_list(from: Cursor, s: &[u32], n: u32, kind: u32) -> Step
@@ -112,9 +115,9 @@ fn chain(from: Cursor, s: &[u32], n: u32) -> Step
 }
 
 // The entity, the member relation, the list and the predicate: how many names the list has.
-fn member(from: Cursor, s: &[u32], t: &[u32; 256], n: u32) -> Step
-    requires { ⌜ Lent (now s) (now t) ⌝ }
-    ensures { λ r. ⌜ r ≡ stepOf entities (member n) (now (s .entry)) (from .at) ⌝ }
+fn member(from: Cursor, s: &[u32], t: &[u32; 256], n: u32, context: u32, notes: &mut [u32]) -> Step
+    requires { ⌜ ReadyFor (now s) (now t) n × Context context ⌝ }
+    ensures { λ r. ⌜ Noted entities (member n) (noteMember context (from .at)) (now (s .entry)) (from .at) (now (notes .entry)) r (now (notes .exit)) ⌝ }
 {
     let f1 = from.skip(s, n, Pack::ENTITY, Rule::NameOrNone);
     let Step::On(_, c1) = f1 else {
@@ -128,7 +131,7 @@ fn member(from: Cursor, s: &[u32], t: &[u32; 256], n: u32) -> Step
     let Step::On(many, c3) = f3 else {
         return f3;
     };
-    let f4 = judgment(s, t, c3, n, Pack::DEPTH);
+    let f4 = judgment(s, t, c3, context, notes);
     let Step::On(_, c4) = f4 else {
         return f4;
     };
@@ -162,17 +165,26 @@ fn derived(kinds: u32, slots: u32, many: u32, lead: u32) -> u32
     Directory::OFFSETS * (Directory::OFFSETS + lead - 1)
 }
 
-// A derivation: what is noted of its relation, which has so many kinds.
-fn derivation(from: Cursor, s: &[u32], t: &[u32; 256], n: u32, kinds: u32) -> Step
-    requires { ⌜ Lent (now s) (now t) × (n ≤ 4096) × (kinds ≤ 8) ⌝ }
-    ensures { λ r. ⌜ r ≡ stepOf (λ d. noteIn kinds (some d)) (derivation n) (now (s .entry)) (from .at) ⌝ }
+// A derivation of the relation that starts at a place and has so many kinds: what is noted of it. It stands among the notes too.
+fn derivation(
+    from: Cursor,
+    s: &[u32],
+    t: &[u32; 256],
+    n: u32,
+    kinds: u32,
+    start: usize,
+    notes: &mut [u32],
+) -> Step
+    requires { ⌜ ReadyFor (now s) (now t) n × (n ≤ 4096) × (kinds ≤ 8) × (start ≤ from .at) ⌝ }
+    ensures { λ r. ⌜ Noted (λ d. noteIn kinds (some d)) (derivation n) (noteDerivation start (from .at)) (now (s .entry)) (from .at) (now (notes .entry)) r (now (notes .exit)) ⌝ }
 {
     let first = from.at;
     let f1 = chain(from, s, n);
     let Step::On(lead, c1) = f1 else {
         return f1;
     };
-    let f2 = member(c1, s, t, n);
+    let context = open(notes, start);
+    let f2 = member(c1, s, t, n, context, notes);
     let Step::On(many, c2) = f2 else {
         return f2;
     };
@@ -182,9 +194,17 @@ fn derivation(from: Cursor, s: &[u32], t: &[u32; 256], n: u32, kinds: u32) -> St
 }
 
 // A flag, and a derivation where it is 1: what is noted of the relation.
-pub fn optional_derivation(from: Cursor, s: &[u32], t: &[u32; 256], n: u32, kinds: u32) -> Step
-    requires { ⌜ Lent (now s) (now t) × (n ≤ 4096) × (kinds ≤ 8) ⌝ }
-    ensures { λ r. ⌜ r ≡ stepOf (noteIn kinds) (optionalDerivation n) (now (s .entry)) (from .at) ⌝ }
+pub fn optional_derivation(
+    from: Cursor,
+    s: &[u32],
+    t: &[u32; 256],
+    n: u32,
+    kinds: u32,
+    start: usize,
+    notes: &mut [u32],
+) -> Step
+    requires { ⌜ ReadyFor (now s) (now t) n × (n ≤ 4096) × (kinds ≤ 8) × (start ≤ from .at) ⌝ }
+    ensures { λ r. ⌜ Noted (noteIn kinds) (optionalDerivation n) (noteOptional start (from .at)) (now (s .entry)) (from .at) (now (notes .entry)) r (now (notes .exit)) ⌝ }
 {
     let f = from.field(s, n, Pack::DERIVATION, Rule::AtMost(1));
     let Step::On(flag, c) = f else {
@@ -193,5 +213,5 @@ pub fn optional_derivation(from: Cursor, s: &[u32], t: &[u32; 256], n: u32, kind
     if flag == 0 {
         return Step::On(plain(kinds), c);
     }
-    derivation(c, s, t, n, kinds)
+    derivation(c, s, t, n, kinds, start, notes)
 }

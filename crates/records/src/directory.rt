@@ -39,13 +39,15 @@ impl Directory {
 }
 
 // Where the sorts of records stand: N, the number of relations, the places of the counts of rules and blocks, and the
-// place after all.
+// place after all; and how many notes the relations have, and how many there are in all.
 pub struct Layout {
     pub names: u32,
     pub relations: u32,
     pub rules: usize,
     pub blocks: usize,
     pub end: usize,
+    pub noted: u32,
+    pub all: u32,
 }
 
 pub enum Laid {

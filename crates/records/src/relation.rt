@@ -8,18 +8,26 @@ use pack::cursor::Step;
 use pack::kinds::Pack;
 use pack::table::Rule;
 ghost use mathlib.Core.Path.{_≡_};
-ghost use Rattle.pack.specs.Packed.{Lent};
 ghost use Prim.Native.Nat.{_+_, _<_, _≤_};
 ghost use lib.ListN.{length};
 ghost use Rattle.pack.specs.Pack.{relationTail, newName, relation, relations};
 ghost use Rattle.pack.specs.Form.{count, list};
 ghost use Rattle.pack.specs.Steps.{stepOf, same, nameOf};
-ghost use Rattle.records.specs.Directory.{Noted, tailNote, entered, noteRelation, noteRelations, Clear};
+ghost use Rattle.reading.specs.Noting.{ReadyFor};
+ghost use Rattle.records.specs.Directory.{Noted, tailNote, entered, Clear};
+ghost use Rattle.records.specs.Notes.{noteTail, noteBoth, noteAll};
 
-// What follows a relation's name: what is noted of the relation.
-fn relation_tail(from: Cursor, s: &[u32], t: &[u32; 256], n: u32) -> Step
-    requires { ⌜ Lent (now s) (now t) × (n ≤ 4096) ⌝ }
-    ensures { λ r. ⌜ r ≡ stepOf tailNote (relationTail n) (now (s .entry)) (from .at) ⌝ }
+// What follows the name of a relation that starts at a place: what is noted of the relation.
+fn relation_tail(
+    from: Cursor,
+    s: &[u32],
+    t: &[u32; 256],
+    n: u32,
+    start: usize,
+    notes: &mut [u32],
+) -> Step
+    requires { ⌜ ReadyFor (now s) (now t) n × (n ≤ 4096) × (start ≤ from .at) ⌝ }
+    ensures { λ r. ⌜ Noted tailNote (relationTail n) (noteTail start (from .at)) (now (s .entry)) (from .at) (now (notes .entry)) r (now (notes .exit)) ⌝ }
 {
     let f1 = from.skip(s, n, Pack::RELATION_ORIGIN, Rule::NameOrNone);
     let Step::On(_, c1) = f1 else {
@@ -33,7 +41,7 @@ fn relation_tail(from: Cursor, s: &[u32], t: &[u32; 256], n: u32) -> Step
     let Step::On(kinds, c3) = f3 else {
         return f3;
     };
-    optional_derivation(c3, s, t, n, kinds)
+    optional_derivation(c3, s, t, n, kinds, start, notes)
 }
 
 // A name that no relation before it has.
@@ -58,16 +66,24 @@ fn new_name(from: Cursor, s: &[u32], n: u32, dir: &[u32]) -> Step
 }
 
 // A relation: its name. It is noted as the one of a number.
-fn relation(from: Cursor, s: &[u32], t: &[u32; 256], n: u32, dir: &mut [u32], i: usize) -> Step
-    requires { ⌜ (n ≤ 4096) × Lent (now s) (now t) × (i < 512) × (512 + n ≤ length (now dir)) ⌝ }
-    ensures { λ r. ⌜ Noted nameOf (relation n (entered (now (dir .entry)))) (noteRelation i (from .at)) (now (s .entry)) (from .at) (now (dir .entry)) r (now (dir .exit)) ⌝ }
+fn relation(
+    from: Cursor,
+    s: &[u32],
+    t: &[u32; 256],
+    n: u32,
+    dir: &mut [u32],
+    i: usize,
+    notes: &mut [u32],
+) -> Step
+    requires { ⌜ (n ≤ 4096) × ReadyFor (now s) (now t) n × (i < 512) × (512 + n ≤ length (now dir)) ⌝ }
+    ensures { λ r. ⌜ Noted nameOf (relation n (entered (now (dir .entry)))) (noteBoth i (from .at)) (now (s .entry)) (from .at) (now (dir .entry), now (notes .entry)) r (now (dir .exit), now (notes .exit)) ⌝ }
 {
     let start = from.at;
     let f1 = new_name(from, s, n, dir);
     let Step::On(v, c1) = f1 else {
         return f1;
     };
-    let f2 = relation_tail(c1, s, t, n);
+    let f2 = relation_tail(c1, s, t, n, start, notes);
     let Step::On(note, c2) = f2 else {
         return f2;
     };
@@ -77,9 +93,16 @@ fn relation(from: Cursor, s: &[u32], t: &[u32; 256], n: u32, dir: &mut [u32], i:
 }
 
 // The relations: how many. None is noted at first.
-pub fn relations(from: Cursor, s: &[u32], t: &[u32; 256], n: u32, dir: &mut [u32]) -> Step
-    requires { ⌜ (n ≤ 4096) × Lent (now s) (now t) × Clear n (now dir) ⌝ }
-    ensures { λ r. ⌜ Noted (count list) (relations n) (noteRelations n (from .at)) (now (s .entry)) (from .at) (now (dir .entry)) r (now (dir .exit)) ⌝ }
+pub fn relations(
+    from: Cursor,
+    s: &[u32],
+    t: &[u32; 256],
+    n: u32,
+    dir: &mut [u32],
+    notes: &mut [u32],
+) -> Step
+    requires { ⌜ (n ≤ 4096) × ReadyFor (now s) (now t) n × Clear n (now dir) ⌝ }
+    ensures { λ r. ⌜ Noted (count list) (relations n) (noteAll n (from .at)) (now (s .entry)) (from .at) (now (dir .entry), now (notes .entry)) r (now (dir .exit), now (notes .exit)) ⌝ }
 {
     let f = from.field(
         s,
@@ -94,7 +117,7 @@ pub fn relations(from: Cursor, s: &[u32], t: &[u32; 256], n: u32, dir: &mut [u32
     let mut i: usize = 0;
     let mut left = count;
     while 0 < left {
-        let g = relation(c, s, t, n, dir, i);
+        let g = relation(c, s, t, n, dir, i, notes);
         let Step::On(_, next) = g else {
             return g;
         };

@@ -1,48 +1,51 @@
-// Rules and their bodies.
+// Rules and their bodies. Each rule is noted, and then the nodes of its trees.
 use pack::cursor::Cursor;
 use pack::cursor::Step;
 use pack::kinds::Pack;
 use pack::table::Rule;
 use reading::tree::judgment;
+use reading::tree::open;
 use reading::tree::scalar;
-ghost use mathlib.Core.Path.{_≡_};
-ghost use Rattle.pack.specs.Packed.{Lent};
+ghost use Prim.Native.Nat.{ℕ};
+ghost use Rattle.pack.specs.Form.{count, list};
 ghost use Rattle.pack.specs.Pack.{body, bodies, rule, rules};
-ghost use Rattle.pack.specs.Steps.{walk};
+ghost use Rattle.reading.specs.Noting.{ReadyFor, Context};
+ghost use Rattle.records.specs.Directory.{Noted};
+ghost use Rattle.records.specs.Notes.{noteBody, noteBodies, noteRule, noteRules};
 
 // A body: the sort of its tree, and the tree.
-fn body(from: Cursor, s: &[u32], t: &[u32; 256], n: u32) -> Step
-    requires { ⌜ Lent (now s) (now t) ⌝ }
-    ensures { λ r. ⌜ r ≡ walk (body n) (now (s .entry)) (from .at) ⌝ }
+fn body(from: Cursor, s: &[u32], t: &[u32; 256], n: u32, context: u32, notes: &mut [u32]) -> Step
+    requires { ⌜ ReadyFor (now s) (now t) n × Context context ⌝ }
+    ensures { λ r. ⌜ Noted (λ b. 0) (body n) (noteBody context (from .at)) (now (s .entry)) (from .at) (now (notes .entry)) r (now (notes .exit)) ⌝ }
 {
     let f = from.field(s, n, Pack::BODY, Rule::AtMost(1));
     let Step::On(sort, c) = f else {
         return f;
     };
     if sort == Pack::SCALAR {
-        scalar(s, t, c, n, Pack::DEPTH)
+        scalar(s, t, c, context, notes)
     } else {
-        judgment(s, t, c, n, Pack::DEPTH)
+        judgment(s, t, c, context, notes)
     }
 }
 
 // The semantics and the versions.
-fn bodies(from: Cursor, s: &[u32], t: &[u32; 256], n: u32) -> Step
-    requires { ⌜ Lent (now s) (now t) ⌝ }
-    ensures { λ r. ⌜ r ≡ walk (bodies n) (now (s .entry)) (from .at) ⌝ }
+fn bodies(from: Cursor, s: &[u32], t: &[u32; 256], n: u32, context: u32, notes: &mut [u32]) -> Step
+    requires { ⌜ ReadyFor (now s) (now t) n × Context context ⌝ }
+    ensures { λ r. ⌜ Noted (λ b. 0) (bodies n) (noteBodies n context (from .at)) (now (s .entry)) (from .at) (now (notes .entry)) r (now (notes .exit)) ⌝ }
 {
     let f = from.field(s, n, Pack::BODIES, Rule::FromOne(Pack::MOST_BODIES));
     let Step::On(count, c0) = f else {
         return f;
     };
-    let f1 = body(c0, s, t, n);
+    let f1 = body(c0, s, t, n, context, notes);
     let Step::On(_, first) = f1 else {
         return f1;
     };
     let mut c = first;
     let mut left = count - 1;
     while 0 < left {
-        let g = body(c, s, t, n);
+        let g = body(c, s, t, n, context, notes);
         let Step::On(_, next) = g else {
             return g;
         };
@@ -52,10 +55,11 @@ fn bodies(from: Cursor, s: &[u32], t: &[u32; 256], n: u32) -> Step
     Step::On(0, c)
 }
 
-fn rule(from: Cursor, s: &[u32], t: &[u32; 256], n: u32) -> Step
-    requires { ⌜ Lent (now s) (now t) ⌝ }
-    ensures { λ r. ⌜ r ≡ walk (rule n) (now (s .entry)) (from .at) ⌝ }
+fn rule(from: Cursor, s: &[u32], t: &[u32; 256], n: u32, notes: &mut [u32]) -> Step
+    requires { ⌜ ReadyFor (now s) (now t) n ⌝ }
+    ensures { λ r. ⌜ ((i : ℕ) → Noted (λ b. 0) (rule n) (noteRule n i (from .at)) (now (s .entry)) (from .at) (now (notes .entry)) r (now (notes .exit))) ⌝ }
 {
+    let start = from.at;
     let f1 = from.skip(s, n, Pack::RULE, Rule::Name);
     let Step::On(_, c1) = f1 else {
         return f1;
@@ -68,12 +72,14 @@ fn rule(from: Cursor, s: &[u32], t: &[u32; 256], n: u32) -> Step
     let Step::On(_, c3) = f3 else {
         return f3;
     };
-    bodies(c3, s, t, n)
+    let context = open(notes, start);
+    bodies(c3, s, t, n, context, notes)
 }
 
-pub fn rules(from: Cursor, s: &[u32], t: &[u32; 256], n: u32) -> Step
-    requires { ⌜ Lent (now s) (now t) ⌝ }
-    ensures { λ r. ⌜ r ≡ walk (rules n) (now (s .entry)) (from .at) ⌝ }
+// The rules: how many.
+pub fn rules(from: Cursor, s: &[u32], t: &[u32; 256], n: u32, notes: &mut [u32]) -> Step
+    requires { ⌜ ReadyFor (now s) (now t) n ⌝ }
+    ensures { λ r. ⌜ Noted (count list) (rules n) (noteRules n (from .at)) (now (s .entry)) (from .at) (now (notes .entry)) r (now (notes .exit)) ⌝ }
 {
     let f = from.field(s, n, Pack::RULE_COUNT, Rule::AtMost(Pack::MOST_RULES));
     let Step::On(count, first) = f else {
@@ -82,12 +88,12 @@ pub fn rules(from: Cursor, s: &[u32], t: &[u32; 256], n: u32) -> Step
     let mut c = first;
     let mut left = count;
     while 0 < left {
-        let g = rule(c, s, t, n);
+        let g = rule(c, s, t, n, notes);
         let Step::On(_, next) = g else {
             return g;
         };
         c = next;
         left -= 1;
     }
-    Step::On(0, c)
+    Step::On(count, c)
 }

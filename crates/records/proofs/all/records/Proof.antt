@@ -20,7 +20,7 @@ refused-requires c κs = search needs
 
 returns : tie.Need-returns
 unfolding records
-returns c = laid-no _ _ _ _ (search (by-then, then-stop) depth 12) (c .before .enum-told .given .1) (c .refused .ensures)
+returns c = laid-no _ _ _ _ _ (search (by-then, then-stop) depth 12) (c .before .enum-told .given .1) (c .refused .ensures)
 
 relations-requires : tie.Need-relations-requires
 relations-requires c κs = search needs
@@ -37,9 +37,15 @@ refused-requires-2 c κs = search needs
 same-length : tie.Need-same-length
 same-length c = search needs
 
+same-length-2 : tie.Need-same-length-2
+same-length-2 c = search needs
+
 returns-2 : tie.Need-returns-2
 unfolding records
-returns-2 c = laid-no _ _ _ _ (by-then _ _ _ _ (c .before .before .before .before .before .before .before .before .before .before .defaulted .ensures) _ _ (c .before .before .before .before .before .before .before .before .f1 .given .1) (λ _. then-stop _ _ _ _ ((c .before .before .before .before .before .relations .ensures) .answers) _ _ (c .before .enum-told2 .given .1))) (c .before .enum-told2 .given .1) (c .refused2 .ensures)
+returns-2 c = laid-no _ _ _ _ _ (by-then _ _ _ _ (c .before .before .before .before .before .before .before .before .before .before .before .before .before .defaulted .ensures) _ _ (c .before .before .before .before .before .before .before .before .before .before .before .f1 .given .1) (λ _. then-stop _ _ _ _ (c .before .before .before .before .before .before .before .relations .ensures .answers) _ _ (c .before .enum-told2 .given .1))) (c .before .enum-told2 .given .1) (c .refused2 .ensures)
+
+count-requires : tie.Need-count-requires
+count-requires c κs = search needs
 
 rules-requires : tie.Need-rules-requires
 rules-requires c κs = search needs
@@ -53,12 +59,15 @@ enum-told-3 c = search needs
 refused-requires-3 : tie.Need-refused-requires-3
 refused-requires-3 c κs = search needs
 
-same-length-2 : tie.Need-same-length-2
-same-length-2 c = search needs
+same-length-3 : tie.Need-same-length-3
+same-length-3 c = search needs
+
+same-length-4 : tie.Need-same-length-4
+same-length-4 c = search needs
 
 returns-3 : tie.Need-returns-3
 unfolding records
-returns-3 c = laid-no _ _ _ _ (by-then _ _ _ _ (c .before .before .before .before .before .before .before .before .before .before .before .before .before .before .defaulted .ensures) _ _ (c .before .before .before .before .before .before .before .before .before .before .before .before .f1 .given .1) (λ _. by-then _ _ _ _ ((c .before .before .before .before .before .before .before .before .before .relations .ensures) .answers) _ _ (c .before .before .before .before .before .f2 .given .1) (λ _. then-stop _ _ _ _ (c .before .before .before .rules .ensures) _ _ (c .before .enum-told3 .given .1)))) (c .before .enum-told3 .given .1) (c .refused3 .ensures)
+returns-3 c = laid-no _ _ _ _ _ (by-then _ _ _ _ (c .before .before .before .before .before .before .before .before .before .before .before .before .before .before .before .before .before .before .before .before .before .before .defaulted .ensures) _ _ (c .before .before .before .before .before .before .before .before .before .before .before .before .before .before .before .before .before .before .before .before .f1 .given .1) (λ _. by-then _ _ _ _ (c .before .before .before .before .before .before .before .before .before .before .before .before .before .before .before .before .relations .ensures .answers) _ _ (c .before .before .before .before .before .before .before .before .before .before .f2 .given .1) (λ _. then-stop _ _ _ _ (c .before .before .before .before .before .rules .ensures .answers) _ _ (c .before .enum-told3 .given .1)))) (c .before .enum-told3 .given .1) (c .refused3 .ensures)
 
 blocks-requires : tie.Need-blocks-requires
 blocks-requires c κs = search needs
@@ -72,45 +81,27 @@ enum-told-4 c = search needs
 refused-requires-4 : tie.Need-refused-requires-4
 refused-requires-4 c κs = search needs
 
-same-length-3 : tie.Need-same-length-3
-same-length-3 c = search needs
+same-length-5 : tie.Need-same-length-5
+same-length-5 c = search needs
+
+same-length-6 : tie.Need-same-length-6
+same-length-6 c = search needs
 
 returns-4 : tie.Need-returns-4
 unfolding records
-returns-4 c = laid-no _ _ _ _ (by-then _ _ _ _ (c .before .before .before .before .before .before .before .before .before .before .before .before .before .before .before .before .before .before .defaulted .ensures) _ _ (c .before .before .before .before .before .before .before .before .before .before .before .before .before .before .before .before .f1 .given .1) (λ _. by-then _ _ _ _ ((c .before .before .before .before .before .before .before .before .before .before .before .before .before .relations .ensures) .answers) _ _ (c .before .before .before .before .before .before .before .before .before .f2 .given .1) (λ _. by-then _ _ _ _ (c .before .before .before .before .before .before .before .rules .ensures) _ _ (c .before .before .before .before .before .f3 .given .1) (λ _. (c .before .before .before .blocks2 .ensures))))) (c .before .enum-told4 .given .1) (c .refused4 .ensures)
+returns-4 c = laid-no _ _ _ _ _ (by-then _ _ _ _ (c .before .before .before .before .before .before .before .before .before .before .before .before .before .before .before .before .before .before .before .before .before .before .before .before .before .before .defaulted .ensures) _ _ (c .before .before .before .before .before .before .before .before .before .before .before .before .before .before .before .before .before .before .before .before .before .before .before .before .f1 .given .1) (λ _. by-then _ _ _ _ (c .before .before .before .before .before .before .before .before .before .before .before .before .before .before .before .before .before .before .before .before .relations .ensures .answers) _ _ (c .before .before .before .before .before .before .before .before .before .before .before .before .before .before .f2 .given .1) (λ _. by-then _ _ _ _ (c .before .before .before .before .before .before .before .before .before .rules .ensures .answers) _ _ (c .before .before .before .before .before .f3 .given .1) (λ _. (c .before .before .before .blocks2 .ensures))))) (c .before .enum-told4 .given .1) (c .refused4 .ensures)
 
-same-length-4 : tie.Need-same-length-4
-same-length-4 c = search needs
+count-requires-2 : tie.Need-count-requires-2
+count-requires-2 c κs = search needs
+
+same-length-7 : tie.Need-same-length-7
+same-length-7 c = search needs
+
+same-length-8 : tie.Need-same-length-8
+same-length-8 c = search needs
 
 returns-5 : tie.Need-returns-5
-returns-5 c = laid-yes _ _ _ _ (c .before .before .before .before .before .before .before .before .before .before .before .before .before .before .before .before .before .before .defaulted .ensures) (c .before .before .before .before .before .before .before .before .before .before .before .before .before .before .before .before .f1 .given .1) (c .before .before .before .before .before .before .before .before .before .before .before .before .before .relations .ensures) (c .before .before .before .before .before .before .before .before .before .f2 .given .1) (c .before .before .before .before .before .before .before .rules .ensures) (c .before .before .before .before .before .f3 .given .1) (c .before .before .before .blocks2 .ensures) (c .before .f4 .given .1)
+returns-5 c = laid-yes _ _ _ _ _ (c .before .before .before .before .before .before .before .before .before .before .before .before .before .before .before .before .before .before .before .before .before .before .before .before .before .before .before .before .defaulted .ensures) (c .before .before .before .before .before .before .before .before .before .before .before .before .before .before .before .before .before .before .before .before .before .before .before .before .before .before .f1 .given .1) (c .before .before .before .before .before .before .before .before .before .before .before .before .before .before .before .before .before .before .before .before .before .before .relations .ensures) (c .before .before .before .before .before .before .before .before .before .before .before .before .before .before .before .before .f2 .given .1) (c .before .before .before .before .before .before .before .before .before .before .before .rules .ensures) (c .before .before .before .before .before .before .before .f3 .given .1) (c .before .before .before .before .before .blocks2 .ensures) (c .before .before .before .f4 .given .1) (c .before .before .before .before .before .before .before .before .before .before .before .before .before .count .ensures) (c .count2 .ensures)
 
 pub records-spec : {M : Type 1} → statement M
-records-spec =
-    tie.close
-    (tie.spec
-    defaulted-requires
-    enum-known-f1
-    enum-told
-    refused-requires
-    returns
-    relations-requires
-    enum-known-f2
-    enum-told-2
-    refused-requires-2
-    same-length
-    returns-2
-    rules-requires
-    enum-known-f3
-    enum-told-3
-    refused-requires-3
-    same-length-2
-    returns-3
-    blocks-requires
-    enum-known-f4
-    enum-told-4
-    refused-requires-4
-    same-length-3
-    returns-4
-    same-length-4
-    returns-5)
+records-spec = tie.close (tie.spec defaulted-requires enum-known-f1 enum-told refused-requires returns relations-requires enum-known-f2 enum-told-2 refused-requires-2 same-length same-length-2 returns-2 count-requires rules-requires enum-known-f3 enum-told-3 refused-requires-3 same-length-3 same-length-4 returns-3 blocks-requires enum-known-f4 enum-told-4 refused-requires-4 same-length-5 same-length-6 returns-4 count-requires-2 same-length-7 same-length-8 returns-5)

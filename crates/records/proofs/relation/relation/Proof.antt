@@ -5,8 +5,10 @@ use native.Mathlib.Omega.{arith}
 use Rattle.pack.specs.Pack.{relation}
 use Rattle.pack.proofs.StepLaws.{walks, by-via, by-then, last-stop}
 use Rattle.records.specs.Directory.{noteRelation}
+use Rattle.records.specs.Notes.{notePredicate, noteBoth}
 use Rattle.records.proofs.KeptLaws.{noted-no, noted-pair}
 use Rattle.records.proofs.DirectoryLaws.{name-read, note-fits}
+use Rattle.records.proofs.NotesLaws.{both-noted}
 use borrow.Author.Needs.{needs}
 use Rattle.records.proofs.relation.relation.Statement.{statement}
 use Rattle.records.proofs.relation.relation.Tie as tie
@@ -28,7 +30,7 @@ unfolding relation
 returns c = noted-no _ _ _ _ _ _ (search walks depth 16) (c .enum-told .given .1)
 
 relation-tail-requires : tie.Need-relation-tail-requires
-relation-tail-requires c κs = search needs
+relation-tail-requires c κs = let r = name-read _ _ _ _ (c .before .before .before .before .new-name .ensures) (c .before .before .f1 .given .1) in ((c .before .before .before .before .before .before .before .before .before .pre) .1, (c .before .before .before .before .before .before .before .before .before .pre) .0, omega arith)
 
 enum-known-f2 : tie.Need-enum-known-f2
 enum-known-f2 c = search needs
@@ -39,9 +41,12 @@ enum-told-2 c = search needs
 same-length-2 : tie.Need-same-length-2
 same-length-2 c = search needs
 
+same-length-3 : tie.Need-same-length-3
+same-length-3 c = search needs
+
 returns-2 : tie.Need-returns-2
 unfolding relation
-returns-2 c = noted-no _ _ _ _ _ _ (by-via _ _ _ _ _ _ _ _ (by-then _ _ _ _ (c .before .before .before .before .before .before .new-name .ensures) _ _ (c .before .before .before .before .f1 .given .1) (λ _. last-stop _ _ _ _ (c .before .before .relation-tail .ensures) _ (c .enum-told2 .given .1)))) (c .enum-told2 .given .1)
+returns-2 c = noted-no _ _ _ _ _ _ (by-via _ _ _ _ _ _ _ _ (by-then _ _ _ _ (c .before .before .before .before .before .before .before .before .before .new-name .ensures) _ _ (c .before .before .before .before .before .before .before .f1 .given .1) (λ _. last-stop _ _ _ _ (c .before .before .before .before .relation-tail .ensures .answers) _ (c .enum-told2 .given .1)))) (c .enum-told2 .given .1)
 
 mul-dir : tie.Need-mul-dir
 mul-dir c = search needs
@@ -50,13 +55,13 @@ slice-write-dir : tie.Need-slice-write-dir
 slice-write-dir c = search needs
 
 cast-dir : tie.Need-cast-dir
-cast-dir c = let r = name-read _ _ _ _ (c .before .before .before .before .before .before .before .new-name .ensures) (c .before .before .before .before .before .f1 .given .1) in omega (arith, (c .before .before .before .before .before .before .before .before .before .before .before .pre) .1 .most)
+cast-dir c = let r = name-read _ _ _ _ (c .before .before .before .before .before .before .before .before .before .before .new-name .ensures) (c .before .before .before .before .before .before .before .before .f1 .given .1) in omega (arith, (c .before .before .before .before .before .before .before .before .before .before .before .before .before .before .before .pre) .1 .ready .most)
 
 mul-dir-2 : tie.Need-mul-dir-2
-mul-dir-2 c = omega (arith, note-fits _ _ _ (c .before .before .before .relation-tail .ensures) (c .before .f2 .given .1) ((c .before .before .before .before .before .before .before .before .before .before .before .pre) .0))
+mul-dir-2 c = omega (arith, note-fits _ _ _ (c .before .before .before .before .before .relation-tail .ensures .answers) (c .before .f2 .given .1) ((c .before .before .before .before .before .before .before .before .before .before .before .before .before .before .before .pre) .0))
 
 add-dir : tie.Need-add-dir
-add-dir c = let r = name-read _ _ _ _ (c .before .before .before .before .before .before .before .new-name .ensures) (c .before .before .before .before .before .f1 .given .1) in omega (arith, note-fits _ _ _ (c .before .before .before .relation-tail .ensures) (c .before .f2 .given .1) ((c .before .before .before .before .before .before .before .before .before .before .before .pre) .0), (c .before .before .before .before .before .before .before .before .before .before .before .pre) .1 .most)
+add-dir c = let r = name-read _ _ _ _ (c .before .before .before .before .before .before .before .before .before .before .new-name .ensures) (c .before .before .before .before .before .before .before .before .f1 .given .1) in omega (arith, note-fits _ _ _ (c .before .before .before .before .before .relation-tail .ensures .answers) (c .before .f2 .given .1) ((c .before .before .before .before .before .before .before .before .before .before .before .before .before .before .before .pre) .0), (c .before .before .before .before .before .before .before .before .before .before .before .before .before .before .before .pre) .1 .ready .most)
 
 cast-dir-2 : tie.Need-cast-dir-2
 cast-dir-2 c = search needs
@@ -68,37 +73,17 @@ mul-dir-3 : tie.Need-mul-dir-3
 mul-dir-3 c = search needs
 
 slice-write-dir-2 : tie.Need-slice-write-dir-2
-slice-write-dir-2 c = let r = name-read _ _ _ _ (c .before .before .before .before .before .before .before .new-name .ensures) (c .before .before .before .before .before .f1 .given .1) in simp length-set (omega (arith, (c .before .before .before .before .before .before .before .before .before .before .before .pre) .3))
+slice-write-dir-2 c = let r = name-read _ _ _ _ (c .before .before .before .before .before .before .before .before .before .before .new-name .ensures) (c .before .before .before .before .before .before .before .before .f1 .given .1) in simp length-set (omega (arith, (c .before .before .before .before .before .before .before .before .before .before .before .before .before .before .before .pre) .3))
 
-same-length-3 : tie.Need-same-length-3
-same-length-3 c = search needs
+same-length-4 : tie.Need-same-length-4
+same-length-4 c = search needs
+
+same-length-5 : tie.Need-same-length-5
+same-length-5 c = search needs
 
 returns-3 : tie.Need-returns-3
-unfolding relation noteRelation
-returns-3 c = noted-pair _ _ _ _ _ _ _ _ _ _ _ _ _ (c .before .before .before .before .before .before .before .new-name .ensures) (c .before .before .before .before .before .f1 .given .1) (λ _. (c .before .before .before .relation-tail .ensures)) (c .before .f2 .given .1) (λ t s. (t .kept, rw (s .kept, t .kept) refl))
+unfolding relation
+returns-3 c = noted-pair _ _ _ _ _ _ _ _ _ _ _ _ _ (c .before .before .before .before .before .before .before .before .before .before .new-name .ensures) (c .before .before .before .before .before .before .before .before .f1 .given .1) (λ _. (c .before .before .before .before .before .relation-tail .ensures .answers)) (c .before .f2 .given .1) (λ t s. (t .kept, both-noted _ _ _ _ _ (name-read _ _ _ _ (c .before .before .before .before .before .before .before .before .before .before .new-name .ensures) (c .before .before .before .before .before .before .before .before .f1 .given .1) .on) (s .value) (t .kept) (s .kept) (c .before .before .before .before .before .relation-tail .ensures .notes (s .value) _ _ (s .found))))
 
 pub relation-spec : {M : Type 1} → statement M
-relation-spec =
-    tie.close
-    (tie.spec
-    new-name-requires
-    enum-known-f1
-    enum-told
-    same-length
-    returns
-    relation-tail-requires
-    enum-known-f2
-    enum-told-2
-    same-length-2
-    returns-2
-    mul-dir
-    slice-write-dir
-    cast-dir
-    mul-dir-2
-    add-dir
-    cast-dir-2
-    add-dir-2
-    mul-dir-3
-    slice-write-dir-2
-    same-length-3
-    returns-3)
+relation-spec = tie.close (tie.spec new-name-requires enum-known-f1 enum-told same-length returns relation-tail-requires enum-known-f2 enum-told-2 same-length-2 same-length-3 returns-2 mul-dir slice-write-dir cast-dir mul-dir-2 add-dir cast-dir-2 add-dir-2 mul-dir-3 slice-write-dir-2 same-length-4 same-length-5 returns-3)

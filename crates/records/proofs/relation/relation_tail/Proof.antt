@@ -1,11 +1,12 @@
 -- `records::relation::relation_tail` meets its contract.
 use mathlib.Core.Path.{refl}
+use native.Mathlib.Omega.{arith}
 use Rattle.pack.specs.Pack.{relationTail}
-use Rattle.pack.specs.Form.{count}
 use Rattle.pack.specs.Table.{entryOf, table}
 use Rattle.pack.proofs.StepLaws.{by-then, then-stop, last-stop}
-use Rattle.records.proofs.KeptLaws.{kept-then}
+use Rattle.records.proofs.KeptLaws.{noted-no, there}
 use Rattle.records.proofs.DirectoryLaws.{list-few}
+use Rattle.records.proofs.NotesLaws.{tail-noted, list-on, field-on}
 use borrow.Author.Needs.{needs}
 use Rattle.records.proofs.relation.relation_tail.Statement.{statement}
 use Rattle.records.proofs.relation.relation_tail.Tie as tie
@@ -22,7 +23,7 @@ enum-told c = search needs
 
 returns : tie.Need-returns
 unfolding relationTail
-returns c = last-stop (λ a. 0) _ _ _ (search (by-then, then-stop) depth 16) _ (c .enum-told .given .1)
+returns c = noted-no _ _ _ _ _ _ (last-stop (λ a. 0) _ _ _ (search (by-then, then-stop) depth 16) _ (c .enum-told .given .1)) (c .enum-told .given .1)
 
 skip-requires-2 : tie.Need-skip-requires-2
 unfolding entryOf table
@@ -36,7 +37,7 @@ enum-told-2 c = search needs
 
 returns-2 : tie.Need-returns-2
 unfolding relationTail
-returns-2 c = last-stop (λ a. 0) _ _ _ (search (by-then, then-stop) depth 16) _ (c .enum-told2 .given .1)
+returns-2 c = noted-no _ _ _ _ _ _ (last-stop (λ a. 0) _ _ _ (search (by-then, then-stop) depth 16) _ (c .enum-told2 .given .1)) (c .enum-told2 .given .1)
 
 name-list-requires : tie.Need-name-list-requires
 unfolding entryOf table
@@ -50,30 +51,16 @@ enum-told-3 c = search needs
 
 returns-3 : tie.Need-returns-3
 unfolding relationTail
-returns-3 c = last-stop (λ a. 0) _ _ _ (search (by-then, then-stop) depth 16) _ (c .enum-told3 .given .1)
+returns-3 c = noted-no _ _ _ _ _ _ (last-stop (λ a. 0) _ _ _ (search (by-then, then-stop) depth 16) _ (c .enum-told3 .given .1)) (c .enum-told3 .given .1)
 
 optional-derivation-requires : tie.Need-optional-derivation-requires
-optional-derivation-requires c κs = let p = (c .before .before .before .before .before .before .before .before .before .before .before .before .before .pre) in (p .0, p .1, list-few _ _ _ (c .before .before .before .name-list .ensures) (c .before .f3 .given .1))
+optional-derivation-requires c κs = let a = field-on _ _ _ _ (c .before .before .before .before .before .before .before .before .before .before .before .before .skip .ensures) (c .before .before .before .before .before .before .before .before .before .before .f1 .given .1) in let b = field-on _ _ _ _ (c .before .before .before .before .before .before .before .before .skip2 .ensures) (c .before .before .before .before .before .before .f2 .given .1) in let l = list-on _ _ _ (c .before .before .before .before .name-list .ensures) (c .before .before .f3 .given .1) in ((c .before .before .before .before .before .before .before .before .before .before .before .before .before .before .before .pre) .0, (c .before .before .before .before .before .before .before .before .before .before .before .before .before .before .before .pre) .1, list-few _ _ _ (c .before .before .before .before .name-list .ensures) (c .before .before .f3 .given .1), omega (arith, a, b, l, (c .before .before .before .before .before .before .before .before .before .before .before .before .before .before .before .pre) .2))
+
+same-length : tie.Need-same-length
+same-length c = search needs
 
 returns-4 : tie.Need-returns-4
-unfolding relationTail count
-returns-4 c = kept-then _ _ _ _ (c .before .before .before .before .before .before .before .before .before .before .before .before .skip .ensures) (c .before .before .before .before .before .before .before .before .before .before .f1 .given .1) _ _ (λ _. kept-then _ _ _ _ (c .before .before .before .before .before .before .before .before .skip2 .ensures) (c .before .before .before .before .before .before .f2 .given .1) _ _ (λ _. kept-then _ _ _ _ (c .before .before .before .before .name-list .ensures) (c .before .before .f3 .given .1) _ _ (λ t. rw (t .kept) (c .optional-derivation .ensures))))
+returns-4 c = tail-noted _ _ _ _ _ (c .before .before .before .before .before .before .before .before .before .before .before .before .before .before .before .skip .ensures) (c .before .before .before .before .before .before .before .before .before .before .before .before .before .f1 .given .1) (c .before .before .before .before .before .before .before .before .before .before .before .skip2 .ensures) (c .before .before .before .before .before .before .before .before .before .f2 .given .1) (c .before .before .before .before .before .before .before .name-list .ensures) (c .before .before .before .before .before .f3 .given .1) (c .before .before .optional-derivation .ensures)
 
 pub relation-tail-spec : {M : Type 1} → statement M
-relation-tail-spec =
-    tie.close
-    (tie.spec
-    skip-requires
-    enum-known-f1
-    enum-told
-    returns
-    skip-requires-2
-    enum-known-f2
-    enum-told-2
-    returns-2
-    name-list-requires
-    enum-known-f3
-    enum-told-3
-    returns-3
-    optional-derivation-requires
-    returns-4)
+relation-tail-spec = tie.close (tie.spec skip-requires enum-known-f1 enum-told returns skip-requires-2 enum-known-f2 enum-told-2 returns-2 name-list-requires enum-known-f3 enum-told-3 returns-3 optional-derivation-requires same-length returns-4)

@@ -1,22 +1,22 @@
 -- `records::relation::relations` meets its contract.
-use mathlib.Core.Path.{_∙_}
-use mathlib.Core.Path.{refl}
+use Prim.Native.Nat.{ℕ}
+use mathlib.Core.Path.{_≡_, refl, _∙_}
 use native.Mathlib.Omega.{arith}
-use borrow.Author.Needs.{needs}
 use Rattle.pack.specs.Pack.{relations}
 use Rattle.pack.specs.Form.{says}
 use Rattle.pack.specs.Table.{entryOf, table}
 use Rattle.pack.proofs.StepLaws.{walks, last-stop, by-left, by-inv, all-stop}
 use Rattle.records.proofs.KeptLaws.{noted-no, noted-all}
 use Rattle.records.proofs.DirectoryLaws.{Relating, relating, relating-on, count-read, noted-used}
+use borrow.Author.Needs.{needs}
 use Rattle.records.proofs.relation.relations.Statement.{statement}
 use Rattle.records.proofs.relation.relations.Tie as tie
 
 abbrev Inv-loop : tie.InvT-loop
-Inv-loop s t n dir₀ count c₀ i₀ left₀ dir c i left = Relating n s dir₀ (c₀ .at) left₀ dir (c .at) i left
+Inv-loop s t n dir₀ notes₀ count c₀ i₀ left₀ dir notes c i left = Relating n s (dir₀, notes₀) (c₀ .at) left₀ (dir, notes) (c .at) i left
 
 abbrev μ-loop : tie.MeasureT-loop
-μ-loop s t n dir₀ count c₀ i₀ left₀ dir c i left = left
+μ-loop s t n dir₀ notes₀ count c₀ i₀ left₀ dir notes c i left = left
 
 field-requires : tie.Need-field-requires Inv-loop μ-loop
 unfolding entryOf table
@@ -33,10 +33,10 @@ unfolding relations
 returns c = noted-no _ _ _ _ _ _ (last-stop (λ a. 0) _ _ _ (search walks depth 16) _ (c .enum-told .given .1)) (c .enum-told .given .1)
 
 loop-holds : tie.Need-loop-holds Inv-loop μ-loop
-loop-holds c = let r = count-read _ _ _ (c .before .before .before .field .ensures) (c .before .f .given .1) in relating _ _ ((c .before .before .before .before .before .before .pre) .2) (r .few) (r .late)
+loop-holds c = let r = count-read _ _ _ (c .before .before .before .field .ensures) (c .before .f .given .1) in relating _ _ ((c .before .before .before .before .before .before .before .pre) .2) (r .few) (r .late)
 
 relation-requires : tie.Need-relation-requires Inv-loop μ-loop
-relation-requires c κs = let g = (c .before .before .loop .inv) in let p = (c .before .before .before .before .before .before .before .before .before .pre) in (p .0, p .1, omega (arith, g .many, g .few), g .names .long)
+relation-requires c κs = let g = (c .before .before .before .loop .inv) in let p = (c .before .before .before .before .before .before .before .before .before .before .before .pre) in (p .0, p .1, omega (arith, g .many, g .few), g .names .long)
 
 enum-known-g : tie.Need-enum-known-g Inv-loop μ-loop
 enum-known-g c = search needs
@@ -45,14 +45,17 @@ enum-told-2 : tie.Need-enum-told-2 Inv-loop μ-loop
 enum-told-2 c = search needs
 
 same-length : tie.Need-same-length Inv-loop μ-loop
-same-length c = ((c .before .before .before .before .relation) .kept .1 .1 .1 .1 .0) ∙ ((c .before .before .before .before .before .before .before .loop .inv) .kept)
+same-length c = omega (arith, (c .before .before .before .before .before .before .before .before .before .before .loop .inv) .kept)
+
+same-length-2 : tie.Need-same-length-2 Inv-loop μ-loop
+same-length-2 c = omega (arith, (c .before .before .before .before .before .before .before .before .before .before .loop .inv) .stays)
 
 returns-2 : tie.Need-returns-2 Inv-loop μ-loop
 unfolding relations says
-returns-2 c = let g = (c .before .before .before .before .before .before .before .loop .inv) in noted-no _ _ _ _ _ _ (last-stop (λ a. 0) _ _ _ (by-left _ _ _ _ _ _ _ _ _ (c .before .before .before .before .before .before .before .before .before .before .before .field .ensures) (c .before .before .before .before .before .before .before .before .before .f .given .1) refl (by-inv (g .work .walks) (all-stop _ _ _ _ _ _ (omega arith) _ (noted-used _ _ (g .names) (c .before .before .before .before .relation .ensures) .answers) (c .enum-told2 .given .1)))) _ (c .enum-told2 .given .1)) (c .enum-told2 .given .1)
+returns-2 c = let g = (c .before .before .before .before .before .before .before .before .before .before .loop .inv) in noted-no _ _ _ _ _ _ (last-stop (λ a. 0) _ _ _ (by-left _ _ _ _ _ _ _ _ _ (c .before .before .before .before .before .before .before .before .before .before .before .before .before .before .field .ensures) (c .before .before .before .before .before .before .before .before .before .before .before .before .f .given .1) refl (by-inv (g .work .walks) (all-stop _ _ _ _ _ _ (omega arith) _ (noted-used _ _ (g .names) (c .before .before .before .before .before .before .relation .ensures) .answers) (c .enum-told2 .given .1)))) _ (c .enum-told2 .given .1)) (c .enum-told2 .given .1)
 
 add-i : tie.Need-add-i Inv-loop μ-loop
-add-i c = let g = (c .before .before .before .before .before .before .before .before .loop .inv) in omega (arith, g .many, g .few)
+add-i c = let g = (c .before .before .before .before .before .before .before .before .before .before .before .loop .inv) in omega (arith, g .many, g .few)
 
 sub-left : tie.Need-sub-left Inv-loop μ-loop
 sub-left c = search needs
@@ -61,34 +64,17 @@ loop-less : tie.Need-loop-less Inv-loop μ-loop
 loop-less c = search needs
 
 loop-again : tie.Need-loop-again Inv-loop μ-loop
-loop-again c = relating-on _ _ (c .before .before .before .before .before .before .before .before .loop .inv) (omega arith) (c .before .before .before .before .before .relation .ensures) (c .before .g .given .1)
+loop-again c = relating-on _ _ (c .before .before .before .before .before .before .before .before .before .before .before .loop .inv) (omega arith) (c .before .before .before .before .before .before .before .relation .ensures) (c .before .g .given .1) (omega arith)
 
-same-length-2 : tie.Need-same-length-2 Inv-loop μ-loop
-same-length-2 c = (c .before .loop .inv) .kept
+same-length-3 : tie.Need-same-length-3 Inv-loop μ-loop
+same-length-3 c = omega (arith, (c .before .loop .inv) .kept)
+
+same-length-4 : tie.Need-same-length-4 Inv-loop μ-loop
+same-length-4 c = omega (arith, (c .before .loop .inv) .stays)
 
 returns-3 : tie.Need-returns-3 Inv-loop μ-loop
 unfolding relations
 returns-3 c = noted-all _ _ _ _ _ _ _ _ _ _ _ _ (c .before .before .before .before .before .field .ensures) (c .before .before .before .f .given .1) ((c .before .loop .inv) .work) (omega arith)
 
 pub relations-spec : {M : Type 1} → statement M
-relations-spec =
-    tie.close
-    (tie.spec
-    Inv-loop
-    μ-loop
-    field-requires
-    enum-known-f
-    enum-told
-    returns
-    loop-holds
-    relation-requires
-    enum-known-g
-    enum-told-2
-    same-length
-    returns-2
-    add-i
-    sub-left
-    loop-less
-    loop-again
-    same-length-2
-    returns-3)
+relations-spec = tie.close (tie.spec Inv-loop μ-loop field-requires enum-known-f enum-told returns loop-holds relation-requires enum-known-g enum-told-2 same-length same-length-2 returns-2 add-i sub-left loop-less loop-again same-length-3 same-length-4 returns-3)

@@ -1,27 +1,21 @@
 -- `records::rule::rules` meets its contract.
 use mathlib.Core.Path.{_≡_, refl, _∙_}
 use native.Mathlib.Omega.{arith}
-use mathlib.Core.List.{List}
-use Prim.Native.Nat.{ℕ}
-use Rattle.pack.specs.declared.cursor.Step.{Step}
 use Rattle.pack.specs.Pack.{rules, rule}
-use Rattle.pack.proofs.StepLaws.{walks, by-left, by-inv, all-done, all-stop, all-next}
-use Rattle.pack.specs.Steps.{walkAll}
 use Rattle.pack.specs.Form.{says}
 use Rattle.pack.specs.Table.{entryOf, table}
+use Rattle.pack.proofs.StepLaws.{walks, last-stop, by-left, by-inv, all-stop}
+use Rattle.records.specs.Notes.{noteRule}
+use Rattle.records.proofs.KeptLaws.{noted-no, noted-all, Noting, noting, noting-on}
 use borrow.Author.Needs.{needs}
 use Rattle.records.proofs.rule.rules.Statement.{statement}
 use Rattle.records.proofs.rule.rules.Tie as tie
 
--- so many of them
-abbrev left-over : ℕ → ℕ → List ℕ → ℕ → Step
-left-over n k = walkAll {S = Unit {0}} (λ u a. u) (λ u. rule n) k tt
-
 abbrev Inv-loop : tie.InvT-loop
-Inv-loop s t n count c₀ left₀ c left = left-over n left₀ s (c₀ .at) ≡ left-over n left s (c .at)
+Inv-loop s t n notes₀ count c₀ left₀ notes c left = Noting (rule n) (noteRule n) s notes₀ (c₀ .at) left₀ notes (c .at) left
 
 abbrev μ-loop : tie.MeasureT-loop
-μ-loop s t n count c₀ left₀ c left = left
+μ-loop s t n notes₀ count c₀ left₀ notes c left = left
 
 field-requires : tie.Need-field-requires Inv-loop μ-loop
 unfolding entryOf table
@@ -35,13 +29,13 @@ enum-told c = search needs
 
 returns : tie.Need-returns Inv-loop μ-loop
 unfolding rules
-returns c = search walks depth 16
+returns c = noted-no _ _ _ _ _ _ (last-stop (λ a. 0) _ _ _ (search walks depth 16) _ (c .enum-told .given .1)) (c .enum-told .given .1)
 
 loop-holds : tie.Need-loop-holds Inv-loop μ-loop
-loop-holds c = refl
+loop-holds c = noting _ _ _ _ _ _
 
 rule-requires : tie.Need-rule-requires Inv-loop μ-loop
-rule-requires c κs = search needs
+rule-requires c κs = (c .before .before .before .before .before .before .before .before .before .pre)
 
 enum-known-g : tie.Need-enum-known-g Inv-loop μ-loop
 enum-known-g c = search needs
@@ -49,9 +43,12 @@ enum-known-g c = search needs
 enum-told-2 : tie.Need-enum-told-2 Inv-loop μ-loop
 enum-told-2 c = search needs
 
+same-length : tie.Need-same-length Inv-loop μ-loop
+same-length c = omega (arith, (c .before .before .before .before .before .before .before .loop .inv) .kept)
+
 returns-2 : tie.Need-returns-2 Inv-loop μ-loop
 unfolding rules says
-returns-2 c = by-left _ _ _ _ _ _ _ _ _ (c .before .before .before .before .before .before .before .before .field .ensures) (c .before .before .before .before .before .before .f .given .1) refl (by-inv (c .before .before .before .before .loop .inv) (all-stop _ _ _ _ _ _ (omega arith) _ (c .before .before .rule .ensures) (c .enum-told2 .given .1)))
+returns-2 c = noted-no _ _ _ _ _ _ (last-stop (λ a. 0) _ _ _ (by-left _ _ _ _ _ _ _ _ _ (c .before .before .before .before .before .before .before .before .before .before .before .field .ensures) (c .before .before .before .before .before .before .before .before .before .f .given .1) refl (by-inv (c .before .before .before .before .before .before .before .loop .inv .work .walks) (all-stop _ _ _ _ _ _ (omega arith) _ (c .before .before .before .before .rule .ensures 0 .answers) (c .enum-told2 .given .1)))) _ (c .enum-told2 .given .1)) (c .enum-told2 .given .1)
 
 sub-left : tie.Need-sub-left Inv-loop μ-loop
 sub-left c = search needs
@@ -60,28 +57,14 @@ loop-less : tie.Need-loop-less Inv-loop μ-loop
 loop-less c = search needs
 
 loop-again : tie.Need-loop-again Inv-loop μ-loop
-loop-again c = (c .before .before .before .before .before .loop .inv) ∙ all-next _ _ _ _ _ _ (omega arith) _ (c .before .before .before .rule .ensures) (λ _. tt) (λ _. refl) (c .before .g .given .1)
+loop-again c = noting-on _ _ _ (c .before .before .before .before .before .before .before .before .loop .inv) (omega arith) (c .before .before .before .before .before .rule .ensures) (c .before .g .given .1) (omega arith)
+
+same-length-2 : tie.Need-same-length-2 Inv-loop μ-loop
+same-length-2 c = omega (arith, (c .before .loop .inv) .kept)
 
 returns-3 : tie.Need-returns-3 Inv-loop μ-loop
-unfolding rules says
-returns-3 c = by-left _ _ _ _ _ _ _ _ _ (c .before .before .before .before .before .field .ensures) (c .before .before .before .f .given .1) refl (by-inv (c .before .loop .inv) (all-done _ _ _ _ _ _ (omega arith)))
+unfolding rules
+returns-3 c = noted-all _ _ _ _ _ _ _ _ _ _ _ _ (c .before .before .before .before .before .field .ensures) (c .before .before .before .f .given .1) ((c .before .loop .inv) .work) (omega arith)
 
 pub rules-spec : {M : Type 1} → statement M
-rules-spec =
-    tie.close
-    (tie.spec
-    Inv-loop
-    μ-loop
-    field-requires
-    enum-known-f
-    enum-told
-    returns
-    loop-holds
-    rule-requires
-    enum-known-g
-    enum-told-2
-    returns-2
-    sub-left
-    loop-less
-    loop-again
-    returns-3)
+rules-spec = tie.close (tie.spec Inv-loop μ-loop field-requires enum-known-f enum-told returns loop-holds rule-requires enum-known-g enum-told-2 same-length returns-2 sub-left loop-less loop-again same-length-2 returns-3)
