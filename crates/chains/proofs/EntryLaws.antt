@@ -341,11 +341,17 @@ module _ {ws d : List ℕ} (clear : Clear (namesSaid ws) d) {r : Laid} {d′ : L
   clear-names : Clear (p .names) d
   clear-names = subst (λ (m : ℕ). Clear m d) (said-names ws it) clear
 
-  laid : l ≡ layoutOf (p .names) 2 (length ws) (toRow p .1)
-  laid = let e : Yes l ≡ Yes (layoutOf (p .names) 2 (length ws) (toRow p .1)) = sym o ∙ c .lays p (it .reads) in cc
+  first : ℕ
+  first = c .lays p (it .reads) .0
+
+  all : ℕ
+  all = c .lays p (it .reads) .1
+
+  laid : l ≡ layoutOf (p .names) 2 (length ws) (toRow p .1) first all
+  laid = let e : Yes l ≡ Yes (layoutOf (p .names) 2 (length ws) (toRow p .1) first all) = sym o ∙ c .lays p (it .reads) .2 in cc
 
   same-directory : d′ ≡ directoryOf (p .names) 2 (toRow p .1) d
-  same-directory = c .notes p (it .reads)
+  same-directory = c .enters p (it .reads)
 
   -- what is shown of this pack holds of any that the words are
   of-any : (P : Pack → Type 0) → P p → (q : Pack) → read ws ≡ yes q → P q

@@ -24,9 +24,10 @@ use Rattle.records.specs.declared.directory.Layout.{Layout}
 use Rattle.records.specs.declared.directory.Laid.{Laid}
 use Rattle.records.specs.declared.directory.Laid.the-variants.{Yes}
 use Rattle.records.specs.declared.directory.Laid.the-variants.{No as Out}
-use Rattle.records.specs.Directory.{Clear, LaidOut, stepIn, refusal, layoutOf, directoryOf}
+use Rattle.records.specs.Directory.{Clear, stepIn, refusal, layoutOf, directoryOf}
+use Rattle.records.specs.Notes.{relationsLeft, notesLeft, LaidOut}
 use Rattle.records.proofs.KeptLaws.{There, there, within}
-use Rattle.checking.specs.Checked.{namesSaid, LaidWhole, answerIn, Checked}
+use Rattle.checking.specs.Checked.{namesSaid, LaidWhole, answerIn, CheckedNotes, Checked}
 use Rattle.pack.proofs.StepLaws.{went, went-same, by-then, by-value, step-no, field-fine, from-one}
 
 -- reading that starts at word 0
@@ -108,62 +109,68 @@ clear-read len ws {at} z {y = y} {k = k} e₁ o₁ e₂ o₂ {d} c =
     let f : y ≡ fieldStep 0 2 ws 1 = e₂ ∙ ap (λ (i : ℕ). fieldStep 0 2 ws i) a in
     subst (λ (m : ℕ). Clear m d) (names-said ws f o₂) c
 
-module _ {ws d : List ℕ} {d′ : List ℕ} where
+module _ {ws d e : List ℕ} {d′ e′ : List ℕ} where
   -- of a refusal nothing is to be shown but the answer
-  pub checked-no : {e : Refusal} {r : Laid} → r ≡ Out e → No e ≡ checkAnswer ws → Checked ws d r d′
+  pub checked-no : {w : Refusal} {r : Laid} → r ≡ Out w → No w ≡ checkAnswer ws → CheckedNotes ws d e r d′ e′
   unfolding checkAnswer
-  checked-no {e} {r} q a =
-      record {
-        answers = ap answerIn q ∙ a;
-        lays = λ p h. (let z : _≡_ {A = ℕ} 0 1 = clash (ap (λ (r : Reading). answer r (λ p. Given 1 0)) h) in absurd (omega arith));
-        notes = λ p h. (let z : _≡_ {A = ℕ} 0 1 = clash (ap (λ (r : Reading). answer r (λ p. Given 1 0)) h) in absurd (omega arith));
-      }
+  checked-no {w} {r} q a =
+      record { answers = ap answerIn q ∙ a; lays = λ p h. absurd (never p h); enters = λ p h. absurd (never p h); notes = λ p h. absurd (never p h) }
     where
       clash : answer (read ws) (λ p. Given 1 0) ≡ Given 1 0 → _≡_ {A = ℕ} 0 1
       clash b = cc (a, b)
 
+      never : (p : Pack) → read ws ≡ yes p → ⊥
+      never p h = let z : _≡_ {A = ℕ} 0 1 = clash (ap (λ (r : Reading). answer r (λ p. Given 1 0)) h) in omega arith
+
   module _ (lo : 6 ≤ length ws) (hi : length ws ≤ 8192) where
-    pub checked-refused : {r : Laid} → LaidWhole (length ws) ws d r d′ → {e : Refusal} → r ≡ Out e → Checked ws d r d′
+    pub checked-refused : {r : Laid} → LaidWhole (length ws) ws d e r d′ e′ → {w : Refusal} → r ≡ Out w → CheckedNotes ws d e r d′ e′
     checked-refused l q = checked-no q (check-refused ws lo hi (l .answers) (ap stepIn q))
 
-    pub checked-yes : {r : Laid} → LaidWhole (length ws) ws d r d′ → {l : Layout} → r ≡ Yes l → length ws ≤ l .end → Checked ws d (Yes l) d′
+    pub checked-yes : {r : Laid} → LaidWhole (length ws) ws d e r d′ e′ → {l : Layout} → r ≡ Yes l → length ws ≤ l .end → CheckedNotes ws d e (Yes l) d′ e′
     unfolding read
     checked-yes {r} w {l} q h =
-        let e : On 0 (record { at = l .end }) ≡ walk (layout undated (length ws)) ws 0 = sym (ap stepIn q) ∙ w .answers in
-        let t = there (λ a. 0) (layout undated (length ws)) ws 0 e refl in
-        let n : l .end ≡ length ws = omega (arith, within (λ a. 0) (layout undated (length ws)) ws 0 e refl (whole-long (length ws))) in
+        let s : On 0 (record { at = l .end }) ≡ walk (layout undated (length ws)) ws 0 = sym (ap stepIn q) ∙ w .answers in
+        let t = there (λ a. 0) (layout undated (length ws)) ws 0 s refl in
+        let n : l .end ≡ length ws = omega (arith, within (λ a. 0) (layout undated (length ws)) ws 0 s refl (whole-long (length ws))) in
         let f : read ws ≡ yes (ofRow undated (t .value .1)) = simp (le-leb 6 (length ws) lo, le-leb (length ws) 8192 hi, t .found, drop-of-length-le ws h) in
+        let same : (p : Pack) → read ws ≡ yes p → ofRow undated (t .value .1) ≡ p = λ p k. cc (f, k) in
         record {
-          answers = check-yes ws lo hi e refl h;
-          lays = λ p k. (let z : ofRow undated (t .value .1) ≡ p = cc (f, k) in subst (λ (p : Pack). Yes l ≡ Yes (layoutOf (p .names) 2 (length ws) (toRow p .1))) z
-              (sym q ∙ w .lays (t .value) (l .end) (drop (l .end) ws) (t .found) ∙ ap (λ (x : ℕ). Yes (layoutOf (t .value .1 .0) 2 x (t .value .1 .1))) n));
-          notes = λ p k. (let z : ofRow undated (t .value .1) ≡ p = cc (f, k) in subst (λ (p : Pack). d′ ≡ directoryOf (p .names) 2 (toRow p .1) d) z (w .notes (t .value) (l .end) (drop (l .end) ws) (t .found)));
+          answers = check-yes ws lo hi s refl h;
+          lays = λ p k. subst (λ (p : Pack). Yes l ≡ Yes (layoutOf (p .names) 2 (length ws) (toRow p .1) (getD (relationsLeft (p .names) 2 (toRow p .1) e) 0 0) (getD (notesLeft (p .names) 2 (toRow p .1) e) 0 0))) (same p k)
+              (sym q ∙ w .lays (t .value) (l .end) (drop (l .end) ws) (t .found)
+              ∙ ap (λ (x : ℕ). Yes (layoutOf (t .value .1 .0) 2 x (t .value .1 .1) (getD (relationsLeft (t .value .1 .0) 2 (t .value .1 .1) e) 0 0) (getD (notesLeft (t .value .1 .0) 2 (t .value .1 .1) e) 0 0))) n);
+          enters = λ p k. subst (λ (p : Pack). d′ ≡ directoryOf (p .names) 2 (toRow p .1) d) (same p k) (w .enters (t .value) (l .end) (drop (l .end) ws) (t .found));
+          notes = λ p k. subst (λ (p : Pack). e′ ≡ notesLeft (p .names) 2 (toRow p .1) e) (same p k) (w .notes (t .value) (l .end) (drop (l .end) ws) (t .found));
         }
 
--- the total and the number of names, and then the records
-module _ (len : ℕ) (ws d : List ℕ) {d′ : List ℕ} where
-  pub whole-no : {x : Step} {e : Refusal} {r : Laid} → x ≡ walk (layout undated len) ws 0 → x ≡ Refused e → r ≡ refusal x → LaidWhole len ws d r d′
-  unfolding stepOf
-  whole-no {x} {e} {r} w o q =
-      let s : r ≡ Out e = q ∙ ap refusal o in
-      let no = step-no (λ a. 0) (readBy (layout undated len) 0 ws) (sym w ∙ o) in
-      record { answers = ap stepIn s ∙ sym o ∙ w; lays = λ t next rest h. absurd (clash (sym no ∙ h)); notes = λ t next rest h. absurd (clash (sym no ∙ h)) }
+  pub without-notes : {r : Laid} → CheckedNotes ws d e r d′ e′ → Checked ws d r d′
+  without-notes c = record { answers = c .answers; lays = λ p h. (_, _, c .lays p h); enters = c .enters }
 
-  pub whole-on : {at : ℕ} → at ≡ 0 → {x y : Step} {v n : ℕ} {k j : Cursor} → x ≡ walk (field len 1) ws at → x ≡ On v k → y ≡ fieldStep 0 2 ws (k .at) → y ≡ On n j → {r : Laid} → LaidOut n ws (j .at) d r d′
-      → LaidWhole len ws d r d′
+-- the total and the number of names, and then the records
+module _ (len : ℕ) (ws d e : List ℕ) {d′ e′ : List ℕ} where
+  pub whole-no : {x : Step} {w : Refusal} {r : Laid} → x ≡ walk (layout undated len) ws 0 → x ≡ Refused w → r ≡ refusal x → LaidWhole len ws d e r d′ e′
+  unfolding stepOf
+  whole-no {x} {w} {r} y o q =
+      let s : r ≡ Out w = q ∙ ap refusal o in
+      let no = step-no (λ a. 0) (readBy (layout undated len) 0 ws) (sym y ∙ o) in
+      record { answers = ap stepIn s ∙ sym o ∙ y; lays = λ t next rest h. absurd (clash (sym no ∙ h)); enters = λ t next rest h. absurd (clash (sym no ∙ h)); notes = λ t next rest h. absurd (clash (sym no ∙ h)) }
+
+  pub whole-on : {at : ℕ} → at ≡ 0 → {x y : Step} {v n : ℕ} {k j : Cursor} → x ≡ walk (field len 1) ws at → x ≡ On v k → y ≡ fieldStep 0 2 ws (k .at) → y ≡ On n j → {r : Laid}
+      → LaidOut n ws (j .at) d e r d′ e′ → LaidWhole len ws d e r d′ e′
   unfolding layout inner readBy stepOf wordsBy
   whole-on {at} z {x = x} {v = v} {n = n} {k = k} {j = j} e₁ o₁ e₂ o₂ {r} l =
       record {
-        answers = by-then (λ v. 0) (field len 1) ws 0 e (λ _. inner undated) (λ t. 0) o₁ (λ _. by-value (field 0 2) (λ n. records undated n) (λ t. 0) ws (k .at) e₂ o₂ (l .answers));
+        answers = by-then (λ v. 0) (field len 1) ws 0 s (λ _. inner undated) (λ t. 0) o₁ (λ _. by-value (field 0 2) (λ n. records undated n) (λ t. 0) ws (k .at) e₂ o₂ (l .answers));
         lays = λ t next rest h. (let u = apart t next rest h in rw (← m, ← u .2) (l .lays (u .0) next rest (u .1)));
+        enters = λ t next rest h. (let u = apart t next rest h in rw (← m, ← u .2) (l .enters (u .0) next rest (u .1)));
         notes = λ t next rest h. (let u = apart t next rest h in rw (← m, ← u .2) (l .notes (u .0) next rest (u .1)));
       }
     where
-      e : x ≡ walk (field len 1) ws 0
-      e = from-start (field len 1) ws z e₁
+      s : x ≡ walk (field len 1) ws 0
+      s = from-start (field len 1) ws z e₁
 
       a : There (λ v. 0) (field len 1) ws 0 v k
-      a = there (λ v. 0) (field len 1) ws 0 e o₁
+      a = there (λ v. 0) (field len 1) ws 0 s o₁
 
       b : There same (field 0 2) ws (k .at) n j
       b = there same (field 0 2) ws (k .at) e₂ o₂

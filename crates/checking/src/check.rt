@@ -4,7 +4,7 @@ use pack::answer::Refusal;
 use pack::cursor::Step;
 use pack::kinds::Pack;
 use pack::table::Rule;
-use pack::table::table;
+use pack::table::table_for;
 use records::all::records;
 use records::all::refused;
 use records::directory::Directory;
@@ -13,7 +13,7 @@ ghost use mathlib.Core.Path.{_≡_};
 ghost use Prim.Native.Nat.{_≤_};
 ghost use lib.ListN.{length};
 ghost use Rattle.records.specs.Directory.{Clear};
-ghost use Rattle.checking.specs.Checked.{namesSaid, LaidWhole, answerIn, Checked};
+ghost use Rattle.checking.specs.Checked.{namesSaid, LaidWhole, answerIn, CheckedNotes, Checked};
 ghost use Rattle.pack.specs.Operations.{checkAnswer};
 
 pub fn refuse(number: u32, place: usize) -> Answer
@@ -39,11 +39,10 @@ fn no(number: u32, place: usize) -> Laid
 }
 
 // All the words of a slice of so many: where they stand.
-fn layout(s: &[u32], len: u32, dir: &mut [u32]) -> Laid
+fn layout(s: &[u32], len: u32, dir: &mut [u32], notes: &mut [u32]) -> Laid
     requires { ⌜ (length (now s) ≤ 8192) × Clear (namesSaid (now s)) (now dir) ⌝ }
-    ensures { λ r. ⌜ LaidWhole len (now (s .entry)) (now (dir .entry)) r (now (dir .exit)) ⌝ }
+    ensures { λ r. ⌜ LaidWhole len (now (s .entry)) (now (dir .entry)) (now (notes .entry)) r (now (dir .exit)) (now (notes .exit)) ⌝ }
 {
-    let t = table();
     let c = Pack::start();
     let f1 = c.skip(s, len, Pack::TOTAL, Rule::Total);
     let Step::On(_, c1) = f1 else {
@@ -53,13 +52,15 @@ fn layout(s: &[u32], len: u32, dir: &mut [u32]) -> Laid
     let Step::On(n, c2) = f2 else {
         return refused(f2);
     };
-    records(c2, s, &t, n, dir)
+    let t = table_for(n);
+    records(c2, s, &t, n, dir, notes)
 }
 
-// Where the records of a pack stand, with a directory of its relations; or the first refusal.
-pub fn check_directory(pack: &[u32], dir: &mut [u32]) -> Laid
+// Where the records of a pack stand, with a directory of its relations, and notes of what resolving looks at, as far as there
+// is room for them; or the first refusal.
+pub fn check_notes(pack: &[u32], dir: &mut [u32], notes: &mut [u32]) -> Laid
     requires { ⌜ Clear (namesSaid (now pack)) (now dir) ⌝ }
-    ensures { λ r. ⌜ Checked (now (pack .entry)) (now (dir .entry)) r (now (dir .exit)) ⌝ }
+    ensures { λ r. ⌜ CheckedNotes (now (pack .entry)) (now (dir .entry)) (now (notes .entry)) r (now (dir .exit)) (now (notes .exit)) ⌝ }
 {
     let len = pack.len();
     if len < Pack::LEAST_WORDS {
@@ -68,7 +69,7 @@ pub fn check_directory(pack: &[u32], dir: &mut [u32]) -> Laid
     if Pack::MOST_WORDS < len {
         return no(1, 0);
     }
-    let r = layout(pack, len as u32, dir);
+    let r = layout(pack, len as u32, dir, notes);
     let Laid::Yes(l) = r else {
         return r;
     };
@@ -77,6 +78,15 @@ pub fn check_directory(pack: &[u32], dir: &mut [u32]) -> Laid
         return no(8, end);
     }
     Laid::Yes(l)
+}
+
+// The same without notes.
+pub fn check_directory(pack: &[u32], dir: &mut [u32]) -> Laid
+    requires { ⌜ Clear (namesSaid (now pack)) (now dir) ⌝ }
+    ensures { λ r. ⌜ Checked (now (pack .entry)) (now (dir .entry)) r (now (dir .exit)) ⌝ }
+{
+    let mut none = [0u32; 1];
+    check_notes(pack, dir, &mut none)
 }
 
 // What Check answers.

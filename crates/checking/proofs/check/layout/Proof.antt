@@ -1,16 +1,14 @@
 -- `checking::check::layout` meets its contract.
-use mathlib.Core.Path.{refl, sym}
+use mathlib.Core.Path.{refl}
 use native.Mathlib.Omega.{arith}
 use Rattle.pack.specs.Pack.{layout, inner}
 use Rattle.pack.specs.Table.{entryOf, table}
 use Rattle.pack.proofs.StepLaws.{walks}
+use Rattle.reading.proofs.BoundLaws.{ready-for}
 use Rattle.checking.proofs.CheckLaws.{from-start, names-most, clear-read, whole-no, whole-on}
 use borrow.Author.Needs.{needs}
 use Rattle.checking.proofs.check.layout.Statement.{statement}
 use Rattle.checking.proofs.check.layout.Tie as tie
-
-table-requires : tie.Need-table-requires
-table-requires c κs = search needs
 
 start-requires : tie.Need-start-requires
 start-requires c κs = search needs
@@ -30,7 +28,7 @@ refused-requires c κs = search needs
 
 returns : tie.Need-returns
 unfolding layout inner
-returns c = whole-no _ _ _ (from-start _ _ (c .before .before .before .before .start .ensures) (search walks depth 12)) (c .before .enum-told .given .1) (c .refused .ensures)
+returns c = whole-no _ _ _ _ (from-start _ _ (c .before .before .before .before .start .ensures) (search walks depth 12)) (c .before .enum-told .given .1) (c .refused .ensures)
 
 field-requires : tie.Need-field-requires
 unfolding entryOf table
@@ -47,33 +45,22 @@ refused-requires-2 c κs = search needs
 
 returns-2 : tie.Need-returns-2
 unfolding layout inner
-returns-2 c = whole-no _ _ _ (from-start _ _ (c .before .before .before .before .before .before .before .before .start .ensures) (search walks depth 12)) (c .before .enum-told2 .given .1) (c .refused2 .ensures)
+returns-2 c = whole-no _ _ _ _ (from-start _ _ (c .before .before .before .before .before .before .before .before .start .ensures) (search walks depth 12)) (c .before .enum-told2 .given .1) (c .refused2 .ensures)
+
+table-for-requires : tie.Need-table-for-requires
+table-for-requires c κs = omega (arith, names-most _ _ _ (c .before .before .before .field .ensures) (c .before .f2 .given .1))
 
 records-requires : tie.Need-records-requires
-records-requires c κs = (names-most _ _ _ (c .before .before .before .before .before .field .ensures) (c .before .before .before .f2 .given .1), record { most = (c .before .before .before .before .before .before .before .before .before .before .before .before .before .before .pre) .0; tabled = (c .before .before .before .before .before .before .before .before .before .before .before .table .ensures) }, clear-read _ _ (c .before .before .before .before .before .before .before .before .before .before .start .ensures) (c .before .before .before .before .before .before .before .before .before .skip .ensures) (c .before .before .before .before .before .before .before .f1 .given .1) (c .before .before .before .before .before .field .ensures) (c .before .before .before .f2 .given .1) ((c .before .before .before .before .before .before .before .before .before .before .before .before .before .before .pre) .1))
+records-requires c κs = (names-most _ _ _ (c .before .before .before .before .before .before .before .field .ensures) (c .before .before .before .before .before .f2 .given .1), ready-for _ _ _ ((c .before .before .before .before .before .before .before .before .before .before .before .before .before .before .before .before .pre) .0) (c .before .before .before .table-for .ensures .0) (c .before .before .before .table-for .ensures .1), clear-read _ _ (c .before .before .before .before .before .before .before .before .before .before .before .before .start .ensures) (c .before .before .before .before .before .before .before .before .before .before .before .skip .ensures) (c .before .before .before .before .before .before .before .before .before .f1 .given .1) (c .before .before .before .before .before .before .before .field .ensures) (c .before .before .before .before .before .f2 .given .1) ((c .before .before .before .before .before .before .before .before .before .before .before .before .before .before .before .before .pre) .1))
 
 same-length : tie.Need-same-length
 same-length c = search needs
 
+same-length-2 : tie.Need-same-length-2
+same-length-2 c = search needs
+
 returns-3 : tie.Need-returns-3
-returns-3 c = whole-on _ _ _ (c .before .before .before .before .before .before .before .before .before .before .before .before .before .start .ensures) (c .before .before .before .before .before .before .before .before .before .before .before .before .skip .ensures) (c .before .before .before .before .before .before .before .before .before .before .f1 .given .1) (c .before .before .before .before .before .before .before .before .field .ensures) (c .before .before .before .before .before .before .f2 .given .1) (c .before .before .records .ensures)
+returns-3 c = whole-on _ _ _ _ (c .before .before .before .before .before .before .before .before .before .before .before .before .before .before .before .before .before .start .ensures) (c .before .before .before .before .before .before .before .before .before .before .before .before .before .before .before .before .skip .ensures) (c .before .before .before .before .before .before .before .before .before .before .before .before .before .before .f1 .given .1) (c .before .before .before .before .before .before .before .before .before .before .before .before .field .ensures) (c .before .before .before .before .before .before .before .before .before .before .f2 .given .1) (c .before .before .before .before .records .ensures)
 
 pub layout-spec : {M : Type 1} → statement M
-layout-spec =
-    tie.close
-    (tie.spec
-    table-requires
-    start-requires
-    skip-requires
-    enum-known-f1
-    enum-told
-    refused-requires
-    returns
-    field-requires
-    enum-known-f2
-    enum-told-2
-    refused-requires-2
-    returns-2
-    records-requires
-    same-length
-    returns-3)
+layout-spec = tie.close (tie.spec start-requires skip-requires enum-known-f1 enum-told refused-requires returns field-requires enum-known-f2 enum-told-2 refused-requires-2 returns-2 table-for-requires records-requires same-length same-length-2 returns-3)
