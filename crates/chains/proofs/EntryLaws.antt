@@ -341,10 +341,10 @@ module _ {ws d : List ℕ} (clear : Clear (namesSaid ws) d) {r : Laid} {d′ : L
   clear-names : Clear (p .names) d
   clear-names = subst (λ (m : ℕ). Clear m d) (said-names ws it) clear
 
-  first : ℕ
+  abbrev first : ℕ
   first = c .lays p (it .reads) .0
 
-  all : ℕ
+  abbrev all : ℕ
   all = c .lays p (it .reads) .1
 
   laid : l ≡ layoutOf (p .names) 2 (length ws) (toRow p .1) first all
