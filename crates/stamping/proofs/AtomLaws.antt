@@ -16,7 +16,7 @@ use Rattle.pack.proofs.PackLaws.{words-read}
 use Rattle.chains.specs.Reach.{any}
 use Rattle.directions.specs.Resolving.{atomOf, inDerivation, inRule, atomNames}
 use Rattle.stamping.specs.Stamping.{atomAfter, atomsIn, NoAtoms}
-use Rattle.nodes.proofs.HeldWords.{OfNodes, found, pack-tells}
+use Rattle.GONE.proofs.HeldWords.{OfNodes, found, pack-tells}
 
 -- ---- one word
 

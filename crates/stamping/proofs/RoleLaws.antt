@@ -17,7 +17,7 @@ use Rattle.chains.proofs.Hushed.{Quiet}
 use Rattle.directions.specs.Turning.{treeWords}
 use Rattle.directions.specs.Resolving.{holds, roleJudgment}
 use Rattle.stamping.specs.Stamping.{roleAmong, roleIn}
-use Rattle.nodes.proofs.HeldWords.{OfNodes, tree-nodes, found, tree-found}
+use Rattle.GONE.proofs.HeldWords.{OfNodes, tree-nodes, found, tree-found}
 
 -- ---- one word
 

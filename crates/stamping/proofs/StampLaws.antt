@@ -20,7 +20,7 @@ use Rattle.directions.specs.Resolving.{holds, roleJudgment, atomNames, empty, u
 use Rattle.chains.specs.Record.{predicateAt}
 use Rattle.stamping.specs.Stamping.{StampedBy, as-it-is, with-kinds, roleIn, unstamped, passedIn, unlikeIn, nameAt, listFor}
 use Rattle.chains.proofs.RecordLaws.{Ends, value-there, counted, no-flag, a-flag, current-there, related-there, entities-there, its-fine, predicate-there}
-use Rattle.nodes.proofs.PredicateLaws.{front, predicate-open}
+use Rattle.GONE.proofs.PredicateLaws.{front, predicate-open}
 use Rattle.stamping.proofs.RoleLaws.{role-read}
 
 -- ---- the predicate of a derivation

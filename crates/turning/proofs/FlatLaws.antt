@@ -19,8 +19,7 @@ use Rattle.directions.specs.declared.direction.Direction.the-variants.{Turned, 
 use Rattle.directions.specs.Direction.{turn, Membership}
 use Rattle.directions.specs.Direction as direction
 use Rattle.directions.specs.Turning.{Outcome, done, refused, andThen, mapDone, Citing, Fields, currentOf, relatedOf, withSlots, valueOfNode, Step, goes, stops, aggregate, allowedInput, onlyRelated, membershipTest, stepBy, fieldWords, treeWords, forestWords, size, sizes, atNode, resolveTree, resolveForest}
-use Rattle.nodes.proofs.TreeWords.{size-is}
-use Rattle.nodes.proofs.WalkLaws.{fields-length}
+use Rattle.directions.proofs.TreeWords.{size-is, fields-length}
 use Rattle.turning.specs.Notes.{Note, note, lookBy, lookOf, noted, within, notesOf, notesIn}
 use Rattle.turning.specs.Turns.{Known, Root, citing, Work, work, held, fieldsAt, stepAt, turnedBy, turnNode, turnNote, turnNotes}
 

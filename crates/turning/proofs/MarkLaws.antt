@@ -11,9 +11,8 @@ use lib.Dec.{eqb, leb, ltb}
 use borrow.Author.Tests.{eq-eqb, ne-eqb, eqb-false, lt-leb, le-leb}
 use Rattle.pack.specs.Table.{pick, kindOf, valueOf}
 use Rattle.directions.specs.Resolving.{roleJudgment}
-use Rattle.turning.specs.Notes.{Note, noteCode, insideOf}
-use Rattle.turning.specs.Turns.{valueIn, kindIn}
-use Rattle.turning.specs.Steps.{Held}
+use Rattle.turning.specs.Notes.{Note, noteCode, Held}
+use Rattle.turning.specs.Turns.{insideOf, valueIn, kindIn}
 use Rattle.turning.specs.Asked.{relationAfter, atomMarked, roleMarked, markNote, markNotes, InWords, MarkAsked, NoteMarked, MarksAsked, NotesMarked}
 use Rattle.turning.proofs.CodeLaws.{code-parts}
 

@@ -19,8 +19,8 @@ use Rattle.turning.specs.declared.step.Out.the-variants.{Opens, Sets, Pa
 use Rattle.turning.specs.declared.root.Root as code
 use Rattle.turning.specs.declared.turns.Next.{Next}
 use Rattle.turning.specs.declared.turns.Next.the-variants as next
-use Rattle.turning.specs.Notes.{Note, lookBy, lookOf, noteCode, insideOf}
-use Rattle.turning.specs.Turns.{Known, Root, citing, Work, work, valueIn, kindIn, ruleRoot, relatedKind, relationRoot, held, fieldsAt, stepAt, turnedBy, openRoot, turnNode, turnNote}
+use Rattle.turning.specs.Notes.{Note, lookBy, lookOf, noteCode}
+use Rattle.turning.specs.Turns.{insideOf, Known, Root, citing, Work, work, valueIn, kindIn, ruleRoot, relatedKind, relationRoot, held, fieldsAt, stepAt, turnedBy, openRoot, turnNode, turnNote}
 use Rattle.turning.specs.Steps.{knownIn, NodeStands, Stands, outBy, outAt, OutFits, StepTaken, rootIn, RootStands, RootOpened, NextBy, NoteAsked, NoteTurned}
 use Rattle.turning.proofs.FlatLaws.{Leaves, look-leaves}
 use Rattle.turning.proofs.CodeLaws.{code-parts}
@@ -96,7 +96,7 @@ module _ {ws words notes : List ℕ} {blocks count i : ℕ} (a : NoteAsked ws wo
   pub some-field : 1 ≤ getD notes i 0 % 8192
   some-field = let e = its-field notes (a .n) (a .is) (a .stands) in omega arith
 
-  pub earlier : getD notes i 0 / 16384 < 8193
+  pub earlier : getD notes i 0 / 16384 < length notes
   earlier = let b = inside-below notes (a .n) (a .is) (a .stands) in let c = a .inside in omega arith
 
   pub node-stands : (insideOf (getD notes i 0) ≡ 0 → ⊥) → NodeStands ws (getD notes i 0 % 8192 - 1)
@@ -112,7 +112,7 @@ module _ (ws records marks taken words notes : List ℕ) (blocks count i : ℕ) 
   -- a rule or relation
   pub opens-root : insideOf (getD notes i 0) ≡ 0 → {x : code.Root} → RootOpened ws records marks (getD notes i 0 % 8192 - 1) x → NoteTurned ws records marks taken blocks count i r words notes (next.On x) words (set notes i (x .entity))
   unfolding turnNote openRoot
-  opens-root h {x} o = record { each = each; long = refl; others = λ j q. getD-set-other notes i j (x .entity) 0 q }
+  opens-root h {x} o = record { each = each; long = refl; wide = length-set notes i (x .entity); others = λ j q. getD-set-other notes i j (x .entity) 0 q }
     where
       each : (n : Note) → getD notes i 0 ≡ noteCode n → Stands ws i n → NextBy (turnNote K ws i n (work words notes (rootIn r))) (next.On x) words (set notes i (x .entity))
       each n is st = rw (eq-eqb (n .inside) 0 (sym (its-inside notes n is st) ∙ h)) (go (eqb (kindIn ws (n .place)) 23) refl (subst (λ (y : ℕ). RootOpened ws records marks y x) (its-place notes n is st) o))
@@ -140,6 +140,7 @@ module _ (ws records marks taken words notes : List ℕ) (blocks count i : ℕ) 
     note-opens {c} {s} {k} e {left} q =
         record {
           others = λ j z. getD-set-other notes i j k 0 z;
+          wide = length-set notes i k;
           each = λ n is st. rw (its-outcome n is st, e) (r, refl, refl, q ∙ ap (λ (x : ℕ). sets words (x + 1) (slotWords c s)) (its-place notes n is st), refl);
           long = ap length q ∙ length-sets words (at + 1) (slotWords c s);
         }
@@ -148,18 +149,20 @@ module _ (ws records marks taken words notes : List ℕ) (blocks count i : ℕ) 
     note-sets {c} {s} e {left} q =
         record {
           others = λ j z. refl;
+          wide = refl;
           each = λ n is st. rw (its-outcome n is st, e) (r, refl, refl, q ∙ ap (λ (x : ℕ). sets words (x + 1) (slotWords c s)) (its-place notes n is st), refl);
           long = ap length q ∙ length-sets words (at + 1) (slotWords c s);
         }
 
     pub note-passes : o ≡ Passes → NoteTurned ws records marks taken blocks count i r words notes (next.On r) words notes
-    note-passes e = record { each = λ n is st. rw (its-outcome n is st, e) (r, refl, refl, refl, refl); long = refl; others = λ j z. refl }
+    note-passes e = record { each = λ n is st. rw (its-outcome n is st, e) (r, refl, refl, refl, refl); long = refl; wide = refl; others = λ j z. refl }
 
     pub note-stops : {number other : ℕ} → o ≡ Stops number other → NoteTurned ws records marks taken blocks count i r words notes (next.Refused (record { number = number; place = at; name = r .name; other = other })) words notes
     note-stops {number} {other} e =
         record {
           each = λ n is st. rw (its-outcome n is st, e) (ap (λ (x : ℕ). next.Refused (record { number = number; place = x; name = r .name; other = other })) (its-place notes n is st));
           long = refl;
+          wide = refl;
           others = λ j z. refl;
         }
 

@@ -14,9 +14,9 @@ use Rattle.chains.specs.Places.{relationWords, firstRelation}
 use Rattle.chains.proofs.PackIndex.{EachFound, all-found}
 use Rattle.directions.specs.Turning.{Outcome, done, refused, andThen, mapDone}
 use Rattle.directions.specs.Resolving.{ruleWords, resolveRule, resolveRules, resolveRelation, resolveRelations, firstRule}
-use Rattle.trees.specs.Passes.{wordsOf, runBy, All, RelationKeeps, withRecords, turned}
-use Rattle.trees.proofs.RuleLaws.{run-length}
-use Rattle.trees.proofs.TurnedPack.{front, pack-words, front-long, front22, pack-words-22, front22-long, rules-run, relations-run, rules-keep, relations-keep, again-words}
+use Rattle.directions.specs.Records.{wordsOf, runBy, All, RelationKeeps, withRecords, turned}
+use Rattle.directions.proofs.RunLaws.{run-length}
+use Rattle.directions.proofs.TurnedPack.{front, pack-words, front-long, front22, pack-words-22, front22-long, rules-run, relations-run, rules-keep, relations-keep, again-words}
 use Rattle.turning.specs.Notes.{Note, ruleNotes, relationNotes, notesRun, relationsNoted, rulesNoted, notesOfPack}
 use Rattle.turning.specs.Turns.{Known, knownOf, Work, afresh, turnNotes, turnPack, TurnedInto}
 use Rattle.turning.proofs.RunFlat.{Ran, RanBy, FlatAt, run-flat}

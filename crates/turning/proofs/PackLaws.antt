@@ -18,16 +18,16 @@ use Rattle.chains.specs.Places.{relationWords, firstRelation}
 use Rattle.chains.proofs.CheckedLaws.{same-pack}
 use Rattle.directions.specs.Turning.{Outcome, done, refused, andThen, treeWords, size, sizes}
 use Rattle.directions.specs.Resolving.{ruleWords, predicatePlace, firstRule}
-use Rattle.nodes.proofs.TreeWords.{size-is}
-use Rattle.trees.specs.Passes.{wordsOf, All, bodyWords, RelationKeeps, turned}
-use Rattle.trees.proofs.RuleLaws.{bodiesOf, head, rule-parts}
-use Rattle.trees.proofs.RelationLaws.{lead, lead-words, lead-long, predicate-kept}
-use Rattle.trees.proofs.TurnedPack.{front, pack-words, rulesOn, rules-keep, relations-keep}
+use Rattle.directions.proofs.TreeWords.{size-is}
+use Rattle.directions.specs.Records.{wordsOf, All, bodyWords, RelationKeeps, turned}
+use Rattle.directions.proofs.RuleLaws.{bodiesOf, head, rule-parts}
+use Rattle.directions.proofs.RelationLaws.{lead, lead-words, lead-long, predicate-kept}
+use Rattle.directions.proofs.TurnedPack.{front, pack-words, rulesOn, rules-keep, relations-keep}
 use Rattle.turning.specs.declared.turns.Ended.{Ended}
 use Rattle.turning.specs.declared.turns.Ended.the-variants as ended
-use Rattle.turning.specs.Notes.{Note, note, lookOf, noted, within, notesOf, notesIn, notesRun, bodyNotes, ruleNotes, derivedNotes, relationNotes, relationsNoted, rulesNoted, notesOfPack}
+use Rattle.turning.specs.Notes.{Note, note, lookOf, noted, within, notesOf, notesIn, notesRun, bodyNotes, ruleNotes, derivedNotes, relationNotes, relationsNoted, rulesNoted, notesOfPack, Held, NotesIn}
 use Rattle.turning.specs.Turns.{Known, knownOf, Work, work, nowhere, afresh, turnNotes, turnPack, TurnedInto}
-use Rattle.turning.specs.Steps.{knownIn, Held, Placed, EndedBy, TurnsAsked, NotesTurned, NotesIn, PackAsked, TurnedAs, PackTurned}
+use Rattle.turning.specs.Steps.{knownIn, Placed, EndedBy, TurnsAsked, NotesTurned, PackAsked, TurnedAs, PackTurned}
 use Rattle.turning.proofs.RecordFlat.{its-derivation}
 use Rattle.turning.proofs.PackFlat.{flattening}
 use Rattle.turning.proofs.PlacedLaws.{both-placed}
@@ -139,11 +139,11 @@ module _ (ws records marks taken words₀ notes₀ : List ℕ) (blocks count rel
   all-is : all ≡ length rels + length rls
   all-is = a .noted .many ∙ length-append rels rls
 
-  pub few-relations : relations + 1 ≤ 8193
-  few-relations = let f = notes-few p w in omega (arith, a .noted .first, length-append rels rls)
+  pub few-relations : relations + 1 ≤ length notes₀
+  few-relations = let r = a .noted .room in omega (arith, a .noted .first, all-is)
 
-  pub few-notes : all + 1 ≤ 8193
-  few-notes = let f = notes-few p w in omega (arith, a .noted .many)
+  pub few-notes : all + 1 ≤ length notes₀
+  few-notes = let r = a .noted .room in omega arith
 
   first-is : relations + 1 ≡ 1 + length rels
   first-is = omega (arith, a .noted .first)
@@ -165,7 +165,7 @@ module _ (ws records marks taken words₀ notes₀ : List ℕ) (blocks count rel
 
   -- the whole, by the law
   law : TurnedInto (turned p) (turnPack K (words p) rels rls (work words₀ notes₀ nowhere))
-  law = flattening p w (work words₀ notes₀ nowhere) (a .copied ∙ same-words) (let f = notes-few p w in omega (arith, a .noted .wide))
+  law = flattening p w (work words₀ notes₀ nowhere) (a .copied ∙ same-words) (let r = a .noted .room in omega (arith, a .noted .many))
 
   abbrev rules-outcome : Outcome Work
   rules-outcome = turnNotes K (words p) (1 + length rels) rls (work words₀ notes₀ nowhere)
@@ -211,7 +211,7 @@ module _ (ws records marks taken words₀ notes₀ : List ℕ) (blocks count rel
             low = a .low;
             few = a .few;
             same = t .long ∙ ap length (a .copied);
-            inside = few-relations;
+            inside = let h = t .wide in omega (arith, few-relations);
             ns = rels;
             are = relations-held;
             many = first-is;

@@ -22,14 +22,13 @@ use Rattle.directions.specs.Tables.{Derived, derivedAt, tables}
 use Rattle.directions.specs.Direction.{Membership, membership, kindOrZero}
 use Rattle.directions.specs.Turning.{Outcome, done, refused, andThen, mapDone, Citing, Fields, treeWords, size, resolveTree}
 use Rattle.directions.specs.Resolving.{cites, resolveBody, ruleBy, resolveRule, ruleWords, predicatePlace, withPredicate, predicateBy, resolvePredicate, resolveDerivation, resolveRelation}
-use Rattle.nodes.proofs.KeepsForm.{Good, FieldsFine, open-node, no-level, tree-good}
-use Rattle.nodes.proofs.ShapeLaws.{head-fine}
-use Rattle.nodes.proofs.NodeLaws.{fields-count}
-use Rattle.nodes.proofs.TreeWords.{size-is}
-use Rattle.nodes.proofs.ResolvedFine.{rule-good, tail-derivation, tables-fit}
-use Rattle.trees.specs.Passes.{wordsOf, runBy, All, bodyWords, RelationKeeps}
-use Rattle.trees.proofs.RuleLaws.{bodiesOf, head, RuleParts, rule-parts, again, rule-run, run-length}
-use Rattle.trees.proofs.RelationLaws.{lead, lead-words, lead-long, predicate-kept}
+use Rattle.directions.proofs.KeepsForm.{Good, FieldsFine, open-node, no-level, tree-good, head-fine}
+use Rattle.directions.proofs.TreeWords.{fields-count, size-is}
+use Rattle.directions.proofs.ResolvedFine.{rule-good, tail-derivation, tables-fit}
+use Rattle.directions.specs.Records.{wordsOf, runBy, All, bodyWords, RelationKeeps}
+use Rattle.directions.proofs.RuleLaws.{bodiesOf, head, RuleParts, rule-parts, again, rule-run}
+use Rattle.directions.proofs.RunLaws.{run-length}
+use Rattle.directions.proofs.RelationLaws.{lead, lead-words, lead-long, predicate-kept}
 use Rattle.turning.specs.Notes.{Note, note, notesOf, notesRun, bodyNotes, ruleNotes, derivedNotes, relationNotes}
 use Rattle.turning.specs.Turns.{Known, knownOf, Root, citing, Work, work, valueIn, kindIn, ruleRoot, relatedKind, memberKinds, relationRoot, openRoot, turnNote, turnNotes}
 use Rattle.turning.proofs.FlatLaws.{ValuesFit, Sound, Sounds, Flat, flat-tree}

@@ -21,13 +21,13 @@ use Rattle.directions.specs.Direction as direction
 use Rattle.directions.specs.Turning.{Citing, Fields, withSlots, stops, aggregate, allowedInput, onlyRelated, membershipTest, stepBy}
 use Rattle.directions.specs.Words.{tablesIn, membershipIn, MemberTurned}
 use Rattle.inputs.specs.Blocks.{inputIn}
-use Rattle.nodes.specs.Walk.{orNot, SlotsFit}
-use Rattle.nodes.proofs.StepWords.{member-fits-code}
+use Rattle.directions.specs.Words.{SlotsFit}
+use Rattle.directions.proofs.SlotLaws.{member-fits-code}
 use Rattle.turning.specs.declared.step.Out.{Out}
 use Rattle.turning.specs.declared.step.Out.the-variants.{Opens, Sets, Passes, Stops}
-use Rattle.turning.specs.Notes.{Note, lookBy, lookOf, noteCode, lostOf}
-use Rattle.turning.specs.Turns.{Root, citing, valueIn, kindIn, held, fieldsAt, stepAt}
-use Rattle.turning.specs.Steps.{knownIn, NodeStands, turnAt, outBy, outAt, wentBy, testedBy, allowedBy, onlyBy, OutFits, StepTaken}
+use Rattle.turning.specs.Notes.{Note, lookBy, lookOf, noteCode}
+use Rattle.turning.specs.Turns.{lostOf, Root, citing, valueIn, kindIn, held, fieldsAt, stepAt}
+use Rattle.turning.specs.Steps.{orNot, knownIn, NodeStands, turnAt, outBy, outAt, wentBy, testedBy, allowedBy, onlyBy, OutFits, StepTaken}
 use Rattle.turning.proofs.CodeLaws.{code-parts}
 
 -- ---- fields read from the words

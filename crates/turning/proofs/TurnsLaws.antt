@@ -12,9 +12,9 @@ use Rattle.turning.specs.declared.turns.Next.{Next}
 use Rattle.turning.specs.declared.turns.Next.the-variants as next
 use Rattle.turning.specs.declared.turns.Ended.{Ended}
 use Rattle.turning.specs.declared.turns.Ended.the-variants as ended
-use Rattle.turning.specs.Notes.{Note, noteCode}
+use Rattle.turning.specs.Notes.{Note, noteCode, Held}
 use Rattle.turning.specs.Turns.{Known, Root, Work, work, nowhere, turnNote, turnNotes}
-use Rattle.turning.specs.Steps.{knownIn, Stands, rootIn, NextBy, NoteAsked, NoteTurned, Held, Placed, EndedBy, TurnsAsked, NotesTurned}
+use Rattle.turning.specs.Steps.{knownIn, Stands, rootIn, NextBy, NoteAsked, NoteTurned, Placed, EndedBy, TurnsAsked, NotesTurned}
 
 -- numbers that are left as they were
 held-still : (notes left : List ℕ) (i : ℕ) → ((j : ℕ) → (j ≡ i → ⊥) → getD left j 0 ≡ getD notes j 0) → (k : ℕ) → i < k → (ns : List Note) → Held notes k ns → Held left k ns
@@ -45,12 +45,13 @@ module _ (ws records marks taken : List ℕ) (blocks count from to : ℕ) (words
   -- of any notes that the numbers are
   pub record Going (words notes : List ℕ) (i : ℕ) (r : code.Root) : Type 0 where
     pub same : length words ≡ length words₀
+    pub wide : length notes ≡ length notes₀
     pub on : from ≤ i
     pub earlier : (j : ℕ) → j < from → getD notes j 0 ≡ getD notes₀ j 0
     pub each : (ns : List Note) → Held notes₀ from ns → to ≡ from + length ns → Placed ws from ns → Left ns words notes i r
 
   pub turns-begin : Going words₀ notes₀ from (record { name = 0; origin = 0; entity = 0; m = 0 })
-  turns-begin = record { same = refl; on = omega arith; earlier = λ j h. refl; each = λ ns are many placed. record { rest = ns; are = are; many = many; placed = placed; left = refl } }
+  turns-begin = record { same = refl; wide = refl; on = omega arith; earlier = λ j h. refl; each = λ ns are many placed. record { rest = ns; are = are; many = many; placed = placed; left = refl } }
 
   module _ {words notes : List ℕ} {i : ℕ} {r : code.Root} (g : Going words notes i r) where
     -- the next note
@@ -75,7 +76,7 @@ module _ (ws records marks taken : List ℕ) (blocks count from to : ℕ) (words
       pub turns-asked : TurnsAsked ws words₀ notes₀ blocks count from to → NoteAsked ws words notes blocks count i
       turns-asked a =
           let x = next-note (a .ns) (g .each (a .ns) (a .are) (a .many) (a .placed)) in
-          record { low = a .low; few = a .few; same = g .same ∙ a .same; inside = let q = a .inside in omega arith; n = x .n; is = x .is; stands = x .stands }
+          record { low = a .low; few = a .few; same = g .same ∙ a .same; inside = let q = a .inside in let l = g .wide in omega arith; n = x .n; is = x .is; stands = x .stands }
 
       module _ {o : Next} {left kinds : List ℕ} (t : NoteTurned ws records marks taken blocks count i r words notes o left kinds) where
         -- it goes on
@@ -99,6 +100,7 @@ module _ (ws records marks taken : List ℕ) (blocks count from to : ℕ) (words
               rw (add-one i)
               (record {
                 same = t .long ∙ g .same;
+                wide = t .wide ∙ g .wide;
                 on = let h = g .on in omega arith;
                 earlier = λ j l. t .others j (λ z. let h = g .on in omega arith) ∙ g .earlier j l;
                 each = λ ns are many placed. let y = next-note ns (g .each ns are many placed) in went ns y (turnNote K ws i (y .n) (work words notes (rootIn r))) refl (t .each (y .n) (y .is) (y .stands));
@@ -116,6 +118,7 @@ module _ (ws records marks taken : List ℕ) (blocks count from to : ℕ) (words
               record {
                 each = λ ns are many placed. let y = next-note ns (g .each ns are many placed) in stopped ns y (turnNote K ws i (y .n) (work words notes (rootIn r))) refl (t .each (y .n) (y .is) (y .stands));
                 long = t .long ∙ g .same;
+                wide = t .wide ∙ g .wide;
                 earlier = λ j l. t .others j (λ z. let h = g .on in omega arith) ∙ g .earlier j l;
               }
 
@@ -126,4 +129,4 @@ module _ (ws records marks taken : List ℕ) (blocks count from to : ℕ) (words
     ends-by all (n ∷ rest) h many left = absurd (omega arith)
 
     pub turns-end : to ≤ i → NotesTurned ws records marks taken blocks count from to words₀ notes₀ ended.All words notes
-    turns-end h = record { each = λ ns are many placed. let l = g .each ns are many placed in ends-by ns (l .rest) h (l .many) (l .left); long = g .same; earlier = g .earlier }
+    turns-end h = record { each = λ ns are many placed. let l = g .each ns are many placed in ends-by ns (l .rest) h (l .many) (l .left); long = g .same; wide = g .wide; earlier = g .earlier }

@@ -8,9 +8,8 @@ use lib.Dec.{eqb}
 use Rattle.pack.specs.Table.{pick}
 use Rattle.chains.specs.Reach.{any}
 use Rattle.directions.specs.Resolving.{roleJudgment, atomOf}
-use Rattle.turning.specs.Notes.{Note, noteCode}
+use Rattle.turning.specs.Notes.{Note, noteCode, Held}
 use Rattle.turning.specs.Turns.{valueIn, kindIn}
-use Rattle.turning.specs.Steps.{Held}
 
 -- whether some note's word is of a sort
 abbrev pub someNote : (ℕ → ℕ → Bool) → List ℕ → List Note → Bool
@@ -65,7 +64,7 @@ pub record MarksAsked (ws notes : List ℕ) (all : ℕ) (t : List ℕ) : Type 0 
   pub ns : List Note
   pub are : Held notes 1 ns
   pub many : all ≡ length ns
-  pub few : all ≤ 8192
+  pub room : all < length notes
   pub there : InWords ws ns
   pub wide : length t ≡ 4096
 

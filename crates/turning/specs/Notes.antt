@@ -1,9 +1,10 @@
 -- The notes of a pack: in word order, the rules, the derived relations and the nodes of their trees that resolving looks at.
-use Prim.Native.Nat.{ℕ, suc, _+_, _*_, _/_, _%_}
+use Prim.Native.Nat.{ℕ, suc, _+_, _*_, _<_}
+use mathlib.Core.Path.{_≡_}
 use mathlib.Core.List.{List, [], _∷_, _++_}
 use mathlib.Core.Bool.{Bool, true, false, _||_}
 use mathlib.Core.Option.{Option, none, some}
-use lib.ListN.{length}
+use lib.ListN.{length, getD}
 use lib.Dec.{eqb}
 use Rattle.pack.specs.declared.table.Follows.{Follows}
 use Rattle.pack.specs.declared.table.Follows.the-variants.{Nothing, Counted, OneScalar, TwoScalars, Scalars, Patterns, Periods, OneJudgment, Judgments, Choice, Aggregate, OnlyRelated, Slots, Atom, Exists}
@@ -14,7 +15,7 @@ use Rattle.pack.specs.Pack.{Derivation, Relation, Body, Rule, Pack}
 use Rattle.chains.specs.Places.{relationWords, firstRelation}
 use Rattle.directions.specs.Turning.{size}
 use Rattle.directions.specs.Resolving.{predicatePlace, ruleWords, firstRule}
-use Rattle.trees.specs.Passes.{bodyWords}
+use Rattle.directions.specs.Records.{bodyWords}
 
 -- ---- which nodes are noted
 
@@ -125,11 +126,16 @@ contextOf inside lost = 16384 * inside + pick lost 8192 0
 abbrev pub noteCode : Note → ℕ
 noteCode n = n .place + 1 + contextOf (n .inside) (n .lost)
 
-abbrev pub fieldOf : ℕ → ℕ
-fieldOf code = code % 8192
+-- ---- in an array
 
-abbrev pub lostOf : ℕ → Bool
-lostOf code = eqb (code / 8192 % 2) 1
+-- codes of notes from an index on
+abbrev pub Held : List ℕ → ℕ → List Note → Type 0
+Held notes i [] = Unit {0}
+Held notes i (n ∷ ns) = (getD notes i 0 ≡ noteCode n) × Held notes (suc i) ns
 
-abbrev pub insideOf : ℕ → ℕ
-insideOf code = code / 16384
+-- the notes of a pack, from index 1 on: so many of relations, so many in all
+pub record NotesIn (p : Pack) (notes : List ℕ) (relations all : ℕ) : Type 0 where
+  pub room : all < length notes
+  pub held : Held notes 1 (notesOfPack p)
+  pub first : relations ≡ length (relationsNoted p)
+  pub many : all ≡ length (notesOfPack p)

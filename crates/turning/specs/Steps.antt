@@ -16,8 +16,7 @@ use Rattle.directions.specs.Direction.{turn, Membership}
 use mathlib.Core.Option.{Option, none, some}
 use Rattle.directions.specs.Turning.{Outcome, done, refused, Citing, currentOf, relatedOf, Step, goes, stops}
 use Rattle.directions.specs.Words.{tablesIn, membershipIn}
-use Rattle.nodes.specs.Walk.{orNot}
-use Rattle.trees.specs.Passes.{turned}
+use Rattle.directions.specs.Records.{turned}
 use Rattle.turning.specs.declared.step.Out.{Out}
 use Rattle.turning.specs.declared.step.Out.the-variants.{Opens, Sets, Passes, Stops}
 use Rattle.turning.specs.declared.root.Root as code
@@ -26,8 +25,13 @@ use Rattle.turning.specs.declared.turns.Next.{Next}
 use Rattle.turning.specs.declared.turns.Next.the-variants as next
 use Rattle.turning.specs.declared.turns.Ended.{Ended}
 use Rattle.turning.specs.declared.turns.Ended.the-variants as ended
-use Rattle.turning.specs.Notes.{Note, lookOf, noteCode, relationsNoted, notesOfPack}
+use Rattle.turning.specs.Notes.{Note, lookOf, noteCode, Held, NotesIn}
 use Rattle.turning.specs.Turns.{Known, knownOf, Root, citing, Work, work, nowhere, valueIn, kindIn, ruleRoot, relatedKind, memberKinds, relationRoot, stepAt, turnNote, turnNotes}
+
+-- a number, 0 for none
+abbrev pub orNot : ℕ → Option ℕ
+orNot zero = none
+orNot (suc n) = some (suc n)
 
 -- what is known of the pack, as the code has it
 abbrev pub knownIn : List ℕ → List ℕ → List ℕ → List ℕ → ℕ → ℕ → Known
@@ -124,7 +128,7 @@ pub record NoteAsked (ws words notes : List ℕ) (blocks count i : ℕ) : Type 0
   pub low : blocks ≤ 65536
   pub few : count ≤ 64
   pub same : length words ≡ length ws
-  pub inside : i < 8193
+  pub inside : i < length notes
   pub n : Note
   pub is : getD notes i 0 ≡ noteCode n
   pub stands : Stands ws i n
@@ -132,13 +136,10 @@ pub record NoteAsked (ws words notes : List ℕ) (blocks count i : ℕ) : Type 0
 pub record NoteTurned (ws records marks taken : List ℕ) (blocks count i : ℕ) (r : code.Root) (words notes : List ℕ) (o : Next) (left kinds : List ℕ) : Type 0 where
   pub each : (n : Note) → getD notes i 0 ≡ noteCode n → Stands ws i n → NextBy (turnNote (knownIn ws records marks taken blocks count) ws i n (work words notes (rootIn r))) o left kinds
   pub long : length left ≡ length words
+  pub wide : length kinds ≡ length notes
   pub others : (j : ℕ) → (j ≡ i → ⊥) → getD kinds j 0 ≡ getD notes j 0
 
--- codes of notes from a number on, and where they stand
-abbrev pub Held : List ℕ → ℕ → List Note → Type 0
-Held notes i [] = Unit {0}
-Held notes i (n ∷ ns) = (getD notes i 0 ≡ noteCode n) × Held notes (suc i) ns
-
+-- where notes from a number on stand
 abbrev pub Placed : List ℕ → ℕ → List Note → Type 0
 Placed ws i [] = Unit {0}
 Placed ws i (n ∷ ns) = Stands ws i n × Placed ws (suc i) ns
@@ -151,7 +152,7 @@ pub record TurnsAsked (ws words notes : List ℕ) (blocks count from to : ℕ) :
   pub low : blocks ≤ 65536
   pub few : count ≤ 64
   pub same : length words ≡ length ws
-  pub inside : to ≤ 8193
+  pub inside : to ≤ length notes
   pub ns : List Note
   pub are : Held notes from ns
   pub many : to ≡ from + length ns
@@ -162,16 +163,10 @@ pub record NotesTurned (ws records marks taken : List ℕ) (blocks count from to
   pub each : (ns : List Note) → Held notes from ns → to ≡ from + length ns → Placed ws from ns
       → EndedBy (turnNotes (knownIn ws records marks taken blocks count) ws from ns (work words notes nowhere)) o left kinds
   pub long : length left ≡ length words
+  pub wide : length kinds ≡ length notes
   pub earlier : (j : ℕ) → j < from → getD kinds j 0 ≡ getD notes j 0
 
 -- ---- a pack
-
--- the notes of a pack in an array, numbered from 1 on: so many of relations, so many in all
-pub record NotesIn (p : Pack) (notes : List ℕ) (relations all : ℕ) : Type 0 where
-  pub wide : length notes ≡ 8193
-  pub held : Held notes 1 (notesOfPack p)
-  pub first : relations ≡ length (relationsNoted p)
-  pub many : all ≡ length (notesOfPack p)
 
 -- the tables of a checked pack, its notes, and a copy of its words
 pub record PackAsked (ws records marks taken words notes : List ℕ) (blocks count relations all : ℕ) : Type 0 where

@@ -1,5 +1,5 @@
 -- Notes turned one after the other: a node is read in the words of the pack, and its slots are set in others.
-use Prim.Native.Nat.{ℕ, suc, _+_}
+use Prim.Native.Nat.{ℕ, suc, _+_, _/_, _%_}
 use mathlib.Core.Path.{_≡_}
 use mathlib.Core.List.{List, [], _∷_, map}
 use mathlib.Core.Bool.{Bool}
@@ -15,6 +15,19 @@ use Rattle.directions.specs.Tables.{Derived, Tables, tables}
 use Rattle.directions.specs.Direction.{kindOrZero, Membership, membership}
 use Rattle.directions.specs.Turning.{Outcome, done, refused, andThen, Citing, Fields, Step, goes, stops, stepBy, fieldWords}
 use Rattle.turning.specs.Notes.{Note, lookOf}
+
+-- ---- a note taken out of its number
+
+abbrev pub fieldOf : ℕ → ℕ
+fieldOf code = code % 8192
+
+abbrev pub lostOf : ℕ → Bool
+lostOf code = eqb (code / 8192 % 2) 1
+
+abbrev pub insideOf : ℕ → ℕ
+insideOf code = code / 16384
+
+-- ---- what is known
 
 -- what is known of the pack: its tables, and the test of an input name with its origin and owner
 pub record Known : Type 0 where

@@ -1,14 +1,16 @@
 // What stamping asks for, from the notes: which relations atoms and Exists name, and which predicates hold judgments of roles.
 use crate::turns::NoteCode;
-use crate::turns::Notes;
 use pack::kinds::Pack;
 ghost use mathlib.Core.Path.{_≡_};
 ghost use Prim.Native.Nat.{_<_};
 ghost use lib.ListN.{length, set};
 ghost use Rattle.turning.specs.Asked.{MarkAsked, NoteMarked, MarksAsked, NotesMarked};
 
+// 1 for each name that is asked for, else 0.
+pub type Asked = [u8; Pack::MOST_NAMES as usize];
+
 // A name; none is MOST_NAMES.
-fn mark(table: &mut [u8; 4096], name: u32)
+fn mark(table: &mut Asked, name: u32)
     requires { ⌜ length (now table) ≡ 4096 ⌝ }
     ensures { λ r. ⌜ now (table .exit) ≡ set (now (table .entry)) name 1 ⌝ }
 {
@@ -19,7 +21,7 @@ fn mark(table: &mut [u8; 4096], name: u32)
 
 // One note: an atom or Exists marks the relation that it names, and a judgment of roles the relation in whose predicate it
 // stands. The answer is the relation in whose predicate the notes after it stand.
-fn ask_note(pack: &[u32], note: u32, current: u32, table: &mut [u8; 4096]) -> u32
+fn ask_note(pack: &[u32], note: u32, current: u32, table: &mut Asked) -> u32
     requires { ⌜ MarkAsked (now pack) note × (length (now table) ≡ 4096) ⌝ }
     ensures { λ r. ⌜ NoteMarked (now (pack .entry)) note current (now (table .entry)) r (now (table .exit)) ⌝ }
 {
@@ -48,7 +50,7 @@ fn ask_note(pack: &[u32], note: u32, current: u32, table: &mut [u8; 4096]) -> u3
 }
 
 // All notes, so many of them.
-pub fn ask_notes(pack: &[u32], notes: &Notes, all: usize, table: &mut [u8; 4096])
+pub fn ask_notes(pack: &[u32], notes: &[u32], all: usize, table: &mut Asked)
     requires { ⌜ MarksAsked (now pack) (now notes) all (now table) ⌝ }
     ensures { λ r. ⌜ NotesMarked (now (pack .entry)) (now (notes .entry)) all (now (table .entry)) (now (table .exit)) ⌝ }
 {

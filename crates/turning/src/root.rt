@@ -18,6 +18,9 @@ ghost use Rattle.directions.specs.Words.{derivedBy, membershipIn};
 ghost use Rattle.turning.specs.Turns.{relatedKind, memberKinds};
 ghost use Rattle.turning.specs.Steps.{RootStands, PairOf, RootOpened};
 
+// Numbers by name.
+pub type ByName = [u32; Pack::MOST_NAMES as usize];
+
 // Its name, its origin and its membership in one number, and the entity of its trees.
 pub struct Root {
     pub name: u32,
@@ -26,13 +29,25 @@ pub struct Root {
     pub m: u64,
 }
 
+// None.
+pub fn nowhere() -> Root
+    ensures { λ r. ⌜ r ≡ record { name = 0; origin = 0; entity = 0; m = 0 } ⌝ }
+{
+    Root {
+        name: 0,
+        origin: 0,
+        entity: 0,
+        m: Code::UNKNOWN,
+    }
+}
+
 // The entity and the membership of a relation: the kind at its related slot, and those at both.
 pub struct Pair {
     pub entity: u32,
     pub m: u64,
 }
 
-fn kinds(pack: &[u32], dir: &Words, marks: &[u32; 4096], name: usize) -> Pair
+fn kinds(pack: &[u32], dir: &Words, marks: &ByName, name: usize) -> Pair
     requires { ⌜ (name < 4096) ⌝ }
     ensures { λ r. ⌜ PairOf (derivedBy (now (pack .entry)) (startsIn (now (dir .entry))) (now (marks .entry)) name) r ⌝ }
 {
@@ -57,7 +72,7 @@ fn kinds(pack: &[u32], dir: &Words, marks: &[u32; 4096], name: usize) -> Pair
 }
 
 // The one whose record starts at a place.
-pub fn opened(pack: &[u32], dir: &Words, marks: &[u32; 4096], at: usize) -> Root
+pub fn opened(pack: &[u32], dir: &Words, marks: &ByName, at: usize) -> Root
     requires { ⌜ RootStands (now pack) at ⌝ }
     ensures { λ r. ⌜ RootOpened (now (pack .entry)) (startsIn (now (dir .entry))) (now (marks .entry)) at r ⌝ }
 {

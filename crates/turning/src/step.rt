@@ -1,4 +1,5 @@
 // What comes of one node, read in the words of the pack.
+use crate::root::ByName;
 use directions::direction::Direction;
 use directions::direction::member;
 use directions::direction::turn;
@@ -10,7 +11,7 @@ ghost use Prim.Native.Nat.{_<_, _≤_};
 ghost use Rattle.chains.specs.Entry.{startsIn};
 ghost use Rattle.directions.specs.Words.{tablesIn, membershipIn};
 ghost use Rattle.inputs.specs.Blocks.{inputIn};
-ghost use Rattle.nodes.specs.Walk.{SlotsFit};
+ghost use Rattle.directions.specs.Words.{SlotsFit};
 ghost use Rattle.turning.specs.Steps.{NodeStands, turnAt, wentBy, testedBy, onlyBy, StepTaken};
 ghost use Rattle.turning.specs.Notes.{lookOf};
 ghost use Rattle.turning.specs.Turns.{kindIn};
@@ -25,10 +26,15 @@ pub enum Out {
     Stops(u32, u32),
 }
 
-// The blocks that stand from a place on, so many of them, and the origin of the citing rule or relation.
-pub struct Cited {
-    pub blocks: usize,
+// The blocks of a pack: where the first stands, and how many they are.
+pub struct Blocks {
+    pub at: usize,
     pub count: usize,
+}
+
+// With the origin of the citing rule or relation.
+pub struct Cited {
+    pub blocks: Blocks,
     pub origin: u32,
 }
 
@@ -52,8 +58,8 @@ impl Number {
 fn turned(
     pack: &[u32],
     dir: &Words,
-    marks: &[u32; 4096],
-    taken: &[u32; 4096],
+    marks: &ByName,
+    taken: &ByName,
     at: usize,
     entity: u32,
 ) -> Direction
@@ -88,8 +94,8 @@ fn tested(d: Direction) -> Out
 
 // Of an OnlyRelated, whose value's word this is.
 fn only(pack: &[u32], cited: Cited, d: Direction, word: u32) -> Out
-    requires { ⌜ (cited .blocks ≤ 65536) × (cited .count ≤ 64) ⌝ }
-    ensures { λ r. ⌜ r ≡ onlyBy (inputIn (now (pack .entry)) (cited .blocks) (cited .count) (cited .origin)) word d ⌝ }
+    requires { ⌜ (cited .blocks .at ≤ 65536) × (cited .blocks .count ≤ 64) ⌝ }
+    ensures { λ r. ⌜ r ≡ onlyBy (inputIn (now (pack .entry)) (cited .blocks .at) (cited .blocks .count) (cited .origin)) word d ⌝ }
 {
     let Direction::Turned(c, r, owner) = d else {
         return went(d);
@@ -98,7 +104,8 @@ fn only(pack: &[u32], cited: Cited, d: Direction, word: u32) -> Out
     if word / Pack::VALUES == Pack::DERIVED {
         return Out::Stops(Number::DERIVED, name);
     }
-    let number = input(pack, cited.blocks, cited.count, cited.origin, owner, name);
+    let blocks = cited.blocks;
+    let number = input(pack, blocks.at, blocks.count, cited.origin, owner, name);
     if number == 0 {
         return Out::Opens(c, r, 0);
     }
@@ -109,13 +116,13 @@ fn only(pack: &[u32], cited: Cited, d: Direction, word: u32) -> Out
 pub fn step(
     pack: &[u32],
     dir: &Words,
-    marks: &[u32; 4096],
-    taken: &[u32; 4096],
+    marks: &ByName,
+    taken: &ByName,
     cited: Cited,
     node: Node,
 ) -> Out
-    requires { ⌜ NodeStands (now pack) (node .at) × (cited .blocks ≤ 65536) × (cited .count ≤ 64) ⌝ }
-    ensures { λ r. ⌜ StepTaken (now (pack .entry)) (startsIn (now (dir .entry))) (now (marks .entry)) (now (taken .entry)) (cited .blocks) (cited .count) (cited .origin) (node .entity) (membershipIn (node .m)) (node .at) r ⌝ }
+    requires { ⌜ NodeStands (now pack) (node .at) × (cited .blocks .at ≤ 65536) × (cited .blocks .count ≤ 64) ⌝ }
+    ensures { λ r. ⌜ StepTaken (now (pack .entry)) (startsIn (now (dir .entry))) (now (marks .entry)) (now (taken .entry)) (cited .blocks .at) (cited .blocks .count) (cited .origin) (node .entity) (membershipIn (node .m)) (node .at) r ⌝ }
 {
     let at = node.at;
     let word = pack[at];

@@ -1,6 +1,9 @@
 // All notes, turned one after the other.
+use crate::root::ByName;
 use crate::root::Root;
+use crate::root::nowhere;
 use crate::root::opened;
+use crate::step::Blocks;
 use crate::step::Cited;
 use crate::step::Node;
 use crate::step::Out;
@@ -17,8 +20,8 @@ ghost use lib.Seq.{sets};
 ghost use Rattle.pack.specs.Table.{wordOf};
 ghost use Rattle.chains.specs.Entry.{startsIn};
 ghost use Rattle.directions.specs.Words.{membershipIn};
-ghost use Rattle.turning.specs.Notes.{Note, noteCode, insideOf};
-ghost use Rattle.turning.specs.Turns.{held};
+ghost use Rattle.turning.specs.Notes.{Note, noteCode};
+ghost use Rattle.turning.specs.Turns.{held, insideOf};
 ghost use Rattle.turning.specs.Steps.{NoteAsked, NoteTurned, TurnsAsked, NotesTurned, PackAsked, PackTurned};
 
 // A note's number: the place after its word below FIELDS, FIELDS where membership is lost, and INSIDES times what it stands inside.
@@ -28,34 +31,26 @@ impl NoteCode {
     pub const FIELDS: u32 = Pack::MOST_WORDS as u32;
 
     pub const INSIDES: u32 = 2 * NoteCode::FIELDS;
-
-    // Room for all notes of a pack, numbered from 1 on.
-    pub const ROOM: usize = Pack::MOST_WORDS + 1;
 }
 
-pub type Notes = [u32; NoteCode::ROOM];
-
-// A note, by its number, in a pack whose blocks stand from a place on, so many of them.
+// A note, by its number, in a pack with these blocks.
 pub struct Here {
     pub i: usize,
-    pub blocks: usize,
-    pub count: usize,
+    pub blocks: Blocks,
 }
 
 // Notes from one number to another, likewise.
 pub struct Span {
     pub from: usize,
     pub to: usize,
-    pub blocks: usize,
-    pub count: usize,
+    pub blocks: Blocks,
 }
 
 // The notes of a pack, likewise: so many of relations, which come first, and so many in all.
 pub struct Counts {
     pub relations: usize,
     pub all: usize,
-    pub blocks: usize,
-    pub count: usize,
+    pub blocks: Blocks,
 }
 
 // The rule or relation in which turning is after a note; or a refusal.
@@ -93,26 +88,24 @@ fn kept(note: u32, m: u64) -> u64
 fn turn_node(
     pack: &[u32],
     dir: &Words,
-    marks: &[u32; 4096],
-    taken: &[u32; 4096],
+    marks: &ByName,
+    taken: &ByName,
     root: Root,
     work: &mut [u32],
-    notes: &mut Notes,
+    notes: &mut [u32],
     here: Here,
 ) -> Next
-    requires { ⌜ NoteAsked (now pack) (now work) (now notes) (here .blocks) (here .count) (here .i) × (insideOf (getD (now notes) (here .i) 0) ≡ 0 → ⊥) ⌝ }
-    ensures { λ r. ⌜ NoteTurned (now (pack .entry)) (startsIn (now (dir .entry))) (now (marks .entry)) (now (taken .entry)) (here .blocks) (here .count) (here .i) root (now (work .entry)) (now (notes .entry)) r (now (work .exit)) (now (notes .exit)) ⌝ }
+    requires { ⌜ NoteAsked (now pack) (now work) (now notes) (here .blocks .at) (here .blocks .count) (here .i) × (insideOf (getD (now notes) (here .i) 0) ≡ 0 → ⊥) ⌝ }
+    ensures { λ r. ⌜ NoteTurned (now (pack .entry)) (startsIn (now (dir .entry))) (now (marks .entry)) (now (taken .entry)) (here .blocks .at) (here .blocks .count) (here .i) root (now (work .entry)) (now (notes .entry)) r (now (work .exit)) (now (notes .exit)) ⌝ }
 {
     let i = here.i;
     let note = notes[i];
     let at = (note % NoteCode::FIELDS) as usize - 1;
     let entity = notes[(note / NoteCode::INSIDES) as usize];
     let m = kept(note, root.m);
-    let cited = Cited {
-        blocks: here.blocks,
-        count: here.count,
-        origin: root.origin,
-    };
+    let blocks = here.blocks;
+    let origin = root.origin;
+    let cited = Cited { blocks, origin };
     match step(pack, dir, marks, taken, cited, Node { at, entity, m }) {
         Out::Opens(current, related, kind) => {
             set_slots(work, at, current, related);
@@ -124,12 +117,16 @@ fn turn_node(
             Next::On(root)
         }
         Out::Passes => Next::On(root),
-        Out::Stops(number, other) => Next::Refused(Refusal {
-            number,
-            place: at,
-            name: root.name,
-            other,
-        }),
+        Out::Stops(number, other) => {
+            let place = at;
+            let name = root.name;
+            Next::Refused(Refusal {
+                number,
+                place,
+                name,
+                other,
+            })
+        }
     }
 }
 
@@ -137,15 +134,15 @@ fn turn_node(
 fn turn_note(
     pack: &[u32],
     dir: &Words,
-    marks: &[u32; 4096],
-    taken: &[u32; 4096],
+    marks: &ByName,
+    taken: &ByName,
     root: Root,
     work: &mut [u32],
-    notes: &mut Notes,
+    notes: &mut [u32],
     here: Here,
 ) -> Next
-    requires { ⌜ NoteAsked (now pack) (now work) (now notes) (here .blocks) (here .count) (here .i) ⌝ }
-    ensures { λ r. ⌜ NoteTurned (now (pack .entry)) (startsIn (now (dir .entry))) (now (marks .entry)) (now (taken .entry)) (here .blocks) (here .count) (here .i) root (now (work .entry)) (now (notes .entry)) r (now (work .exit)) (now (notes .exit)) ⌝ }
+    requires { ⌜ NoteAsked (now pack) (now work) (now notes) (here .blocks .at) (here .blocks .count) (here .i) ⌝ }
+    ensures { λ r. ⌜ NoteTurned (now (pack .entry)) (startsIn (now (dir .entry))) (now (marks .entry)) (now (taken .entry)) (here .blocks .at) (here .blocks .count) (here .i) root (now (work .entry)) (now (notes .entry)) r (now (work .exit)) (now (notes .exit)) ⌝ }
 {
     let i = here.i;
     let note = notes[i];
@@ -161,36 +158,22 @@ fn turn_note(
 pub fn turns(
     pack: &[u32],
     dir: &Words,
-    marks: &[u32; 4096],
-    taken: &[u32; 4096],
+    marks: &ByName,
+    taken: &ByName,
     work: &mut [u32],
-    notes: &mut Notes,
+    notes: &mut [u32],
     span: Span,
 ) -> Ended
-    requires { ⌜ TurnsAsked (now pack) (now work) (now notes) (span .blocks) (span .count) (span .from) (span .to) ⌝ }
-    ensures { λ r. ⌜ NotesTurned (now (pack .entry)) (startsIn (now (dir .entry))) (now (marks .entry)) (now (taken .entry)) (span .blocks) (span .count) (span .from) (span .to) (now (work .entry)) (now (notes .entry)) r (now (work .exit)) (now (notes .exit)) ⌝ }
+    requires { ⌜ TurnsAsked (now pack) (now work) (now notes) (span .blocks .at) (span .blocks .count) (span .from) (span .to) ⌝ }
+    ensures { λ r. ⌜ NotesTurned (now (pack .entry)) (startsIn (now (dir .entry))) (now (marks .entry)) (now (taken .entry)) (span .blocks .at) (span .blocks .count) (span .from) (span .to) (now (work .entry)) (now (notes .entry)) r (now (work .exit)) (now (notes .exit)) ⌝ }
 {
     let blocks = span.blocks;
-    let count = span.count;
     let to = span.to;
     let mut i = span.from;
-    let mut root = Root {
-        name: 0,
-        origin: 0,
-        entity: 0,
-        m: Code::UNKNOWN,
-    };
+    let mut root = nowhere();
     while i < to {
-        let next = turn_note(
-            pack,
-            dir,
-            marks,
-            taken,
-            root,
-            work,
-            notes,
-            Here { i, blocks, count },
-        );
+        let here = Here { i, blocks };
+        let next = turn_note(pack, dir, marks, taken, root, work, notes, here);
         match next {
             Next::On(r) => {
                 root = r;
@@ -206,18 +189,17 @@ pub fn turns(
 pub fn turn_pack(
     pack: &[u32],
     dir: &Words,
-    marks: &[u32; 4096],
-    taken: &[u32; 4096],
+    marks: &ByName,
+    taken: &ByName,
     work: &mut [u32],
-    notes: &mut Notes,
+    notes: &mut [u32],
     counts: Counts,
 ) -> Ended
-    requires { ⌜ PackAsked (now pack) (startsIn (now dir)) (now marks) (now taken) (now work) (now notes) (counts .blocks) (counts .count) (counts .relations) (counts .all) ⌝ }
+    requires { ⌜ PackAsked (now pack) (startsIn (now dir)) (now marks) (now taken) (now work) (now notes) (counts .blocks .at) (counts .blocks .count) (counts .relations) (counts .all) ⌝ }
     ensures { λ r. ⌜ PackTurned (now (pack .entry)) r (now (work .exit)) ⌝ }
 {
     let blocks = counts.blocks;
-    let count = counts.count;
-    let first = counts.relations + 1;
+    let from = counts.relations + 1;
     let to = counts.all + 1;
     let rules = turns(
         pack,
@@ -226,28 +208,15 @@ pub fn turn_pack(
         taken,
         work,
         notes,
-        Span {
-            from: first,
-            to,
-            blocks,
-            count,
-        },
+        Span { from, to, blocks },
     );
     let Ended::All = rules else {
         return rules;
     };
-    turns(
-        pack,
-        dir,
-        marks,
-        taken,
-        work,
-        notes,
-        Span {
-            from: 1,
-            to: first,
-            blocks,
-            count,
-        },
-    )
+    let first = Span {
+        from: 1,
+        to: from,
+        blocks,
+    };
+    turns(pack, dir, marks, taken, work, notes, first)
 }

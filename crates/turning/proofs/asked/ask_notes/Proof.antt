@@ -19,14 +19,14 @@ loop-holds c = marks-begin _ _ _ _
 mul-ask-note : tie.Need-mul-ask-note Inv-loop μ-loop
 mul-ask-note c = search needs
 
-element-copy-out-ask-note : tie.Need-element-copy-out-ask-note Inv-loop μ-loop
-element-copy-out-ask-note c = omega (arith, (c .loop-test) .taken, ((c .before .before .before .pre)) .few)
+shared-slice-read-ask-note : tie.Need-shared-slice-read-ask-note Inv-loop μ-loop
+shared-slice-read-ask-note c = omega (arith, (c .before .loop-test) .taken, ((c .before .before .before .before .before .pre)) .room)
 
 ask-note-requires : tie.Need-ask-note-requires Inv-loop μ-loop
-ask-note-requires c κs = (mark-asked _ _ _ _ ((c .before .before .before .loop) .inv) ((c .before .before .loop-test) .taken) ((c .before .before .before .before .before .pre)), (c .before .before .before .loop) .inv .wide ∙ ((c .before .before .before .before .before .pre)) .wide)
+ask-note-requires c κs = (mark-asked _ _ _ _ ((c .before .before .before .loop) .inv) ((c .before .before .loop-test) .taken) ((c .before .before .before .before .before .before .pre)), (c .before .before .before .loop) .inv .wide ∙ ((c .before .before .before .before .before .before .pre)) .wide)
 
 add-i : tie.Need-add-i Inv-loop μ-loop
-add-i c = omega (arith, (c .before .before .before .loop-test) .taken, ((c .before .before .before .before .before .before .pre)) .few)
+add-i c = omega (arith, (c .before .before .before .loop-test) .taken, ((c .before .before .before .before .before .before .before .pre)) .room)
 
 loop-less : tie.Need-loop-less Inv-loop μ-loop
 loop-less c = omega (arith, (c .before .before .before .loop-test) .taken)
@@ -45,7 +45,7 @@ ask-notes-spec =
     μ-loop
     loop-holds
     mul-ask-note
-    element-copy-out-ask-note
+    shared-slice-read-ask-note
     ask-note-requires
     add-i
     loop-less

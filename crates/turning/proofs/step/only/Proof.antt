@@ -23,10 +23,10 @@ input-requires : tie.Need-input-requires
 input-requires c κs = search needs
 
 returns-3 : tie.Need-returns-3
-returns-3 c = input-out _ _ ((c .before .before .before .before .d) .given .1) ((c .before .before .if1) .left) ((c .before .input) .ensures) ((c .if2) .taken)
+returns-3 c = input-out _ _ ((c .before .before .before .before .before .d) .given .1) ((c .before .before .before .if1) .left) ((c .before .input) .ensures) ((c .if2) .taken)
 
 returns-4 : tie.Need-returns-4
-returns-4 c = refused-out _ _ ((c .before .before .before .before .d) .given .1) ((c .before .before .if1) .left) ((c .before .input) .ensures) ((c .if2) .left)
+returns-4 c = refused-out _ _ ((c .before .before .before .before .before .d) .given .1) ((c .before .before .before .if1) .left) ((c .before .input) .ensures) ((c .if2) .left)
 
 pub only-spec : {M : Type 1} → statement M
 only-spec =

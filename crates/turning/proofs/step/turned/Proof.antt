@@ -1,7 +1,7 @@
 -- `turning::step::turned` meets its contract.
 use Rattle.turning.proofs.StepLaws.{three-words}
 use Rattle.turning.specs.Steps.{turnAt}
-use Rattle.nodes.proofs.SlotLaws.{turned-fits}
+use Rattle.directions.proofs.SlotLaws.{turned-fits}
 use native.Mathlib.Omega.{arith}
 use borrow.Author.Needs.{needs}
 use Rattle.turning.proofs.step.turned.Statement.{statement}
