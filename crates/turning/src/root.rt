@@ -8,6 +8,7 @@ use directions::direction::kind_or_zero;
 use directions::direction::membership_code;
 use directions::equal::slot_kinds;
 use filtered::taking::place_of;
+use pack::answer::Refusal;
 use pack::kinds::Pack;
 use records::directory::Words;
 ghost use mathlib.Core.Path.{_≡_};
@@ -38,6 +39,18 @@ pub fn nowhere() -> Root
         origin: 0,
         entity: 0,
         m: Code::UNKNOWN,
+    }
+}
+
+// The refusal of a node in it, at a place.
+pub fn refusal(root: Root, place: usize, number: u32, other: u32) -> Refusal
+    ensures { λ r. ⌜ r ≡ record { number = number; place = place; name = root .name; other = other } ⌝ }
+{
+    Refusal {
+        number,
+        place,
+        name: root.name,
+        other,
     }
 }
 

@@ -3,6 +3,7 @@ use crate::root::ByName;
 use crate::root::Root;
 use crate::root::nowhere;
 use crate::root::opened;
+use crate::root::refusal;
 use crate::step::Blocks;
 use crate::step::Cited;
 use crate::step::Node;
@@ -117,16 +118,7 @@ fn turn_node(
             Next::On(root)
         }
         Out::Passes => Next::On(root),
-        Out::Stops(number, other) => {
-            let place = at;
-            let name = root.name;
-            Next::Refused(Refusal {
-                number,
-                place,
-                name,
-                other,
-            })
-        }
+        Out::Stops(number, other) => Next::Refused(refusal(root, at, number, other)),
     }
 }
 
@@ -201,15 +193,8 @@ pub fn turn_pack(
     let blocks = counts.blocks;
     let from = counts.relations + 1;
     let to = counts.all + 1;
-    let rules = turns(
-        pack,
-        dir,
-        marks,
-        taken,
-        work,
-        notes,
-        Span { from, to, blocks },
-    );
+    let span = Span { from, to, blocks };
+    let rules = turns(pack, dir, marks, taken, work, notes, span);
     let Ended::All = rules else {
         return rules;
     };

@@ -57,6 +57,9 @@ enum-told c = search needs
 enum-known-number : tie.Need-enum-known-number
 enum-known-number c = search needs
 
+refusal-requires : tie.Need-refusal-requires
+refusal-requires c κs = search needs
+
 same-length : tie.Need-same-length
 same-length c = search needs
 
@@ -76,7 +79,7 @@ returns-3 : tie.Need-returns-3
 returns-3 c = note-passes _ _ _ _ _ _ _ _ _ _ ((c .before .before .before .before .before .before .before .before .before .before .pre) .1) ((c .before .before .before .before .kept) .result) ((c .before .before .before .before .kept) .ensures) ((c .before .before .step) .ensures) ((c .enum-told) .given .1)
 
 returns-4 : tie.Need-returns-4
-returns-4 c = note-stops _ _ _ _ _ _ _ _ _ _ ((c .before .before .before .before .before .before .before .before .before .before .before .pre) .1) ((c .before .before .before .before .before .kept) .result) ((c .before .before .before .before .before .kept) .ensures) ((c .before .before .before .step) .ensures) ((c .before .number) .given .1)
+returns-4 c = rw (c .refusal .ensures) (note-stops _ _ _ _ _ _ _ _ _ _ ((c .before .before .before .before .before .before .before .before .before .before .before .before .pre) .1) ((c .before .before .before .before .before .before .kept) .result) ((c .before .before .before .before .before .before .kept) .ensures) ((c .before .before .before .before .step) .ensures) ((c .before .before .number) .given .1))
 
 pub turn-node-spec : {M : Type 1} → statement M
 turn-node-spec =
@@ -99,6 +102,7 @@ turn-node-spec =
     set-slots-requires-2
     enum-told
     enum-known-number
+    refusal-requires
     same-length
     same-length-2
     returns
