@@ -15,3 +15,4 @@ pub mod RunLaws
 pub mod RuleLaws
 pub mod RelationLaws
 pub mod TurnedPack
+pub mod HeldKept
