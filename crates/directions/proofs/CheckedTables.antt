@@ -27,6 +27,7 @@ use Rattle.chains.proofs.DeclarationLaws.{no-record, a-record, standing}
 use Rattle.filtered.proofs.SaysLaws.{direct-in}
 use Rattle.directions.specs.Tables.{derivedAt, typedAt, Tables, tables}
 use Rattle.directions.specs.Words.{directBy, typedIn, derivedIn, tablesIn}
+use Rattle.directions.specs.Records.{KindsReady, Tabled}
 use Rattle.directions.proofs.TablesLaws.{typed-read, derived-read}
 
 -- ---- the names of records
@@ -147,3 +148,13 @@ module _ (ws records marks taken₀ names : List ℕ) (steps : ℕ) (p : Pack) (
       let derived : T .derived ≡ U .derived = fun-ext derived-alike in
       let directs : T .direct ≡ U .direct = fun-ext direct-alike in
       λ i. record { typed = typed i; derived = derived i; direct = directs i }
+
+-- the marks of kinds lead to the kinds of each declared name
+pub settled : {ws records marks taken : List ℕ} {steps : ℕ} → Tabled ws records marks taken steps → KindsReady ws marks
+settled {ws} {marks = marks} a =
+    record {
+      kinds = λ q e m i.
+          let v = words-read ws q e in
+          let at : getD marks m 0 - 2 ≡ placeOf q (ownAnswer (q .relations) m) = (let k = a .marked .marked q e m i in omega arith) in
+          ap (namesAt ws) at ∙ ap (λ (x : List ℕ). namesAt x (placeOf q (ownAnswer (q .relations) m))) (sym (v .same)) ∙ place-holds q (v .fine) m;
+    }

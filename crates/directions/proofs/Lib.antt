@@ -3,3 +3,16 @@ pub mod TablesLaws
 pub mod CheckedTables
 pub mod EqualLaws
 pub mod DefaultedLaws
+pub mod KeepsForm
+pub mod TreeWords
+pub mod ResolvedFine
+pub mod Numbers
+pub mod CitingNames
+pub mod SmallKinds
+pub mod RefusalBounds
+pub mod SlotLaws
+pub mod RunLaws
+pub mod RuleLaws
+pub mod RelationLaws
+pub mod TurnedPack
+pub mod HeldKept

@@ -3,3 +3,4 @@ pub mod Direction
 pub mod Turning
 pub mod Resolving
 pub mod Words
+pub mod Records

@@ -13,6 +13,7 @@ use Rattle.chains.specs.Record.{valueAt, kindCount, flagAt, slotsPlace}
 use Rattle.filtered.specs.Filtered.{kindAt}
 use Rattle.filtered.specs.Said.{directIn}
 use Rattle.directions.specs.declared.direction.Direction.{Direction}
+use Rattle.directions.specs.declared.direction.Direction.the-variants.{Turned, Open}
 use Rattle.directions.specs.declared.direction.Membership as direction
 use Rattle.directions.specs.declared.direction.Membership.the-variants.{Kinds, Unknown}
 use Rattle.directions.specs.Tables.{Derived, Tables}
@@ -59,6 +60,11 @@ MembershipFits Unknown = Unit {0}
 abbrev pub membershipIn : ℕ → Membership
 membershipIn zero = none
 membershipIn (suc x) = some (x % 16777216, x / 16777216 % 16777216)
+
+-- slots that fit into words
+abbrev pub SlotsFit : Direction → Type 0
+SlotsFit (Turned c r kind) = (c < 16777216) × (r < 16777216)
+SlotsFit (Open other) = Unit {0}
 
 -- a test of membership comes out as the tables say, whatever they say of marks and entities
 pub record MemberTurned (ws records : List ℕ) (relation : ℕ) (m : Membership) (current related : ℕ) (d : Direction) : Type 0 where

@@ -32,7 +32,7 @@ use Rattle.chains.proofs.ListAt.{own-holds}
 use Rattle.directions.specs.Turning.{Outcome, done, refused}
 use Rattle.directions.specs.Resolving.{resolved}
 use Rattle.resolve.specs.Operations.{givenOut, resolveAnswer}
-use Rattle.nodes.proofs.Numbers.{refused-number}
+use Rattle.directions.proofs.Numbers.{refused-number}
 use Rattle.resolve.proofs.RefusalNames.{Told, resolved-told}
 use Rattle.wire.proofs.Faithful.{FitsBits}
 use Rattle.over_bytes.proofs.Writes.{few-words, few-places, few-names}

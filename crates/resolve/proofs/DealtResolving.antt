@@ -22,7 +22,7 @@ use Rattle.directions.specs.Turning.{Outcome, done, refused, andThen, mapDone, 
 use Rattle.directions.specs.Resolving.{cites, defaultedEqual, equalRefusal, ruleBy, resolveRule, resolveRules, predicateBy, withPredicate, resolveDerivation, resolveRelation, resolveRelations, holds, roleJudgment, atomOf, inDerivation, inRule, atomNames, empty, stampBy, stampDerived, stamp, firstRule, resolveRecords, resolved}
 use Rattle.resolve.proofs.OutcomeLaws.{result-map, allDone, Alike, all-dealt}
 use Rattle.resolve.proofs.PlaceFree.{rules-each, relations-each}
-use Rattle.nodes.proofs.Numbers.{Numbered, rules-numbered, relations-numbered}
+use Rattle.directions.proofs.Numbers.{Numbered, rules-numbered, relations-numbered}
 use Rattle.inputs.proofs.InputLaws.{input-dealt}
 
 tables-dealt : {rs rs′ : List Relation} → InAnyOrder rs rs′ → Distinct (declared rs) → tables rs ≡ tables rs′

@@ -26,19 +26,18 @@ use Rattle.directions.specs.Resolving.{stamp, ruleWords, resolveRule, resolveRu
 use Rattle.chains.specs.Record.{Recorded}
 use Rattle.stamping.specs.Stamping.{atomsIn, listsFor, addedBy, Listed}
 use Rattle.resolve.specs.Writing.{Stamped, WriteAsked, WriteCame}
-use Rattle.trees.specs.Passes.{placesFrom}
+use Rattle.directions.specs.Records.{placesFrom, wordsOf, runBy, RelationKeeps, withRecords, turned, placesIn, Tabled}
 use Rattle.resolve.specs.Operations.{givenOut, writtenOut}
-use Rattle.trees.specs.Passes.{wordsOf, runBy, RelationKeeps, withRecords, turned, placesIn, Tabled}
 use Rattle.resolve.specs.Finish.{stampAll, FinishAsked, FinishCame}
-use Rattle.nodes.proofs.KeepsForm.{Good}
-use Rattle.nodes.proofs.ResolvedFine.{RulesFine, rules-good}
+use Rattle.directions.proofs.KeepsForm.{Good}
+use Rattle.directions.proofs.ResolvedFine.{RulesFine, rules-good}
 use Rattle.resolve.proofs.ResolvedPack.{least-words, rules-fine}
 use Rattle.stamping.proofs.AtomLaws.{atoms-named}
-use Rattle.trees.proofs.RunLaws.{RunPairs, run-words, run-pairs}
-use Rattle.trees.proofs.RuleLaws.{run-length, rule-long}
-use Rattle.trees.proofs.RelationLaws.{relation-long, places-many}
-use Rattle.trees.proofs.TurnedPack.{front, front-long, pack-words, rulesOn, again-words, total-same, rules-run, relations-run, rules-keep, relations-keep}
-use Rattle.trees.proofs.TreesLaws.{settled}
+use Rattle.directions.proofs.RunLaws.{RunPairs, run-words, run-pairs, run-length}
+use Rattle.directions.proofs.RuleLaws.{rule-long}
+use Rattle.directions.proofs.RelationLaws.{relation-long, places-many}
+use Rattle.directions.proofs.TurnedPack.{front, front-long, pack-words, rulesOn, again-words, total-same, rules-run, relations-run, rules-keep, relations-keep}
+use Rattle.directions.proofs.CheckedTables.{settled}
 use Rattle.resolve.proofs.StampedPack.{still-fine, all-stamped, same-places}
 use Rattle.resolve.proofs.WrittenPack.{longer}
 

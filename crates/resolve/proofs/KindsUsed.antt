@@ -26,7 +26,7 @@ use Rattle.filtered.specs.Filtered.{kindAt, listed, entityIs, takes, takenFrom,
 use Rattle.directions.specs.Tables.{Derived, Tables, derivedBy, derivedAt, tables}
 use Rattle.directions.specs.Turning.{Outcome, done, refused, andThen, mapDone, result}
 use Rattle.directions.specs.Resolving.{sameKind, equalKinds, defaultedEqual, equalRefusal, resolveRules, predicateBy, resolvePredicate, resolveDerivation, resolveRelation, withPredicate, resolveRelations, empty, unlike, passedOver, orKinds, stampedWith, stampBy, stampDerived, stamp, firstRule, resolveRecords, resolved}
-use Rattle.nodes.proofs.Numbers.{Numbered, rules-numbered, relations-numbered}
+use Rattle.directions.proofs.Numbers.{Numbered, rules-numbered, relations-numbered}
 use Rattle.resolve.specs.Operations.{givenOut, resolveAnswer}
 use Rattle.resolve.specs.Demand3.{relationOut, DerivedRelation, TakesOne, EqualKinds, ListsLeft, as-they-stood, stamped, KindsUsed}
 use Rattle.resolve.proofs.ResolveLaws.{equal-named}

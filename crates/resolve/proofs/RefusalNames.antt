@@ -23,15 +23,15 @@ use Rattle.directions.specs.Tables.{Derived, derivedBy, derivedAt, pair, typedB
 use Rattle.directions.specs.Turning.{Outcome, done, refused, andThen, mapDone, Citing, treeWords, size, resolveTree}
 use Rattle.inputs.specs.Inputs.{input}
 use Rattle.directions.specs.Resolving.{cites, defaultedEqual, equalRefusal, resolveBody, resolveRule, ruleWords, resolveRules, predicatePlace, predicateBy, resolvePredicate, resolveDerivation, resolveRelation, resolveRelations, firstRule, resolveRecords, resolved}
-use Rattle.trees.specs.Passes.{wordsOf, runBy, All, bodyWords, RelationKeeps}
-use Rattle.nodes.proofs.Numbers.{OfInput, input-numbered}
-use Rattle.nodes.proofs.TreeWords.{size-is}
-use Rattle.nodes.proofs.CitingNames.{NamedBy, tree-named}
-use Rattle.nodes.proofs.SmallKinds.{Small, below-small, KindsBelow, turn-below}
-use Rattle.nodes.proofs.RefusalBounds.{Fits, Refuses, CitingFits, MemberSmall, tree-refuses}
-use Rattle.trees.proofs.RuleLaws.{bodiesOf, head, rule-parts, again, rule-run}
-use Rattle.trees.proofs.RelationLaws.{lead, lead-words, lead-long, predicate-kept, both-small}
-use Rattle.trees.proofs.TurnedPack.{front, front-long, pack-words, front22, front22-long, pack-words-22, rules-run, relations-run, rules-keep, relations-keep}
+use Rattle.directions.specs.Records.{wordsOf, runBy, All, bodyWords, RelationKeeps}
+use Rattle.directions.proofs.Numbers.{OfInput, input-numbered}
+use Rattle.directions.proofs.TreeWords.{size-is}
+use Rattle.directions.proofs.CitingNames.{NamedBy, tree-named}
+use Rattle.directions.proofs.SmallKinds.{Small, below-small, KindsBelow, turn-below}
+use Rattle.directions.proofs.RefusalBounds.{Fits, Refuses, CitingFits, MemberSmall, tree-refuses}
+use Rattle.directions.proofs.RuleLaws.{bodiesOf, head, rule-parts, again, rule-run}
+use Rattle.directions.proofs.RelationLaws.{lead, lead-words, lead-long, predicate-kept, both-small}
+use Rattle.directions.proofs.TurnedPack.{front, front-long, pack-words, front22, front22-long, pack-words-22, rules-run, relations-run, rules-keep, relations-keep}
 use Rattle.resolve.proofs.ResolveLaws.{equal-named, declared-of}
 
 -- a refusal with a place below a limit, whose name and other are below another

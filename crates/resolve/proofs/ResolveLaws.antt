@@ -32,7 +32,7 @@ use Rattle.directions.specs.Resolving.{equalKinds, defaultedEqual, equalRefusal
 use Rattle.resolve.specs.Operations.{givenOut, writtenOut, resolveAnswer, resolveBuffer}
 use Rattle.directions.specs.Words.{derivedBy, tablesIn, firstEqual, DefaultedFit}
 use Rattle.chains.specs.Record.{valueAt}
-use Rattle.trees.specs.Passes.{withRecords, turned, CameWhole, TreesCame, Tabled, TreesAsked}
+use Rattle.directions.specs.Records.{withRecords, turned, CameWhole, TreesCame, Tabled, TreesAsked}
 use Rattle.resolve.specs.Finish.{stampAll, unstamped, PackCame, ResolveAsked, FinishAsked, FinishCame}
 use Rattle.directions.proofs.CheckedTables.{declared-at, derived-alike}
 use Rattle.directions.proofs.DefaultedLaws.{orNone, defaulted-fit, first-equal-is}

@@ -18,7 +18,7 @@ use Rattle.chains.specs.Kinds.{allKinds}
 use Rattle.directions.specs.Turning.{Outcome, done, refused, InRange}
 use Rattle.directions.specs.Resolving.{resolved}
 use Rattle.resolve.specs.Operations.{givenOut, resolveAnswer}
-use Rattle.nodes.proofs.Numbers.{refused-number}
+use Rattle.directions.proofs.Numbers.{refused-number}
 use Rattle.resolve.proofs.RefusalNames.{Told, resolved-told}
 
 -- a refusal of a checked pack: its place is a word's, its name and other are names of the pack

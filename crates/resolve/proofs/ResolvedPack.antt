@@ -13,8 +13,8 @@ use Rattle.chains.proofs.RelationScan.{RelationsFine}
 use Rattle.directions.specs.Tables.{tables}
 use Rattle.directions.specs.Turning.{done, refused}
 use Rattle.directions.specs.Resolving.{defaultedEqual, resolveRules, resolveRelations, equalRefusal, stamp, firstRule, resolveRecords, resolved}
-use Rattle.nodes.proofs.KeepsForm.{Good, map-good, then-good}
-use Rattle.nodes.proofs.ResolvedFine.{RulesFine, rules-good, relations-good}
+use Rattle.directions.proofs.KeepsForm.{Good, map-good, then-good}
+use Rattle.directions.proofs.ResolvedFine.{RulesFine, rules-good, relations-good}
 
 -- every pack has the five words of its own and a total
 pub least-words : (p : Pack) → 6 ≤ total p

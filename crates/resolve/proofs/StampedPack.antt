@@ -15,12 +15,11 @@ use Rattle.directions.specs.Turning.{done}
 use Rattle.directions.specs.Resolving.{atomNames, stamp, resolveRelation}
 use Rattle.stamping.specs.Stamping.{StampedBy, listFor, listsFor}
 use Rattle.resolve.specs.Writing.{Stamped, no-more, one-more}
-use Rattle.trees.specs.Passes.{placesFrom}
-use Rattle.trees.specs.Passes.{wordsOf, All, RelationKeeps, KindsReady}
-use Rattle.nodes.proofs.KeepsForm.{Good}
-use Rattle.nodes.proofs.ResolvedFine.{Same, tail-of, with-tail, relation-good}
-use Rattle.trees.proofs.RunLaws.{RunPairs}
-use Rattle.trees.proofs.RelationLaws.{relation-long}
+use Rattle.directions.specs.Records.{placesFrom, wordsOf, All, RelationKeeps, KindsReady}
+use Rattle.directions.proofs.KeepsForm.{Good}
+use Rattle.directions.proofs.ResolvedFine.{Same, tail-of, with-tail, relation-good}
+use Rattle.directions.proofs.RunLaws.{RunPairs}
+use Rattle.directions.proofs.RelationLaws.{relation-long}
 use Rattle.chains.proofs.RecordLaws.{Ends}
 use Rattle.stamping.proofs.StampLaws.{stamped-by}
 

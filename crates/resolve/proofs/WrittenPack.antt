@@ -23,11 +23,10 @@ use Rattle.directions.specs.Resolving.{orKinds, withEntities, stampedWith}
 use Rattle.chains.specs.Record.{kindCount, slotsPlace}
 use Rattle.stamping.specs.Stamping.{StampedBy, as-it-is, with-kinds, namesOr, addedFor, addedBy}
 use Rattle.resolve.specs.Writing.{Stamped, no-more, one-more, withRelations, fromTo, listWords, putFor, Put, Room, WriteAsked}
-use Rattle.trees.specs.Passes.{placesFrom}
-use Rattle.trees.specs.Passes.{wordsOf}
+use Rattle.directions.specs.Records.{placesFrom, wordsOf}
 use Rattle.chains.proofs.RecordLaws.{counted, before-slots, four, four-length}
 use Rattle.resolve.proofs.WriteLaws.{At, at-on, at-room, at-put, at-rest, at-within, at-end}
-use Rattle.trees.proofs.TurnedPack.{front, front-long, pack-words, opened, rulesOn}
+use Rattle.directions.proofs.TurnedPack.{front, front-long, pack-words, opened, rulesOn}
 
 -- ---- a derived relation: the words up to list 21, by its list 9
 

@@ -17,7 +17,7 @@ use Rattle.directions.specs.Tables.{tables}
 use Rattle.directions.specs.Resolving.{defaultedEqual, equalRefusal, stamp}
 use Rattle.resolve.specs.Operations.{givenOut, writtenOut}
 use Rattle.resolve.specs.Writing.{withRelations}
-use Rattle.trees.specs.Passes.{turned, CameWhole, placesIn, Tabled}
+use Rattle.directions.specs.Records.{turned, CameWhole, placesIn, Tabled}
 
 -- ---- the first three steps of Resolving
 

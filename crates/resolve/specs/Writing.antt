@@ -9,7 +9,7 @@ use Rattle.pack.specs.Table.{pick, wordOf}
 use Rattle.pack.specs.Pack.{Relation, Pack, WellFormed, words}
 use Rattle.chains.specs.Places.{firstRelation}
 use Rattle.chains.specs.Record.{kindCount}
-use Rattle.trees.specs.Passes.{placesFrom}
+use Rattle.directions.specs.Records.{placesFrom}
 use Rattle.stamping.specs.Stamping.{StampedBy}
 
 -- relations, and in the same order as they come out with their lists stamped

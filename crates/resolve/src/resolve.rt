@@ -17,7 +17,7 @@ use trees::trees::trees;
 ghost use Rattle.chains.specs.Entry.{startsIn};
 ghost use Rattle.chains.specs.Answers.{Answered};
 ghost use Rattle.resolve.specs.Operations.{resolveAnswer, resolveBuffer};
-ghost use Rattle.trees.specs.Passes.{TreesAsked};
+ghost use Rattle.directions.specs.Records.{TreesAsked};
 ghost use Rattle.resolve.specs.Finish.{PackCame, ResolveAsked};
 
 // Defaulted names with equal kinds are refused; then all trees are resolved, in a copy of the words.

@@ -1,4 +1,2 @@
-pub mod AtomLaws
-pub mod RoleLaws
 pub mod ListForLaws
 pub mod StampLaws

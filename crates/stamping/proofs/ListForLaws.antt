@@ -13,8 +13,8 @@ use Rattle.chains.specs.Places.{namesAt}
 use Rattle.filtered.specs.declared.taking.Kind.{Kind}
 use Rattle.filtered.specs.declared.taking.Kind.the-variants as kind
 use Rattle.filtered.specs.Taking.{KindFound}
-use Rattle.chains.specs.Record.{valueAt, kindCount, flagAt, slotsPlace, entityCount, predicateAt, Recorded}
-use Rattle.stamping.specs.Stamping.{roleIn, unstamped, passedIn, unlikeIn, nameAt, listFor, namesOr, Lists, addedFor, listsFor, addedBy, Listed}
+use Rattle.chains.specs.Record.{valueAt, kindCount, flagAt, slotsPlace, entityCount, Recorded}
+use Rattle.stamping.specs.Stamping.{unstamped, passedIn, unlikeIn, nameAt, listFor, namesOr, Lists, addedFor, listsFor, addedBy, Listed}
 use Rattle.directions.proofs.EqualLaws.{is-known, is-unknown}
 
 -- ---- list 21
@@ -31,19 +31,14 @@ module _ (work : List ℕ) (start : ℕ) where
 
 -- ---- relations that are passed over
 
-module _ (work atoms : List ℕ) (name start : ℕ) {count : ℕ} (e : count ≡ valueAt work (start + 3)) where
-  pub has-kinds : (count ≡ 0 → ⊥) → false ≡ passedIn work atoms name start
+module _ (work asked : List ℕ) (name start : ℕ) {count : ℕ} (e : count ≡ valueAt work (start + 3)) where
+  pub has-kinds : (count ≡ 0 → ⊥) → false ≡ passedIn work asked name start
   unfolding passedIn kindCount
   has-kinds z = rw (← e, ne-eqb count 0 z) refl
 
-  module _ (z : count ≡ 0) where
-    pub named-by-atom : getD atoms name 0 ≡ 1 → true ≡ passedIn work atoms name start
-    unfolding passedIn kindCount
-    named-by-atom a = rw (← e, eq-eqb count 0 z, eq-eqb (getD atoms name 0) 1 a) refl
-
-    pub by-its-predicate : (getD atoms name 0 ≡ 1 → ⊥) → {at : ℕ} {r : Bool} → at ≡ predicateAt work start → r ≡ roleIn work at → r ≡ passedIn work atoms name start
-    unfolding passedIn kindCount
-    by-its-predicate a p q = rw (← e, eq-eqb count 0 z, ne-eqb (getD atoms name 0) 1 a, ← p) q
+  pub by-the-table : count ≡ 0 → eqb (getD asked name 0) 1 ≡ passedIn work asked name start
+  unfolding passedIn kindCount
+  by-the-table z = rw (← e, eq-eqb count 0 z) refl
 
 -- ---- kinds in the slots
 
@@ -67,22 +62,22 @@ pub its-name : (work : List ℕ) (start : ℕ) {v : ℕ} → v ≡ valueAt work 
 unfolding nameAt
 its-name work start e = rw e refl
 
-module _ (ws work marks atoms : List ℕ) (start : ℕ) {u : Bool} (q : u ≡ unstamped work start) where
-  pub stays : u ≡ false → 0 ≡ listFor ws work marks atoms start
+module _ (ws work marks asked : List ℕ) (start : ℕ) {u : Bool} (q : u ≡ unstamped work start) where
+  pub stays : u ≡ false → 0 ≡ listFor ws work marks asked start
   unfolding listFor
   stays e = rw (← q, e) refl
 
   module _ (t : u ≡ true) {name list : ℕ} {l : Bool} (n : name ≡ nameAt work start) (m : list ≡ getD marks name 0 - 2) (k : l ≡ unlikeIn ws work list start) where
-    pub alike : l ≡ false → 0 ≡ listFor ws work marks atoms start
+    pub alike : l ≡ false → 0 ≡ listFor ws work marks asked start
     unfolding listFor
     alike e = rw (← q, t, ← n, ← m, ← k, e) refl
 
-    module _ (f : l ≡ true) {o : Bool} (p : o ≡ passedIn work atoms name start) where
-      pub passed : o ≡ true → 0 ≡ listFor ws work marks atoms start
+    module _ (f : l ≡ true) {o : Bool} (p : o ≡ passedIn work asked name start) where
+      pub passed : o ≡ true → 0 ≡ listFor ws work marks asked start
       unfolding listFor
       passed e = rw (← q, t, ← n, ← m, ← k, f, ← p, e) refl
 
-      pub stamped : o ≡ false → list ≡ listFor ws work marks atoms start
+      pub stamped : o ≡ false → list ≡ listFor ws work marks asked start
       unfolding listFor
       stamped e = rw (← q, t, ← n, ← m, ← k, f, ← p, e) refl
 
@@ -121,11 +116,11 @@ module _ (ws work : List ℕ) (list start : ℕ) {names count : ℕ} (l : Lists 
 
 -- ---- all lists
 
-module _ (ws work marks atoms : List ℕ) where
-  lists-more : (order : List ℕ) (start : ℕ) → listsFor ws work marks atoms (order ++ (start ∷ [])) ≡ listsFor ws work marks atoms order ++ (listFor ws work marks atoms start ∷ [])
+module _ (ws work marks asked : List ℕ) where
+  lists-more : (order : List ℕ) (start : ℕ) → listsFor ws work marks asked (order ++ (start ∷ [])) ≡ listsFor ws work marks asked order ++ (listFor ws work marks asked start ∷ [])
   unfolding listsFor
   lists-more [] start = refl
-  lists-more (x ∷ order) start = ap (λ (l : List ℕ). listFor ws work marks atoms x ∷ l) (lists-more order start)
+  lists-more (x ∷ order) start = ap (λ (l : List ℕ). listFor ws work marks asked x ∷ l) (lists-more order start)
 
   added-more : (order lists : List ℕ) (start list : ℕ) → length lists ≡ length order → addedBy ws work (order ++ (start ∷ [])) (lists ++ (list ∷ [])) ≡ addedBy ws work order lists + addedFor ws work list start
   unfolding addedBy
@@ -140,7 +135,7 @@ module _ (ws work marks atoms : List ℕ) where
       pub within : i ≤ length order
       pub long : length table ≡ length order
       pub small : more ≤ i * 33554432
-      pub holds : take i table ≡ listsFor ws work marks atoms (take i order)
+      pub holds : take i table ≡ listsFor ws work marks asked (take i order)
       pub sums : more ≡ addedBy ws work (take i order) (take i table)
 
     pub listing-begin : {table : List ℕ} → length table ≡ length order → Listing table 0 0
@@ -148,7 +143,7 @@ module _ (ws work marks atoms : List ℕ) where
     listing-begin e = record { within = omega arith; long = e; small = omega arith; holds = refl; sums = refl }
 
     module _ {table : List ℕ} {more i : ℕ} (s : Listing table more i) where
-      pub listing-next : i < length order → {list add : ℕ} → list ≡ listFor ws work marks atoms (getD order i 0) → add ≡ addedFor ws work list (getD order i 0) → add < 33554432 → Listing (set table i list) (more + add) (i + 1)
+      pub listing-next : i < length order → {list add : ℕ} → list ≡ listFor ws work marks asked (getD order i 0) → add ≡ addedFor ws work list (getD order i 0) → add < 33554432 → Listing (set table i list) (more + add) (i + 1)
       listing-next h {list} {add} e f b =
           let one : i + 1 ≡ suc i = omega arith in
           let t : take (suc i) (set table i list) ≡ take i table ++ (list ∷ []) = take-suc-set table i list (omega (arith, s .long)) in
@@ -158,16 +153,16 @@ module _ (ws work marks atoms : List ℕ) where
             within = omega arith;
             long = length-set table i list ∙ s .long;
             small = omega (arith, s .small);
-            holds = rw one (t ∙ rw (s .holds, e) (sym (lists-more (take i order) (getD order i 0))) ∙ ap (listsFor ws work marks atoms) (sym o));
+            holds = rw one (t ∙ rw (s .holds, e) (sym (lists-more (take i order) (getD order i 0))) ∙ ap (listsFor ws work marks asked) (sym o));
             sums = rw (one, t, o) (rw (added-more (take i order) (take i table) (getD order i 0) list same, ← f, ← s .sums) refl);
           }
 
-      pub listing-all : length order ≤ i → length order ≤ 512 → Listed ws work marks atoms order table more
+      pub listing-all : length order ≤ i → length order ≤ 512 → Listed ws work marks asked order table more
       listing-all h few =
           let t : take i table ≡ table = take-all i table (omega (arith, s .long)) in
           let o : take i order ≡ order = take-all i order h in
           record {
-            each = sym t ∙ s .holds ∙ ap (listsFor ws work marks atoms) o;
+            each = sym t ∙ s .holds ∙ ap (listsFor ws work marks asked) o;
             adds = s .sums ∙ ap (λ (l : List ℕ). addedBy ws work l (take i table)) o ∙ ap (addedBy ws work order) t;
             few = let w = s .within in omega (arith, s .small);
           }

@@ -8,7 +8,7 @@ use mathlib.Core.Option.{Option, none, some}
 use lib.ListN.{length, getD}
 use lib.Dec.{eqb}
 use borrow.Author.Tests.{ne-eqb}
-use Rattle.pack.specs.Table.{pick, judgment}
+use Rattle.pack.specs.Table.{pick}
 use Rattle.pack.specs.Form.{wordsBy}
 use Rattle.pack.specs.Pack.{Derivation, Relation, Pack, newName, relation, derivation}
 use Rattle.chains.specs.Kinds.{kindsOf}
@@ -16,18 +16,9 @@ use Rattle.filtered.specs.Filtered.{kindAt}
 use Rattle.chains.specs.Places.{namesAt}
 use Rattle.chains.proofs.RelationScan.{kept}
 use Rattle.chains.proofs.ListAt.{InWords}
-use Rattle.directions.specs.Resolving.{holds, roleJudgment, atomNames, empty, unlike, stampedWith, stampBy, stampDerived, stamp}
-use Rattle.chains.specs.Record.{predicateAt}
-use Rattle.stamping.specs.Stamping.{StampedBy, as-it-is, with-kinds, roleIn, unstamped, passedIn, unlikeIn, nameAt, listFor}
-use Rattle.chains.proofs.RecordLaws.{Ends, value-there, counted, no-flag, a-flag, current-there, related-there, entities-there, its-fine, predicate-there}
-use Rattle.nodes.proofs.PredicateLaws.{front, predicate-open}
-use Rattle.stamping.proofs.RoleLaws.{role-read}
-
--- ---- the predicate of a derivation
-
-module _ (work : List ℕ) (start n : ℕ) (r : Relation) (i : InWords work start n r) (most : n ≤ 4096) (d : Derivation) (e : r .derivation ≡ some d) where
-  pub role-there : Ends (i .after) → roleIn work (predicateAt work start) ≡ holds roleJudgment (d .predicate)
-  role-there h = role-read work (front work start n r i most d e) (i .after) (predicateAt work start) n 32 judgment (d .predicate) (predicate-open work start n r i most d e) (predicate-there work start n r i most d e) (omega arith) (its-fine work start n r i most d e) h
+use Rattle.directions.specs.Resolving.{holds, roleJudgment, inDerivation, atomNames, empty, unlike, stampedWith, stampBy, stampDerived, stamp}
+use Rattle.stamping.specs.Stamping.{StampedBy, as-it-is, with-kinds, unstamped, passedIn, unlikeIn, nameAt, listFor}
+use Rattle.chains.proofs.RecordLaws.{value-there, counted, no-flag, a-flag, current-there, related-there, entities-there}
 
 -- ---- the list
 
@@ -84,8 +75,8 @@ module _ (ws : List ℕ) (list : ℕ) (r : Relation) (d : Derivation) (e : r .de
   decided false false spoken (some ks) q z = as-it-is refl
 
 -- a relation of the words in which trees may have been resolved comes out as stamping says, from the list that the code finds for it
-module _ (ws work marks atoms : List ℕ) (p : Pack) (start : ℕ) (r : Relation) (i : InWords work start (p .names) r) (most : p .names ≤ 4096) (ends : Ends (i .after))
-    (kinds : namesAt ws (getD marks (r .name) 0 - 2) ≡ kindsOf (p .relations) (r .name)) (named : getD atoms (r .name) 0 ≡ pick (atomNames p (r .name)) 1 0) where
+module _ (ws work marks asked : List ℕ) (p : Pack) (start : ℕ) (r : Relation) (i : InWords work start (p .names) r) (most : p .names ≤ 4096)
+    (kinds : namesAt ws (getD marks (r .name) 0 - 2) ≡ kindsOf (p .relations) (r .name)) (named : getD asked (r .name) 0 ≡ pick (atomNames p (r .name) || inDerivation roleJudgment (r .derivation)) 1 0) where
   abbrev list : ℕ
   list = getD marks (r .name) 0 - 2
 
@@ -98,24 +89,24 @@ module _ (ws work marks atoms : List ℕ) (p : Pack) (start : ℕ) (r : Relation
       let b = kept (p .names) (i .used) r (i .fine) .below in
       ap (λ (v : ℕ). v % 4096) (value-there work (i .before) _ 6 (r .name) start (i .same-words) (i .long) (omega arith)) ∙ omega arith
 
-  not-derived : r .derivation ≡ none → listFor ws work marks atoms start ≡ 0
+  not-derived : r .derivation ≡ none → listFor ws work marks asked start ≡ 0
   unfolding listFor unstamped
   not-derived e = rw (no-flag work start (p .names) r i most e) refl
 
   list-read : (d : Derivation) → r .derivation ≡ some d
-      → listFor ws work marks atoms start
+      → listFor ws work marks asked start
       ≡ pick (empty (d .slotEntities)) (pick (unlike (kindAt K (d .current)) (kindAt K (d .related))) (pick (empty (r .slotKinds) && (atomNames p (r .name) || holds roleJudgment (d .predicate))) 0 list) 0) 0
   unfolding listFor unstamped passedIn unlikeIn
   list-read d e =
       rw (named-there, a-flag work start (p .names) r i most d e, entities-there work start (p .names) r i most d e, counted work start (p .names) r i most)
-      (rw (current-there work start (p .names) r i most d e, related-there work start (p .names) r i most d e, kinds, named, role-there work start (p .names) r i most d e ends)
-      (rw (one-if (atomNames p (r .name)), no-names (d .slotEntities), no-names (r .slotKinds)) refl))
+      (rw (current-there work start (p .names) r i most d e, related-there work start (p .names) r i most d e, kinds, named, e)
+      (rw (one-if (atomNames p (r .name) || holds roleJudgment (d .predicate)), no-names (d .slotEntities), no-names (r .slotKinds)) refl))
 
-  pub stamped-by : StampedBy ws (listFor ws work marks atoms start) r (stamp p r)
+  pub stamped-by : StampedBy ws (listFor ws work marks asked start) r (stamp p r)
   unfolding stamp
   stamped-by = go (r .derivation) refl
     where
-      go : (o : Option Derivation) → r .derivation ≡ o → StampedBy ws (listFor ws work marks atoms start) r (stampDerived p r o)
+      go : (o : Option Derivation) → r .derivation ≡ o → StampedBy ws (listFor ws work marks asked start) r (stampDerived p r o)
       go none e = as-it-is (not-derived e)
       go (some d) e =
           let spoken : Bool = atomNames p (r .name) || holds roleJudgment (d .predicate) in

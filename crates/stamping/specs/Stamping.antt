@@ -17,28 +17,6 @@ pub data StampedBy (ws : List ℕ) (list : ℕ) (r : Relation) : Relation → Ty
   as-it-is : list ≡ 0 → StampedBy ws list r r
   with-kinds : (d : Derivation) (ks : List ℕ) → 0 < list → namesAt ws list ≡ some ks → r .derivation ≡ some d → d .slotEntities ≡ [] → StampedBy ws list r (stampedWith r d ks)
 
--- ---- "that some atom or Exists names": 1 for each such name, after one word and after all words of a pack
-
-unfoldable pub atomAfter : List ℕ → ℕ → List ℕ
-atomAfter t w = pick ((eqb (kindOf w) 102 || eqb (kindOf w) 103) && ltb (valueOf w) 4096) (set t (valueOf w) 1) t
-
-unfoldable pub atomsIn : List ℕ → List ℕ → List ℕ
-atomsIn t [] = t
-atomsIn t (w ∷ ws) = atomsIn (atomAfter t w) ws
-
--- where so many of the words are those of an atom or Exists: with none, they leave the table as it is
-pub record NoAtoms (ws : List ℕ) (count : ℕ) : Type 0 where
-  pub leave : count ≡ 0 → (t : List ℕ) → t ≡ atomsIn t ws
-
--- ---- "whose predicate holds kinds 102 to 104": the words of a tree are those from its root on, as long as their kinds are 64 or more
-
-unfoldable pub roleAmong : List ℕ → Bool
-roleAmong [] = false
-roleAmong (w ∷ ws) = pick (leb 64 (kindOf w)) (roleJudgment (kindOf w) (valueOf w) || roleAmong ws) false
-
-unfoldable pub roleIn : List ℕ → ℕ → Bool
-roleIn ws at = roleAmong (drop at ws)
-
 -- ---- the list for the relation whose record starts at a place: `ws` are the words of the pack, `work` the same with trees resolved in place
 
 -- it has a derivation, "with list 21 empty"
@@ -49,9 +27,10 @@ unstamped work start = eqb (flagAt work start) 1 && eqb (entityCount work start)
 unfoldable pub unlikeIn : List ℕ → List ℕ → ℕ → ℕ → Bool
 unlikeIn ws work list start = unlike (kindAt (namesAt ws list) (valueAt work (slotsPlace work start))) (kindAt (namesAt ws list) (valueAt work (slotsPlace work start + 1)))
 
--- "pass over a relation with both lists empty that some atom or Exists names, or whose predicate holds kinds 102 to 104", list 21 being empty
+-- "pass over a relation with both lists empty that some atom or Exists names, or whose predicate holds kinds 102 to 104", list 21 being empty:
+-- a table holds 1 at the names of such relations
 unfoldable pub passedIn : List ℕ → List ℕ → ℕ → ℕ → Bool
-passedIn work atoms name start = eqb (kindCount work start) 0 && (eqb (getD atoms name 0) 1 || roleIn work (predicateAt work start))
+passedIn work asked name start = eqb (kindCount work start) 0 && eqb (getD asked name 0) 1
 
 -- its name, which finds its place in the tables
 unfoldable pub nameAt : List ℕ → ℕ → ℕ
@@ -59,10 +38,10 @@ nameAt work start = valueAt work start % 4096
 
 -- the place of the list that settles its name, where the list is stamped, else 0
 unfoldable pub listFor : List ℕ → List ℕ → List ℕ → List ℕ → ℕ → ℕ
-listFor ws work marks atoms start =
+listFor ws work marks asked start =
     pick (unstamped work start)
     (pick (unlikeIn ws work (getD marks (nameAt work start) 0 - 2) start)
-    (pick (passedIn work atoms (nameAt work start) start) 0 (getD marks (nameAt work start) 0 - 2))
+    (pick (passedIn work asked (nameAt work start) start) 0 (getD marks (nameAt work start) 0 - 2))
     0)
     0
 
@@ -83,8 +62,8 @@ addedFor ws work list start = length (namesOr (namesAt ws list)) * pick (eqb (ki
 
 -- for relations that start at places, one after the other
 unfoldable pub listsFor : List ℕ → List ℕ → List ℕ → List ℕ → List ℕ → List ℕ
-listsFor ws work marks atoms [] = []
-listsFor ws work marks atoms (start ∷ order) = listFor ws work marks atoms start ∷ listsFor ws work marks atoms order
+listsFor ws work marks asked [] = []
+listsFor ws work marks asked (start ∷ order) = listFor ws work marks asked start ∷ listsFor ws work marks asked order
 
 unfoldable pub addedBy : List ℕ → List ℕ → List ℕ → List ℕ → ℕ
 addedBy ws work [] lists = 0
@@ -92,7 +71,7 @@ addedBy ws work (start ∷ order) [] = 0
 addedBy ws work (start ∷ order) (list ∷ lists) = addedFor ws work list start + addedBy ws work order lists
 
 -- all lists, and how many words more there are with them
-pub record Listed (ws work marks atoms order lists : List ℕ) (added : ℕ) : Type 0 where
-  pub each : lists ≡ listsFor ws work marks atoms order
+pub record Listed (ws work marks asked order lists : List ℕ) (added : ℕ) : Type 0 where
+  pub each : lists ≡ listsFor ws work marks asked order
   pub adds : added ≡ addedBy ws work order lists
   pub few : added ≤ 17179869184

@@ -1,4 +1,2 @@
-// Stamping: which list of kinds each relation of a pack with resolved trees takes. Relations that atoms and Exists name (atoms)
-// are passed over where they have no list of their own (lists).
-pub mod atoms;
+// Stamping: which list of kinds each relation of a pack with resolved trees takes.
 pub mod lists;

@@ -1,49 +1,19 @@
 // Which list of kinds is stamped on each relation, by the place of the list.
 use chains::record::flag_at;
 use chains::record::kind_count;
-use chains::record::predicate_place;
 use chains::record::slots_place;
 use chains::record::value_at;
 use filtered::taking::Kind;
 use filtered::taking::kind_at;
 use filtered::taking::place_of;
 use pack::kinds::Pack;
+use turning::asked::Asked;
+use turning::root::ByName;
 ghost use mathlib.Core.Path.{_≡_};
 ghost use Prim.Native.Nat.{_<_, _≤_};
 ghost use lib.ListN.{length};
-ghost use Rattle.pack.specs.Table.{kindOf, valueOf};
-ghost use Rattle.directions.specs.Resolving.{roleJudgment};
 ghost use Rattle.chains.specs.Record.{Recorded};
-ghost use Rattle.stamping.specs.Stamping.{roleIn, unstamped, passedIn, unlikeIn, listFor, Lists, addedFor, Listed};
-
-// Whether a word is that of a judgment of roles.
-fn role_word(word: u32) -> bool
-    ensures { λ r. ⌜ r ≡ roleJudgment (kindOf word) (valueOf word) ⌝ }
-{
-    let kind = word / Pack::VALUES;
-    if kind < Pack::RELATION_ATOM {
-        return false;
-    }
-    kind <= Pack::SAME_ENTITY
-}
-
-// Whether the tree whose root stands at a place holds a judgment of roles.
-fn role(work: &[u32], at: usize) -> bool
-    ensures { λ r. ⌜ r ≡ roleIn (now (work .entry)) at ⌝ }
-{
-    let mut i = at;
-    while i < work.len() {
-        let w = work[i];
-        if w / Pack::VALUES < Pack::FIRST_OF_TREES {
-            return false;
-        }
-        if role_word(w) {
-            return true;
-        }
-        i += 1;
-    }
-    false
-}
+ghost use Rattle.stamping.specs.Stamping.{unstamped, passedIn, unlikeIn, listFor, Lists, addedFor, Listed};
 
 // Whether it has a derivation without names of its own.
 fn unstamped(work: &[u32], start: usize) -> bool
@@ -71,30 +41,21 @@ fn unlike(pack: &[u32], work: &[u32], list: u32, start: usize) -> bool
     c != r
 }
 
-// Whether it is passed over: without slot kinds, named by an atom or Exists, or with a judgment of roles.
-fn passed_over(work: &[u32], atoms: &[u8; 4096], name: usize, start: usize) -> bool
+// Whether it is passed over: without slot kinds, and asked for by an atom or Exists or by a judgment of roles.
+fn passed_over(work: &[u32], asked: &Asked, name: usize, start: usize) -> bool
     requires { ⌜ (start ≤ 65536) × (name < 4096) ⌝ }
-    ensures { λ r. ⌜ r ≡ passedIn (now (work .entry)) (now (atoms .entry)) name start ⌝ }
+    ensures { λ r. ⌜ r ≡ passedIn (now (work .entry)) (now (asked .entry)) name start ⌝ }
 {
     if value_at(work, start + 3) != 0 {
         return false;
     }
-    if atoms[name] == 1 {
-        return true;
-    }
-    role(work, predicate_place(work, start))
+    asked[name] == 1
 }
 
 // The place of the list that is stamped on the relation whose record starts at a place; 0 for none.
-fn list_for(
-    pack: &[u32],
-    work: &[u32],
-    marks: &[u32; 4096],
-    atoms: &[u8; 4096],
-    start: usize,
-) -> u32
+fn list_for(pack: &[u32], work: &[u32], marks: &ByName, asked: &Asked, start: usize) -> u32
     requires { ⌜ start ≤ 65536 ⌝ }
-    ensures { λ r. ⌜ r ≡ listFor (now (pack .entry)) (now (work .entry)) (now (marks .entry)) (now (atoms .entry)) start ⌝ }
+    ensures { λ r. ⌜ r ≡ listFor (now (pack .entry)) (now (work .entry)) (now (marks .entry)) (now (asked .entry)) start ⌝ }
 {
     if !unstamped(work, start) {
         return 0;
@@ -104,7 +65,7 @@ fn list_for(
     if !unlike(pack, work, list, start) {
         return 0;
     }
-    if !passed_over(work, atoms, name, start) {
+    if !passed_over(work, asked, name, start) {
         return list;
     }
     0
@@ -145,19 +106,19 @@ fn added(pack: &[u32], work: &[u32], list: u32, start: usize) -> usize
 pub fn lists(
     pack: &[u32],
     work: &[u32],
-    marks: &[u32; 4096],
-    atoms: &[u8; 4096],
+    marks: &ByName,
+    asked: &Asked,
     order: &[u32],
     table: &mut [u32],
 ) -> usize
     requires { ⌜ Recorded (now order) × (length (now table) ≡ length (now order)) × (length (now order) ≤ 512) ⌝ }
-    ensures { λ r. ⌜ Listed (now (pack .entry)) (now (work .entry)) (now (marks .entry)) (now (atoms .entry)) (now (order .entry)) (now (table .exit)) r ⌝ }
+    ensures { λ r. ⌜ Listed (now (pack .entry)) (now (work .entry)) (now (marks .entry)) (now (asked .entry)) (now (order .entry)) (now (table .exit)) r ⌝ }
 {
     let mut more: usize = 0;
     let mut i: usize = 0;
     while i < order.len() {
         let start = order[i] as usize;
-        let list = list_for(pack, work, marks, atoms, start);
+        let list = list_for(pack, work, marks, asked, start);
         table[i] = list;
         more += added(pack, work, list, start);
         i += 1;

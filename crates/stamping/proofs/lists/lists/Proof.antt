@@ -9,10 +9,10 @@ use Rattle.stamping.proofs.lists.lists.Statement.{statement}
 use Rattle.stamping.proofs.lists.lists.Tie as tie
 
 abbrev Inv-loop : tie.InvT-loop
-Inv-loop pack work marks atoms order table₀ more₀ i₀ table more i = Listing pack work marks atoms order table more i
+Inv-loop pack work marks asked order table₀ more₀ i₀ table more i = Listing pack work marks asked order table more i
 
 abbrev μ-loop : tie.MeasureT-loop
-μ-loop pack work marks atoms order table₀ more₀ i₀ table more i = length order - i
+μ-loop pack work marks asked order table₀ more₀ i₀ table more i = length order - i
 
 loop-holds : tie.Need-loop-holds Inv-loop μ-loop
 loop-holds c = listing-begin _ _ _ _ _ ((c .before .before .before .before .pre) .1)

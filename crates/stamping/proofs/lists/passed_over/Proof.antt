@@ -1,5 +1,5 @@
 -- `stamping::passed_over` meets its contract.
-use Rattle.stamping.proofs.ListForLaws.{has-kinds, named-by-atom, by-its-predicate}
+use Rattle.stamping.proofs.ListForLaws.{has-kinds, by-the-table}
 use borrow.Author.Needs.{needs}
 use Rattle.stamping.proofs.lists.passed_over.Statement.{statement}
 use Rattle.stamping.proofs.lists.passed_over.Tie as tie
@@ -13,20 +13,11 @@ value-at-requires c κs = search needs
 returns : tie.Need-returns
 returns c = has-kinds _ _ _ _ ((c .before .value-at) .ensures .0) ((c .if1) .taken)
 
-element-copy-out-if2 : tie.Need-element-copy-out-if2
-element-copy-out-if2 c = search needs
+element-copy-out-result : tie.Need-element-copy-out-result
+element-copy-out-result c = search needs
 
 returns-2 : tie.Need-returns-2
-returns-2 c = named-by-atom _ _ _ _ ((c .before .before .before .value-at) .ensures .0) ((c .before .before .if1) .left) ((c .if2) .taken)
-
-predicate-place-requires : tie.Need-predicate-place-requires
-predicate-place-requires c κs = search needs
-
-role-requires : tie.Need-role-requires
-role-requires c κs = search needs
-
-returns-3 : tie.Need-returns-3
-returns-3 c = by-its-predicate _ _ _ _ ((c .before .before .before .before .before .value-at) .ensures .0) ((c .before .before .before .before .if1) .left) ((c .before .before .if2) .left) ((c .before .predicate-place) .ensures .0) ((c .role) .ensures)
+returns-2 c = by-the-table _ _ _ _ (c .before .before .value-at .ensures .0) (c .before .if1 .left)
 
 pub passed-over-spec : {M : Type 1} → statement M
 passed-over-spec =
@@ -35,8 +26,5 @@ passed-over-spec =
     add-value-at
     value-at-requires
     returns
-    element-copy-out-if2
-    returns-2
-    predicate-place-requires
-    role-requires
-    returns-3)
+    element-copy-out-result
+    returns-2)

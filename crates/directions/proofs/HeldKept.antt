@@ -1,0 +1,47 @@
+-- Resolving keeps what sorts of nodes a tree holds: it sets fields alone.
+use Prim.Native.Nat.{ℕ, _+_}
+use native.Mathlib.Omega.{arith}
+use mathlib.Core.Path.{_≡_, refl, ap, sym, _∙_, subst}
+use mathlib.Core.Bool.{Bool, _||_}
+use mathlib.Core.Option.{Option, none, some}
+use lib.ListN.{length}
+use Rattle.pack.specs.Table.{entryOf}
+use Rattle.pack.specs.Tree.{Tree, Forest, node, more}
+use Rattle.pack.specs.Tree as trees
+use Rattle.pack.specs.Pack.{Derivation, Relation, Pack}
+use Rattle.directions.specs.Direction.{Membership}
+use Rattle.directions.specs.Turning.{Outcome, done, refused, mapDone, Citing, Fields, Step, goes, stops, stepBy, size, atNode, resolveTree, resolveForest}
+use Rattle.directions.specs.Resolving.{holds, held, inDerivation, withPredicate, predicateBy, resolvePredicate, resolveDerivation, resolveRelation}
+use Rattle.directions.proofs.KeepsForm.{Good, map-good, then-good}
+
+module _ (is : ℕ → ℕ → Bool) where
+  module _ (C : Citing) where
+    node-held : (at k v : ℕ) (f : Forest) (b : ℕ) (s : Step) → ((entity : ℕ) (first rest : Membership) → Good (λ f′. held is f′ ≡ held is f) (resolveForest C entity first rest b f))
+        → Good (λ t. holds is t ≡ (is k v || held is f)) (atNode C at s (λ fs′ entity first rest. mapDone (node k v fs′) (resolveForest C entity first rest b f)))
+    unfolding holds
+    node-held at k v f b (stops number other) g = tt
+    node-held at k v f b (goes fs′ entity first rest) g =
+        map-good (λ f′. held is f′ ≡ held is f) _ (node k v fs′) (resolveForest C entity first rest b f) (g entity first rest) (λ f′ e. ap (λ (x : Bool). is k v || x) e)
+
+    mutual
+      unfolding resolveTree holds
+
+      pub holds-kept : (t : Tree) (entity : ℕ) (m : Membership) (at : ℕ) → Good (λ t′. holds is t′ ≡ holds is t) (resolveTree C entity m at t)
+      holds-kept (node k v fs f) entity m at = node-held at k v f (at + 1 + length fs) (stepBy C entity m (entryOf k .follows) v fs) (λ e first rest. held-kept f e first rest (at + 1 + length fs))
+
+      held-kept : (f : Forest) (entity : ℕ) (first rest : Membership) (at : ℕ) → Good (λ f′. held is f′ ≡ held is f) (resolveForest C entity first rest at f)
+      held-kept trees.none entity first rest at = refl
+      held-kept (more t f) entity first rest at =
+          then-good (λ t′. holds is t′ ≡ holds is t) _ (resolveTree C entity first at t) _ (holds-kept t entity first at)
+          (λ t′ q. map-good (λ f′. held is f′ ≡ held is f) _ (more t′) (resolveForest C entity rest rest (at + size t) f) (held-kept f entity rest rest (at + size t)) (λ f′ e. ap (λ (x : Bool). x || held is f′) q ∙ ap (λ (x : Bool). holds is t || x) e))
+
+  derivation-held : (p : Pack) (at : ℕ) (r : Relation) (o : Option Derivation) → Good (λ o′. inDerivation is o′ ≡ inDerivation is o) (resolveDerivation p at r o)
+  unfolding predicateBy
+  derivation-held p at r none = refl
+  derivation-held p at r (some d) = map-good (λ t. holds is t ≡ holds is (d .predicate)) _ (λ t. some (withPredicate d t)) (resolvePredicate p at r d) (holds-kept _ (d .predicate) _ _ _) (λ t e. e)
+
+  pub relation-held : (p : Pack) (at : ℕ) (r s : Relation) → resolveRelation p at r ≡ done s → inDerivation is (s .derivation) ≡ inDerivation is (r .derivation)
+  unfolding resolveRelation
+  relation-held p at r s e =
+      subst (Good (λ x. inDerivation is (x .derivation) ≡ inDerivation is (r .derivation))) e
+      (map-good (λ o. inDerivation is o ≡ inDerivation is (r .derivation)) _ (λ o. record { name = r .name; origin = r .origin; arity = r .arity; slotKinds = r .slotKinds; derivation = o }) (resolveDerivation p at r (r .derivation)) (derivation-held p at r (r .derivation)) (λ o q. q))

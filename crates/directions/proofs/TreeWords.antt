@@ -1,0 +1,142 @@
+-- The words of a tree that keeps to its form, without the form; resolving keeps how many they are.
+use Prim.Native.Nat.{ℕ, zero, suc, _+_}
+use native.Mathlib.Omega.{arith}
+use mathlib.Core.Path.{_≡_, refl, ap, _∙_}
+use mathlib.Core.List.{List, [], _∷_, _++_}
+use mathlib.Core.Bool.{Bool, true, false}
+use mathlib.Core.Option.{Option, none, some}
+use lib.ListN.{length, length-append}
+use lib.Dec.{eqb}
+use Rattle.pack.specs.declared.table.Follows.{Follows}
+use Rattle.pack.specs.declared.table.Follows.the-variants.{Nothing, Counted, OneScalar, TwoScalars, Scalars, Patterns, Periods, OneJudgment, Judgments, Choice, Aggregate, OnlyRelated, Slots, Atom, Exists}
+use Rattle.pack.specs.Table.{pick, wordOf, entryOf, fieldsOf, childrenOf}
+use Rattle.pack.specs.Form.{only, wordsEach, FineEach, word, wordsBy, Fine}
+use Rattle.pack.specs.Tree.{Tree, Forest, node, more, ofForest, lastField, fields, follow, tree}
+use Rattle.directions.specs.declared.direction.Direction.{Direction}
+use Rattle.directions.specs.declared.direction.Direction.the-variants.{Turned, Open}
+use Rattle.directions.specs.Direction.{turn, Membership}
+use Rattle.directions.specs.Turning.{mapDone, Citing, Fields, currentOf, relatedOf, withSlots, valueOfNode, Step, goes, stops, aggregate, allowedInput, onlyRelated, membershipTest, stepBy, fieldWords, treeWords, forestWords, size, sizes, atNode, resolveTree, resolveForest}
+use Rattle.directions.proofs.KeepsForm.{Good, map-good, then-good, FieldsFine, open-node, no-level}
+use Rattle.pack.specs.Tree as trees
+use Rattle.directions.specs.Direction as direction
+
+fields-words : (n : ℕ) (kss : List (List ℕ)) (fs : Fields) → FieldsFine n kss fs → wordsEach (λ ks a. wordsBy (word (only ks) n) a) kss fs ≡ fieldWords fs
+unfolding wordsBy
+fields-words n [] [] h = refl
+fields-words n [] (f ∷ fs) h = absurd h
+fields-words n (ks ∷ kss) [] h = absurd h
+fields-words n (ks ∷ kss) (f ∷ fs) h = ap (λ (l : List ℕ). wordOf (f .0) (f .1) ∷ l) (fields-words n kss fs (h .1))
+
+pub fields-length : (fs : Fields) → length (fieldWords fs) ≡ length fs
+fields-length [] = refl
+fields-length (f ∷ fs) = ap suc (fields-length fs)
+
+pub fields-count : (n : ℕ) (kss : List (List ℕ)) (fs : Fields) → FieldsFine n kss fs → length fs ≡ length kss
+fields-count n [] [] h = refl
+fields-count n [] (f ∷ fs) h = absurd h
+fields-count n (ks ∷ kss) [] h = absurd h
+fields-count n (ks ∷ kss) (f ∷ fs) h = ap suc (fields-count n kss fs (h .1))
+
+mutual
+  unfolding treeWords size
+
+  pub size-is : (t : Tree) → length (treeWords t) ≡ size t
+  size-is (node k v fs f) = omega (arith, length-append (fieldWords fs) (forestWords f), fields-length fs, sizes-are f)
+
+  pub sizes-are : (f : Forest) → length (forestWords f) ≡ sizes f
+  sizes-are trees.none = refl
+  sizes-are (more t f) = length-append (treeWords t) (forestWords f) ∙ omega (arith, size-is t, sizes-are f)
+
+-- a node's words by its form
+node-words : (n d sort k v : ℕ) (fs : Fields) (f : Forest)
+    → wordsBy (tree n (suc d) sort) (node k v fs f)
+    ≡ wordOf k v ∷ (wordsEach (λ ks a. wordsBy (word (only ks) n) a) (fieldsOf (entryOf k .follows)) fs ++ wordsEach (λ s t. wordsBy (tree n d s) t) (childrenOf (entryOf k .follows) v (lastField fs)) (ofForest f))
+unfolding tree follow fields wordsBy
+node-words n d sort k v fs f = refl
+
+mutual
+  unfolding treeWords
+
+  pub tree-words : (t : Tree) (n d sort : ℕ) → Fine (tree n d sort) t → wordsBy (tree n d sort) t ≡ treeWords t
+  tree-words (node k v fs f) n zero sort h = absurd (no-level n sort k v fs f h)
+  tree-words (node k v fs f) n (suc d) sort h =
+      let o = open-node n d sort k v fs f h in
+      let a = fields-words n (fieldsOf (entryOf k .follows)) fs (o .1 .0) in
+      let b = forest-words f n d (childrenOf (entryOf k .follows) v (lastField fs)) (o .1 .1) in
+      node-words n d sort k v fs f ∙ ap (λ (l : List ℕ). wordOf k v ∷ (l ++ wordsEach (λ s t. wordsBy (tree n d s) t) (childrenOf (entryOf k .follows) v (lastField fs)) (ofForest f))) a
+      ∙ ap (λ (l : List ℕ). wordOf k v ∷ (fieldWords fs ++ l)) b
+
+  forest-words : (f : Forest) (n d : ℕ) (sorts : List ℕ) → FineEach (λ s t. Fine (tree n d s) t) sorts (ofForest f) → wordsEach (λ s t. wordsBy (tree n d s) t) sorts (ofForest f) ≡ forestWords f
+  forest-words trees.none n d [] h = refl
+  forest-words trees.none n d (s ∷ sorts) h = absurd h
+  forest-words (more t f) n d [] h = absurd h
+  forest-words (more t f) n d (s ∷ sorts) h =
+      ap (λ (l : List ℕ). l ++ wordsEach (λ s t. wordsBy (tree n d s) t) sorts (ofForest f)) (tree-words t n d s (h .0)) ∙ ap (λ (l : List ℕ). treeWords t ++ l) (forest-words f n d sorts (h .1))
+
+-- ---- resolving keeps the number of words
+
+slots-length : (c r : ℕ) (fs : Fields) → length (withSlots c r fs) ≡ length fs
+slots-length c r [] = refl
+slots-length c r (f ∷ []) = refl
+slots-length c r (f ∷ g ∷ fs) = refl
+
+abbrev pub StepLong : Fields → Step → Type 0
+StepLong fs (goes fs′ entity first rest) = length fs′ ≡ length fs
+StepLong fs (stops number other) = Unit {0}
+
+aggregate-long : (fs : Fields) (d : Direction) → StepLong fs (aggregate fs d)
+aggregate-long fs (Turned c r k) = slots-length c r fs
+aggregate-long fs (Open e) = tt
+
+only-long : (inp : ℕ → ℕ → Option ℕ) (fs : Fields) (d : Direction) → StepLong fs (onlyRelated inp fs d)
+only-long inp fs (Open e) = tt
+only-long inp fs (Turned c r owner) = go (eqb (valueOfNode fs .0) 84) (inp owner (valueOfNode fs .1))
+  where
+    go : (b : Bool) (o : Option ℕ) → StepLong fs (pick b (stops 11 (valueOfNode fs .1)) (allowedInput (withSlots c r fs) (valueOfNode fs .1) o))
+    go true o = tt
+    go false none = slots-length c r fs
+    go false (some number) = tt
+
+test-long : (fs : Fields) (entity : ℕ) (m : Membership) (d : Direction) → StepLong fs (membershipTest fs entity m d)
+test-long fs entity m (Turned c r k) = slots-length c r fs
+test-long fs entity m (Open k) = tt
+
+module _ (C : Citing) where
+  pub step-long : (entity : ℕ) (m : Membership) (w : Follows) (v : ℕ) (fs : Fields) → StepLong fs (stepBy C entity m w v fs)
+  unfolding stepBy
+  step-long entity m Nothing v fs = refl
+  step-long entity m Counted v fs = refl
+  step-long entity m OneScalar v fs = refl
+  step-long entity m TwoScalars v fs = refl
+  step-long entity m Scalars v fs = refl
+  step-long entity m Patterns v fs = refl
+  step-long entity m Periods v fs = refl
+  step-long entity m OneJudgment v fs = refl
+  step-long entity m Judgments v fs = refl
+  step-long entity m Choice v fs = refl
+  step-long entity m Aggregate v fs = aggregate-long fs (turn (C .tables) v entity (currentOf fs) (relatedOf fs))
+  step-long entity m OnlyRelated v fs = only-long (C .input) fs (turn (C .tables) v entity (currentOf fs) (relatedOf fs))
+  step-long entity m Slots v fs = test-long fs entity m (direction.member (C .tables) v m (currentOf fs) (relatedOf fs))
+  step-long entity m Atom v fs = refl
+  step-long entity m Exists v fs = refl
+
+  node-long : (at k v : ℕ) (fs : Fields) (f : Forest) (b : ℕ) (s : Step) → StepLong fs s
+      → ((entity : ℕ) (first rest : Membership) → Good (λ f′. sizes f′ ≡ sizes f) (resolveForest C entity first rest b f))
+      → Good (λ t. size t ≡ size (node k v fs f)) (atNode C at s (λ fs′ entity first rest. mapDone (node k v fs′) (resolveForest C entity first rest b f)))
+  unfolding size
+  node-long at k v fs f b (stops number other) q g = tt
+  node-long at k v fs f b (goes fs′ entity first rest) q g = map-good (λ f′. sizes f′ ≡ sizes f) _ (node k v fs′) (resolveForest C entity first rest b f) (g entity first rest) (λ f′ e. omega arith)
+
+  mutual
+    unfolding resolveTree size
+
+    pub size-kept : (t : Tree) (entity : ℕ) (m : Membership) (at : ℕ) → Good (λ t′. size t′ ≡ size t) (resolveTree C entity m at t)
+    size-kept (node k v fs f) entity m at =
+        node-long at k v fs f (at + 1 + length fs) (stepBy C entity m (entryOf k .follows) v fs) (step-long entity m (entryOf k .follows) v fs)
+        (λ e first rest. sizes-kept f e first rest (at + 1 + length fs))
+
+    sizes-kept : (f : Forest) (entity : ℕ) (first rest : Membership) (at : ℕ) → Good (λ f′. sizes f′ ≡ sizes f) (resolveForest C entity first rest at f)
+    sizes-kept trees.none entity first rest at = refl
+    sizes-kept (more t f) entity first rest at =
+        then-good (λ t′. size t′ ≡ size t) _ (resolveTree C entity first at t) _ (size-kept t entity first at)
+        (λ t′ q. map-good (λ f′. sizes f′ ≡ sizes f) _ (more t′) (resolveForest C entity rest rest (at + size t) f) (sizes-kept f entity rest rest (at + size t)) (λ f′ e. omega arith))

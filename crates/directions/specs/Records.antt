@@ -1,0 +1,75 @@
+-- Records one after the other, and what resolving their trees comes to.
+use Prim.Native.Nat.{ℕ, _+_, _-_, _≤_}
+use mathlib.Core.Path.{_≡_}
+use mathlib.Core.List.{List, [], _∷_, _++_}
+use mathlib.Core.Bool.{Bool, true}
+use lib.ListN.{length, getD}
+use Rattle.pack.specs.Table.{wordOf}
+use Rattle.pack.specs.Form.{among, Fine}
+use Rattle.pack.specs.Pack.{Relation, Body, Rule, Pack, yes, read, body, relation}
+use Rattle.chains.specs.Kinds.{declared, kindsOf}
+use Rattle.chains.specs.Places.{relationWords, firstRelation, namesAt}
+use Rattle.chains.specs.AllKinds.{IsPack, Noted, KindsMarked}
+use Rattle.filtered.specs.Taking.{Known}
+use Rattle.directions.specs.Turning.{Outcome, done, andThen, mapDone, treeWords}
+use Rattle.directions.specs.Resolving.{resolveRules, resolveRelations, firstRule}
+
+-- a run of records, one after the other
+abbrev pub wordsOf : {A : Type 0} → (A → List ℕ) → List A → List ℕ
+wordsOf W [] = []
+wordsOf W (a ∷ l) = W a ++ wordsOf W l
+
+unfoldable pub runBy : {A : Type 0} → (A → List ℕ) → (ℕ → A → Outcome A) → ℕ → List A → Outcome (List A)
+runBy W resolve at [] = done []
+runBy W resolve at (a ∷ l) = andThen (resolve at a) (λ b. mapDone (λ m. b ∷ m) (runBy W resolve (at + length (W a)) l))
+
+abbrev pub All : {A : Type 0} → (A → Type 0) → List A → Type 0
+All Keeps [] = Unit {0}
+All Keeps (a ∷ l) = Keeps a × All Keeps l
+
+pub record Many {A : Type 0} (Keeps : A → Type 0) (count : ℕ) (l : List A) : Type 0 where
+  pub many : length l ≡ count
+  pub all : All Keeps l
+
+-- ---- bodies
+
+abbrev pub bodyWords : Body → List ℕ
+bodyWords b = wordOf 27 (b .sort) ∷ treeWords (b .tree)
+
+-- ---- relations of a checked pack
+
+-- where relations start, one after the other from a place on
+unfoldable pub placesFrom : ℕ → ℕ → List Relation → List ℕ
+placesFrom n at [] = []
+placesFrom n at (r ∷ rs) = at ∷ placesFrom n (at + length (relationWords n r)) rs
+
+-- a relation that keeps to its form, of a name that the pack declares
+pub record RelationKeeps (p : Pack) (r : Relation) : Type 0 where
+  pub used : ℕ → Bool
+  pub fine : Fine (relation (p .names) used) r
+  pub known : among (r .name) (declared (p .relations)) ≡ true
+
+-- the marks of the names that the pack declares lead to their kinds
+pub record KindsReady (ws marks : List ℕ) : Type 0 where
+  pub kinds : (p : Pack) → read ws ≡ yes p → (m : ℕ) → among m (declared (p .relations)) ≡ true → namesAt ws (getD marks m 0 - 2) ≡ kindsOf (p .relations) m
+
+-- ---- all trees of a pack
+
+abbrev pub withRecords : Pack → List Relation → List Rule → Pack
+withRecords p relations rules = record { edition = p .edition; names = p .names; defaulted = p .defaulted; relations = relations; rules = rules; blocks = p .blocks }
+
+-- the second and third step of Resolving: the trees of rules, then those of relations
+unfoldable pub turned : Pack → Outcome Pack
+turned p = andThen (resolveRules p (firstRule p) (p .rules)) (λ rules. mapDone (λ relations. withRecords p relations rules) (resolveRelations p (firstRelation p) (p .relations)))
+
+-- where all relations of a pack start
+abbrev pub placesIn : Pack → List ℕ
+placesIn p = placesFrom (p .names) (firstRelation p) (p .relations)
+
+-- the tables of a checked pack: where the records of relations start, the marks of their names, and what entities take
+pub record Tabled (ws records marks taken : List ℕ) (steps : ℕ) : Type 0 where
+  pub checked : IsPack ws
+  pub declares : List ℕ
+  pub noted : Noted ws declares records
+  pub marked : KindsMarked ws steps declares marks
+  pub knows : Known ws taken

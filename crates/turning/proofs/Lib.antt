@@ -1,0 +1,16 @@
+pub mod Cases
+pub mod CodeLaws
+pub mod FlatLaws
+pub mod RunFlat
+pub mod RecordFlat
+pub mod PackFlat
+pub mod AskedLaws
+pub mod StepLaws
+pub mod RootLaws
+pub mod NoteLaws
+pub mod TurnsLaws
+pub mod PlacedLaws
+pub mod PackLaws
+pub mod MarkLaws
+pub mod MarkedLaws
+pub mod KnownLaws
