@@ -19,7 +19,7 @@ use Rattle.directions.proofs.RunLaws.{run-length, run-words}
 
 -- ---- its words
 
-body-words : (n : ℕ) (b : Body) → Fine (body n) b → wordsBy (body n) b ≡ bodyWords b
+pub body-words : (n : ℕ) (b : Body) → Fine (body n) b → wordsBy (body n) b ≡ bodyWords b
 unfolding body root Fine wordsBy
 body-words n b f = ap (λ (l : List ℕ). wordOf 27 (b .sort) ∷ l) (tree-words (b .tree) n 32 (b .sort) (f .1))
 

@@ -62,7 +62,7 @@ unfolding defaultedName wordsBy
 names-many n low [] = refl
 names-many n low (d ∷ ds) = ap suc (names-many n (above low d) ds)
 
-defaulted-many : (n : ℕ) (ds : List ℕ) → length (wordsBy (defaulted n) ds) ≡ 1 + length ds
+pub defaulted-many : (n : ℕ) (ds : List ℕ) → length (wordsBy (defaulted n) ds) ≡ 1 + length ds
 unfolding defaulted wordsBy items
 defaulted-many n ds = omega (arith, names-many n 0 ds)
 

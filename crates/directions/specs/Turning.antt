@@ -14,6 +14,7 @@ use Rattle.directions.specs.declared.direction.Direction.{Direction}
 use Rattle.directions.specs.declared.direction.Direction.the-variants.{Turned, Open}
 use Rattle.directions.specs.Tables.{Tables}
 use Rattle.directions.specs.Direction.{turn, Membership, member}
+unfoldable pub use Rattle.reading.specs.Notes.{size, sizes}
 
 -- what resolving something comes to
 pub data Outcome (A : Type 0) : Type 0 where
@@ -122,15 +123,6 @@ unfoldable mutual
   pub forestWords : Forest → List ℕ
   forestWords trees.none = []
   forestWords (more t f) = treeWords t ++ forestWords f
-
--- how many they are
-unfoldable mutual
-  pub size : Tree → ℕ
-  size (node k v fs f) = 1 + length fs + sizes f
-
-  pub sizes : Forest → ℕ
-  sizes trees.none = 0
-  sizes (more t f) = size t + sizes f
 
 -- a node at a place that goes on, or that stops there: "place the node, name the citing rule or relation, other the entity", or "the input or derived name"
 abbrev pub atNode : Citing → ℕ → Step → (Fields → ℕ → Membership → Membership → Outcome Tree) → Outcome Tree

@@ -14,3 +14,4 @@ pub mod PackLaws
 pub mod MarkLaws
 pub mod MarkedLaws
 pub mod KnownLaws
+pub mod LeftLaws

@@ -14,6 +14,7 @@ use Rattle.pack.specs.Tree as trees
 use Rattle.pack.specs.Pack.{Derivation, Relation, Body, Pack, WellFormed, yes, read, words, total, blocks}
 use Rattle.pack.specs.Pack as pack
 use Rattle.pack.proofs.PackLaws.{words-read, words-length}
+use Rattle.reading.proofs.NotesLaws.{few-tree}
 use Rattle.chains.specs.Places.{relationWords, firstRelation}
 use Rattle.chains.proofs.CheckedLaws.{same-pack}
 use Rattle.directions.specs.Turning.{Outcome, done, refused, andThen, treeWords, size, sizes}
@@ -34,29 +35,6 @@ use Rattle.turning.proofs.PlacedLaws.{both-placed}
 
 -- ---- there are no more notes than words
 
-one-or-none : (b : Bool) (x : Note) (ns ms : List Note) (k : ℕ) → length ns ≤ k → length ms ≤ k → length (pick b (x ∷ ns) ms) ≤ 1 + k
-one-or-none true x ns ms k h g = omega arith
-one-or-none false x ns ms k h g = omega arith
-
-mutual
-  unfolding notesOf size
-
-  tree-few : (t : Tree) (i inside : ℕ) (lost : Bool) (at : ℕ) → length (notesOf i inside lost at t) ≤ size t
-  tree-few (node k v fs f) i inside lost at =
-      let first : Bool = lost || lookOf k .first in
-      let rest : Bool = lost || lookOf k .rest in
-      let a = row-few f (suc i) (within k i inside) first rest (at + 1 + length fs) in
-      let b = row-few f i inside first rest (at + 1 + length fs) in
-      let c = one-or-none (noted k) (note at inside lost) (notesIn (suc i) (within k i inside) first rest (at + 1 + length fs) f) (notesIn i inside first rest (at + 1 + length fs) f) (sizes f) a b in
-      omega arith
-
-  row-few : (f : Forest) (i inside : ℕ) (first rest : Bool) (at : ℕ) → length (notesIn i inside first rest at f) ≤ sizes f
-  row-few trees.none i inside first rest at = omega arith
-  row-few (more t f) i inside first rest at =
-      let mine : List Note = notesOf i inside first at t in
-      let theirs : List Note = notesIn (i + length mine) inside rest rest (at + size t) f in
-      omega (arith, length-append mine theirs, tree-few t i inside first at, row-few f (i + length mine) inside rest rest (at + size t))
-
 run-few : {A : Type 0} (W : A → List ℕ) (N : ℕ → ℕ → A → List Note) (Keeps : A → Type 0) → ((a : A) → Keeps a → (i at : ℕ) → length (N i at a) ≤ length (W a)) → (l : List A) → All Keeps l → (i at : ℕ) → length (notesRun W N i at l) ≤ length (wordsOf W l)
 unfolding notesRun
 run-few W N Keeps each [] h i at = omega arith
@@ -68,7 +46,7 @@ rule-few : (n : ℕ) (r : pack.Rule) → Fine (pack.rule n) r → (i at : ℕ) �
 unfolding ruleNotes
 rule-few n r fine i at =
     let its = rule-parts n r fine in
-    let b = run-few bodyWords (bodyNotes i) (λ b. Fine (pack.body n) b) (λ b f j x. let t = tree-few (b .tree) j i false (x + 1) in omega (arith, size-is (b .tree))) (bodiesOf r) (its .bodies) (suc i) (at + 4) in
+    let b = run-few bodyWords (bodyNotes i) (λ b. Fine (pack.body n) b) (λ b f j x. let t = few-tree (b .tree) j i false (x + 1) in omega (arith, size-is (b .tree))) (bodiesOf r) (its .bodies) (suc i) (at + 4) in
     omega (arith, ap length (its .words), length-append (head r) (wordsOf bodyWords (bodiesOf r)))
 
 derived-few : (p : Pack) → WellFormed p → (r : Relation) → RelationKeeps p r → (o : Option Derivation) → r .derivation ≡ o → (i at : ℕ) → length (derivedNotes i at r o) ≤ length (relationWords (p .names) r)
@@ -76,16 +54,16 @@ derived-few p w r k none e i at = omega arith
 derived-few p w r k (some d) e i at =
     let n : ℕ = p .names in
     let fine : Fine (tree n 32 judgment) (d .predicate) = predicate-kept n (r .derivation) d e (its-derivation p w [] r k) in
-    let t = tree-few (d .predicate) (suc i) i false (at + predicatePlace r d) in
+    let t = few-tree (d .predicate) (suc i) i false (at + predicatePlace r d) in
     omega (arith, ap length (lead-words n r d e fine), length-append (lead n r d) (treeWords (d .predicate)), size-is (d .predicate), lead-long n r d)
 
 relation-few : (p : Pack) → WellFormed p → (r : Relation) → RelationKeeps p r → (i at : ℕ) → length (relationNotes i at r) ≤ length (relationWords (p .names) r)
 unfolding relationNotes
 relation-few p w r k i at = derived-few p w r k (r .derivation) refl i at
 
-pub notes-few : (p : Pack) → WellFormed p → length (notesOfPack p) ≤ 8192
+pub notes-short : (p : Pack) → WellFormed p → length (notesOfPack p) ≤ total p
 unfolding relationsNoted rulesNoted
-notes-few p w =
+notes-short p w =
     let R : List ℕ = wordsOf (relationWords (p .names)) (p .relations) in
     let U : List ℕ = wordsOf (ruleWords (p .names)) (p .rules) in
     let B : List ℕ = wordsBy (blocks (p .names)) (p .blocks) in
@@ -94,8 +72,10 @@ notes-few p w =
     let c = ap length (pack-words p) ∙ length-append (front p) (R ++ (wordOf 22 (length (p .rules)) ∷ (U ++ B))) in
     let d = length-append R (wordOf 22 (length (p .rules)) ∷ (U ++ B)) in
     let e = length-append U B in
-    let m = w .most in
     omega (arith, words-length p, length-append (relationsNoted p) (rulesNoted p))
+
+pub notes-few : (p : Pack) → WellFormed p → length (notesOfPack p) ≤ 8192
+notes-few p w = omega (arith, notes-short p w, w .most)
 
 pub refused-not : {o : Ended} {x : Refusal} → o ≡ ended.Refused x → o ≡ ended.All → ⊥
 refused-not e f = let z : _≡_ {A = ℕ} 0 1 = cc in omega arith
