@@ -1,20 +1,17 @@
 -- Where relations start, as the directory says, is where they stand one after the other.
-use Prim.Native.Nat.{ℕ, zero, suc, _+_, _<_, _≤_}
+use Prim.Native.Nat.{ℕ, _+_, _<_}
 use native.Mathlib.Omega.{arith}
-use mathlib.Core.Path.{_≡_, refl, ap, sym, _∙_}
+use mathlib.Core.Path.{_≡_, refl, ap, _∙_}
 use mathlib.Core.List.{List, [], _∷_, map}
 use mathlib.Core.Bool.{Bool, true, false, _||_}
-use mathlib.Core.Option.{some}
 use lib.ListN.{length, getD}
 use lib.Dec.{eqb}
 use borrow.Author.Tests.{eq-eqb}
-use Rattle.pack.specs.Table.{pick}
 use Rattle.pack.specs.Form.{among}
 use Rattle.pack.specs.Pack.{Relation, Pack, WellFormed, yes, read}
 use Rattle.pack.proofs.PackLaws.{words-read}
-use Rattle.chains.specs.Kinds.{find, declared}
+use Rattle.chains.specs.Kinds.{declared}
 use Rattle.chains.specs.Places.{relationWords, startOf, firstRelation}
-use Rattle.chains.specs.ByName.{tableFrom}
 use Rattle.chains.specs.Entry.{startsIn, namesIn}
 use Rattle.chains.proofs.RelationScan.{RelationsFine, kept}
 use Rattle.chains.proofs.PackIndex.{EachFound, all-found, parts}

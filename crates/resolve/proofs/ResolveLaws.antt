@@ -1,5 +1,5 @@
 -- What Resolve answers and leaves, from its steps.
-use Prim.Native.Nat.{ℕ, _+_, _<_, _≤_}
+use Prim.Native.Nat.{ℕ, _+_, _<_}
 use native.Mathlib.Omega.{arith}
 use mathlib.Core.Path.{_≡_, refl, ap, sym, _∙_, subst}
 use mathlib.Core.List.{List, [], _∷_, map}
@@ -21,9 +21,8 @@ use Rattle.chains.specs.Answers.{Answered}
 use Rattle.chains.specs.Entry.{startsIn, namesIn}
 use Rattle.records.specs.declared.directory.Layout.{Layout}
 use Rattle.chains.specs.AllKinds.{IsPack, IsDirectory}
-use Rattle.filtered.specs.Taking.{Filled}
+use Rattle.filtered.specs.Taking.{Filled, NamesLow}
 use Rattle.chains.proofs.CheckedLaws.{same-pack, short-checked}
-use Rattle.filtered.specs.Taking.{NamesLow}
 use Rattle.filtered.proofs.TakenKnown.{takeable}
 use Rattle.inputs.proofs.BlocksStand.{reads-inputs}
 use Rattle.chains.proofs.PackIndex.{parts, find-name, find-kept}
