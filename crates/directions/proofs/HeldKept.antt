@@ -1,7 +1,6 @@
 -- Resolving keeps what sorts of nodes a tree holds: it sets fields alone.
 use Prim.Native.Nat.{ℕ, _+_}
-use native.Mathlib.Omega.{arith}
-use mathlib.Core.Path.{_≡_, refl, ap, sym, _∙_, subst}
+use mathlib.Core.Path.{_≡_, refl, ap, _∙_, subst}
 use mathlib.Core.Bool.{Bool, _||_}
 use mathlib.Core.Option.{Option, none, some}
 use lib.ListN.{length}
@@ -10,7 +9,7 @@ use Rattle.pack.specs.Tree.{Tree, Forest, node, more}
 use Rattle.pack.specs.Tree as trees
 use Rattle.pack.specs.Pack.{Derivation, Relation, Pack}
 use Rattle.directions.specs.Direction.{Membership}
-use Rattle.directions.specs.Turning.{Outcome, done, refused, mapDone, Citing, Fields, Step, goes, stops, stepBy, size, atNode, resolveTree, resolveForest}
+use Rattle.directions.specs.Turning.{done, mapDone, Citing, Step, goes, stops, stepBy, size, atNode, resolveTree, resolveForest}
 use Rattle.directions.specs.Resolving.{holds, held, inDerivation, withPredicate, predicateBy, resolvePredicate, resolveDerivation, resolveRelation}
 use Rattle.directions.proofs.KeepsForm.{Good, map-good, then-good}
 

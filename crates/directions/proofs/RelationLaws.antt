@@ -1,5 +1,5 @@
 -- A relation: its words, and how many they are when it is resolved.
-use Prim.Native.Nat.{ℕ, suc, _+_, _<_, _≤_}
+use Prim.Native.Nat.{ℕ, suc, _+_, _<_}
 use native.Mathlib.Omega.{arith}
 use mathlib.Core.Path.{_≡_, refl, ap, sym, _∙_}
 use mathlib.Core.List.{List, [], _∷_, _++_, append-nil}
@@ -10,7 +10,7 @@ use Rattle.pack.specs.Form.{count, items, wordsBy, Fine}
 use Rattle.pack.specs.Tree.{Tree, root, tree}
 use Rattle.pack.specs.Pack.{Derivation, Relation, Pack, WellFormed, newName, nameList, optionalDerivation, relationTail, relation, path, derivation, member}
 use Rattle.chains.specs.Places.{relationWords}
-use Rattle.chains.proofs.ListAt.{nameWords, list-words, path-words, early, late, derived-fine, option-words, InWords}
+use Rattle.chains.proofs.ListAt.{nameWords, list-words, path-words, early, late, derived-fine, option-words}
 use Rattle.directions.specs.Direction.{membership, orElse}
 use Rattle.directions.specs.Turning.{Outcome, done, refused, mapDone, Citing, treeWords, size, resolveTree}
 use Rattle.directions.specs.Resolving.{cites, predicatePlace, withPredicate, predicateBy, resolvePredicate, resolveDerivation, resolveRelation}

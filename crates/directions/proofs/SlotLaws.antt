@@ -1,10 +1,10 @@
 -- Slots that a direction gives fit into words.
-use Prim.Native.Nat.{ℕ, _+_, _-_, _<_, _≤_, zero, suc}
+use Prim.Native.Nat.{ℕ, _+_, _-_, _<_, _≤_}
 use native.Mathlib.Omega.{arith}
-use mathlib.Core.Path.{_≡_, refl}
+use mathlib.Core.Path.{_≡_}
 use mathlib.Core.List.{List, [], _∷_}
 use mathlib.Core.Bool.{Bool, true, false}
-use mathlib.Core.Option.{none, some, Option}
+use mathlib.Core.Option.{none, some}
 use lib.ListN.{length, getD}
 use lib.Dec.{eqb}
 use Rattle.pack.specs.Table.{pick}

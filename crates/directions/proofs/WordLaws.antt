@@ -2,11 +2,10 @@
 use Prim.Native.Nat.{ℕ, zero, suc, _+_, _-_, _*_, _/_, _%_, _<_, _≤_}
 use native.Mathlib.Omega.{arith}
 use mathlib.Core.Path.{_≡_, refl, ap, sym, subst, _∙_}
-use mathlib.Core.List.{List, [], _∷_, _++_, append-nil, append-assoc}
+use mathlib.Core.List.{List, [], _∷_}
 use mathlib.Core.Bool.{Bool, true, false}
 use mathlib.Core.Option.{Option, none, some}
-use lib.ListN.{length, getD, drop, length-append, drop-of-length-le}
-use lib.Seq.{getD-at}
+use lib.ListN.{getD}
 use lib.Dec.{eqb}
 use borrow.Author.Tests.{eq-eqb, ne-eqb, eqb-true, eqb-false, lt-ltb, le-ltb}
 use Rattle.pack.specs.Table.{pick}
@@ -14,10 +13,8 @@ use Rattle.filtered.specs.declared.taking.Kind.{Kind}
 use Rattle.filtered.specs.declared.taking.Kind.the-variants as kind
 use Rattle.filtered.specs.Filtered.{kindAt}
 use Rattle.chains.specs.Places.{namesAt}
-use Rattle.chains.specs.ByName.{tableFrom}
 use Rattle.filtered.specs.Taking.{kindIn, KindFound}
 use Rattle.filtered.specs.Said.{directOf, directIn}
-use Rattle.chains.proofs.FillLaws.{Filling}
 use Rattle.directions.specs.declared.direction.Direction.{Direction}
 use Rattle.directions.specs.declared.direction.Direction.the-variants.{Turned, Open}
 use Rattle.directions.specs.declared.direction.Membership as direction
@@ -261,19 +258,3 @@ module _ (ws records : List ℕ) (relation : ℕ) (m : Membership) (x y : ℕ) w
               let d : T .derived relation ≡ some e = rw (ne-eqb (getD records relation 0) 0 h, ← f, eq-eqb flag 1 z, ← s, ← p, ← q) refl in
               sym (member-derived T relation m x y e d));
         }
-
--- ---- a copy of words
-
-copied-from : (pre ws : List ℕ) (at : ℕ) → length pre ≡ at → tableFrom (λ j. getD (pre ++ ws) j 0) at (length ws) ≡ ws
-copied-from pre [] at e = refl
-copied-from pre (w ∷ ws) at e =
-    let one : List ℕ = w ∷ [] in
-    let rest = copied-from (pre ++ one) ws (suc at) (length-append pre one ∙ omega arith) in
-    ap (λ (x : ℕ). x ∷ tableFrom (λ j. getD (pre ++ (w ∷ ws)) j 0) (suc at) (length ws)) (getD-at pre w ws 0 at e)
-    ∙ ap (λ (x : List ℕ). w ∷ x) (ap (λ (l : List ℕ). tableFrom (λ j. getD l j 0) (suc at) (length ws)) (sym (append-assoc pre one ws)) ∙ rest)
-
-pub copied : (ws work₀ : List ℕ) {work : List ℕ} {i : ℕ} → length work₀ ≡ length ws → Filling (λ j. getD ws j 0) work₀ work i → length ws ≤ i → work ≡ ws
-copied ws work₀ {work} {i} e f h =
-    let all : i ≡ length ws = let k = f .within in omega arith in
-    let none-left : drop i work₀ ≡ [] = drop-of-length-le work₀ {i = i} (omega arith) in
-    f .holds ∙ ap (λ (x : List ℕ). tableFrom (λ j. getD ws j 0) 0 i ++ x) none-left ∙ append-nil (tableFrom (λ j. getD ws j 0) 0 i) ∙ ap (tableFrom (λ j. getD ws j 0) 0) all ∙ copied-from [] ws 0 refl

@@ -1,12 +1,12 @@
 -- Records one after the other, and what resolving their trees comes to.
-use Prim.Native.Nat.{ℕ, _+_, _-_, _≤_}
+use Prim.Native.Nat.{ℕ, _+_, _-_}
 use mathlib.Core.Path.{_≡_}
 use mathlib.Core.List.{List, [], _∷_, _++_}
 use mathlib.Core.Bool.{Bool, true}
 use lib.ListN.{length, getD}
 use Rattle.pack.specs.Table.{wordOf}
 use Rattle.pack.specs.Form.{among, Fine}
-use Rattle.pack.specs.Pack.{Relation, Body, Rule, Pack, yes, read, body, relation}
+use Rattle.pack.specs.Pack.{Relation, Body, Rule, Pack, yes, read, relation}
 use Rattle.chains.specs.Kinds.{declared, kindsOf}
 use Rattle.chains.specs.Places.{relationWords, firstRelation, namesAt}
 use Rattle.chains.specs.AllKinds.{IsPack, Noted, KindsMarked}

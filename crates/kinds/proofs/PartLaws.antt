@@ -44,11 +44,11 @@ module _ {ws : List ℕ} {l : Layout} {dir : List ℕ} (d : IsDirectory ws l dir
 
 -- ---- the places of all relations
 
-map-names : {B : Type 0} (f : ℕ → B) (rs : List Relation) → map f (declared rs) ≡ map (λ (r : Relation). f (r .name)) rs
+pub map-names : {B : Type 0} (f : ℕ → B) (rs : List Relation) → map f (declared rs) ≡ map (λ (r : Relation). f (r .name)) rs
 map-names f [] = refl
 map-names f (r ∷ rs) = ap (λ (l : List _). f (r .name) ∷ l) (map-names f rs)
 
-table-mapped : (f g : ℕ → ℕ) (i k : ℕ) → tableFrom (λ j. f (g j)) i k ≡ map f (tableFrom g i k)
+pub table-mapped : (f g : ℕ → ℕ) (i k : ℕ) → tableFrom (λ j. f (g j)) i k ≡ map f (tableFrom g i k)
 table-mapped f g i zero = refl
 table-mapped f g i (suc k) = ap (λ (l : List ℕ). f (g i) ∷ l) (table-mapped f g (suc i) k)
 

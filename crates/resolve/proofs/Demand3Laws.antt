@@ -17,7 +17,7 @@ use Rattle.pack.proofs.DealtLaws.{dealt-total, dealt-again, dealt-checked}
 use Rattle.chains.specs.Kinds.{allKinds, ownAnswer, kindsOf}
 use Rattle.chains.specs.Places.{placeOf, namesAt, allKindsWords, SettledAt}
 use Rattle.kinds.specs.Operations.{allKindsAnswer, allKindsBuffer}
-use Rattle.chains.proofs.KindLaws.{kinds-dealt, distinct-names, words-own, words-count, kinds-steps}
+use Rattle.chains.proofs.KindLaws.{kinds-dealt, distinct-names, words-own, kinds-steps}
 use Rattle.chains.proofs.ListAt.{walk-end, place-holds}
 use Rattle.resolve.proofs.DealtChains.{chains-dealt}
 use Rattle.directions.specs.Turning.{Outcome, done, refused}

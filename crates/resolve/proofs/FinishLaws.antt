@@ -19,20 +19,22 @@ use Rattle.pack.proofs.PackLaws.{words-read, words-length}
 use Rattle.chains.specs.Kinds.{allKinds}
 use Rattle.chains.specs.Places.{relationWords, firstRelation}
 use Rattle.chains.proofs.RelationScan.{RelationsFine}
-use Rattle.chains.proofs.PackIndex.{parts, zeros}
+use Rattle.chains.proofs.PackIndex.{parts, all-found}
+use Rattle.chains.proofs.FillLaws.{table-length}
+use Rattle.chains.specs.Entry.{startsIn, namesIn}
+use Rattle.filtered.specs.Taking.{NamesLow}
 use Rattle.chains.proofs.CheckedLaws.{same-pack}
 use Rattle.directions.specs.Turning.{Outcome, done, refused, andThen, mapDone}
 use Rattle.directions.specs.Resolving.{stamp, ruleWords, resolveRule, resolveRules, resolveRelation, resolveRelations, firstRule}
 use Rattle.chains.specs.Record.{Recorded}
-use Rattle.stamping.specs.Stamping.{atomsIn, listsFor, addedBy, Listed}
+use Rattle.stamping.specs.Stamping.{listsFor, addedBy, Listed}
 use Rattle.resolve.specs.Writing.{Stamped, WriteAsked, WriteCame}
 use Rattle.directions.specs.Records.{placesFrom, wordsOf, runBy, RelationKeeps, withRecords, turned, placesIn, Tabled}
 use Rattle.resolve.specs.Operations.{givenOut, writtenOut}
-use Rattle.resolve.specs.Finish.{stampAll, FinishAsked, FinishCame}
+use Rattle.resolve.specs.Finish.{stampAll, orderIn, AskedOf, FinishAsked, FinishCame}
 use Rattle.directions.proofs.KeepsForm.{Good}
 use Rattle.directions.proofs.ResolvedFine.{RulesFine, rules-good}
 use Rattle.resolve.proofs.ResolvedPack.{least-words, rules-fine}
-use Rattle.stamping.proofs.AtomLaws.{atoms-named}
 use Rattle.directions.proofs.RunLaws.{RunPairs, run-words, run-pairs, run-length}
 use Rattle.directions.proofs.RuleLaws.{rule-long}
 use Rattle.directions.proofs.RelationLaws.{relation-long, places-many}
@@ -103,16 +105,16 @@ module _ (p : Pack) (w : WellFormed p) (rels : List Relation) (rls : List Rule) 
   well : WellFormed q
   well = record { least = least-words q; most = (let m = w .most in omega (arith, total-same p rels rls many rules-many long rules-long)); parts = whole-fine }
 
-  module _ {ws starts marks taken : List ℕ} {steps : ℕ} (a : Tabled ws starts marks taken steps) (h : read ws ≡ yes p) {atoms work order lists : List ℕ} {added : ℕ} (marked : atoms ≡ atomsIn zeros ws)
-      (stands : work ≡ words q) (places : order ≡ placesIn p) (listed : Listed ws work marks atoms order lists added) where
+  module _ {ws starts marks taken : List ℕ} {steps : ℕ} (a : Tabled ws starts marks taken steps) (h : read ws ≡ yes p) {asked work order lists : List ℕ} {added : ℕ} (asks : AskedOf p asked)
+      (stands : work ≡ words q) (places : order ≡ placesIn p) (listed : Listed ws work marks asked order lists added) where
     pairs : RunPairs (relationWords n) (λ at r. resolveRelation p at r) (RelationKeeps p) (relation-long p w) (firstRelation p) (p .relations) rels
     pairs = run-pairs (relationWords n) (λ at r. resolveRelation p at r) (RelationKeeps p) (relation-long p w) (firstRelation p) (p .relations) rels relations-ran
 
     stamps : Stamped ws lists rels (map (stamp p) rels)
     stamps =
-        subst (λ (l : List ℕ). Stamped ws l rels (map (stamp p) rels)) (ap (listsFor ws work marks atoms) (sym places) ∙ sym (listed .each))
-        (all-stamped p w ws marks atoms work h (parts p w .most) (settled a) (λ m k. ap (λ (t : List ℕ). getD t m 0) marked ∙ atoms-named m k ws p h) (length (p .rules)) (parts p w .rule-count)
-        (wordsOf (ruleWords n) rls ++ wordsBy (blocks n) (p .blocks)) (firstRelation p) (p .relations) rels (front p) (front-long p) (relations-keep p w .all) pairs (stands ∙ again-words p rels rls many rules-many long rules-long))
+        subst (λ (l : List ℕ). Stamped ws l rels (map (stamp p) rels)) (ap (listsFor ws work marks asked) (sym places) ∙ sym (listed .each))
+        (all-stamped p w ws marks asked work h (parts p w .most) (settled a) asks (wordOf 22 (length (p .rules)) ∷ (wordsOf (ruleWords n) rls ++ wordsBy (blocks n) (p .blocks))) (firstRelation p) (p .relations) rels (front p) (front-long p) (relations-keep p w .all) (all-found p w) pairs
+        (stands ∙ again-words p rels rls many rules-many long rules-long))
 
     placed : order ≡ placesIn q
     placed = places ∙ same-places p w (firstRelation p) (p .relations) rels (relations-keep p w .all) pairs
@@ -143,7 +145,7 @@ front-length lent count h = let whole : count - 0 ≡ count = omega arith in rw 
 done-same : {A : Type 0} {a b : A} → _≡_ {A = Outcome A} (done a) (done b) → a ≡ b
 done-same e = cc
 
-module _ {ws marks work order : List ℕ} {steps : ℕ} (a : FinishAsked ws marks work order steps) where
+module _ {ws dir marks asked work : List ℕ} {relations steps : ℕ} (a : FinishAsked ws dir marks asked work relations steps) where
   abbrev p : Pack
   p = a .tabled .checked .pack
 
@@ -165,27 +167,43 @@ module _ {ws marks work order : List ℕ} {steps : ℕ} (a : FinishAsked ws mark
   places-inside n at (r ∷ l) zero = omega arith
   places-inside n at (r ∷ l) (suc i) = omega (arith, places-inside n (at + length (relationWords n r)) l i, length-append (relationWords n r) (wordsOf (relationWords n) l))
 
-  finish-recorded : Recorded order
-  unfolding Recorded
-  finish-recorded i =
-      let R : List ℕ = wordsOf (relationWords (p .names)) (p .relations) in
-      let m = w .most in
-      let l = ap length (pack-words p) ∙ length-append (front p) (R ++ (wordOf 22 (length (p .rules)) ∷ rulesOn p)) in
-      let k = length-append R (wordOf 22 (length (p .rules)) ∷ rulesOn p) in
-      let e : getD order i 0 ≡ getD (placesIn p) i 0 = ap (λ (o : List ℕ). getD o i 0) (a .places) in
-      omega (arith, places-inside (p .names) (firstRelation p) (p .relations) i, words-length p, front-long p)
+  few-starts : relations ≤ 512
+  unfolding orderIn
+  few-starts = omega (arith, table-length (λ i. getD (startsIn dir) (getD dir i 0) 0) 0 relations, ap length (a .places), places-many (p .names) (firstRelation p) (p .relations), parts p w .few-relations)
 
-  pub finish-few : length order ≤ 512
-  finish-few = omega (arith, ap length (a .places), places-many (p .names) (firstRelation p) (p .relations), parts p w .few-relations)
+  -- a word for each relation
+  room-long : length {A = ℕ} (midOf 0 (relations - 0) (replicate 512 0)) ≡ relations
+  room-long = front-length (replicate 512 0) relations (omega (arith, few-starts, length-replicate {A = ℕ} 512 0))
 
-  pub finish-lists : Recorded order × (length {A = ℕ} (midOf 0 (length order - 0) (replicate 512 0)) ≡ length order) × (length order ≤ 512)
-  finish-lists = (finish-recorded, front-length (replicate 512 0) (length order) (omega (arith, finish-few, length-replicate {A = ℕ} 512 0)), finish-few)
+  pub room-few : relations ≤ 512
+  room-few = few-starts
+
+  pub order-asked : (length {A = ℕ} (midOf 0 (relations - 0) (replicate 512 0)) ≤ 512) × NamesLow (namesIn dir (length {A = ℕ} (midOf 0 (relations - 0) (replicate 512 0))))
+  order-asked = rw room-long (few-starts, a .low)
+
+  module _ {order : List ℕ} (ordered : order ≡ orderIn dir (length {A = ℕ} (midOf 0 (relations - 0) (replicate 512 0)))) where
+    their-places : order ≡ placesIn p
+    their-places = ordered ∙ ap (orderIn dir) room-long ∙ a .places
+
+    finish-recorded : Recorded order
+    unfolding Recorded
+    finish-recorded i =
+        let R : List ℕ = wordsOf (relationWords (p .names)) (p .relations) in
+        let m = w .most in
+        let l = ap length (pack-words p) ∙ length-append (front p) (R ++ (wordOf 22 (length (p .rules)) ∷ rulesOn p)) in
+        let k = length-append R (wordOf 22 (length (p .rules)) ∷ rulesOn p) in
+        let e : getD order i 0 ≡ getD (placesIn p) i 0 = ap (λ (o : List ℕ). getD o i 0) their-places in
+        omega (arith, places-inside (p .names) (firstRelation p) (p .relations) i, words-length p, front-long p)
+
+    order-long : length order ≡ relations
+    unfolding orderIn
+    order-long = ap length ordered ∙ table-length (λ i. getD (startsIn dir) (getD dir i 0) 0) 0 _ ∙ room-long
+
+    pub finish-lists : Recorded order × (length {A = ℕ} (midOf 0 (relations - 0) (replicate 512 0)) ≡ length order) × (length order ≤ 512)
+    finish-lists = (finish-recorded, room-long ∙ sym order-long, omega (arith, order-long, few-starts))
 
   -- the words written
-  module _ {atoms₀ atoms lists : List ℕ} {added : ℕ} (blank : atoms₀ ≡ zeros) (marked : atoms ≡ atomsIn atoms₀ ws) (listed : Listed ws work marks atoms order lists added) where
-    marked-all : atoms ≡ atomsIn zeros ws
-    marked-all = marked ∙ ap (λ (t : List ℕ). atomsIn t ws) blank
-
+  module _ {order : List ℕ} (ordered : order ≡ orderIn dir (length {A = ℕ} (midOf 0 (relations - 0) (replicate 512 0)))) {lists : List ℕ} {added : ℕ} (listed : Listed ws work marks asked order lists added) where
     stands-so : work ≡ words (withRecords p (T .rels) (T .rls))
     stands-so = a .stands ∙ ap words (sym (T .same))
 
@@ -193,7 +211,7 @@ module _ {ws marks work order : List ℕ} {steps : ℕ} (a : FinishAsked ws mark
       total-is : total (stampAll p (a .whole)) ≡ len
       total-is =
           sym (words-length (stampAll p (a .whole))) ∙ sym (ap (λ (q : Pack). length (words (stampAll p q))) (T .same))
-          ∙ sym (its-length p w (T .rels) (T .rls) (T .rules-are) (T .relations-are) (a .tabled) h marked-all stands-so (a .places) listed) ∙ sym size
+          ∙ sym (its-length p w (T .rels) (T .rls) (T .rules-are) (T .relations-are) (a .tabled) h (a .asks) stands-so (their-places ordered) listed) ∙ sym size
 
       -- of whichever pack the words are
       of-pack : {answer : Answer} {left : List ℕ} → answer ≡ givenOut (allKinds (p .relations) .steps) (length lent) (done (stampAll p (a .whole))) → left ≡ writtenOut lent (done (stampAll p (a .whole))) → FinishCame ws lent answer left
@@ -229,7 +247,7 @@ module _ {ws marks work order : List ℕ} {steps : ℕ} (a : FinishAsked ws mark
         lent-long = front-length lent len room
 
         pub finish-asked : WriteAsked ws order lists work (length (midOf 0 (len - 0) lent))
-        finish-asked = its-asked p w (T .rels) (T .rls) (T .rules-are) (T .relations-are) (a .tabled) h marked-all stands-so (a .places) listed (lent-long ∙ size) (omega (arith, lent-long))
+        finish-asked = its-asked p w (T .rels) (T .rls) (T .rules-are) (T .relations-are) (a .tabled) h (a .asks) stands-so (their-places ordered) listed (lent-long ∙ size) (omega (arith, lent-long))
 
         fits : (leb len 8192 && leb len (length lent)) ≡ true
         fits = rw (le-leb len 8192 few, le-leb len (length lent) room) refl
@@ -239,7 +257,7 @@ module _ {ws marks work order : List ℕ} {steps : ℕ} (a : FinishAsked ws mark
             let whole : len - 0 ≡ len = omega arith in
             let s : steps ≡ allKinds (p .relations) .steps = a .tabled .marked .counts p h in
             let e : out ≡ words (stampAll p (a .whole)) =
-            its-words p w (T .rels) (T .rls) (T .rules-are) (T .relations-are) (a .tabled) h marked-all stands-so (a .places) listed (lent-long ∙ size) (omega (arith, lent-long)) c ∙ ap (λ (q : Pack). words (stampAll p q)) (T .same) in
+            its-words p w (T .rels) (T .rls) (T .rules-are) (T .relations-are) (a .tabled) h (a .asks) stands-so (their-places ordered) listed (lent-long ∙ size) (omega (arith, lent-long)) c ∙ ap (λ (q : Pack). words (stampAll p q)) (T .same) in
             of-pack
             (ap (Given len) s ∙ sym (ap (λ (t : ℕ). pick (leb t 8192 && leb t (length lent)) (Given t (allKinds (p .relations) .steps)) noRoom) total-is ∙ ap (λ (b : Bool). pick b (Given len (allKinds (p .relations) .steps)) noRoom) fits))
             (ap (λ (t : ℕ). putMid 0 t lent out) whole ∙ ap (λ (x : List ℕ). x ++ drop len lent) e

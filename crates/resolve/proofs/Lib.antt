@@ -15,3 +15,4 @@ pub mod KindsUsed
 pub mod Demand3Laws
 pub mod RefusalNames
 pub mod WrongResolves
+pub mod OrderLaws

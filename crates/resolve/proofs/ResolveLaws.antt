@@ -1,15 +1,13 @@
 -- What Resolve answers and leaves, from its steps.
-use Prim.Native.Nat.{ℕ, _-_, _<_, _≤_}
+use Prim.Native.Nat.{ℕ, _+_, _<_}
 use native.Mathlib.Omega.{arith}
 use mathlib.Core.Path.{_≡_, refl, ap, sym, _∙_, subst}
 use mathlib.Core.List.{List, [], _∷_, map}
 use mathlib.Core.Bool.{Bool, true, false}
 use mathlib.Core.Option.{Option, none, some}
-use lib.ListN.{length, getD, replicate, length-replicate}
-use lib.Seq.{length-take-le}
-use borrow.Rule.Slice.PartMut.{midOf}
+use lib.ListN.{length, getD, replicate, length-replicate, getD-replicate}
 use Rattle.pack.specs.declared.answer.Answer.{Answer}
-use Rattle.pack.specs.declared.answer.Answer.the-variants.{Given, Refused}
+use Rattle.pack.specs.declared.answer.Answer.the-variants.{Refused}
 use Rattle.pack.specs.declared.answer.Refusal.{Refusal}
 use Rattle.pack.specs.Table.{pick}
 use Rattle.pack.specs.Table as table
@@ -20,11 +18,13 @@ use Rattle.pack.proofs.PackLaws.{words-read}
 use Rattle.chains.specs.Kinds.{find, kindsOf, allKinds}
 use Rattle.chains.specs.Places.{firstRelation, startOf}
 use Rattle.chains.specs.Answers.{Answered}
-use Rattle.records.specs.declared.directory.Layout.{Layout}
 use Rattle.chains.specs.Entry.{startsIn, namesIn}
+use Rattle.records.specs.declared.directory.Layout.{Layout}
 use Rattle.chains.specs.AllKinds.{IsPack, IsDirectory}
-use Rattle.filtered.specs.Taking.{Filled}
-use Rattle.chains.proofs.CheckedLaws.{same-pack, few-relations}
+use Rattle.filtered.specs.Taking.{Filled, NamesLow}
+use Rattle.chains.proofs.CheckedLaws.{same-pack, short-checked}
+use Rattle.filtered.proofs.TakenKnown.{takeable}
+use Rattle.inputs.proofs.BlocksStand.{reads-inputs}
 use Rattle.chains.proofs.PackIndex.{parts, find-name, find-kept}
 use Rattle.directions.specs.Tables.{Tables, derivedAt, tables}
 use Rattle.directions.specs.Turning.{Outcome, done, refused, andThen, mapDone}
@@ -32,13 +32,23 @@ use Rattle.directions.specs.Resolving.{equalKinds, defaultedEqual, equalRefusal
 use Rattle.resolve.specs.Operations.{givenOut, writtenOut, resolveAnswer, resolveBuffer}
 use Rattle.directions.specs.Words.{derivedBy, tablesIn, firstEqual, DefaultedFit}
 use Rattle.chains.specs.Record.{valueAt}
-use Rattle.directions.specs.Records.{withRecords, turned, CameWhole, TreesCame, Tabled, TreesAsked}
-use Rattle.resolve.specs.Finish.{stampAll, unstamped, PackCame, ResolveAsked, FinishAsked, FinishCame}
+use Rattle.directions.specs.Records.{withRecords, turned, Tabled}
+use Rattle.resolve.specs.declared.finish.Figures.{Figures}
+use Rattle.resolve.specs.Finish.{stampAll, unstamped, orderIn, AskedOf, TreesAsked, TreesCame, ResolveAsked, CheckedAsked, FinishAsked, FinishCame}
+use Rattle.resolve.proofs.OrderLaws.{order-is}
+use Rattle.turning.specs.declared.turns.Ended.{Ended}
+use Rattle.turning.specs.declared.turns.Ended.the-variants as ended
+use Rattle.turning.specs.declared.turns.Counts.{Counts}
+use Rattle.turning.specs.Notes.{notesOfPack}
+use Rattle.turning.specs.Steps.{knownIn, TurnedAs, PackTurned}
+use Rattle.turning.specs.Asked.{markNotes, InWords, MarksAsked, NotesMarked}
+use Rattle.turning.proofs.KnownLaws.{notes-inside, known-is}
+use Rattle.turning.proofs.MarkedLaws.{marks-are}
 use Rattle.directions.proofs.CheckedTables.{declared-at, derived-alike}
 use Rattle.directions.proofs.DefaultedLaws.{orNone, defaulted-fit, first-equal-is}
 
-given-not-refused : {n x : ℕ} {r : Refusal} → Given n x ≡ Refused r → ⊥
-given-not-refused e = let z : _≡_ {A = ℕ} 0 1 = cc in omega arith
+ended-either : {r : Refusal} → ended.All ≡ ended.Refused r → ⊥
+ended-either e = let z : _≡_ {A = ℕ} 0 1 = cc in omega arith
 
 -- ---- Resolving, step by step
 
@@ -80,7 +90,10 @@ pub declared-of : (k : Option (List ℕ)) (o : Option Relation) → equalKinds (
 declared-of k none e = let z : _≡_ {A = ℕ} 0 1 = cc in absurd (omega arith)
 declared-of k (some r) e = (r, refl)
 
-module _ {ws : List ℕ} {l : Layout} {starts marks taken work order : List ℕ} (a : TreesAsked ws l starts marks taken work order) where
+module _ {ws dir marks taken work notes : List ℕ} {k : Counts} (a : TreesAsked ws dir marks taken work notes k) where
+  abbrev starts : List ℕ
+  starts = startsIn dir
+
   abbrev p : Pack
   p = a .tabled .checked .pack
 
@@ -128,13 +141,13 @@ module _ {ws : List ℕ} {l : Layout} {starts marks taken work order : List ℕ}
     unfolding unstamped
     whole-some m e = ap (λ (o : Option ℕ). elim o [ some n ↦ refused (equalRefusal p n) | none ↦ turned p ]) e
 
-    of-pack : (answer : Answer) (left : List ℕ) → CameWhole (unstamped p) answer left → (q : Pack) → read ws ≡ yes q → CameWhole (unstamped q) answer left
-    of-pack answer left c q e = subst (λ (x : Pack). CameWhole (unstamped x) answer left) (same-pack ws h e) c
+    of-pack : (o : Ended) (left : List ℕ) → TurnedAs (unstamped p) o left → (q : Pack) → read ws ≡ yes q → TurnedAs (unstamped q) o left
+    of-pack o left c q e = subst (λ (x : Pack). TurnedAs (unstamped x) o left) (same-pack ws h e) c
 
-    pub pack-turned : name ≡ table.none → {answer : Answer} {left places : List ℕ} → TreesCame ws answer left places → PackCame ws answer left places
-    pack-turned z {answer} {left} t =
+    pub trees-turned : name ≡ table.none → {o : Ended} {left : List ℕ} → PackTurned ws o left → TreesCame ws o left
+    trees-turned z {o} {left} t =
         let e = none-equal (defaultedEqual T (p .defaulted)) refl (sym name-is ∙ z) in
-        record { each = of-pack answer left (subst (λ (o : Outcome Pack). CameWhole o answer left) (sym (whole-none e)) (t .each p h)); places = t .places }
+        record { each = of-pack o left (subst (λ (x : Outcome Pack). TurnedAs x o left) (sym (whole-none e)) (t .each p h)) }
 
     -- one of them
     module _ (not-none : name ≡ table.none → ⊥) where
@@ -151,12 +164,12 @@ module _ {ws : List ℕ} {l : Layout} {starts marks taken work order : List ℕ}
       start-is : getD starts name 0 ≡ startOf (p .names) name (firstRelation p) (p .relations)
       start-is = let r = its-relation name it-is in declared-at ws starts marks taken (a .tabled .declares) (a .steps) p h (a .tabled .noted) (a .tabled .marked) (a .tabled .knows) name (r .0) (r .1)
 
-      pub pack-equal : (left places : List ℕ) → PackCame ws (Refused (record { number = 9; place = getD starts name 0; name = name; other = 0 })) left places
-      pack-equal left places =
+      pub trees-equal : (left : List ℕ) → TreesCame ws (ended.Refused (record { number = 9; place = getD starts name 0; name = name; other = 0 })) left
+      trees-equal left =
           record {
-            each = of-pack (Refused (record { number = 9; place = getD starts name 0; name = name; other = 0 })) left (subst (λ (o : Outcome Pack). CameWhole o (Refused (record { number = 9; place = getD starts name 0; name = name; other = 0 })) left) (sym (whole-some name it-is))
-                (ap (λ (x : ℕ). Refused (record { number = 9; place = x; name = name; other = 0 })) start-is));
-            places = λ q e next x given. absurd (given-not-refused (sym given));
+            each = of-pack (ended.Refused (record { number = 9; place = getD starts name 0; name = name; other = 0 })) left
+                (subst (λ (o : Outcome Pack). TurnedAs o (ended.Refused (record { number = 9; place = getD starts name 0; name = name; other = 0 })) left) (sym (whole-some name it-is))
+                (ap (λ (x : ℕ). ended.Refused (record { number = 9; place = x; name = name; other = 0 })) start-is));
           }
 
 -- ---- the answers
@@ -174,15 +187,18 @@ module _ {ws : List ℕ} (c : IsPack ws) (lent : List ℕ) where
   buffer-is = rw (c .reads) (ap (writtenOut lent) (resolved-is q))
 
   -- refused
-  pub resolve-stopped : {answer : Answer} {left order : List ℕ} {r : Refusal} → PackCame ws answer left order → answer ≡ Refused r → Answered resolveAnswer resolveBuffer ws lent answer lent
-  resolve-stopped {answer} {left} {r} t e = go (unstamped q) refl (t .each q (c .reads))
+  same-refusal : {x y : Refusal} → ended.Refused x ≡ ended.Refused y → x ≡ y
+  same-refusal {x} {y} e = let z : x ≡ y = cc in z
+
+  pub resolve-stopped : {o : Ended} {left : List ℕ} {r : Refusal} → TreesCame ws o left → o ≡ ended.Refused r → Answered resolveAnswer resolveBuffer ws lent (Refused r) lent
+  resolve-stopped {o} {left} {r} t e = go (unstamped q) refl (t .each q (c .reads))
     where
-      go : (o : Outcome Pack) → unstamped q ≡ o → CameWhole o answer left → Answered resolveAnswer resolveBuffer ws lent answer lent
-      go (done x) s k = absurd (given-not-refused (sym (k .0 .1) ∙ e))
+      go : (u : Outcome Pack) → unstamped q ≡ u → TurnedAs u o left → Answered resolveAnswer resolveBuffer ws lent (Refused r) lent
+      go (done x) s k = absurd (ended-either (sym (k .0) ∙ e))
       go (refused x) s k =
           record {
-            answers = k ∙ sym (answer-is ∙ ap (λ (o : Outcome Pack). givenOut (allKinds (q .relations) .steps) (length lent) (mapDone (stampAll q) o)) s);
-            leaves = sym (buffer-is ∙ ap (λ (o : Outcome Pack). writtenOut lent (mapDone (stampAll q) o)) s);
+            answers = ap Refused (same-refusal (sym e ∙ k)) ∙ sym (answer-is ∙ ap (λ (u : Outcome Pack). givenOut (allKinds (q .relations) .steps) (length lent) (mapDone (stampAll q) u)) s);
+            leaves = sym (buffer-is ∙ ap (λ (u : Outcome Pack). writtenOut lent (mapDone (stampAll q) u)) s);
           }
 
   -- done
@@ -200,12 +216,12 @@ module _ {ws : List ℕ} (c : IsPack ws) (lent : List ℕ) where
     pub resolves : turned q ≡ done whole
     pub stands : left ≡ words whole
 
-  pub whole-done : {answer : Answer} {left order : List ℕ} {n x : ℕ} → PackCame ws answer left order → answer ≡ Given n x → WholeDone left
-  whole-done {answer} {left} t e = go (unstamped q) refl (t .each q (c .reads))
+  pub whole-done : {o : Ended} {left : List ℕ} → TreesCame ws o left → o ≡ ended.All → WholeDone left
+  whole-done {o} {left} t e = go (unstamped q) refl (t .each q (c .reads))
     where
-      go : (o : Outcome Pack) → unstamped q ≡ o → CameWhole o answer left → WholeDone left
+      go : (u : Outcome Pack) → unstamped q ≡ u → TurnedAs u o left → WholeDone left
       go (done x) s k = record { whole = x; outcome = s; resolves = turned-done x s; stands = k .1 }
-      go (refused r) s k = absurd (given-not-refused (sym e ∙ k))
+      go (refused r) s k = absurd (ended-either (sym e ∙ k))
 
   pub resolve-done : {left : List ℕ} → WholeDone left → {answer : Answer} {out : List ℕ} → FinishCame ws lent answer out → Answered resolveAnswer resolveBuffer ws lent answer out
   resolve-done d f =
@@ -222,24 +238,88 @@ resolve-refused ws lent e o =
 
 -- ---- for the code
 
-pub finish-of : {ws starts marks taken : List ℕ} {steps : ℕ} (t : Tabled ws starts marks taken steps) {answer : Answer} {left order : List ℕ} {n x : ℕ} → PackCame ws answer left order → answer ≡ Given n x → FinishAsked ws marks left order steps
-finish-of {starts = starts} {taken = taken} t {n = n} {x = x} c e = let d = whole-done (t .checked) [] c e in record { records = starts; taken = taken; tabled = t; whole = d .whole; resolves = d .resolves; stands = d .stands; places = c .places (t .checked .pack) (t .checked .reads) n x e }
+module _ {ws dir marks taken notes : List ℕ} {f : Figures} {work : List ℕ} (a : ResolveAsked ws dir marks taken notes f work) where
+  abbrev its : Pack
+  its = a .directory .checked .pack
 
-pub tabled-of : {ws : List ℕ} {l : Layout} {dir marks taken : List ℕ} {steps : ℕ} → IsDirectory ws l dir → Filled ws (namesIn dir (l .relations)) (startsIn dir) marks taken steps → Tabled ws (startsIn dir) marks taken steps
-tabled-of {l = l} {dir} d f = record { checked = d .checked; declares = namesIn dir (l .relations); noted = f .noted; marked = f .marked; knows = f .knows }
+  abbrev checked : read ws ≡ yes its
+  checked = a .directory .checked .reads
 
--- a word for each relation
-pub asked-of : {ws : List ℕ} {l : Layout} {dir starts marks taken work : List ℕ} {steps : ℕ} → IsDirectory ws l dir → Tabled ws starts marks taken steps → work ≡ ws
-    → TreesAsked ws l starts marks taken work (midOf 0 (l .relations - 0) (replicate 512 0))
-asked-of {ws} {l} {steps = steps} d t e =
-    let k = d .counted in
-    let whole : l .relations - 0 ≡ l .relations = omega arith in
-    let long : length {A = ℕ} (midOf 0 (l .relations - 0) (replicate 512 0)) ≡ l .relations = rw whole (length-take-le {A = ℕ} (l .relations) (replicate 512 0) (omega (arith, few-relations d, length-replicate {A = ℕ} 512 0))) in
-    record { steps = steps; tabled = t; counted = k; ruled = d .ruled; blocked = d .blocked; copied = e; room = λ p h. long ∙ k .relations p h }
+  fine : WellFormed its
+  fine = words-read ws its checked .fine
 
-front-room : (ws : List ℕ) (most : ℕ) → length ws ≤ most → length {A = ℕ} (midOf 0 (length ws - 0) (replicate most 0)) ≡ length ws
-front-room ws most few = let whole : length ws - 0 ≡ length ws = omega arith in rw whole (length-take-le {A = ℕ} (length ws) (replicate most 0) (omega (arith, length-replicate {A = ℕ} most 0)))
+  same-words : ws ≡ words its
+  same-words = sym (words-read ws its checked .same)
 
-pub in-asked : {ws : List ℕ} {l : Layout} {dir marks taken : List ℕ} {steps : ℕ} (most : ℕ) → IsDirectory ws l dir → Filled ws (namesIn dir (l .relations)) (startsIn dir) marks taken steps → length ws ≤ most
-    → ResolveAsked ws l dir marks taken steps (midOf 0 (length ws - 0) (replicate most 0))
-in-asked {ws} most d f few = record { directory = d; filled = f; room = front-room ws most few }
+  abbrev all : ℕ
+  all = f .notes .all
+
+  abbrev its-tables : Tabled ws (startsIn dir) marks taken (f .steps)
+  its-tables = record { checked = a .directory .checked; declares = namesIn dir (a .layout .relations); noted = a .filled .noted; marked = a .filled .marked; knows = a .filled .knows }
+
+  -- what stamping asks of the notes
+  there : InWords ws (notesOfPack its)
+  there = subst (λ (l : List ℕ). InWords l (notesOfPack its)) (sym same-words) (notes-inside its fine)
+
+  pub marks-asked : MarksAsked ws notes all (replicate 4096 0)
+  marks-asked = record { ns = notesOfPack its; are = a .noted .held; many = a .noted .many; room = a .noted .room; there = there; wide = length-replicate {A = ℕ} 4096 0 }
+
+  module _ {asked : List ℕ} (m : NotesMarked ws notes all (replicate 4096 0) asked) where
+    small-name : (r : Relation) → find (r .name) (its .relations) ≡ some r → r .name < 4096
+    small-name r e = let k = find-kept (its .names) (r .name) [] (its .relations) r (parts its fine .relations-fine) e .1 in omega (arith, k .below, parts its fine .most)
+
+    asks : AskedOf its asked
+    asks =
+        record {
+          says = λ r e.
+              let low = small-name r e in
+              ap (λ (t : List ℕ). getD t (r .name) 0) (m .each (notesOfPack its) (a .noted .held) (a .noted .many) there ∙ ap (λ (x : List ℕ). markNotes x (notesOfPack its) 4096 (replicate 4096 0)) same-words)
+              ∙ marks-are its fine r e low (replicate 4096 0) (length-replicate {A = ℕ} 4096 0) (getD-replicate 4096 (r .name) 0 0 low);
+        }
+
+    -- the result
+    module _ {o : Ended} {left : List ℕ} (t : TreesCame ws o left) (e : o ≡ ended.All) where
+      pub finish-asked : FinishAsked ws dir marks asked left (f .relations) (f .steps)
+      finish-asked =
+          let d = whole-done (a .directory .checked) [] t e in
+          record {
+            taken = taken;
+            tabled = its-tables;
+            low = subst (λ (n : ℕ). NamesLow (namesIn dir n)) (sym (a .counts)) (takeable (a .directory) (a .filled .marked));
+            places = ap (orderIn dir) (a .counts) ∙ order-is dir its-tables (a .layout .relations) (a .filled .noted .named its checked);
+            asks = asks;
+            whole = d .whole;
+            resolves = d .resolves;
+            stands = d .stands;
+          }
+
+      pub resolve-all : {lent : List ℕ} {answer : Answer} {out : List ℕ} → FinishCame ws lent answer out → Answered resolveAnswer resolveBuffer ws lent answer out
+      resolve-all {lent} g = resolve-done (a .directory .checked) lent (whole-done (a .directory .checked) lent t e) g
+
+  -- the trees
+  pub trees-asked : {words : List ℕ} → words ≡ ws → TreesAsked ws dir marks taken words notes (f .notes)
+  trees-asked e =
+      let i = reads-inputs ws its checked (a .directory .blocked) in
+      let s = short-checked (a .directory .checked) in
+      let b = a .blocks in
+      record {
+        steps = f .steps;
+        tabled = its-tables;
+        turns = record {
+          pack = its;
+          checked = checked;
+          knows = (λ j. knownIn ws (startsIn dir) marks taken (a .blocks j) (a .many j)) ∙ known-is ws (startsIn dir) marks taken (namesIn dir (a .layout .relations)) (f .steps) its checked (a .filled .noted) (a .filled .marked) (a .filled .knows) (a .directory .blocked);
+          low = omega (arith, i .near);
+          few = omega (arith, i .counts, i .few, a .many);
+          copied = e;
+          noted = a .noted;
+        };
+      }
+
+pub blocks-near : {ws : List ℕ} {l : Layout} {dir : List ℕ} → IsDirectory ws l dir → l .blocks < 8192
+blocks-near {ws} d = let s = short-checked (d .checked) in omega (arith, reads-inputs ws (d .checked .pack) (d .checked .reads) (d .blocked) .near)
+
+pub in-asked : {ws : List ℕ} {l : Layout} {dir : List ℕ} {noted all : ℕ} {notes work : List ℕ} → CheckedAsked ws l dir noted all notes work
+    → {marks taken : List ℕ} {steps : ℕ} → Filled ws (namesIn dir (l .relations)) (startsIn dir) marks taken steps → {count : ℕ} → count ≡ valueAt ws (l .blocks)
+    → ResolveAsked ws dir marks taken notes (record { relations = l .relations; notes = record { noted = noted; all = all; blocks = record { at = l .blocks + 1; count = count } }; steps = steps }) work
+in-asked {l = l} a f e = record { layout = l; directory = a .directory; filled = f; counts = refl; blocks = refl; many = e; noted = a .notes-in; room = a .room }

@@ -4,7 +4,7 @@ use native.Mathlib.Omega.{arith}
 use mathlib.Core.Path.{_≡_, refl, ap, sym, _∙_}
 use mathlib.Core.List.{List, [], _∷_, _++_, map, append-assoc, append-nil}
 use lib.ListN.{length, getD, take, drop, set, length-append, length-map, length-drop, length-set, drop-of-length-le}
-use lib.Seq.{drop-cons, take-at, take-suc-set, drop-append-le, length-take-le}
+use lib.Seq.{getD-at, drop-cons, take-at, take-suc-set, drop-append-le, length-take-le}
 use borrow.Rule.Slice.PartMut.{midOf, putMid, postOf, same-len-mid, mid-len}
 use borrow.Author.Tests.{ne-eqb}
 use Rattle.pack.specs.Table.{valueOf, wordOf}
@@ -15,6 +15,22 @@ use Rattle.chains.specs.Record.{valueAt, kindCount}
 use Rattle.stamping.specs.Stamping.{namesOr, Lists}
 use Rattle.resolve.specs.Writing.{fromTo, listWords, putFor, Put, Room}
 use Rattle.stamping.proofs.ListForLaws.{names-there}
+
+-- ---- a copy of words
+
+copied-from : (pre ws : List ℕ) (at : ℕ) → length pre ≡ at → tableFrom (λ j. getD (pre ++ ws) j 0) at (length ws) ≡ ws
+copied-from pre [] at e = refl
+copied-from pre (w ∷ ws) at e =
+    let one : List ℕ = w ∷ [] in
+    let rest = copied-from (pre ++ one) ws (suc at) (length-append pre one ∙ omega arith) in
+    ap (λ (x : ℕ). x ∷ tableFrom (λ j. getD (pre ++ (w ∷ ws)) j 0) (suc at) (length ws)) (getD-at pre w ws 0 at e)
+    ∙ ap (λ (x : List ℕ). w ∷ x) (ap (λ (l : List ℕ). tableFrom (λ j. getD l j 0) (suc at) (length ws)) (sym (append-assoc pre one ws)) ∙ rest)
+
+pub copied : (ws work₀ : List ℕ) {work : List ℕ} {i : ℕ} → length work₀ ≡ length ws → Filling (λ j. getD ws j 0) work₀ work i → length ws ≤ i → work ≡ ws
+copied ws work₀ {work} {i} e f h =
+    let all : i ≡ length ws = let k = f .within in omega arith in
+    let none-left : drop i work₀ ≡ [] = drop-of-length-le work₀ {i = i} (omega arith) in
+    f .holds ∙ ap (λ (x : List ℕ). tableFrom (λ j. getD ws j 0) 0 i ++ x) none-left ∙ append-nil (tableFrom (λ j. getD ws j 0) 0 i) ∙ ap (tableFrom (λ j. getD ws j 0) 0) all ∙ copied-from [] ws 0 refl
 
 -- ---- the names of a list
 

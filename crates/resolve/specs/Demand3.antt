@@ -3,11 +3,11 @@
 use Prim.Native.Nat.{ℕ, _+_, _<_}
 use mathlib.Core.Path.{_≡_}
 use mathlib.Core.List.{List, [], _∷_, _++_}
-use mathlib.Core.Option.{Option, none, some, Option·map}
+use mathlib.Core.Option.{Option, some, Option·map}
 use lib.ListN.{length, drop}
 use Rattle.pack.specs.declared.answer.Refusal.{Refusal}
 use Rattle.pack.specs.declared.answer.Answer.{Answer}
-use Rattle.pack.specs.declared.answer.Answer.the-variants.{Given, Refused}
+use Rattle.pack.specs.declared.answer.Answer.the-variants.{Refused}
 use Rattle.pack.specs.Pack.{Derivation, Relation, Rule, Block, Pack, total, words}
 use Rattle.pack.specs.Operations.{wordsAndSteps}
 use Rattle.pack.specs.Dealt.{Checked, Shuffled, InAnyOrder, SameBlock}

@@ -1,23 +1,31 @@
 -- What the parts of Resolve promise each other: the first three steps of Resolving, and the result.
-use Prim.Native.Nat.{ℕ}
+use Prim.Native.Nat.{ℕ, _+_}
 use mathlib.Core.Path.{_≡_}
 use mathlib.Core.List.{List, map}
+use mathlib.Core.Bool.{_||_}
 use mathlib.Core.Option.{none, some}
-use lib.ListN.{length}
+use lib.ListN.{length, getD}
 use Rattle.pack.specs.declared.answer.Answer.{Answer}
-use Rattle.pack.specs.declared.answer.Answer.the-variants.{Given}
-use Rattle.pack.specs.Pack.{Pack, yes, read, words}
-use Rattle.chains.specs.Kinds.{allKinds}
+use Rattle.pack.specs.Table.{pick}
+use Rattle.pack.specs.Pack.{Relation, Pack, yes, read, words}
+use Rattle.chains.specs.Kinds.{find, allKinds}
 use Rattle.records.specs.declared.directory.Layout.{Layout}
 use Rattle.chains.specs.AllKinds.{IsDirectory}
+use Rattle.chains.specs.ByName.{tableFrom}
+use Rattle.chains.specs.Record.{valueAt}
 use Rattle.chains.specs.Entry.{startsIn, namesIn}
-use Rattle.filtered.specs.Taking.{Filled}
+use Rattle.filtered.specs.Taking.{NamesLow, Filled}
 use Rattle.directions.specs.Turning.{Outcome, done, refused}
 use Rattle.directions.specs.Tables.{tables}
-use Rattle.directions.specs.Resolving.{defaultedEqual, equalRefusal, stamp}
+use Rattle.directions.specs.Resolving.{defaultedEqual, equalRefusal, stamp, atomNames, inDerivation, roleJudgment}
 use Rattle.resolve.specs.Operations.{givenOut, writtenOut}
 use Rattle.resolve.specs.Writing.{withRelations}
-use Rattle.directions.specs.Records.{turned, CameWhole, placesIn, Tabled}
+use Rattle.directions.specs.Records.{turned, placesIn, Tabled}
+use Rattle.turning.specs.declared.turns.Ended.{Ended}
+use Rattle.turning.specs.declared.turns.Counts.{Counts}
+use Rattle.turning.specs.Notes.{NotesIn}
+use Rattle.turning.specs.Steps.{TurnedAs, PackAsked}
+use Rattle.resolve.specs.declared.finish.Figures.{Figures}
 
 -- ---- the first three steps of Resolving
 
@@ -25,10 +33,15 @@ use Rattle.directions.specs.Records.{turned, CameWhole, placesIn, Tabled}
 unfoldable pub unstamped : Pack → Outcome Pack
 unstamped p = elim (defaultedEqual (tables (p .relations)) (p .defaulted)) [ some n ↦ refused (equalRefusal p n) | none ↦ turned p ]
 
--- what comes of them in the words of the pack, and where its relations start
-pub record PackCame (ws : List ℕ) (answer : Answer) (left order : List ℕ) : Type 0 where
-  pub each : (p : Pack) → read ws ≡ yes p → CameWhole (unstamped p) answer left
-  pub places : (p : Pack) → read ws ≡ yes p → (next x : ℕ) → answer ≡ Given next x → order ≡ placesIn p
+-- what comes of them in the words of the pack
+pub record TreesCame (ws : List ℕ) (o : Ended) (left : List ℕ) : Type 0 where
+  pub each : (p : Pack) → read ws ≡ yes p → TurnedAs (unstamped p) o left
+
+-- the tables of a checked pack, its notes, and a copy of its words
+pub record TreesAsked (ws dir marks taken work notes : List ℕ) (c : Counts) : Type 0 where
+  pub steps : ℕ
+  pub tabled : Tabled ws (startsIn dir) marks taken steps
+  pub turns : PackAsked ws (startsIn dir) marks taken work notes (c .blocks .at) (c .blocks .count) (c .noted) (c .all)
 
 -- ---- the result
 
@@ -36,23 +49,42 @@ pub record PackCame (ws : List ℕ) (answer : Answer) (left order : List ℕ) : 
 abbrev pub stampAll : Pack → Pack → Pack
 stampAll p q = withRelations q (map (stamp p) (q .relations))
 
--- the words of a pack whose trees are resolved, and where its relations start
-pub record FinishAsked (ws marks work order : List ℕ) (steps : ℕ) : Type 0 where
-  pub records : List ℕ
+-- where relations start, in record order, as the directory says
+unfoldable pub orderIn : List ℕ → ℕ → List ℕ
+orderIn dir count = tableFrom (λ i. getD (startsIn dir) (getD dir i 0) 0) 0 count
+
+-- by name: 1 for a relation "that some atom or Exists names, or whose predicate holds kinds 102 to 104", else 0
+pub record AskedOf (p : Pack) (asked : List ℕ) : Type 0 where
+  pub says : (r : Relation) → find (r .name) (p .relations) ≡ some r → getD asked (r .name) 0 ≡ pick (atomNames p (r .name) || inDerivation roleJudgment (r .derivation)) 1 0
+
+-- the words of a pack whose trees are resolved, with its directory, its tables, and what its notes ask for
+pub record FinishAsked (ws dir marks asked work : List ℕ) (relations steps : ℕ) : Type 0 where
   pub taken : List ℕ
-  pub tabled : Tabled ws records marks taken steps
+  pub tabled : Tabled ws (startsIn dir) marks taken steps
+  pub low : NamesLow (namesIn dir relations)
+  pub places : orderIn dir relations ≡ placesIn (tabled .checked .pack)
+  pub asks : AskedOf (tabled .checked .pack) asked
   pub whole : Pack
   pub resolves : turned (tabled .checked .pack) ≡ done whole
   pub stands : work ≡ words whole
-  pub places : order ≡ placesIn (tabled .checked .pack)
 
 -- what is answered and left of them
 pub record FinishCame (ws lent : List ℕ) (answer : Answer) (left : List ℕ) : Type 0 where
   pub answers : (p q : Pack) → read ws ≡ yes p → turned p ≡ done q → answer ≡ givenOut (allKinds (p .relations) .steps) (length lent) (done (stampAll p q))
   pub leaves : (p q : Pack) → read ws ≡ yes p → turned p ≡ done q → left ≡ writtenOut lent (done (stampAll p q))
 
--- a checked pack with its directory and its tables, and a slice for as many words
-pub record ResolveAsked (ws : List ℕ) (l : Layout) (dir marks taken : List ℕ) (steps : ℕ) (work : List ℕ) : Type 0 where
+-- a checked pack with its directory, its tables and its notes, and a slice for as many words
+pub record ResolveAsked (ws dir marks taken notes : List ℕ) (f : Figures) (work : List ℕ) : Type 0 where
+  pub layout : Layout
+  pub directory : IsDirectory ws layout dir
+  pub filled : Filled ws (namesIn dir (layout .relations)) (startsIn dir) marks taken (f .steps)
+  pub counts : f .relations ≡ layout .relations
+  pub blocks : f .notes .blocks .at ≡ layout .blocks + 1
+  pub many : f .notes .blocks .count ≡ valueAt ws (layout .blocks)
+  pub noted : NotesIn (directory .checked .pack) notes (f .notes .noted) (f .notes .all)
+  pub room : length work ≡ length ws
+
+pub record CheckedAsked (ws : List ℕ) (l : Layout) (dir : List ℕ) (noted all : ℕ) (notes work : List ℕ) : Type 0 where
   pub directory : IsDirectory ws l dir
-  pub filled : Filled ws (namesIn dir (l .relations)) (startsIn dir) marks taken steps
+  pub notes-in : NotesIn (directory .checked .pack) notes noted all
   pub room : length work ≡ length ws

@@ -1,35 +1,49 @@
 // The result: relations stamped, and the whole pack written out if there is room for it.
+use crate::order::order;
 use crate::write::write;
 use checking::check::refuse;
 use pack::answer::Answer;
 use pack::kinds::Pack;
-use stamping::atoms::atoms;
+use records::directory::Words;
 use stamping::lists::lists;
+use turning::asked::Asked;
+use turning::root::ByName;
+use turning::turns::Counts;
 ghost use Rattle.resolve.specs.Finish.{FinishAsked, FinishCame};
+
+// Of a checked pack: its relations, its notes, and the declarations that were read for its kinds.
+pub struct Figures {
+    pub relations: usize,
+    pub notes: Counts,
+    pub steps: u32,
+}
 
 // From the words of a pack whose trees are resolved.
 pub fn finish(
     pack: &[u32],
-    marks: &[u32; 4096],
+    dir: &Words,
+    marks: &ByName,
+    asked: &Asked,
     work: &[u32],
-    order: &[u32],
-    steps: u32,
+    figures: Figures,
     out: &mut [u32],
 ) -> Answer
-    requires { ⌜ FinishAsked (now pack) (now marks) (now work) (now order) steps ⌝ }
+    requires { ⌜ FinishAsked (now pack) (now dir) (now marks) (now asked) (now work) (figures .relations) (figures .steps) ⌝ }
     ensures { λ r. ⌜ FinishCame (now (pack .entry)) (now (out .entry)) r (now (out .exit)) ⌝ }
 {
-    let mut named = [0u8; 4096];
-    let mut places = [0u32; 512];
-    let stamped = &mut places[0..order.len()];
-    atoms(pack, &mut named);
-    let len = work.len() + lists(pack, work, marks, &named, order, stamped);
+    let count = figures.relations;
+    let mut starts = [0u32; Pack::MOST_RELATIONS as usize];
+    let places = &mut starts[0..count];
+    order(dir, places);
+    let mut found = [0u32; Pack::MOST_RELATIONS as usize];
+    let stamped = &mut found[0..count];
+    let len = work.len() + lists(pack, work, marks, asked, places, stamped);
     if Pack::MOST_WORDS < len {
         return refuse(16, 0);
     }
     if out.len() < len {
         return refuse(16, 0);
     }
-    write(pack, work, order, stamped, &mut out[0..len]);
-    Answer::Given(len as u32, steps)
+    write(pack, work, places, stamped, &mut out[0..len]);
+    Answer::Given(len as u32, figures.steps)
 }

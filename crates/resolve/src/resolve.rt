@@ -1,11 +1,13 @@
 // Resolve: a pack with its directions settled, written out whole.
+use crate::finish::Figures;
 use crate::finish::finish;
+use crate::write::copy;
 use chains::entry::start;
+use chains::record::value_at;
 use checking::check::answer;
 use checking::check::check_directory;
 use directions::equal::first_equal;
 use filtered::taking::read_tables;
-use nodes::words::copy;
 use pack::answer::Answer;
 use pack::answer::Refusal;
 use pack::kinds::Pack;
@@ -13,31 +15,35 @@ use records::directory::Directory;
 use records::directory::Laid;
 use records::directory::Layout;
 use records::directory::Words;
-use trees::trees::trees;
-ghost use Rattle.chains.specs.Entry.{startsIn};
+use turning::asked::Asked;
+use turning::asked::ask_notes;
+use turning::root::ByName;
+use turning::step::Blocks;
+use turning::turns::Counts;
+use turning::turns::Ended;
+use turning::turns::turn_pack;
 ghost use Rattle.chains.specs.Answers.{Answered};
 ghost use Rattle.resolve.specs.Operations.{resolveAnswer, resolveBuffer};
-ghost use Rattle.directions.specs.Records.{TreesAsked};
-ghost use Rattle.resolve.specs.Finish.{PackCame, ResolveAsked};
+ghost use Rattle.resolve.specs.Finish.{TreesAsked, TreesCame, ResolveAsked, CheckedAsked};
 
 // Defaulted names with equal kinds are refused; then all trees are resolved, in a copy of the words.
-fn turn_pack(
+fn resolve_trees(
     pack: &[u32],
-    l: Layout,
     dir: &Words,
-    marks: &[u32; 4096],
-    taken: &[u32; 4096],
+    marks: &ByName,
+    taken: &ByName,
     work: &mut [u32],
-    order: &mut [u32],
-) -> Answer
-    requires { ⌜ TreesAsked (now pack) l (startsIn (now dir)) (now marks) (now taken) (now work) (now order) ⌝ }
-    ensures { λ r. ⌜ PackCame (now (pack .entry)) r (now (work .exit)) (now (order .exit)) ⌝ }
+    notes: &mut [u32],
+    counts: Counts,
+) -> Ended
+    requires { ⌜ TreesAsked (now pack) (now dir) (now marks) (now taken) (now work) (now notes) counts ⌝ }
+    ensures { λ r. ⌜ TreesCame (now (pack .entry)) r (now (work .exit)) ⌝ }
 {
     let name = first_equal(pack, dir, marks);
     if name == Pack::NONE {
-        return trees(pack, l, dir, marks, taken, work, order);
+        return turn_pack(pack, dir, marks, taken, work, notes, counts);
     }
-    Answer::Refused(Refusal {
+    Ended::Refused(Refusal {
         number: 9,
         place: start(dir, name as usize),
         name,
@@ -45,51 +51,57 @@ fn turn_pack(
     })
 }
 
-// A checked pack with its tables, and a slice for its words.
+// A checked pack with its tables and its notes, and a slice for its words. What stamping asks of the notes is asked
+// before they are turned.
 fn resolve_in(
     pack: &[u32],
-    l: Layout,
     dir: &Words,
-    marks: &[u32; 4096],
-    taken: &[u32; 4096],
-    steps: u32,
+    marks: &ByName,
+    taken: &ByName,
+    notes: &mut [u32],
+    figures: Figures,
     work: &mut [u32],
     out: &mut [u32],
 ) -> Answer
-    requires { ⌜ ResolveAsked (now pack) l (now dir) (now marks) (now taken) steps (now work) ⌝ }
+    requires { ⌜ ResolveAsked (now pack) (now dir) (now marks) (now taken) (now notes) figures (now work) ⌝ }
     ensures { λ r. ⌜ Answered resolveAnswer resolveBuffer (now (pack .entry)) (now (out .entry)) r (now (out .exit)) ⌝ }
 {
+    let counts = figures.notes;
+    let mut asked: Asked = [0u8; Pack::MOST_NAMES as usize];
+    ask_notes(pack, notes, counts.all, &mut asked);
     copy(pack, work);
-    let mut places = [0u32; 512];
-    let count = l.relations as usize;
-    let order = &mut places[0..count];
-    let a = turn_pack(pack, l, dir, marks, taken, work, order);
-    let Answer::Given(_, _) = a else {
-        return a;
-    };
-    finish(pack, marks, work, order, steps, out)
+    match resolve_trees(pack, dir, marks, taken, work, notes, counts) {
+        Ended::All => finish(pack, dir, marks, &asked, work, figures, out),
+        Ended::Refused(x) => Answer::Refused(x),
+    }
 }
 
-// The whole pack in record order, with slots and lists as resolving leaves them; the answer is its number of words and
-// how many declarations were read for its kinds.
-pub fn resolve(pack: &[u32], out: &mut [u32]) -> Answer
+// A checked pack with its directory and its notes: so many of relations, so many in all.
+pub fn resolve_checked(
+    pack: &[u32],
+    l: Layout,
+    dir: &Words,
+    noted: usize,
+    all: usize,
+    notes: &mut [u32],
+    work: &mut [u32],
+    out: &mut [u32],
+) -> Answer
+    requires { ⌜ CheckedAsked (now pack) l (now dir) noted all (now notes) (now work) ⌝ }
     ensures { λ r. ⌜ Answered resolveAnswer resolveBuffer (now (pack .entry)) (now (out .entry)) r (now (out .exit)) ⌝ }
 {
-    let mut dir: Words = [0u32; Directory::WORDS];
-    let r = check_directory(pack, &mut dir);
-    let Laid::Yes(l) = r else {
-        return answer(r);
+    let mut marks: ByName = [0u32; Pack::MOST_NAMES as usize];
+    let mut taken: ByName = [0u32; Pack::MOST_NAMES as usize];
+    let steps = read_tables(pack, l, dir, &mut marks, &mut taken);
+    let at = l.blocks + 1;
+    let count = value_at(pack, l.blocks) as usize;
+    let blocks = Blocks { at, count };
+    let counts = Counts { noted, all, blocks };
+    let relations = l.relations as usize;
+    let figures = Figures {
+        relations,
+        notes: counts,
+        steps,
     };
-    let mut marks = [0u32; 4096];
-    let mut taken = [0u32; 4096];
-    let steps = read_tables(pack, l, &dir, &mut marks, &mut taken);
-    // a small pack has a small copy, since clearing a large one would take longer than the work
-    if pack.len() <= 256 {
-        let mut few = [0u32; 256];
-        let work = &mut few[0..pack.len()];
-        return resolve_in(pack, l, &dir, &marks, &taken, steps, work, out);
-    }
-    let mut words = [0u32; 8192];
-    let work = &mut words[0..pack.len()];
-    resolve_in(pack, l, &dir, &marks, &taken, steps, work, out)
+    resolve_in(pack, dir, &marks, &taken, notes, figures, work, out)
 }

@@ -3,7 +3,6 @@
 use chains::record::kind_count;
 use chains::record::slots_place;
 use chains::record::value_at;
-use nodes::words::copy;
 use pack::kinds::Pack;
 use stamping::lists::names_at;
 ghost use mathlib.Core.Path.{_≡_};
@@ -14,6 +13,18 @@ ghost use Rattle.pack.specs.Table.{wordOf};
 ghost use Rattle.chains.specs.Places.{namesAt};
 ghost use Rattle.stamping.specs.Stamping.{namesOr, Lists};
 ghost use Rattle.resolve.specs.Writing.{fromTo, listWords, putFor, Put, Room, WriteAsked, WriteCame};
+
+// The words of a slice in another of the same length.
+pub fn copy(from: &[u32], to: &mut [u32])
+    requires { ⌜ length (now to) ≡ length (now from) ⌝ }
+    ensures { λ r. ⌜ now (to .exit) ≡ now (from .entry) ⌝ }
+{
+    let mut i: usize = 0;
+    while i < from.len() {
+        to[i] = from[i];
+        i += 1;
+    }
+}
 
 // The names of a list, in a slice with as many words.
 fn put_names(pack: &[u32], list: u32, out: &mut [u32])

@@ -2,16 +2,16 @@
 use Prim.Native.Nat.{ℕ, suc, _+_, _-_, _*_, _%_, _<_, _≤_}
 use mathlib.Core.Path.{_≡_}
 use mathlib.Core.List.{List, [], _∷_}
-use mathlib.Core.Bool.{Bool, false, _||_, _&&_}
+use mathlib.Core.Bool.{Bool, _&&_}
 use mathlib.Core.Option.{Option, none, some}
-use lib.ListN.{length, getD, drop, set}
-use lib.Dec.{eqb, ltb, leb}
-use Rattle.pack.specs.Table.{pick, kindOf, valueOf}
+use lib.ListN.{length, getD}
+use lib.Dec.{eqb}
+use Rattle.pack.specs.Table.{pick}
 use Rattle.pack.specs.Pack.{Derivation, Relation}
 use Rattle.filtered.specs.Filtered.{kindAt}
 use Rattle.chains.specs.Places.{namesAt}
-use Rattle.chains.specs.Record.{valueAt, kindCount, flagAt, slotsPlace, entityCount, predicateAt}
-use Rattle.directions.specs.Resolving.{roleJudgment, unlike, stampedWith}
+use Rattle.chains.specs.Record.{valueAt, kindCount, flagAt, slotsPlace, entityCount}
+use Rattle.directions.specs.Resolving.{unlike, stampedWith}
 
 pub data StampedBy (ws : List ℕ) (list : ℕ) (r : Relation) : Relation → Type 0 where
   as-it-is : list ≡ 0 → StampedBy ws list r r

@@ -1,22 +1,21 @@
 -- The notes tell which names atoms and Exists name, and which predicates hold judgments of the kinds 102 to 104.
-use Prim.Native.Nat.{ℕ, suc, _+_, _<_}
+use Prim.Native.Nat.{ℕ, suc, _+_}
 use native.Mathlib.Omega.{arith}
 use mathlib.Core.Path.{_≡_, refl, ap, sym, _∙_}
 use mathlib.Core.List.{List, [], _∷_, _++_, append-assoc}
 use mathlib.Core.Bool.{Bool, true, false, _||_, _&&_}
 use mathlib.Core.Option.{Option, none, some}
 use lib.ListN.{length, length-append}
-use lib.Dec.{eqb, leb, ltb}
-use borrow.Author.Tests.{eqb-true, ltb-true, ltb-false, lt-leb, ne-eqb}
-use Rattle.pack.specs.Table.{pick, kindOf, valueOf, wordOf, judgment, table, entryOf, fieldsOf}
+use lib.Dec.{leb, ltb}
+use borrow.Author.Tests.{ltb-true, ltb-false, lt-leb, ne-eqb}
+use Rattle.pack.specs.Table.{pick, wordOf, judgment, table, entryOf}
 use Rattle.pack.specs.Form.{wordsBy, Fine}
-use Rattle.pack.specs.Tree.{Tree, Forest, node, more, root, tree}
+use Rattle.pack.specs.Tree.{Tree, Forest, node, more, tree}
 use Rattle.pack.specs.Tree as trees
 use Rattle.pack.specs.Pack.{Derivation, Relation, Body, Rule, Pack, WellFormed, words, body, rule, blocks}
-use Rattle.pack.proofs.Listed.{in-range}
 use Rattle.chains.specs.Places.{relationWords, firstRelation}
 use Rattle.chains.specs.Reach.{any}
-use Rattle.directions.specs.Turning.{Fields, fieldWords, treeWords, forestWords, size}
+use Rattle.directions.specs.Turning.{fieldWords, treeWords, forestWords, size}
 use Rattle.directions.specs.Resolving.{holds, held, roleJudgment, atomOf, inDerivation, inRule, atomNames, ruleWords, predicatePlace, firstRule}
 use Rattle.directions.proofs.TreeWords.{size-is, fields-length}
 use Rattle.directions.specs.Records.{wordsOf, All, bodyWords, RelationKeeps}
@@ -27,7 +26,7 @@ use Rattle.turning.specs.Notes.{Note, note, lookBy, lookOf, noted, withi
 use Rattle.turning.specs.Turns.{valueIn, kindIn}
 use Rattle.turning.specs.Asked.{someNote, namedIn, rolesIn}
 use Rattle.turning.proofs.FlatLaws.{Sound, Sounds, kind-there, value-there}
-use Rattle.turning.proofs.RecordFlat.{sound, word-is, value-is, kind-is, body-tree, its-derivation, name-below}
+use Rattle.turning.proofs.RecordFlat.{sound, kind-is, body-tree, its-derivation, name-below}
 
 or-assoc : (a b c : Bool) → ((a || b) || c) ≡ (a || (b || c))
 or-assoc true b c = refl

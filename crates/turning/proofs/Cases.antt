@@ -12,9 +12,9 @@ use Rattle.pack.specs.Tree as trees
 use Rattle.pack.specs.Pack.{Derivation, Relation, Rule}
 use Rattle.directions.specs.Tables.{Derived}
 use Rattle.directions.specs.Direction.{turn, member}
-use Rattle.directions.specs.Turning.{Outcome, done, refused, stepBy, treeWords, size}
+use Rattle.directions.specs.Turning.{done, refused, stepBy, treeWords, size}
 use Rattle.turning.specs.Notes.{Note, note, lookBy, noted, notesOf, notesRun, ruleNotes, relationNotes}
-use Rattle.turning.specs.Turns.{Known, Root, Work, work, nowhere, openRoot, stepAt, turnNode, turnNote, turnNotes}
+use Rattle.turning.specs.Turns.{Known, Root, work, nowhere, openRoot, stepAt, turnNode, turnNote, turnNotes}
 
 -- relation 5 is typed [1,2], 7 is typed [1,3], 4 is typed [2,2], and 6 is derived with the kinds [2,1] in its slots 0 and 1
 abbrev typed : ℕ → Option (List ℕ)

@@ -5,7 +5,7 @@ use mathlib.Core.Path.{_≡_, refl, ap, sym, _∙_}
 use mathlib.Core.Bool.{Bool, true, false}
 use lib.Dec.{eqb}
 use Rattle.pack.specs.Table.{pick}
-use Rattle.turning.specs.Notes.{Note, contextOf, noteCode}
+use Rattle.turning.specs.Notes.{Note, noteCode}
 use Rattle.turning.specs.Turns.{fieldOf, lostOf, insideOf}
 
 pub record CodeParts (n : Note) : Type 0 where

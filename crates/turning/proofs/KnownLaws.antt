@@ -12,7 +12,7 @@ use Rattle.pack.specs.Pack.{Pack, WellFormed, yes, read, words}
 use Rattle.chains.specs.AllKinds.{Noted, BlocksAt, KindsMarked}
 use Rattle.chains.specs.Record.{valueAt}
 use Rattle.filtered.specs.Taking as taking
-use Rattle.directions.specs.Tables.{Tables, tables}
+use Rattle.directions.specs.Tables.{tables}
 use Rattle.directions.specs.Words.{tablesIn}
 use Rattle.inputs.specs.Inputs.{input}
 use Rattle.inputs.specs.Blocks.{inputIn}

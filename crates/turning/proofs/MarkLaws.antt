@@ -2,15 +2,13 @@
 use Prim.Native.Nat.{ℕ, suc, _+_, _-_, _/_, _%_, _<_, _≤_}
 use native.Mathlib.Omega.{arith}
 use native.Mathlib.Numerals.{add-one}
-use mathlib.Core.Path.{_≡_, refl, ap, sym, _∙_, subst}
+use mathlib.Core.Path.{_≡_, refl, ap, sym, _∙_}
 use mathlib.Core.List.{List, [], _∷_}
 use mathlib.Core.Bool.{Bool, true, false, _||_, _&&_}
 use lib.ListN.{length, getD, set, length-set}
 use lib.Seq.{set-out}
-use lib.Dec.{eqb, leb, ltb}
+use lib.Dec.{eqb, leb}
 use borrow.Author.Tests.{eq-eqb, ne-eqb, eqb-false, lt-leb, le-leb}
-use Rattle.pack.specs.Table.{pick, kindOf, valueOf}
-use Rattle.directions.specs.Resolving.{roleJudgment}
 use Rattle.turning.specs.Notes.{Note, noteCode, Held}
 use Rattle.turning.specs.Turns.{insideOf, valueIn, kindIn}
 use Rattle.turning.specs.Asked.{relationAfter, atomMarked, roleMarked, markNote, markNotes, InWords, MarkAsked, NoteMarked, MarksAsked, NotesMarked}

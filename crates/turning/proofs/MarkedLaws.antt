@@ -6,10 +6,10 @@ use mathlib.Core.List.{List, [], _∷_, _++_, append-assoc}
 use mathlib.Core.Bool.{Bool, true, false, _||_, _&&_}
 use mathlib.Core.Option.{Option, none, some}
 use lib.ListN.{length, getD, set, length-append, length-set}
-use lib.Seq.{getD-set-same, getD-set-other, set-out}
+use lib.Seq.{getD-set-same, getD-set-other}
 use lib.Dec.{eqb}
 use borrow.Author.Tests.{eq-eqb, ne-eqb, eqb-true, eqb-false}
-use Rattle.pack.specs.Table.{pick, wordOf, judgment}
+use Rattle.pack.specs.Table.{pick, judgment}
 use Rattle.pack.specs.Form.{wordsBy, Fine}
 use Rattle.pack.specs.Tree.{Tree, Forest, node, more, tree}
 use Rattle.pack.specs.Tree as trees
@@ -17,7 +17,7 @@ use Rattle.pack.specs.Pack.{Derivation, Relation, Body, Rule, Pack, WellFormed,
 use Rattle.chains.specs.Kinds.{find}
 use Rattle.chains.specs.Places.{relationWords, firstRelation}
 use Rattle.chains.specs.Reach.{any}
-use Rattle.chains.proofs.PackIndex.{EachFound, all-found, find-name}
+use Rattle.chains.proofs.PackIndex.{EachFound, all-found}
 use Rattle.directions.specs.Turning.{treeWords}
 use Rattle.directions.specs.Resolving.{holds, held, roleJudgment, atomOf, inDerivation, inRule, atomNames, ruleWords, predicatePlace, firstRule}
 use Rattle.directions.specs.Records.{wordsOf, All, bodyWords, RelationKeeps}
@@ -28,7 +28,7 @@ use Rattle.turning.specs.Notes.{Note, note, lookOf, noted, within, notes
 use Rattle.turning.specs.Turns.{valueIn, kindIn}
 use Rattle.turning.specs.Asked.{someNote, relationAfter, atomMarked, roleMarked, markNote, markNotes}
 use Rattle.turning.proofs.RecordFlat.{sound, value-is, kind-is, its-derivation, name-below}
-use Rattle.turning.proofs.AskedLaws.{AllNoted, role-others, atom-others, any-append, tree-asked, body-asked, run-asked, rule-asked, relation-asked, pack-asked}
+use Rattle.turning.proofs.AskedLaws.{AllNoted, role-others, atom-others, tree-asked, body-asked, run-asked}
 
 -- ---- whether a name is marked by notes
 

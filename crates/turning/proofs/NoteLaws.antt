@@ -9,7 +9,6 @@ use lib.ListN.{length, getD, set, take, length-set}
 use lib.Seq.{sets, length-sets, getD-set-other}
 use lib.Dec.{eqb}
 use borrow.Author.Tests.{eq-eqb, ne-eqb, eqb-true, eqb-false}
-use Rattle.pack.specs.declared.answer.Refusal.{Refusal}
 use Rattle.pack.specs.Table.{pick, wordOf, entryOf, fieldsOf}
 use Rattle.directions.specs.Direction.{Membership}
 use Rattle.directions.specs.Turning.{Outcome, done, refused, Citing, Fields, currentOf, relatedOf, withSlots, Step, goes, stops, stepBy, fieldWords}
@@ -17,14 +16,13 @@ use Rattle.directions.specs.Words.{membershipIn}
 use Rattle.turning.specs.declared.step.Out.{Out}
 use Rattle.turning.specs.declared.step.Out.the-variants.{Opens, Sets, Passes, Stops}
 use Rattle.turning.specs.declared.root.Root as code
-use Rattle.turning.specs.declared.turns.Next.{Next}
 use Rattle.turning.specs.declared.turns.Next.the-variants as next
-use Rattle.turning.specs.Notes.{Note, lookBy, lookOf, noteCode}
+use Rattle.turning.specs.Notes.{Note, lookOf, noteCode}
 use Rattle.turning.specs.Turns.{insideOf, Known, Root, citing, Work, work, valueIn, kindIn, ruleRoot, relatedKind, relationRoot, held, fieldsAt, stepAt, turnedBy, openRoot, turnNode, turnNote}
 use Rattle.turning.specs.Steps.{knownIn, NodeStands, Stands, outBy, outAt, OutFits, StepTaken, rootIn, RootStands, RootOpened, NextBy, NoteAsked, NoteTurned}
 use Rattle.turning.proofs.FlatLaws.{Leaves, look-leaves}
 use Rattle.turning.proofs.CodeLaws.{code-parts}
-use Rattle.turning.proofs.StepLaws.{two-fields, two-or-more, three-words, node-there}
+use Rattle.turning.proofs.StepLaws.{two-fields, two-or-more, three-words}
 
 -- ---- what a step's answer does
 

@@ -1,25 +1,23 @@
 -- The flattening law: the notes of a pack, those of its rules and then those of its relations, turned one after the other, are its
 -- trees resolved.
-use Prim.Native.Nat.{ℕ, suc, _+_, _≤_}
+use Prim.Native.Nat.{ℕ, _+_, _≤_}
 use native.Mathlib.Omega.{arith}
-use mathlib.Core.Path.{_≡_, refl, ap, sym, _∙_, subst}
+use mathlib.Core.Path.{_≡_, refl, ap, sym, _∙_}
 use mathlib.Core.List.{List, [], _∷_, _++_, append-assoc}
-use mathlib.Core.Option.{some}
 use lib.ListN.{length, length-append}
 use Rattle.pack.specs.Table.{wordOf}
 use Rattle.pack.specs.Form.{wordsBy, Fine}
 use Rattle.pack.specs.Pack.{Relation, Rule, Pack, WellFormed, words, rule, blocks}
-use Rattle.chains.specs.Kinds.{find}
 use Rattle.chains.specs.Places.{relationWords, firstRelation}
 use Rattle.chains.proofs.PackIndex.{EachFound, all-found}
 use Rattle.directions.specs.Turning.{Outcome, done, refused, andThen, mapDone}
-use Rattle.directions.specs.Resolving.{ruleWords, resolveRule, resolveRules, resolveRelation, resolveRelations, firstRule}
+use Rattle.directions.specs.Resolving.{ruleWords, resolveRule, resolveRelation, firstRule}
 use Rattle.directions.specs.Records.{wordsOf, runBy, All, RelationKeeps, withRecords, turned}
 use Rattle.directions.proofs.RunLaws.{run-length}
 use Rattle.directions.proofs.TurnedPack.{front, pack-words, front-long, front22, pack-words-22, front22-long, rules-run, relations-run, rules-keep, relations-keep, again-words}
-use Rattle.turning.specs.Notes.{Note, ruleNotes, relationNotes, notesRun, relationsNoted, rulesNoted, notesOfPack}
+use Rattle.turning.specs.Notes.{ruleNotes, relationNotes, relationsNoted, rulesNoted, notesOfPack}
 use Rattle.turning.specs.Turns.{Known, knownOf, Work, afresh, turnNotes, turnPack, TurnedInto}
-use Rattle.turning.proofs.RunFlat.{Ran, RanBy, FlatAt, run-flat}
+use Rattle.turning.proofs.RunFlat.{Ran, RanBy, run-flat}
 use Rattle.turning.proofs.RecordFlat.{Free, rule-flat, RelationFine, relation-flat}
 
 all-relations : (p : Pack) (w : WellFormed p) (ws : List ℕ) (l : List Relation) → All (RelationKeeps p) l → EachFound (p .relations) l → All (RelationFine p w ws) l

@@ -11,7 +11,7 @@ use Rattle.pack.specs.Table.{pick, wordOf, judgment}
 use Rattle.pack.specs.Form.{wordsBy, Fine}
 use Rattle.pack.specs.Tree.{Tree, Forest, node, more, tree}
 use Rattle.pack.specs.Tree as trees
-use Rattle.pack.specs.Pack.{Derivation, Relation, Body, Pack, WellFormed, yes, read, words, total, blocks}
+use Rattle.pack.specs.Pack.{Derivation, Relation, Pack, WellFormed, words, blocks}
 use Rattle.pack.specs.Pack as pack
 use Rattle.pack.proofs.PackLaws.{words-read, words-length}
 use Rattle.reading.proofs.NotesLaws.{few-tree}
@@ -23,10 +23,10 @@ use Rattle.directions.proofs.TreeWords.{size-is}
 use Rattle.directions.specs.Records.{wordsOf, All, bodyWords, RelationKeeps, turned}
 use Rattle.directions.proofs.RuleLaws.{bodiesOf, head, rule-parts}
 use Rattle.directions.proofs.RelationLaws.{lead, lead-words, lead-long, predicate-kept}
-use Rattle.directions.proofs.TurnedPack.{front, pack-words, rulesOn, rules-keep, relations-keep}
+use Rattle.directions.proofs.TurnedPack.{front, pack-words, rules-keep, relations-keep}
 use Rattle.turning.specs.declared.turns.Ended.{Ended}
 use Rattle.turning.specs.declared.turns.Ended.the-variants as ended
-use Rattle.turning.specs.Notes.{Note, note, lookOf, noted, within, notesOf, notesIn, notesRun, bodyNotes, ruleNotes, derivedNotes, relationNotes, relationsNoted, rulesNoted, notesOfPack, Held, NotesIn}
+use Rattle.turning.specs.Notes.{Note, note, lookOf, noted, within, notesOf, notesIn, notesRun, bodyNotes, ruleNotes, derivedNotes, relationNotes, relationsNoted, rulesNoted, notesOfPack, Held}
 use Rattle.turning.specs.Turns.{Known, knownOf, Work, work, nowhere, afresh, turnNotes, turnPack, TurnedInto}
 use Rattle.turning.specs.Steps.{knownIn, Placed, EndedBy, TurnsAsked, NotesTurned, PackAsked, TurnedAs, PackTurned}
 use Rattle.turning.proofs.RecordFlat.{its-derivation}

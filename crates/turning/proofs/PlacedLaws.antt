@@ -5,19 +5,18 @@ use mathlib.Core.Path.{_≡_, refl, ap, sym, _∙_, subst}
 use mathlib.Core.List.{List, [], _∷_, _++_, append-assoc}
 use mathlib.Core.Bool.{Bool, true, false, _||_, _&&_}
 use mathlib.Core.Option.{Option, none, some}
-use lib.ListN.{length, getD, length-append}
-use lib.Seq.{getD-at}
-use lib.Dec.{eqb, ltb, leb}
+use lib.ListN.{length, length-append}
+use lib.Dec.{ltb, leb}
 use borrow.Author.Tests.{ltb-true, ltb-false, lt-leb}
 use Rattle.pack.specs.declared.table.Rule.{Rule}
 use Rattle.pack.specs.declared.table.Rule.the-variants.{Name}
 use Rattle.pack.specs.declared.table.Follows.{Follows}
 use Rattle.pack.specs.declared.table.Follows.the-variants.{Nothing, Counted, OneScalar, TwoScalars, Scalars, Patterns, Periods, OneJudgment, Judgments, Choice, Aggregate, OnlyRelated, Slots, Atom, Exists}
-use Rattle.pack.specs.Table.{pick, kindOf, valueOf, wordOf, judgment, allowed, table, entryOf, fieldsOf, childrenOf}
-use Rattle.pack.specs.Form.{FineEach, allowedHere, Fine, wordsBy, count, items}
+use Rattle.pack.specs.Table.{pick, wordOf, judgment, allowed, table, entryOf, fieldsOf, childrenOf}
+use Rattle.pack.specs.Form.{FineEach, allowedHere, Fine, wordsBy}
 use Rattle.pack.specs.Tree.{Tree, Forest, node, more, ofForest, lastField, root, tree}
 use Rattle.pack.specs.Tree as trees
-use Rattle.pack.specs.Pack.{Derivation, Relation, Body, Pack, WellFormed, words, total, body, blocks}
+use Rattle.pack.specs.Pack.{Derivation, Relation, Body, Pack, WellFormed, words, body, blocks}
 use Rattle.pack.specs.Pack as pack
 use Rattle.pack.proofs.Listed.{in-range}
 use Rattle.pack.proofs.PackLaws.{words-length}

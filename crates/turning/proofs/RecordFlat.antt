@@ -7,32 +7,31 @@ use mathlib.Core.Option.{Option, none, some}
 use mathlib.Core.Bool.{false}
 use lib.ListN.{length, getD, set, length-append, length-set}
 use lib.Seq.{getD-at, getD-set-same}
-use lib.Dec.{eqb}
-use Rattle.pack.specs.Table.{pick, kindOf, valueOf, wordOf, judgment, entryOf, fieldsOf, childrenOf}
-use Rattle.pack.specs.Form.{FineEach, wordsBy, Fine}
+use Rattle.pack.specs.Table.{kindOf, valueOf, wordOf, judgment, entryOf, fieldsOf, childrenOf}
+use Rattle.pack.specs.Form.{FineEach, Fine}
 use Rattle.pack.specs.Tree.{Tree, Forest, node, more, ofForest, lastField, root, tree}
 use Rattle.pack.specs.Tree as trees
-use Rattle.pack.specs.Pack.{Derivation, Relation, Body, Rule, Pack, WellFormed, body, rule, newName, relationTail, relation, optionalDerivation}
+use Rattle.pack.specs.Pack.{Derivation, Relation, Body, Rule, Pack, WellFormed, body, rule, relationTail, optionalDerivation}
 use Rattle.chains.specs.Kinds.{find, kindsOf}
 use Rattle.chains.specs.Places.{relationWords}
-use Rattle.chains.proofs.RelationScan.{Kept, kept}
+use Rattle.chains.proofs.RelationScan.{kept}
 use Rattle.chains.proofs.PackIndex.{parts}
 use Rattle.filtered.specs.Filtered.{kindAt}
-use Rattle.directions.specs.Tables.{Derived, derivedAt, tables}
-use Rattle.directions.specs.Direction.{Membership, membership, kindOrZero}
-use Rattle.directions.specs.Turning.{Outcome, done, refused, andThen, mapDone, Citing, Fields, treeWords, size, resolveTree}
-use Rattle.directions.specs.Resolving.{cites, resolveBody, ruleBy, resolveRule, ruleWords, predicatePlace, withPredicate, predicateBy, resolvePredicate, resolveDerivation, resolveRelation}
+use Rattle.directions.specs.Tables.{tables}
+use Rattle.directions.specs.Direction.{membership, kindOrZero}
+use Rattle.directions.specs.Turning.{Outcome, done, refused, mapDone, Fields, treeWords, size, resolveTree}
+use Rattle.directions.specs.Resolving.{cites, resolveBody, resolveRule, ruleWords, predicatePlace, withPredicate, predicateBy, resolveDerivation, resolveRelation}
 use Rattle.directions.proofs.KeepsForm.{Good, FieldsFine, open-node, no-level, tree-good, head-fine}
 use Rattle.directions.proofs.TreeWords.{fields-count, size-is}
 use Rattle.directions.proofs.ResolvedFine.{rule-good, tail-derivation, tables-fit}
-use Rattle.directions.specs.Records.{wordsOf, runBy, All, bodyWords, RelationKeeps}
+use Rattle.directions.specs.Records.{wordsOf, runBy, bodyWords, RelationKeeps}
 use Rattle.directions.proofs.RuleLaws.{bodiesOf, head, RuleParts, rule-parts, again, rule-run}
 use Rattle.directions.proofs.RunLaws.{run-length}
 use Rattle.directions.proofs.RelationLaws.{lead, lead-words, lead-long, predicate-kept}
-use Rattle.turning.specs.Notes.{Note, note, notesOf, notesRun, bodyNotes, ruleNotes, derivedNotes, relationNotes}
-use Rattle.turning.specs.Turns.{Known, knownOf, Root, citing, Work, work, valueIn, kindIn, ruleRoot, relatedKind, memberKinds, relationRoot, openRoot, turnNote, turnNotes}
+use Rattle.turning.specs.Notes.{Note, notesOf, notesRun, bodyNotes, ruleNotes, derivedNotes, relationNotes}
+use Rattle.turning.specs.Turns.{Known, knownOf, Root, citing, Work, work, valueIn, kindIn, openRoot, turnNote, turnNotes}
 use Rattle.turning.proofs.FlatLaws.{ValuesFit, Sound, Sounds, Flat, flat-tree}
-use Rattle.turning.proofs.RunFlat.{Ran, RanBy, FlatAt, run-flat}
+use Rattle.turning.proofs.RunFlat.{RanBy, FlatAt, run-flat}
 
 -- ---- trees that keep to their forms read back
 

@@ -1,22 +1,18 @@
 -- What the code reads of a rule or relation when turning comes to it.
-use Prim.Native.Nat.{ℕ, _+_, _-_, _≤_}
+use Prim.Native.Nat.{ℕ, _+_, _-_}
 use mathlib.Core.Path.{_≡_, refl, ap, sym, _∙_}
 use mathlib.Core.List.{List}
-use mathlib.Core.Option.{Option, none, some}
+use mathlib.Core.Option.{none}
 use lib.ListN.{getD}
-use lib.Dec.{eqb}
 use borrow.Author.Tests.{eq-eqb, ne-eqb}
-use Rattle.pack.specs.Table.{pick, kindOf, valueOf}
+use Rattle.pack.specs.Table.{kindOf, valueOf}
 use Rattle.chains.specs.Places.{namesAt}
 use Rattle.chains.specs.Record.{valueAt, flagAt, slotsPlace}
-use Rattle.filtered.specs.Filtered.{kindAt}
-use Rattle.directions.specs.Tables.{Derived}
-use Rattle.directions.specs.Direction.{Membership, kindOrZero}
+use Rattle.directions.specs.Direction.{kindOrZero}
 use Rattle.directions.specs.Words.{derivedIn, derivedBy, tablesIn, membershipIn, slotKindsIn}
 use Rattle.turning.specs.declared.root.Pair.{Pair}
-use Rattle.turning.specs.declared.root.Root as code
-use Rattle.turning.specs.Turns.{Root, valueIn, kindIn, ruleRoot, relatedKind, memberKinds, relationRoot}
-use Rattle.turning.specs.Steps.{knownIn, PairOf, rootIn, RootOpened}
+use Rattle.turning.specs.Turns.{valueIn, relatedKind, memberKinds}
+use Rattle.turning.specs.Steps.{PairOf, RootOpened}
 
 abbrev nothing : Pair
 nothing = record { entity = 0; m = 0 }

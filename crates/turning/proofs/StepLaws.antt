@@ -3,10 +3,9 @@ use Prim.Native.Nat.{ℕ, zero, suc, _+_, _/_, _%_, _<_, _≤_}
 use native.Mathlib.Omega.{arith}
 use native.Mathlib.Numerals.{add-one}
 use mathlib.Core.Path.{_≡_, refl, ap, sym, _∙_}
-use mathlib.Core.List.{List, [], _∷_, map}
+use mathlib.Core.List.{List, [], _∷_}
 use mathlib.Core.Bool.{Bool, true, false}
-use mathlib.Core.Option.{Option, none, some}
-use lib.ListN.{length, getD, set, take, drop}
+use lib.ListN.{length, getD, set}
 use lib.Seq.{sets, drop-cons}
 use lib.Dec.{eqb, ltb}
 use borrow.Author.Tests.{eq-eqb, ne-eqb, ltb-true, ltb-false}
@@ -16,18 +15,17 @@ use Rattle.pack.specs.Table.{pick, kindOf, valueOf, entryOf, table, fieldsOf}
 use Rattle.pack.proofs.Listed.{in-range}
 use Rattle.directions.specs.declared.direction.Direction.{Direction}
 use Rattle.directions.specs.declared.direction.Direction.the-variants.{Turned, Open}
-use Rattle.directions.specs.Direction.{turn, Membership}
+use Rattle.directions.specs.Direction.{Membership}
 use Rattle.directions.specs.Direction as direction
-use Rattle.directions.specs.Turning.{Citing, Fields, withSlots, stops, aggregate, allowedInput, onlyRelated, membershipTest, stepBy}
-use Rattle.directions.specs.Words.{tablesIn, membershipIn, MemberTurned}
+use Rattle.directions.specs.Turning.{Fields, withSlots, stops, aggregate, allowedInput, onlyRelated, membershipTest, stepBy}
+use Rattle.directions.specs.Words.{tablesIn, membershipIn, MemberTurned, SlotsFit}
 use Rattle.inputs.specs.Blocks.{inputIn}
-use Rattle.directions.specs.Words.{SlotsFit}
 use Rattle.directions.proofs.SlotLaws.{member-fits-code}
 use Rattle.turning.specs.declared.step.Out.{Out}
-use Rattle.turning.specs.declared.step.Out.the-variants.{Opens, Sets, Passes, Stops}
+use Rattle.turning.specs.declared.step.Out.the-variants.{Opens, Passes, Stops}
 use Rattle.turning.specs.Notes.{Note, lookBy, lookOf, noteCode}
-use Rattle.turning.specs.Turns.{lostOf, Root, citing, valueIn, kindIn, held, fieldsAt, stepAt}
-use Rattle.turning.specs.Steps.{orNot, knownIn, NodeStands, turnAt, outBy, outAt, wentBy, testedBy, allowedBy, onlyBy, OutFits, StepTaken}
+use Rattle.turning.specs.Turns.{lostOf, valueIn, kindIn, held, fieldsAt, stepAt}
+use Rattle.turning.specs.Steps.{orNot, NodeStands, turnAt, outBy, outAt, wentBy, testedBy, allowedBy, onlyBy, OutFits, StepTaken}
 use Rattle.turning.proofs.CodeLaws.{code-parts}
 
 -- ---- fields read from the words

@@ -2,7 +2,7 @@
 use Prim.Native.Nat.{ℕ, suc, _+_, _<_, _≤_}
 use native.Mathlib.Omega.{arith}
 use native.Mathlib.Numerals.{add-one}
-use mathlib.Core.Path.{_≡_, refl, ap, sym, _∙_, subst}
+use mathlib.Core.Path.{_≡_, refl, ap, sym, _∙_}
 use mathlib.Core.List.{List, [], _∷_}
 use lib.ListN.{length, getD}
 use Rattle.pack.specs.declared.answer.Refusal.{Refusal}
@@ -10,7 +10,6 @@ use Rattle.directions.specs.Turning.{Outcome, done, refused, andThen}
 use Rattle.turning.specs.declared.root.Root as code
 use Rattle.turning.specs.declared.turns.Next.{Next}
 use Rattle.turning.specs.declared.turns.Next.the-variants as next
-use Rattle.turning.specs.declared.turns.Ended.{Ended}
 use Rattle.turning.specs.declared.turns.Ended.the-variants as ended
 use Rattle.turning.specs.Notes.{Note, noteCode, Held}
 use Rattle.turning.specs.Turns.{Known, Root, Work, work, nowhere, turnNote, turnNotes}

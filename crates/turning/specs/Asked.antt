@@ -1,9 +1,9 @@
 -- What stamping asks for, from the notes. 01, "Resolving", 4: "that some atom or Exists names, or whose predicate holds kinds 102 to 104".
-use Prim.Native.Nat.{ℕ, _+_, _<_, _≤_}
+use Prim.Native.Nat.{ℕ, _+_, _<_}
 use mathlib.Core.Path.{_≡_}
 use mathlib.Core.List.{List, [], _∷_}
-use mathlib.Core.Bool.{Bool, false, _||_, _&&_}
-use lib.ListN.{length, getD, set}
+use mathlib.Core.Bool.{Bool, _||_}
+use lib.ListN.{length, set}
 use lib.Dec.{eqb}
 use Rattle.pack.specs.Table.{pick}
 use Rattle.chains.specs.Reach.{any}

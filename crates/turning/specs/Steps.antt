@@ -5,7 +5,6 @@ use mathlib.Core.List.{List, [], _∷_}
 use mathlib.Core.Bool.{Bool, true, false}
 use lib.ListN.{length, getD}
 use lib.Dec.{eqb}
-use Rattle.pack.specs.declared.answer.Refusal.{Refusal}
 use Rattle.pack.specs.Table.{pick, kindOf, valueOf, entryOf, fieldsOf}
 use Rattle.pack.specs.Pack.{Pack, yes, read, words}
 use Rattle.inputs.specs.Blocks.{inputIn}

@@ -49,7 +49,7 @@ pub struct Span {
 
 // The notes of a pack, likewise: so many of relations, which come first, and so many in all.
 pub struct Counts {
-    pub relations: usize,
+    pub noted: usize,
     pub all: usize,
     pub blocks: Blocks,
 }
@@ -187,11 +187,11 @@ pub fn turn_pack(
     notes: &mut [u32],
     counts: Counts,
 ) -> Ended
-    requires { ⌜ PackAsked (now pack) (startsIn (now dir)) (now marks) (now taken) (now work) (now notes) (counts .blocks .at) (counts .blocks .count) (counts .relations) (counts .all) ⌝ }
+    requires { ⌜ PackAsked (now pack) (startsIn (now dir)) (now marks) (now taken) (now work) (now notes) (counts .blocks .at) (counts .blocks .count) (counts .noted) (counts .all) ⌝ }
     ensures { λ r. ⌜ PackTurned (now (pack .entry)) r (now (work .exit)) ⌝ }
 {
     let blocks = counts.blocks;
-    let from = counts.relations + 1;
+    let from = counts.noted + 1;
     let to = counts.all + 1;
     let span = Span { from, to, blocks };
     let rules = turns(pack, dir, marks, taken, work, notes, span);
