@@ -12,16 +12,17 @@ impl Pack {
 
     pub const MOST_WORDS: usize = 8192;
 
+    // A pack of so many words is small: clearing large arrays for it would take longer than the work.
+    pub const FEW_WORDS: usize = 256;
+
     // From here on a number is no place but the code of a refusal.
     pub const CODES: usize = 65536;
 }
 
-// Notes: how many there are at most, and how long the array of them and their count is. A note's number has LOST more where membership is
-// lost, and INSIDE times the number of the note inside which it stands.
+// Notes: how many there are at most. A note's number has LOST more where membership is lost, and INSIDE times the number of the note
+// inside which it stands.
 impl Pack {
     pub const MOST_NOTES: u32 = 8192;
-
-    pub const NOTES: usize = 8193;
 
     pub const LOST: u32 = 8192;
 

@@ -319,7 +319,7 @@ module _ {ws dir marks taken notes : List ℕ} {f : Figures} {work : List ℕ} (
 pub blocks-near : {ws : List ℕ} {l : Layout} {dir : List ℕ} → IsDirectory ws l dir → l .blocks < 8192
 blocks-near {ws} d = let s = short-checked (d .checked) in omega (arith, reads-inputs ws (d .checked .pack) (d .checked .reads) (d .blocked) .near)
 
-pub in-asked : {ws : List ℕ} {l : Layout} {dir : List ℕ} {noted all : ℕ} {notes work : List ℕ} → CheckedAsked ws l dir noted all notes work
+pub in-asked : {ws : List ℕ} {l : Layout} {dir notes work : List ℕ} → CheckedAsked ws l dir notes work
     → {marks taken : List ℕ} {steps : ℕ} → Filled ws (namesIn dir (l .relations)) (startsIn dir) marks taken steps → {count : ℕ} → count ≡ valueAt ws (l .blocks)
-    → ResolveAsked ws dir marks taken notes (record { relations = l .relations; notes = record { noted = noted; all = all; blocks = record { at = l .blocks + 1; count = count } }; steps = steps }) work
+    → ResolveAsked ws dir marks taken notes (record { relations = l .relations; notes = record { noted = l .noted; all = l .all; blocks = record { at = l .blocks + 1; count = count } }; steps = steps }) work
 in-asked {l = l} a f e = record { layout = l; directory = a .directory; filled = f; counts = refl; blocks = refl; many = e; noted = a .notes-in; room = a .room }

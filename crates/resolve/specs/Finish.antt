@@ -84,7 +84,14 @@ pub record ResolveAsked (ws dir marks taken notes : List ℕ) (f : Figures) (wor
   pub noted : NotesIn (directory .checked .pack) notes (f .notes .noted) (f .notes .all)
   pub room : length work ≡ length ws
 
-pub record CheckedAsked (ws : List ℕ) (l : Layout) (dir : List ℕ) (noted all : ℕ) (notes work : List ℕ) : Type 0 where
+pub record CheckedAsked (ws : List ℕ) (l : Layout) (dir notes work : List ℕ) : Type 0 where
   pub directory : IsDirectory ws l dir
-  pub notes-in : NotesIn (directory .checked .pack) notes noted all
+  pub notes-in : NotesIn (directory .checked .pack) notes (l .noted) (l .all)
   pub room : length work ≡ length ws
+
+-- an array for the notes of a pack, which has none yet, and one for a copy of its words
+pub record RoomFor (ws notes work : List ℕ) : Type 0 where
+  pub first : 0 < length notes
+  pub blank : getD notes 0 0 ≡ 0
+  pub noted : length ws ≤ 8192 → length ws < length notes
+  pub copied : length ws ≤ 8192 → length ws ≤ length work

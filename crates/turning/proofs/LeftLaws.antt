@@ -10,10 +10,15 @@ use lib.Seq.{sets, getD-set-same, getD-set-other}
 use Rattle.pack.specs.Table.{judgment}
 use Rattle.pack.specs.Form.{Fine, wordsBy}
 use Rattle.pack.specs.Tree.{Tree, root, tree}
-use Rattle.pack.specs.Pack.{Derivation, Relation, Body, Rule, Pack, WellFormed, total, body, rule, toRow}
+use Rattle.pack.specs.Pack.{Derivation, Relation, Body, Rule, Pack, WellFormed, yes, read, total, body, rule, toRow}
+use Rattle.pack.proofs.PackLaws.{words-read, words-length}
 use Rattle.reading.specs.Noting.{push, nextNote, noteTree, pushAll}
 use Rattle.reading.proofs.NotesLaws.{push-long, push-count, all-long, all-count, all-append, all-sets, shaped, noted-tree}
-use Rattle.records.specs.Directory.{hops, notesAll, relationsAt, rulesAt, Clear}
+use Rattle.records.specs.Directory.{hops, notesAll, relationsAt, rulesAt, Clear, layoutOf}
+use Rattle.records.specs.declared.directory.Layout.{Layout}
+use Rattle.records.specs.declared.directory.Laid.{Laid}
+use Rattle.records.specs.declared.directory.Laid.the-variants.{Yes}
+use Rattle.checking.specs.Checked.{CheckedNotes}
 use Rattle.records.specs.Notes.{opened, inside, noteBody, bodyAt, noteBodies, noteRule, noteRules, noteOptional, notePredicate, notePredicates, relationsLeft, notesLeft}
 use Rattle.checking.proofs.CheckLaws.{clear-zeros}
 use Rattle.chains.specs.Places.{relationWords, firstRelation}
@@ -225,3 +230,22 @@ module _ (p : Pack) (w : WellFormed p) (e : List ℕ) (long : 0 < length e) (bla
         first = first-many;
         many = all-many;
       }
+
+-- of a pack that was checked
+pub noted-there : {ws d e d′ e′ : List ℕ} {r : Laid} → CheckedNotes ws d e r d′ e′ → {l : Layout} → r ≡ Yes l → 0 < length e → getD e 0 0 ≡ 0 → length ws < length e → (p : Pack) → read ws ≡ yes p
+    → NotesIn p e′ (l .noted) (l .all)
+unfolding layoutOf
+noted-there {ws} {e = e} {e′ = e′} {r = r} c {l} o long blank room p h =
+    let was = words-read ws p h in
+    let size : total p ≡ length ws = sym (words-length p) ∙ ap length (was .same) in
+    let first = relationsLeft (p .names) 2 (toRow p .1) e in
+    let q : Yes l ≡ Yes (layoutOf (p .names) 2 (length ws) (toRow p .1) (getD first 0 0) (getD (notesLeft (p .names) 2 (toRow p .1) e) 0 0)) = sym o ∙ c .lays p h in
+    let same : l ≡ layoutOf (p .names) 2 (length ws) (toRow p .1) (getD first 0 0) (getD (notesLeft (p .names) 2 (toRow p .1) e) 0 0) = cc in
+    let k = notes-in p (was .fine) e long blank (omega (arith, size, room)) in
+    let left = c .notes p h in
+    record {
+      room = omega (arith, ap (λ (x : Layout). x .all) same, k .room, ap length left);
+      held = subst (λ (x : List ℕ). Held x 1 (notesOfPack p)) (sym left) (k .held);
+      first = ap (λ (x : Layout). x .noted) same ∙ k .first;
+      many = ap (λ (x : Layout). x .all) same ∙ k .many;
+    }

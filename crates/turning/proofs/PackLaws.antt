@@ -11,7 +11,7 @@ use Rattle.pack.specs.Table.{pick, wordOf, judgment}
 use Rattle.pack.specs.Form.{wordsBy, Fine}
 use Rattle.pack.specs.Tree.{Tree, Forest, node, more, tree}
 use Rattle.pack.specs.Tree as trees
-use Rattle.pack.specs.Pack.{Derivation, Relation, Pack, WellFormed, words, blocks}
+use Rattle.pack.specs.Pack.{Derivation, Relation, Pack, WellFormed, words, blocks, total}
 use Rattle.pack.specs.Pack as pack
 use Rattle.pack.proofs.PackLaws.{words-read, words-length}
 use Rattle.reading.proofs.NotesLaws.{few-tree}
