@@ -4,7 +4,6 @@ pub mod Outside
 pub mod ChainLaws
 pub mod MappedLaws
 pub mod KindLaws
-pub mod Hushed
 pub mod RelationScan
 pub mod PackIndex
 pub mod SettleLaws

@@ -3,21 +3,17 @@ use Prim.Native.Nat.{ℕ, zero, suc, _+_, _*_, _<_, _≤_}
 use native.Mathlib.Omega.{arith}
 use mathlib.Core.Path.{_≡_, refl, ap, sym, _∙_}
 use mathlib.Core.List.{List, [], _∷_, _++_, append-assoc}
-use mathlib.Core.Bool.{Bool}
 use mathlib.Core.Option.{Option, none, some}
-use lib.ListN.{length, getD, drop, length-append, length-map}
-use lib.Seq.{getD-at, drop-at}
-use lib.Dec.{eqb, ltb}
-use borrow.Author.Tests.{eq-eqb, ne-eqb, lt-leb, le-leb, le-ltb, ltb-false}
-use Rattle.pack.specs.Table.{pick, kindOf, wordOf, valueOf, judgment}
-use Rattle.pack.specs.Form.{listOrNone, count, items, repeats, wordsBy, Fine}
-use Rattle.pack.specs.Tree.{tree, root}
+use lib.ListN.{length, getD, length-append, length-map}
+use lib.Seq.{getD-at}
+use borrow.Author.Tests.{eq-eqb, ne-eqb}
+use Rattle.pack.specs.Table.{wordOf, valueOf}
+use Rattle.pack.specs.Form.{listOrNone, count, items, repeats, wordsBy}
 use Rattle.pack.specs.Pack.{Hop, Derivation, Relation, relation, newName, relationTail, nameList, optionalDerivation, path, derivation, member}
-use Rattle.chains.specs.Places.{relationWords, hops}
-use Rattle.chains.specs.Record.{valueAt, kindCount, flagAt, slotsPlace, entityCount, predicateAt}
-use Rattle.chains.proofs.Hushed.{Quiet, tree-hushed}
+use Rattle.chains.specs.Places.{hops}
+use Rattle.chains.specs.Record.{valueAt, kindCount, flagAt, slotsPlace, entityCount}
 use Rattle.chains.proofs.RelationScan.{Fitting, Kept, kept}
-use Rattle.chains.proofs.ListAt.{nameWords, list-words, path-words, early, late, derived-fine, option-words, InWords}
+use Rattle.chains.proofs.ListAt.{nameWords, list-words, path-words, early, late, option-words, InWords}
 
 -- ---- what is read, in each way out
 
@@ -51,10 +47,6 @@ module _ (ws : List ℕ) (start : ℕ) where
   unfolding kindCount
   the-count e = e
 
-  pub the-predicate : {at count : ℕ} → at ≡ slotsPlace ws start → count ≡ valueAt ws (at + 4) → at + 5 + count ≡ predicateAt ws start
-  unfolding predicateAt entityCount
-  the-predicate s e = rw (e, s) refl
-
 -- ---- a relation that stands there
 
 -- the value of a word that stands at a place
@@ -72,10 +64,6 @@ steps-again : (p : Option (List Hop)) → ((l : List Hop) → p ≡ some l → l
 unfolding count
 steps-again none h = refl
 steps-again (some l) h = rw (ne-eqb (length l) 16777215 (λ e. omega (arith, h l refl))) refl
-
-predicate-fine : (n : ℕ) (d : Derivation) → Fine (derivation n) d → Fine (tree n 32 judgment) (d .predicate)
-unfolding derivation member root Fine
-predicate-fine n d f = f .1 .1 .1 .1
 
 module _ (ws : List ℕ) (start n : ℕ) (r : Relation) (i : InWords ws start n r) (most : n ≤ 4096) where
   k : Kept n (i .used) r
@@ -198,7 +186,7 @@ module _ (ws : List ℕ) (start n : ℕ) (r : Relation) (i : InWords ws start n 
         value-there ws (before-slots ++ two) (wordOf 20 (d .member) ∷ (tail ++ i .after)) 19 (d .entity) (slotsPlace ws start + 2)
         (slots-open ∙ sym (append-assoc before-slots two (wordOf 19 (d .entity) ∷ wordOf 20 (d .member) ∷ (tail ++ i .after)))) (length-append before-slots two ∙ omega (arith, before-length)) (g .entity)
 
-    -- list 21, and the predicate after it
+    -- list 21
     abbrev es : List ℕ
     es = d .slotEntities
 
@@ -215,25 +203,6 @@ module _ (ws : List ℕ) (start n : ℕ) (r : Relation) (i : InWords ws start n 
     unfolding entityCount
     entities-there = value-there ws (before-slots ++ four) ((nameWords es ++ late n d) ++ i .after) 21 (length es) (slotsPlace ws start + 4) four-open four-length (g .entities)
 
-    pub its-fine : Fine (tree n 32 judgment) (d .predicate)
-    unfolding relationTail Fine
-    its-fine = predicate-fine n d (derived-fine n (r .derivation) d e (k .tail .1 .1 .1))
-
-    abbrev pub before-predicate : List ℕ
-    before-predicate = (before-slots ++ four) ++ (wordOf 21 (length es) ∷ nameWords es)
-
-    pub predicate-open : ws ≡ before-predicate ++ (wordsBy (tree n 32 judgment) (d .predicate) ++ i .after)
-    unfolding root
-    predicate-open =
-        let t : List ℕ = wordsBy (tree n 32 judgment) (d .predicate) in
-        four-open
-        ∙ ap (λ (l : List ℕ). (before-slots ++ four) ++ (wordOf 21 (length es) ∷ l)) (append-assoc (nameWords es) (t ++ []) (i .after) ∙ ap (λ (l : List ℕ). nameWords es ++ l) (append-assoc t [] (i .after)))
-        ∙ sym (append-assoc (before-slots ++ four) (wordOf 21 (length es) ∷ nameWords es) (t ++ i .after))
-
-    pub predicate-there : length before-predicate ≡ predicateAt ws start
-    unfolding predicateAt
-    predicate-there = length-append (before-slots ++ four) (wordOf 21 (length es) ∷ nameWords es) ∙ omega (arith, four-length, length-map es (wordOf 10), entities-there)
-
   -- the kinds of list 9
   abbrev pub after-nine : List ℕ
   after-nine = (i .before ++ three) ++ (wordOf 9 (length ks) ∷ [])
@@ -243,13 +212,3 @@ module _ (ws : List ℕ) (start n : ℕ) (r : Relation) (i : InWords ws start n 
 
   pub nine-length : length after-nine ≡ start + 4
   nine-length = length-append (i .before ++ three) (wordOf 9 (length ks) ∷ []) ∙ omega (arith, length-append (i .before) three, i .long)
-
--- ---- what follows it
-
--- the words after a tree: none, or one that is no word of a tree
-abbrev pub Ends : List ℕ → Type 0
-Ends [] = Unit {0}
-Ends (w ∷ ws) = kindOf w < 64
-
-abbrev pub low : ℕ → Bool
-low k = ltb k 64

@@ -1,9 +1,8 @@
 -- What the code reads of a relation from the words of a pack, at the place where its record starts.
-use Prim.Native.Nat.{ℕ, suc, _+_, _*_, _≤_}
-use mathlib.Core.List.{List, [], _∷_}
-use lib.ListN.{getD, drop}
-use lib.Dec.{eqb, leb}
-use Rattle.pack.specs.Table.{pick, kindOf, valueOf}
+use Prim.Native.Nat.{ℕ, _+_, _*_, _≤_}
+use mathlib.Core.List.{List}
+use lib.ListN.{getD}
+use Rattle.pack.specs.Table.{valueOf}
 use Rattle.pack.specs.Form.{repeats}
 
 unfoldable pub valueAt : List ℕ → ℕ → ℕ
@@ -19,17 +18,9 @@ flagAt ws start = valueAt ws (start + 4 + kindCount ws start)
 unfoldable pub slotsPlace : List ℕ → ℕ → ℕ
 slotsPlace ws start = start + 4 + kindCount ws start + 3 + 3 * repeats (valueAt ws (start + 4 + kindCount ws start + 2))
 
--- the number of names in its list 21, whose count stands after 17 to 20; its predicate stands after them
+-- the number of names in its list 21, whose count stands after 17 to 20
 unfoldable pub entityCount : List ℕ → ℕ → ℕ
 entityCount ws start = valueAt ws (slotsPlace ws start + 4)
-
-unfoldable pub predicateAt : List ℕ → ℕ → ℕ
-predicateAt ws start = slotsPlace ws start + 5 + entityCount ws start
-
--- how many words of nodes a list begins with: the words of a tree are of kinds of 64 and above, and what follows one is not
-unfoldable pub nodesIn : List ℕ → ℕ
-nodesIn [] = 0
-nodesIn (w ∷ ws) = pick (leb 64 (kindOf w)) (suc (nodesIn ws)) 0
 
 -- no record starts past the place 65,536, so that sums of places stay small
 unfoldable pub Recorded : List ℕ → Type 0

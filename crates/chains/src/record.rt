@@ -2,7 +2,7 @@
 use pack::kinds::Pack;
 ghost use mathlib.Core.Path.{_≡_};
 ghost use Prim.Native.Nat.{_<_, _≤_};
-ghost use Rattle.chains.specs.Record.{valueAt, kindCount, flagAt, slotsPlace, predicateAt};
+ghost use Rattle.chains.specs.Record.{valueAt, kindCount, flagAt, slotsPlace};
 
 // The value of the word at a place.
 pub fn value_at(pack: &[u32], at: usize) -> u32
@@ -41,13 +41,4 @@ pub fn slots_place(pack: &[u32], start: usize) -> usize
         return at + 3;
     }
     at + 3 + 3 * steps as usize
-}
-
-// The place of its predicate.
-pub fn predicate_place(pack: &[u32], start: usize) -> usize
-    requires { ⌜ start ≤ 65536 ⌝ }
-    ensures { λ r. ⌜ (r ≡ predicateAt (now (pack .entry)) start) × (r < 268435456) ⌝ }
-{
-    let at = slots_place(pack, start);
-    at + 5 + value_at(pack, at + 4) as usize
 }

@@ -116,11 +116,6 @@ module _ (ws : List ℕ) (m : ℕ) where
       ap (λ (b : Bool). hits ws n current m || b) (marked-append ns ms (relationAfter ws n current))
       ∙ sym (or-assoc (hits ws n current m) (marked ws ns (relationAfter ws n current) m) (marked ws ms (after-all ws ns (relationAfter ws n current)) m))
 
-  after-append : (ns ms : List Note) (current : ℕ) → after-all ws (ns ++ ms) current ≡ after-all ws ms (after-all ws ns current)
-  unfolding after-all
-  after-append [] ms current = refl
-  after-append (n ∷ ns) ms current = after-append ns ms (relationAfter ws n current)
-
 -- ---- notes of nodes stand in the relation or rule before them
 
 abbrev AllInside : List Note → Type 0

@@ -107,9 +107,6 @@ pub four-words : {ws : List ℕ} {at : ℕ} → NodeStands ws at → entryOf (ki
 unfolding fieldsOf
 four-words {ws} {at} s e = let h = s .fields in let l = ap (λ (w : Follows). length (fieldsOf w)) e in omega arith
 
-pub node-there : {ws : List ℕ} {at : ℕ} → NodeStands ws at → at < length ws
-node-there s = omega (arith, s .fields)
-
 -- the three that have slots
 pub slots-of : {w v : Follows} → w ≡ v → lookBy v .slots ≡ true → lookBy w .slots ≡ true
 slots-of e h = ap (λ (x : Follows). lookBy x .slots) e ∙ h
@@ -204,9 +201,6 @@ module _ {ws records marks taken : List ℕ} {blocks count origin entity at : �
 
 pub derived-out : (number : ℕ → ℕ → ℕ) (word : ℕ) {c r owner : ℕ} {d : Direction} → d ≡ Turned c r owner → kindOf word ≡ 84 → Stops 11 (valueOf word) ≡ onlyBy number word d
 derived-out number word e h = rw (e, eq-eqb _ _ h) refl
-
-pub open-out : (number : ℕ → ℕ → ℕ) (word : ℕ) {other : ℕ} {d : Direction} {o : Out} → d ≡ Open other → o ≡ wentBy d → o ≡ onlyBy number word d
-open-out number word e q = q ∙ rw e refl
 
 module _ (number : ℕ → ℕ → ℕ) (word : ℕ) {c r owner n : ℕ} {d : Direction} (e : d ≡ Turned c r owner) (h : kindOf word ≡ 84 → ⊥) (q : n ≡ number owner (valueOf word)) where
   pub input-out : n ≡ 0 → Opens c r 0 ≡ onlyBy number word d
