@@ -41,12 +41,12 @@ placed-in ws i (n ∷ ns) h = (h .0 .near, inside-words ws i n (h .0), placed-in
 pub notes-inside : (p : Pack) → WellFormed p → InWords (words p) (notesOfPack p)
 notes-inside p w = placed-in (words p) 1 (notesOfPack p) (all-placed p w)
 
--- the tables, the marks of kinds and what entities take are what is known of the pack
 number-again : (o : Option ℕ) → OfInput o → orNot (numberOf o) ≡ o
 number-again none h = refl
 number-again (some zero) h = absurd (omega (arith, h .0))
 number-again (some (suc n)) h = refl
 
+-- the tables, the marks of kinds and what entities take are what is known of the pack
 pub known-is : (ws records marks taken names : List ℕ) (steps : ℕ) (p : Pack) → read ws ≡ yes p → Noted ws names records → KindsMarked ws steps names marks → taking.Known ws taken
     → {at : ℕ} → BlocksAt ws at → knownIn ws records marks taken (at + 1) (valueAt ws at) ≡ knownOf p
 known-is ws records marks taken names steps p h noted marked knows {at} e =
