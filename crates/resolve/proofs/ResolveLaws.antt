@@ -1,5 +1,5 @@
 -- What Resolve answers and leaves, from its steps.
-use Prim.Native.Nat.{ℕ, _+_, _<_}
+use Prim.Native.Nat.{ℕ, _+_, _<_, _≤_}
 use native.Mathlib.Omega.{arith}
 use mathlib.Core.Path.{_≡_, refl, ap, sym, _∙_, subst}
 use mathlib.Core.List.{List, [], _∷_, map}
@@ -20,9 +20,16 @@ use Rattle.chains.specs.Places.{firstRelation, startOf}
 use Rattle.chains.specs.Answers.{Answered}
 use Rattle.chains.specs.Entry.{startsIn, namesIn}
 use Rattle.records.specs.declared.directory.Layout.{Layout}
+use Rattle.records.specs.declared.directory.Laid.{Laid}
+use Rattle.records.specs.declared.directory.Laid.the-variants.{Yes}
+use Rattle.records.specs.Directory.{Clear}
+use Rattle.checking.specs.Checked.{namesSaid, CheckedNotes}
+use Rattle.checking.proofs.CheckLaws.{without-notes}
 use Rattle.chains.specs.AllKinds.{IsPack, IsDirectory}
 use Rattle.filtered.specs.Taking.{Filled, NamesLow}
 use Rattle.chains.proofs.CheckedLaws.{same-pack, short-checked}
+use Rattle.chains.proofs.EntryLaws.{directed}
+use Rattle.turning.proofs.LeftLaws.{noted-there}
 use Rattle.filtered.proofs.TakenKnown.{takeable}
 use Rattle.inputs.proofs.BlocksStand.{reads-inputs}
 use Rattle.chains.proofs.PackIndex.{parts, find-name, find-kept}
@@ -34,7 +41,7 @@ use Rattle.directions.specs.Words.{derivedBy, tablesIn, firstEqual, DefaultedFi
 use Rattle.chains.specs.Record.{valueAt}
 use Rattle.directions.specs.Records.{withRecords, turned, Tabled}
 use Rattle.resolve.specs.declared.finish.Figures.{Figures}
-use Rattle.resolve.specs.Finish.{stampAll, unstamped, orderIn, AskedOf, TreesAsked, TreesCame, ResolveAsked, CheckedAsked, FinishAsked, FinishCame}
+use Rattle.resolve.specs.Finish.{stampAll, unstamped, orderIn, AskedOf, TreesAsked, TreesCame, ResolveAsked, CheckedAsked, RoomFor, FinishAsked, FinishCame}
 use Rattle.resolve.proofs.OrderLaws.{order-is}
 use Rattle.turning.specs.declared.turns.Ended.{Ended}
 use Rattle.turning.specs.declared.turns.Ended.the-variants as ended
@@ -323,3 +330,30 @@ pub in-asked : {ws : List ℕ} {l : Layout} {dir notes work : List ℕ} → Chec
     → {marks taken : List ℕ} {steps : ℕ} → Filled ws (namesIn dir (l .relations)) (startsIn dir) marks taken steps → {count : ℕ} → count ≡ valueAt ws (l .blocks)
     → ResolveAsked ws dir marks taken notes (record { relations = l .relations; notes = record { noted = l .noted; all = l .all; blocks = record { at = l .blocks + 1; count = count } }; steps = steps }) work
 in-asked {l = l} a f e = record { layout = l; directory = a .directory; filled = f; counts = refl; blocks = refl; many = e; noted = a .notes-in; room = a .room }
+
+-- a pack that was checked and noted in arrays with room for it
+module _ {ws d e d′ e′ : List ℕ} {r : Laid} {l : Layout} (clear : Clear (namesSaid ws) d) (c : CheckedNotes ws d e r d′ e′) (o : r ≡ Yes l) where
+  pub its-directory : IsDirectory ws l d′
+  its-directory = directed clear (without-notes c) o
+
+  pub its-words : length ws ≤ 8192
+  its-words = short-checked (its-directory .checked)
+
+  pub checked-asked : {words work : List ℕ} → RoomFor ws e words → length work ≡ length ws → CheckedAsked ws l d′ e′ work
+  checked-asked room same =
+      record {
+        directory = its-directory;
+        notes-in = noted-there c o (room .first) (room .blank) (room .noted its-words) (its-directory .checked .pack) (its-directory .checked .reads);
+        room = same;
+      }
+
+pub room-for : (ws : List ℕ) (many : ℕ) → (length ws ≤ 8192 → length ws ≤ many) → RoomFor ws (replicate (many + 1) 0) (replicate many 0)
+room-for ws many fits =
+    let a = length-replicate {A = ℕ} (many + 1) 0 in
+    let b = length-replicate {A = ℕ} many 0 in
+    record {
+      first = omega arith;
+      blank = getD-replicate {A = ℕ} (many + 1) 0 0 0 (omega arith);
+      noted = λ m. omega (arith, fits m);
+      copied = λ m. omega (arith, fits m);
+    }

@@ -1,5 +1,5 @@
 -- What the parts of Resolve promise each other: the first three steps of Resolving, and the result.
-use Prim.Native.Nat.{ℕ, _+_}
+use Prim.Native.Nat.{ℕ, _+_, _<_, _≤_}
 use mathlib.Core.Path.{_≡_}
 use mathlib.Core.List.{List, map}
 use mathlib.Core.Bool.{_||_}

@@ -1,7 +1,6 @@
 -- `resolve::resolve::resolve_checked` meets its contract.
 use native.Mathlib.Omega.{arith}
 use mathlib.Core.Path.{refl}
-use Rattle.inputs.proofs.BlocksStand.{reads-inputs}
 use Rattle.resolve.proofs.ResolveLaws.{blocks-near, in-asked}
 use borrow.Author.Needs.{needs}
 use Rattle.resolve.proofs.resolve.resolve_checked.Statement.{statement}
@@ -19,11 +18,17 @@ value-at-requires c κs = search needs
 cast-count : tie.Need-cast-count
 cast-count c = search needs
 
+cast-noted : tie.Need-cast-noted
+cast-noted c = search needs
+
+cast-all : tie.Need-cast-all
+cast-all c = search needs
+
 cast-relations : tie.Need-cast-relations
 cast-relations c = search needs
 
 resolve-in-requires : tie.Need-resolve-in-requires
-resolve-in-requires c κs = in-asked (c .before .before .before .before .before .before .before .before .before .before .before .before .before .before .before .pre) (c .before .before .before .before .before .before .before .before .read-tables .ensures) (c .before .before .before .before .before .before .value-at .ensures .0)
+resolve-in-requires c κs = in-asked (c .before .before .before .before .before .before .before .before .before .before .before .before .before .before .before .before .before .pre) (c .before .before .before .before .before .before .before .before .before .before .read-tables .ensures) (c .before .before .before .before .before .before .before .before .value-at .ensures .0)
 
 same-length : tie.Need-same-length
 same-length c = search needs
@@ -38,16 +43,4 @@ returns : tie.Need-returns
 returns c = c .before .before .before .before .before .before .resolve-in .ensures
 
 pub resolve-checked-spec : {M : Type 1} → statement M
-resolve-checked-spec =
-    tie.close
-    (tie.spec
-    read-tables-requires
-    add-at
-    value-at-requires
-    cast-count
-    cast-relations
-    resolve-in-requires
-    same-length
-    same-length-2
-    same-length-3
-    returns)
+resolve-checked-spec = tie.close (tie.spec read-tables-requires add-at value-at-requires cast-count cast-noted cast-all cast-relations resolve-in-requires same-length same-length-2 same-length-3 returns)
