@@ -70,7 +70,7 @@ fn check_message(input: &Input, refusal: Refusal, due: Option<&Due>) -> String {
     let what = due.map_or("another word", |due| due.what);
     let due_kind = due.and_then(|due| due.kind).map_or(String::new(), |kind| format!(", which is of kind {kind},"));
     match refusal.number {
-        1 if !input.bytes.len().is_multiple_of(4) => {
+        1 if input.bytes.len() % 4 != 0 => {
             format!("{} bytes make no whole words of four bytes each", input.bytes.len())
         }
         1 => format!("this has {} words; a pack has 6 to {}", input.words.len(), with_comma(MAX_WORDS)),
