@@ -3,7 +3,7 @@ mod cases;
 
 use cases::Chance;
 use cogunwa_tool::accepted::accept;
-use cogunwa_tool::graph::picture;
+use cogunwa_tool::graph::{escaped, picture};
 use cogunwa_tool::held::{facts, find};
 use cogunwa_tool::input::from_bytes;
 
@@ -102,4 +102,9 @@ fn nothing_overlaps() {
         add(look(&format!("pack {i}"), words));
     }
     assert!(count.0 > 5000 && count.1 > 3000, "{count:?}");
+}
+
+#[test]
+fn texts_stand_in_xml() {
+    assert_eq!(escaped("a<b> & \"c\"\u{1}\u{FFFF}\n"), "a&lt;b&gt; &amp; &quot;c&quot;\u{FFFD}\u{FFFD}\n");
 }

@@ -50,7 +50,7 @@ const STYLE: &str = "<defs>\
 <marker id=\"round\" viewBox=\"0 0 10 10\" refX=\"9\" refY=\"5\" markerWidth=\"5\" markerHeight=\"5\" orient=\"auto\"><path d=\"M0 0L10 5L0 10z\" fill=\"#7e22ce\"/></marker>\
 </defs>\n";
 
-/// A text that can stand in XML. Names are shown without control characters.
+/// A text that can stand in XML, which has no control characters and not U+FFFE and U+FFFF.
 pub fn escaped(text: &str) -> String {
     let mut out = String::new();
     for c in text.chars() {
@@ -59,6 +59,7 @@ pub fn escaped(text: &str) -> String {
             '<' => out.push_str("&lt;"),
             '>' => out.push_str("&gt;"),
             '"' => out.push_str("&quot;"),
+            '\u{FFFE}' | '\u{FFFF}' => out.push('\u{FFFD}'),
             c if c.is_control() && c != '\n' => out.push('\u{FFFD}'),
             c => out.push(c),
         }
