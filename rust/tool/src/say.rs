@@ -53,13 +53,13 @@ fn among_words(input: &Input, refusal: Refusal, message: &str) -> String {
 fn record(input: &Input, record: Record) -> Option<String> {
     let named = |sort: &str, index: usize, name: Option<u32>| match name {
         Some(name) => format!("the {sort} {}", input.naming.show(name)),
-        None => format!("{sort} {}", index + 1),
+        None => format!("{sort} {index}"),
     };
     match record {
         Record::Header => None,
         Record::Relation(index, name) => Some(named("relation", index, name)),
         Record::Rule(index, name) => Some(named("rule", index, name)),
-        Record::Block(index) => Some(format!("block of inputs {}", index + 1)),
+        Record::Block(index) => Some(format!("block of inputs {index}")),
     }
 }
 
