@@ -36,6 +36,9 @@ const MOST_BYTES: u64 = 16 << 20;
 
 /// Reads a pack from a file, or from standard input where that is `-`.
 pub fn load(file: &str, names: Option<&str>) -> Outcome<Input> {
+    if file == "-" && names == Some("-") {
+        return Err(unusable("standard input: this cannot be both the pack and the list of its names"));
+    }
     let bytes = read_file(file)?;
     let shown = if file == "-" { "standard input" } else { file };
     if bytes.is_empty() {
@@ -60,6 +63,9 @@ pub fn load(file: &str, names: Option<&str>) -> Outcome<Input> {
 pub fn read_file(file: &str) -> Outcome<Vec<u8>> {
     let trouble = |error: io::Error| unusable(format!("{file}: {}", in_words(&error)));
     let mut bytes = vec![];
+    if file.is_empty() {
+        return Err(unusable("cogunwa: a file is given without a name"));
+    }
     if file == "-" {
         io::stdin().lock().take(MOST_BYTES + 1).read_to_end(&mut bytes).map_err(trouble)?;
     } else {
