@@ -54,7 +54,7 @@ fn read_picture(svg: &str) -> Picture {
             let text = plain(line.split_once('>').unwrap().1.trim_end_matches("</text>"));
             let text = (number(line, "x"), number(line, "y"), text.chars().count());
             picture.boxes.last_mut().unwrap().1.push(text);
-        } else if let Some(points) = line.strip_prefix("<path d=\"M").filter(|_| line.contains("marker-end")) {
+        } else if let Some(points) = line.strip_prefix("<path d=\"M").filter(|_| line.contains("fill=\"none\"")) {
             let points = points.split_once('"').unwrap().0.split('L');
             let point = |p: &str| p.split_once(' ').map(|(x, y)| (x.parse().unwrap(), y.parse().unwrap())).unwrap();
             picture.arrows.push(points.map(point).collect());
