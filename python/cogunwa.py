@@ -17,6 +17,7 @@ less than a thread of Python has unless it was given less (threading.stack_size)
 import ctypes
 import ctypes.util
 import enum
+import operator
 import os
 import struct
 from typing import Iterable, List, NamedTuple, Optional, Sequence, Union
@@ -163,9 +164,9 @@ def _words(pack: Pack) -> Sequence[int]:
 
 
 def _name(name: int) -> int:
-    if not 0 <= name < 1 << 32:
+    if not hasattr(name, "__index__") or not 0 <= name < 1 << 32:
         raise ValueError("a name is a whole number from 0 to 4294967295")
-    return name
+    return operator.index(name)
 
 
 def _given(answer: int):

@@ -102,7 +102,7 @@ class Refusals(unittest.TestCase):
     def test_what_is_no_word_or_name(self):
         for words in [[-1], [2**32], [1.5], ["1"]]:
             self.assertRaises(ValueError, cogunwa.check, words)
-        for name in [-1, 2**32]:
+        for name in [-1, 2**32, 1.5, "1", None]:
             self.assertRaises(ValueError, cogunwa.kinds_of, SMALLEST, name)
         self.assertRaises(ValueError, cogunwa.word, 256, 0)
 
