@@ -10,16 +10,15 @@
 
 #include "cogunwa.h"
 
-// The bytes of the words, four a word, low byte first.
-static std::vector<std::uint8_t> read_pack(const char *file)
+// The bytes of the words, four a word, low byte first; whether there was nothing else to the end of the file.
+static bool read_pack(const char *file, std::vector<std::uint8_t> &bytes)
 {
-    std::vector<std::uint8_t> bytes;
     std::ifstream text(file);
     std::uint32_t word;
     while (text >> std::hex >> word)
         for (int shift = 0; shift < 32; shift += 8)
             bytes.push_back(static_cast<std::uint8_t>(word >> shift));
-    return bytes;
+    return text.eof();
 }
 
 int main(int argc, char **argv)
@@ -28,8 +27,12 @@ int main(int argc, char **argv)
         std::fprintf(stderr, "usage: link FILE\n");
         return 2;
     }
+    std::vector<std::uint8_t> pack;
+    if (!read_pack(argv[1], pack)) {
+        std::fprintf(stderr, "%s: cannot be read, or has something else than words\n", argv[1]);
+        return 2;
+    }
     // An empty vector is fine too: it is refused by COGUNWA_WRONG_LENGTH.
-    std::vector<std::uint8_t> pack = read_pack(argv[1]);
     std::vector<std::uint8_t> out(COGUNWA_MAX_BYTES);
     std::uint64_t answer = cogunwa_resolve(pack.data(), pack.size(), out.data(), out.size());
     if (cogunwa_number(answer) != COGUNWA_OK) {

@@ -17,6 +17,7 @@ less than a thread of Python has unless it was given less (threading.stack_size)
 import ctypes
 import ctypes.util
 import enum
+import operator
 import os
 import struct
 from typing import Iterable, List, NamedTuple, Optional, Sequence, Union
@@ -155,10 +156,17 @@ def _bytes(pack: Pack) -> bytes:
         raise ValueError("a word is a whole number from 0 to 4294967295") from error
 
 
+def _words(pack: Pack) -> Sequence[int]:
+    if not isinstance(pack, (bytes, bytearray, memoryview)):
+        return pack
+    data = bytes(pack)
+    return struct.unpack_from(f"<{len(data) // 4}I", data)
+
+
 def _name(name: int) -> int:
-    if not 0 <= name < 1 << 32:
+    if not hasattr(name, "__index__") or not 0 <= name < 1 << 32:
         raise ValueError("a name is a whole number from 0 to 4294967295")
-    return name
+    return operator.index(name)
 
 
 def _given(answer: int):
@@ -252,16 +260,17 @@ def word_value(word: int) -> int:
     return word & 0xFFFFFF
 
 
-def relations(words: Iterable[int]) -> List[int]:
+def relations(pack: Pack) -> List[int]:
     """The names of a pack's relations in record order."""
-    return [word_value(word) for word in words if word_kind(word) == 6]
+    return [word_value(word) for word in _words(pack) if word_kind(word) == 6]
 
 
-def kinds_at(words: Sequence[int], place: Optional[int]) -> List[int]:
+def kinds_at(pack: Pack, place: Optional[int]) -> List[int]:
     """The names in the list whose count word is at this place; none for None."""
     if place is None:
         return []
-    if word_kind(words[place]) not in (9, 21):
+    words = _words(pack)
+    if not 0 <= place < len(words) or word_kind(words[place]) not in (9, 21):
         raise ValueError(f"word {place} is no count of kinds")
     return [word_value(word) for word in words[place + 1 : place + 1 + word_value(words[place])]]
 

@@ -32,6 +32,8 @@ class Operations(unittest.TestCase):
         for pack in [self.sample, tuple(self.sample), data, bytearray(data), memoryview(data)]:
             self.assertIsNone(cogunwa.check(pack))
             self.assertEqual(cogunwa.rewrite(pack), self.sample)
+            self.assertEqual(cogunwa.relations(pack), [9, 7])
+            self.assertEqual(cogunwa.kinds_at(pack, 8), [2, 1])
 
     def test_kinds(self):
         kinds = cogunwa.all_kinds(self.sample)
@@ -40,7 +42,8 @@ class Operations(unittest.TestCase):
         self.assertEqual([cogunwa.kinds_at(self.sample, place) for place in kinds.places], [[2, 1], [2, 1]])
         self.assertEqual([cogunwa.kinds_of(self.sample, name) for name in (7, 3)], [8, None])
         self.assertEqual(cogunwa.kinds_at(self.sample, None), [])
-        self.assertRaises(ValueError, cogunwa.kinds_at, self.sample, 0)
+        for place in [0, -1, 60]:
+            self.assertRaises(ValueError, cogunwa.kinds_at, self.sample, place)
 
     def test_lean(self):
         self.assertIs(cogunwa.lean(self.sample, 7, 9), True)
@@ -99,7 +102,7 @@ class Refusals(unittest.TestCase):
     def test_what_is_no_word_or_name(self):
         for words in [[-1], [2**32], [1.5], ["1"]]:
             self.assertRaises(ValueError, cogunwa.check, words)
-        for name in [-1, 2**32]:
+        for name in [-1, 2**32, 1.5, "1", None]:
             self.assertRaises(ValueError, cogunwa.kinds_of, SMALLEST, name)
         self.assertRaises(ValueError, cogunwa.word, 256, 0)
 

@@ -23,7 +23,7 @@ fn main() -> ExitCode {
         Ok(()) => ExitCode::SUCCESS,
         Err(r) => {
             println!("refused {} {} {} {}: {r}", r.number, r.place, r.name, r.other);
-            if let Some(&word) = words.get(r.place).filter(|_| r.number != 1) {
+            if let Some(&word) = words.get(r.place).filter(|_| !matches!(r.number, 1 | 16)) {
                 println!("  word {} is {word:08X}: kind {}, value {}", r.place, word_kind(word), word_value(word));
             }
             ExitCode::FAILURE

@@ -104,10 +104,28 @@ pub struct Resolved {
 #[derive(Clone, Debug, PartialEq, Eq, Hash)]
 #[non_exhaustive]
 pub struct AllKinds {
-    /// For each relation in record order the place of its kinds; [`relations`] has the names in the same order.
+    /// For each relation in record order the place of its kinds; [`each`](AllKinds::each) has names and kinds too.
     pub places: Vec<Option<usize>>,
     /// How many names were read on the way.
     pub steps: u32,
+}
+
+impl AllKinds {
+    /// Each relation in record order: its name, the place of its kinds, and the kinds. The words are those of the pack that
+    /// was handed over.
+    ///
+    /// ```
+    /// # let hex = include_str!(concat!(env!("CARGO_MANIFEST_DIR"), "/../examples/household.hex"));
+    /// # let words = cogunwa::words_of_hex(hex).unwrap();
+    /// let kinds = cogunwa::all_kinds_vec(&cogunwa::bytes_of(&words))?;
+    /// let each: Vec<_> = kinds.each(&words).collect();
+    /// assert_eq!(each, [(9, Some(8), vec![2, 1]), (7, Some(8), vec![2, 1])]);
+    /// # Ok::<(), cogunwa::Refusal>(())
+    /// ```
+    pub fn each<'a>(&'a self, words: &'a [u32]) -> impl Iterator<Item = (u32, Option<usize>, Vec<u32>)> + Clone + 'a {
+        let kinds = |place: Option<usize>| place.into_iter().flat_map(|place| kinds_at(words, place)).collect();
+        relations(words).zip(&self.places).map(move |(name, &place)| (name, place, kinds(place)))
+    }
 }
 
 /// Takes an answer apart: number in bits 0 to 5, place in 6 to 19, name in 20 to 51, other in 52 to 63. With the number
@@ -220,15 +238,9 @@ pub fn all_kinds(pack: &[u8], out: &mut [u8]) -> Result<Written, Refusal> {
 ///
 /// ```
 /// # let hex = include_str!(concat!(env!("CARGO_MANIFEST_DIR"), "/../examples/household.hex"));
-/// # let words = cogunwa::words_of_hex(hex).unwrap();
-/// # let pack = cogunwa::bytes_of(&words);
+/// # let pack = cogunwa::bytes_of(&cogunwa::words_of_hex(hex).unwrap());
 /// let kinds = cogunwa::all_kinds_vec(&pack)?;
-/// for (relation, place) in cogunwa::relations(&words).zip(kinds.places) {
-///     let kinds: Vec<u32> = place.into_iter().flat_map(|place| cogunwa::kinds_at(&words, place)).collect();
-///     println!("relation {relation}: {kinds:?}");
-///     # assert_eq!(kinds, [2, 1]);
-/// }
-/// # assert_eq!(kinds.steps, 2);
+/// assert_eq!((kinds.places, kinds.steps), (vec![Some(8), Some(8)], 2));
 /// # Ok::<(), cogunwa::Refusal>(())
 /// ```
 pub fn all_kinds_vec(pack: &[u8]) -> Result<AllKinds, Refusal> {

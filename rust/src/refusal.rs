@@ -142,6 +142,10 @@ kinds! {
 
 impl RefusalKind {
     /// The number; 0 for [`Unknown`](RefusalKind::Unknown).
+    ///
+    /// ```
+    /// assert_eq!(cogunwa::RefusalKind::DirectionOpen.number(), 10);
+    /// ```
     pub fn number(self) -> u32 {
         self as u32
     }

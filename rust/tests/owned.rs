@@ -20,13 +20,16 @@ fn compare(pack: &[u8]) {
     assert_eq!(owned, answer.map(|w| (words[..w.words].to_vec(), w.steps)));
 
     let (answer, words) = written(|out| cogunwa::all_kinds(pack, out));
-    let owned = cogunwa::all_kinds_vec(pack).map(|kinds| (kinds.places, kinds.steps));
+    let kinds = cogunwa::all_kinds_vec(pack);
+    let owned = kinds.clone().map(|kinds| (kinds.places, kinds.steps));
     let places = |count: usize| words[..count].iter().map(|&p| (p != 0).then_some(p as usize)).collect();
     assert_eq!(owned, answer.map(|w| (places(w.words), w.steps)));
-    if let Ok((places, _)) = owned {
-        let names: Vec<_> = cogunwa::relations(&words_of(pack)).collect();
-        let each: Vec<_> = names.iter().map(|&name| cogunwa::kinds_of(pack, name).unwrap()).collect();
-        assert_eq!(places, each);
+    if let Ok(kinds) = kinds {
+        let words = words_of(pack);
+        let at = |place: Option<usize>| place.map_or(vec![], |place| cogunwa::kinds_at(&words, place).collect());
+        let each = cogunwa::relations(&words).map(|name| (name, cogunwa::kinds_of(pack, name).unwrap()));
+        assert!(kinds.each(&words).eq(each.map(|(name, place)| (name, place, at(place)))));
+        assert_eq!(kinds.each(&words).count(), kinds.places.len());
     }
 
     for (owned, (answer, words)) in [

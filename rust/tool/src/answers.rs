@@ -58,6 +58,7 @@ fn citing_asked(accepted: &Accepted, name: &str) -> Outcome<u32> {
     }
     let names: Vec<String> = all.iter().map(|&name| accepted.show(name)).collect();
     let meant = nearest(name, names.iter().map(String::as_str)).map_or(String::new(), |w| format!("; is {w} meant?"));
+    let name = if name.is_empty() { "\"\"" } else { name };
     Err(unusable(format!("{}: no rule and no relation has the name {name}{meant}", accepted.input.file)))
 }
 

@@ -164,7 +164,8 @@ fn overview(commands: &[Command]) -> String {
     out.push_str(
         "\nA PACK is a text, bytes (four a word, low byte first) or hexadecimal words, told apart by what the file holds;\n\
          `-` is standard input. Exit codes: 0 done, 1 the pack is refused, 2 the command line or a file is not as it must\n\
-         be, 3 the tool and the library disagree. `cogunwa COMMAND --help` says more of each.\n",
+         be, 3 the tool and the library disagree. Slots, words and records count from 0, lines and columns from 1.\n\
+         `cogunwa COMMAND --help` says more of each.\n",
     );
     out
 }

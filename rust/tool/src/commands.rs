@@ -163,6 +163,13 @@ fn hex(words: &[u32]) -> Vec<u8> {
 }
 
 fn run_make(args: &Args) -> Outcome<Done> {
+    match (args.value("--names"), args.value("-o")) {
+        (Some("-"), _) => return Err(unusable("cogunwa make: --names needs a file; standard output is for the pack")),
+        (Some(names), Some(out)) if names == out => {
+            return Err(unusable(format!("{names}: this cannot have both the pack and the list of its names")));
+        }
+        _ => {}
+    }
     let accepted = accept(load(args.pack(), None)?)?;
     let input = &accepted.input;
     if let Some(file) = args.value("--names") {

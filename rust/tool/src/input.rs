@@ -36,6 +36,9 @@ const MOST_BYTES: u64 = 16 << 20;
 
 /// Reads a pack from a file, or from standard input where that is `-`.
 pub fn load(file: &str, names: Option<&str>) -> Outcome<Input> {
+    if file == "-" && names == Some("-") {
+        return Err(unusable("standard input: this cannot be both the pack and the list of its names"));
+    }
     let bytes = read_file(file)?;
     let shown = if file == "-" { "standard input" } else { file };
     if bytes.is_empty() {
@@ -60,6 +63,9 @@ pub fn load(file: &str, names: Option<&str>) -> Outcome<Input> {
 pub fn read_file(file: &str) -> Outcome<Vec<u8>> {
     let trouble = |error: io::Error| unusable(format!("{file}: {}", in_words(&error)));
     let mut bytes = vec![];
+    if file.is_empty() {
+        return Err(unusable("cogunwa: a file is given without a name"));
+    }
     if file == "-" {
         io::stdin().lock().take(MOST_BYTES + 1).read_to_end(&mut bytes).map_err(trouble)?;
     } else {
@@ -89,13 +95,21 @@ fn form_of(bytes: &[u8]) -> Form {
     if bytes.contains(&0) {
         return Form::Bytes;
     }
-    let parts = bytes.split(|&b| b == b'\n').map(|line| line.split(|&b| b == b'#').next().unwrap_or(line));
+    let bytes = bytes.strip_prefix("\u{FEFF}".as_bytes()).unwrap_or(bytes);
+    let lines = bytes.split(|b| matches!(b, b'\n' | b'\r'));
+    let parts = lines.map(|line| line.split(|&b| b == b'#').next().unwrap_or(line));
     let first = parts.flat_map(|line| line.split(u8::is_ascii_whitespace)).find(|part| !part.is_empty());
     let digits = |part: &[u8]| part.len() == 8 && part.iter().all(u8::is_ascii_hexdigit);
     if first.is_some_and(digits) { Form::Hex } else { Form::Text }
 }
 
-fn text_of(file: &str, bytes: Vec<u8>) -> Outcome<String> {
+/// The text that the bytes are. A carriage return that ends a line by itself becomes a line feed.
+fn text_of(file: &str, mut bytes: Vec<u8>) -> Outcome<String> {
+    for at in 0..bytes.len() {
+        if bytes[at] == b'\r' && bytes.get(at + 1) != Some(&b'\n') {
+            bytes[at] = b'\n';
+        }
+    }
     String::from_utf8(bytes).map_err(|error| {
         let at = error.utf8_error().valid_up_to();
         let text = String::from_utf8_lossy(error.as_bytes());
@@ -114,8 +128,9 @@ pub fn from_bytes(file: &str, bytes: Vec<u8>) -> Input {
 /// A pack that comes as hexadecimal words.
 pub fn from_hex(file: &str, content: String) -> Outcome<Input> {
     let (mut words, mut spans) = (vec![], vec![]);
-    // `#` begins a comment, to the end of its line.
-    let lines = content.lines().map(|line| line.split('#').next().unwrap_or(line));
+    // `#` begins a comment, to the end of its line; a byte order mark at the start is passed over.
+    let text = content.strip_prefix('\u{FEFF}').unwrap_or(&content);
+    let lines = text.lines().map(|line| line.split('#').next().unwrap_or(line));
     for part in lines.flat_map(str::split_ascii_whitespace) {
         let start = part.as_ptr() as usize - content.as_ptr() as usize;
         let span = Span { start, end: start + part.len() };

@@ -52,10 +52,12 @@ const STYLE: &str = "\
 body { font: 14px/1.45 'DejaVu Sans', Verdana, sans-serif; color: #111; background: #fff; max-width: 1200px; margin: 2em auto; padding: 0 1em; }
 h1 { font-size: 22px; margin: 0 0 .3em; overflow-wrap: anywhere; }
 h2 { font-size: 17px; margin: 1.6em 0 .2em; border-bottom: 1px solid #888; break-after: avoid; }
+h2 + p { break-after: avoid; }
 p { margin: .3em 0 .6em; }
 table { border-collapse: collapse; width: 100%; }
 th, td { text-align: left; vertical-align: top; padding: .25em .6em; border-bottom: 1px solid #ccc; overflow-wrap: anywhere; }
 th { border-bottom: 2px solid #444; }
+th, td.short { white-space: nowrap; }
 tr { break-inside: avoid; }
 thead { display: table-header-group; }
 td.code, pre { font-family: 'DejaVu Sans Mono', Menlo, Consolas, monospace; font-size: 12px; }
@@ -109,10 +111,9 @@ fn why_table(out: &mut String, accepted: &Accepted, found: &Findings) {
             _ => "",
         };
         let cells = why_cells(accepted, found, reason);
-        let cell = |(i, text): (usize, &String)| {
-            format!("<td{}>{}</td>", if i == 2 { " class=\"code\"" } else { "" }, escaped(text))
-        };
-        _ = writeln!(out, "<tr{class}>{}</tr>", cells.iter().enumerate().map(cell).collect::<String>());
+        let classes = [" class=\"short\"", "", " class=\"code\"", " class=\"short\"", ""];
+        let cell = |(class, text): (&str, &String)| format!("<td{class}>{}</td>", escaped(text));
+        _ = writeln!(out, "<tr{class}>{}</tr>", classes.into_iter().zip(&cells).map(cell).collect::<String>());
     }
     out.push_str("</tbody>\n</table>\n");
 }

@@ -53,13 +53,13 @@ fn among_words(input: &Input, refusal: Refusal, message: &str) -> String {
 fn record(input: &Input, record: Record) -> Option<String> {
     let named = |sort: &str, index: usize, name: Option<u32>| match name {
         Some(name) => format!("the {sort} {}", input.naming.show(name)),
-        None => format!("{sort} {}", index + 1),
+        None => format!("{sort} {index}"),
     };
     match record {
         Record::Header => None,
         Record::Relation(index, name) => Some(named("relation", index, name)),
         Record::Rule(index, name) => Some(named("rule", index, name)),
-        Record::Block(index) => Some(format!("block of inputs {}", index + 1)),
+        Record::Block(index) => Some(format!("block of inputs {index}")),
     }
 }
 
@@ -70,7 +70,7 @@ fn check_message(input: &Input, refusal: Refusal, due: Option<&Due>) -> String {
     let what = due.map_or("another word", |due| due.what);
     let due_kind = due.and_then(|due| due.kind).map_or(String::new(), |kind| format!(", which is of kind {kind},"));
     match refusal.number {
-        1 if !input.bytes.len().is_multiple_of(4) => {
+        1 if input.bytes.len() % 4 != 0 => {
             format!("{} bytes make no whole words of four bytes each", input.bytes.len())
         }
         1 => format!("this has {} words; a pack has 6 to {}", input.words.len(), with_comma(MAX_WORDS)),

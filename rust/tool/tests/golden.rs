@@ -39,9 +39,10 @@ fn generated() {
     fs::write(Path::new(TEMPORARY).join("huge.bin"), vec![0; 40_000]).unwrap();
 }
 
-/// Runs a command line; `<` and a file behind it is standard input.
+/// Runs a command line; `""` is an empty argument, `<` and a file behind it is standard input.
 fn run(line: &str) -> String {
-    let parts: Vec<String> = line.split_whitespace().map(|part| part.replace("TMP", TEMPORARY)).collect();
+    let part = |part: &str| if part == "\"\"" { String::new() } else { part.replace("TMP", TEMPORARY) };
+    let parts: Vec<String> = line.split_whitespace().map(part).collect();
     let (arguments, input) = match parts.iter().position(|part| part == "<") {
         Some(at) => (&parts[..at], Some(Path::new(ROOT).join(&parts[at + 1]))),
         None => (&parts[..], None),

@@ -3,7 +3,7 @@ mod cases;
 
 use cases::Chance;
 use cogunwa_tool::accepted::accept;
-use cogunwa_tool::graph::picture;
+use cogunwa_tool::graph::{escaped, picture};
 use cogunwa_tool::held::{facts, find};
 use cogunwa_tool::input::from_bytes;
 
@@ -54,7 +54,7 @@ fn read_picture(svg: &str) -> Picture {
             let text = plain(line.split_once('>').unwrap().1.trim_end_matches("</text>"));
             let text = (number(line, "x"), number(line, "y"), text.chars().count());
             picture.boxes.last_mut().unwrap().1.push(text);
-        } else if let Some(points) = line.strip_prefix("<path d=\"M").filter(|_| line.contains("marker-end")) {
+        } else if let Some(points) = line.strip_prefix("<path d=\"M").filter(|_| line.contains("fill=\"none\"")) {
             let points = points.split_once('"').unwrap().0.split('L');
             let point = |p: &str| p.split_once(' ').map(|(x, y)| (x.parse().unwrap(), y.parse().unwrap())).unwrap();
             picture.arrows.push(points.map(point).collect());
@@ -102,4 +102,9 @@ fn nothing_overlaps() {
         add(look(&format!("pack {i}"), words));
     }
     assert!(count.0 > 5000 && count.1 > 3000, "{count:?}");
+}
+
+#[test]
+fn texts_stand_in_xml() {
+    assert_eq!(escaped("a<b> & \"c\"\u{1}\u{FFFF}\n"), "a&lt;b&gt; &amp; &quot;c&quot;\u{FFFD}\u{FFFD}\n");
 }

@@ -24,7 +24,6 @@ pub fn write(drawing: &Drawing, alone: bool) -> String {
         "<svg xmlns=\"http://www.w3.org/2000/svg\" viewBox=\"0 0 {width:.0} {height:.0}\" width=\"{width:.0}\" height=\"{height:.0}\" \
          font-family=\"DejaVu Sans Mono, Menlo, Consolas, monospace\" font-size=\"12\" role=\"img\">\n"
     );
-    out.push_str(STYLE);
     if alone {
         _ = writeln!(out, "<title>{}</title>", escaped(&drawing.title));
         _ = writeln!(out, "<rect width=\"{width:.0}\" height=\"{height:.0}\" fill=\"#ffffff\"/>");
@@ -45,12 +44,29 @@ pub fn write(drawing: &Drawing, alone: bool) -> String {
     out
 }
 
-const STYLE: &str = "<defs>\
-<marker id=\"to\" viewBox=\"0 0 10 10\" refX=\"9\" refY=\"5\" markerWidth=\"8\" markerHeight=\"8\" orient=\"auto\"><path d=\"M0 0L10 5L0 10z\" fill=\"#334155\"/></marker>\
-<marker id=\"round\" viewBox=\"0 0 10 10\" refX=\"9\" refY=\"5\" markerWidth=\"5\" markerHeight=\"5\" orient=\"auto\"><path d=\"M0 0L10 5L0 10z\" fill=\"#7e22ce\"/></marker>\
-</defs>\n";
+/// An arrow through points, with its head at the last of them. Heads are drawn, since not every reader knows markers.
+fn arrow(points: &[(f64, f64)], sort: Sort) -> String {
+    let (ink, width, dashes, head) = match sort {
+        Sort::Source => ("#334155", "1.5", "", 11.0),
+        Sort::Ring => ("#7e22ce", "3", "", 14.0),
+        Sort::Path => ("#334155", "1.5", " stroke-dasharray=\"6 4\"", 11.0),
+    };
+    let [.., (from_x, from_y), (x, y)] = *points else { return String::new() };
+    let length = (x - from_x).hypot(y - from_y).max(1.0);
+    let (along_x, along_y) = ((x - from_x) / length * head, (y - from_y) / length * head);
+    // The line ends within the head.
+    let ends = (x - along_x / 2.0, y - along_y / 2.0);
+    let line = points[..points.len() - 1].iter().chain([&ends]).map(|(x, y)| format!("{x:.1} {y:.1}"));
+    let (back_x, back_y) = (x - along_x, y - along_y);
+    let [(a_x, a_y), (b_x, b_y)] = [0.5, -0.5].map(|side| (back_x - side * along_y, back_y + side * along_x));
+    format!(
+        "<path d=\"M{}\" fill=\"none\" stroke-linejoin=\"round\" stroke=\"{ink}\" stroke-width=\"{width}\"{dashes}/>\n\
+         <path d=\"M{x:.1} {y:.1}L{a_x:.1} {a_y:.1}L{b_x:.1} {b_y:.1}z\" fill=\"{ink}\"/>\n",
+        line.collect::<Vec<_>>().join("L")
+    )
+}
 
-/// A text that can stand in XML. Names are shown without control characters.
+/// A text that can stand in XML, which has no control characters and not U+FFFE and U+FFFF.
 pub fn escaped(text: &str) -> String {
     let mut out = String::new();
     for c in text.chars() {
@@ -59,6 +75,7 @@ pub fn escaped(text: &str) -> String {
             '<' => out.push_str("&lt;"),
             '>' => out.push_str("&gt;"),
             '"' => out.push_str("&quot;"),
+            '\u{FFFE}' | '\u{FFFF}' => out.push('\u{FFFD}'),
             c if c.is_control() && c != '\n' => out.push('\u{FFFD}'),
             c => out.push(c),
         }
@@ -189,13 +206,7 @@ impl Plan {
             None if sort == Sort::Ring => self.round(from, to),
             None => self.branch(from, to, sort),
         };
-        let path: Vec<String> = points.iter().map(|(x, y)| format!("{x:.1} {y:.1}")).collect();
-        let look = match sort {
-            Sort::Source => "stroke=\"#334155\" stroke-width=\"1.5\" marker-end=\"url(#to)\"",
-            Sort::Ring => "stroke=\"#7e22ce\" stroke-width=\"3\" marker-end=\"url(#round)\"",
-            Sort::Path => "stroke=\"#334155\" stroke-width=\"1.5\" stroke-dasharray=\"6 4\" marker-end=\"url(#to)\"",
-        };
-        format!("<path d=\"M{}\" fill=\"none\" stroke-linejoin=\"round\" {look}/>\n", path.join("L"))
+        arrow(&points, sort)
     }
 
     /// From the left of a box to the right of its source, one column before; along a path a little beside that.
@@ -301,21 +312,13 @@ const KEY_HEIGHT: f64 = 46.0;
 fn key(y: f64) -> String {
     let mut out = format!("<g transform=\"translate({MARGIN} {:.1})\">\n", y + 12.0);
     let arrows = [
-        (0.0, "stroke=\"#334155\" stroke-width=\"1.5\" marker-end=\"url(#to)\"", "comes from its source"),
-        (270.0, "stroke=\"#7e22ce\" stroke-width=\"3\" marker-end=\"url(#round)\"", "a ring of sources"),
-        (
-            560.0,
-            "stroke=\"#334155\" stroke-width=\"1.5\" stroke-dasharray=\"6 4\" marker-end=\"url(#to)\"",
-            "a step of its path",
-        ),
+        (0.0, Sort::Source, "comes from its source"),
+        (270.0, Sort::Ring, "a ring of sources"),
+        (560.0, Sort::Path, "a step of its path"),
     ];
-    for (x, look, text) in arrows {
-        _ = writeln!(
-            out,
-            "<path d=\"M{x} 8H{}\" fill=\"none\" {look}/><text x=\"{}\" y=\"12\">{text}</text>",
-            x + 36.0,
-            x + 44.0
-        );
+    for (x, sort, text) in arrows {
+        out.push_str(&arrow(&[(x, 8.0), (x + 36.0, 8.0)], sort));
+        _ = writeln!(out, "<text x=\"{}\" y=\"12\">{text}</text>", x + 44.0);
     }
     let boxes = [
         (0.0, "#dbeafe", "", "lists its kinds"),
