@@ -1,20 +1,23 @@
 -- What Resolve answers and leaves, from its steps.
-use Prim.Native.Nat.{ℕ, _+_, _<_, _≤_}
+use Prim.Native.Nat.{ℕ, _+_, _<_, _≤_, min}
 use native.Mathlib.Omega.{arith}
 use mathlib.Core.Path.{_≡_, refl, ap, sym, _∙_, subst}
-use mathlib.Core.List.{List, [], _∷_, map}
-use mathlib.Core.Bool.{Bool, true, false}
+use mathlib.Core.List.{List, [], _∷_, _++_, map}
+use mathlib.Core.Bool.{Bool, true, false, _&&_}
 use mathlib.Core.Option.{Option, none, some}
-use lib.ListN.{length, getD, replicate, length-replicate, getD-replicate}
+use lib.ListN.{length, getD, take, drop, replicate, length-replicate, getD-replicate}
+use lib.Seq.{take-append-seam, take-append-le}
+use lib.Dec.{leb}
+use borrow.Author.Tests.{leb-true, leb-false, le-leb, lt-leb}
 use Rattle.pack.specs.declared.answer.Answer.{Answer}
-use Rattle.pack.specs.declared.answer.Answer.the-variants.{Refused}
+use Rattle.pack.specs.declared.answer.Answer.the-variants.{Given, Refused}
 use Rattle.pack.specs.declared.answer.Refusal.{Refusal}
 use Rattle.pack.specs.Table.{pick}
 use Rattle.pack.specs.Table as table
-use Rattle.pack.specs.Pack.{Relation, Rule, Pack, WellFormed, yes, read, words}
-use Rattle.pack.specs.Operations.{answer, checkAnswer}
+use Rattle.pack.specs.Pack.{Relation, Rule, Pack, WellFormed, Reading, yes, refuse, read, words, total}
+use Rattle.pack.specs.Operations.{answer, buffer, wordsAndSteps, noRoom, writtenOf, checkAnswer}
 use Rattle.checking.proofs.OperationLaws.{turned-away}
-use Rattle.pack.proofs.PackLaws.{words-read}
+use Rattle.pack.proofs.PackLaws.{words-read, words-length}
 use Rattle.chains.specs.Kinds.{find, kindsOf, allKinds}
 use Rattle.chains.specs.Places.{firstRelation, startOf}
 use Rattle.chains.specs.Answers.{Answered}
@@ -41,7 +44,7 @@ use Rattle.directions.specs.Words.{derivedBy, tablesIn, firstEqual, DefaultedFi
 use Rattle.chains.specs.Record.{valueAt}
 use Rattle.directions.specs.Records.{withRecords, turned, Tabled}
 use Rattle.resolve.specs.declared.finish.Figures.{Figures}
-use Rattle.resolve.specs.Finish.{stampAll, unstamped, orderIn, AskedOf, TreesAsked, TreesCame, ResolveAsked, CheckedAsked, RoomFor, FinishAsked, FinishCame}
+use Rattle.resolve.specs.Finish.{stampAll, unstamped, orderIn, AskedOf, TreesAsked, TreesCame, ResolveAsked, CheckedAsked, RoomFor, frontOf, Into, FinishAsked, FinishCame}
 use Rattle.resolve.proofs.OrderLaws.{order-is}
 use Rattle.turning.specs.declared.turns.Ended.{Ended}
 use Rattle.turning.specs.declared.turns.Ended.the-variants as ended
@@ -326,12 +329,12 @@ module _ {ws dir marks taken notes : List ℕ} {f : Figures} {work : List ℕ} (
 pub blocks-near : {ws : List ℕ} {l : Layout} {dir : List ℕ} → IsDirectory ws l dir → l .blocks < 8192
 blocks-near {ws} d = let s = short-checked (d .checked) in omega (arith, reads-inputs ws (d .checked .pack) (d .checked .reads) (d .blocked) .near)
 
-pub in-asked : {ws : List ℕ} {l : Layout} {dir notes work : List ℕ} → CheckedAsked ws l dir notes work
+pub in-asked : {ws : List ℕ} {l : Layout} {dir out work : List ℕ} {room : ℕ} → CheckedAsked ws l dir out room work
     → {marks taken : List ℕ} {steps : ℕ} → Filled ws (namesIn dir (l .relations)) (startsIn dir) marks taken steps → {count : ℕ} → count ≡ valueAt ws (l .blocks)
-    → ResolveAsked ws dir marks taken notes (record { relations = l .relations; notes = record { noted = l .noted; all = l .all; blocks = record { at = l .blocks + 1; count = count } }; steps = steps }) work
-in-asked {l = l} a f e = record { layout = l; directory = a .directory; filled = f; counts = refl; blocks = refl; many = e; noted = a .notes-in; room = a .room }
+    → ResolveAsked ws dir marks taken out (record { relations = l .relations; notes = record { noted = l .noted; all = l .all; blocks = record { at = l .blocks + 1; count = count } }; steps = steps; room = room }) work
+in-asked {l = l} a f e = record { layout = l; directory = a .directory; filled = f; counts = refl; blocks = refl; many = e; noted = a .notes-in; room = a .same; fits = a .fits }
 
--- a pack that was checked and noted in arrays with room for it
+-- a pack that was checked and noted where there is room for its notes
 module _ {ws d e d′ e′ : List ℕ} {r : Laid} {l : Layout} (clear : Clear (namesSaid ws) d) (c : CheckedNotes ws d e r d′ e′) (o : r ≡ Yes l) where
   pub its-directory : IsDirectory ws l d′
   its-directory = directed clear (without-notes c) o
@@ -339,21 +342,169 @@ module _ {ws d e d′ e′ : List ℕ} {r : Laid} {l : Layout} (clear : Clear (n
   pub its-words : length ws ≤ 8192
   its-words = short-checked (its-directory .checked)
 
-  pub checked-asked : {words work : List ℕ} → RoomFor ws e words → length work ≡ length ws → CheckedAsked ws l d′ e′ work
-  checked-asked room same =
+  pub checked-asked : {work : List ℕ} {room : ℕ} → RoomFor ws e room → length e′ ≡ length e → length work ≡ length ws → CheckedAsked ws l d′ e′ room work
+  checked-asked to kept same =
       record {
         directory = its-directory;
-        notes-in = noted-there c o (room .first) (room .blank) (room .noted its-words) (its-directory .checked .pack) (its-directory .checked .reads);
-        room = same;
+        notes-in = noted-there c o (to .first) (to .blank) (to .noted its-words) (its-directory .checked .pack) (its-directory .checked .reads);
+        same = same;
+        fits = omega (arith, to .fits, kept);
       }
 
-pub room-for : (ws : List ℕ) (many : ℕ) → (length ws ≤ 8192 → length ws ≤ many) → RoomFor ws (replicate (many + 1) 0) (replicate many 0)
-room-for ws many fits =
-    let a = length-replicate {A = ℕ} (many + 1) 0 in
-    let b = length-replicate {A = ℕ} many 0 in
+-- ---- what stands at the front
+
+-- what is written does not depend on what was there
+written-alike : (steps : ℕ) (o : Outcome Pack) (lent other : List ℕ) → length lent ≡ length other
+    → frontOf (givenOut steps (length lent) o) (writtenOut lent o) ≡ frontOf (givenOut steps (length lent) o) (writtenOut other o)
+written-alike steps (refused r) lent other e = refl
+written-alike steps (done q) lent other e = rw (← e) (go (leb (total q) 8192 && leb (total q) (length lent)))
+  where
+    front : (rest : List ℕ) → take (total q) (words q ++ rest) ≡ words q
+    front rest = rw (← words-length q) (take-append-seam (words q) rest)
+
+    go : (b : Bool) → frontOf (pick b (wordsAndSteps (total q) steps) noRoom) (pick b (words q ++ drop (total q) lent) lent) ≡ frontOf (pick b (wordsAndSteps (total q) steps) noRoom) (pick b (words q ++ drop (total q) other) other)
+    go true = front (drop (total q) lent) ∙ sym (front (drop (total q) other))
+    go false = refl
+
+pub front-alike : (ws lent other : List ℕ) → length lent ≡ length other
+    → frontOf (resolveAnswer ws (length lent)) (resolveBuffer ws lent) ≡ frontOf (resolveAnswer ws (length lent)) (resolveBuffer ws other)
+unfolding resolveAnswer resolveBuffer
+front-alike ws lent other e = go (read ws)
+  where
+    go : (m : Reading)
+        → frontOf (answer m (λ p. givenOut (allKinds (p .relations) .steps) (length lent) (resolved p))) (buffer m (λ p. writtenOut lent (resolved p)) lent)
+        ≡ frontOf (answer m (λ p. givenOut (allKinds (p .relations) .steps) (length lent) (resolved p))) (buffer m (λ p. writtenOut other (resolved p)) other)
+    go (yes p) = written-alike (allKinds (p .relations) .steps) (resolved p) lent other e
+    go (refuse r) = refl
+
+-- at the front of a slice: what Resolve leaves in a slice of so many words
+pub into : (ws own : List ℕ) {room : ℕ} → length own ≡ room → {a : Answer} {done left : List ℕ} → Answered resolveAnswer resolveBuffer ws own a done → frontOf a left ≡ frontOf a done → Into ws room a left
+into ws own {room} l {a} {done} {left} r f =
     record {
-      first = omega arith;
-      blank = getD-replicate {A = ℕ} (many + 1) 0 0 0 (omega arith);
-      noted = λ m. omega (arith, fits m);
-      copied = λ m. omega (arith, fits m);
+      each = λ lent e.
+          (let s : length own ≡ length lent = l ∙ sym e in
+          let k = r .answers ∙ ap (resolveAnswer ws) s in
+          (k, f ∙ ap (frontOf a) (r .leaves) ∙ ap (λ (x : Answer). frontOf x (resolveBuffer ws own)) (r .answers) ∙ front-alike ws own lent s ∙ sym (ap (λ (x : Answer). frontOf x (resolveBuffer ws lent)) (r .answers))));
     }
+
+-- after a refusal nothing stands there
+pub into-refused : (ws : List ℕ) (room : ℕ) {a : Answer} {r : Refusal} → a ≡ Refused r → ((lent : List ℕ) → a ≡ resolveAnswer ws (length lent)) → {left : List ℕ} → Into ws room a left
+into-refused ws room {a} {r} e k {left} = record { each = λ lent l. (k lent, ap (λ (x : Answer). frontOf x left) e ∙ sym (ap (λ (x : Answer). frontOf x (resolveBuffer ws lent)) e)) }
+
+-- no more words are said than there is room for
+given-within : (steps room : ℕ) (o : Outcome Pack) {n s : ℕ} → givenOut steps room o ≡ Given n s → n ≤ room
+given-within steps room (refused r) e = let z : _≡_ {A = ℕ} 0 1 = cc in absurd (omega arith)
+given-within steps room (done q) {n} {s} e = go (leb (total q) 8192) (leb (total q) room) refl e
+  where
+    go : (a b : Bool) → leb (total q) room ≡ b → pick (a && b) (wordsAndSteps (total q) steps) noRoom ≡ Given n s → n ≤ room
+    go true true h e = let z : total q ≡ n = cc in omega (arith, leb-true (total q) room h)
+    go true false h e = let z : _≡_ {A = ℕ} 0 1 = cc in absurd (omega arith)
+    go false b h e = let z : _≡_ {A = ℕ} 0 1 = cc in absurd (omega arith)
+
+pub answer-within : (ws : List ℕ) (room : ℕ) {n s : ℕ} → resolveAnswer ws room ≡ Given n s → n ≤ room
+unfolding resolveAnswer
+answer-within ws room {n} {s} e = go (read ws) e
+  where
+    go : (m : Reading) → answer m (λ p. givenOut (allKinds (p .relations) .steps) room (resolved p)) ≡ Given n s → n ≤ room
+    go (yes p) e = given-within (allKinds (p .relations) .steps) room (resolved p) e
+    go (refuse r) e = let z : _≡_ {A = ℕ} 0 1 = cc in absurd (omega arith)
+
+front-long : (a : Answer) (x y : List ℕ) (room : ℕ) → ((n s : ℕ) → a ≡ Given n s → n ≤ room) → room ≤ length x → frontOf a (x ++ y) ≡ frontOf a x
+front-long (Given n s) x y room h l = take-append-le n x y (omega (arith, h n s refl))
+front-long (Refused r) x y room h l = refl
+
+-- the result at the front of a longer slice
+pub into-part : (ws own rest : List ℕ) {room : ℕ} → length own ≡ room → {a : Answer} {done left : List ℕ} → Answered resolveAnswer resolveBuffer ws own a done → length done ≡ room → left ≡ done ++ rest → Into ws room a left
+into-part ws own rest {room} l {a} {done} {left} r d e =
+    into ws own l r (ap (frontOf a) e ∙ front-long a done rest room (λ n s q. answer-within ws room (sym (r .answers ∙ ap (resolveAnswer ws) l) ∙ q)) (omega (arith, d)))
+
+-- ---- in a slice of the caller's
+
+-- room past 8,192 words does not matter
+pub both-min : (n room : ℕ) → (leb n 8192 && leb n (min room 8192)) ≡ (leb n 8192 && leb n room)
+both-min n room = go (leb n 8192) refl (leb n room) refl
+  where
+    go : (b : Bool) → leb n 8192 ≡ b → (c : Bool) → leb n room ≡ c → (b && leb n (min room 8192)) ≡ (b && leb n room)
+    go true e true f = let k = leb-true n 8192 e in let l = leb-true n room f in le-leb n (min room 8192) (omega arith) ∙ sym f
+    go true e false f = let l = leb-false n room f in lt-leb n (min room 8192) (omega arith) ∙ sym f
+    go false e c f = refl
+
+pub given-enough : (steps : ℕ) (o : Outcome Pack) (room : ℕ) → givenOut steps (min room 8192) o ≡ givenOut steps room o
+given-enough steps (refused r) room = refl
+given-enough steps (done q) room = rw (both-min (total q) room)
+
+pub answer-enough : (ws : List ℕ) (room : ℕ) → resolveAnswer ws (min room 8192) ≡ resolveAnswer ws room
+unfolding resolveAnswer
+answer-enough ws room = go (read ws)
+  where
+    go : (m : Reading) → answer m (λ p. givenOut (allKinds (p .relations) .steps) (min room 8192) (resolved p)) ≡ answer m (λ p. givenOut (allKinds (p .relations) .steps) room (resolved p))
+    go (yes p) = given-enough (allKinds (p .relations) .steps) (resolved p) room
+    go (refuse r) = refl
+
+-- what is left: the words that are said to be written, and the others as they were
+written-whole : (steps : ℕ) (o : Outcome Pack) (lent own : List ℕ) → length own ≡ min (length lent) 8192
+    → writtenOut lent o ≡ take (writtenOf (givenOut steps (length own) o)) (writtenOut own o) ++ drop (writtenOf (givenOut steps (length own) o)) lent
+written-whole steps (refused r) lent own e = refl
+written-whole steps (done q) lent own e = rw (e, both-min (total q) (length lent)) (go (leb (total q) 8192 && leb (total q) (length lent)))
+  where
+    front : (rest : List ℕ) → take (total q) (words q ++ rest) ≡ words q
+    front rest = rw (← words-length q) (take-append-seam (words q) rest)
+
+    go : (b : Bool)
+        → pick b (words q ++ drop (total q) lent) lent
+        ≡ take (writtenOf (pick b (wordsAndSteps (total q) steps) noRoom)) (pick b (words q ++ drop (total q) own) own) ++ drop (writtenOf (pick b (wordsAndSteps (total q) steps) noRoom)) lent
+    go true = ap (λ (l : List ℕ). l ++ drop (total q) lent) (sym (front (drop (total q) own)))
+    go false = refl
+
+whole-buffer : (ws lent own : List ℕ) → length own ≡ min (length lent) 8192
+    → resolveBuffer ws lent ≡ take (writtenOf (resolveAnswer ws (length own))) (resolveBuffer ws own) ++ drop (writtenOf (resolveAnswer ws (length own))) lent
+unfolding resolveAnswer resolveBuffer
+whole-buffer ws lent own e = go (read ws)
+  where
+    go : (m : Reading)
+        → buffer m (λ p. writtenOut lent (resolved p)) lent
+        ≡ take (writtenOf (answer m (λ p. givenOut (allKinds (p .relations) .steps) (length own) (resolved p)))) (buffer m (λ p. writtenOut own (resolved p)) own)
+        ++ drop (writtenOf (answer m (λ p. givenOut (allKinds (p .relations) .steps) (length own) (resolved p)))) lent
+    go (yes p) = written-whole (allKinds (p .relations) .steps) (resolved p) lent own e
+    go (refuse r) = refl
+
+taken-front : (a : Answer) (x y : List ℕ) → frontOf a x ≡ frontOf a y → take (writtenOf a) x ≡ take (writtenOf a) y
+taken-front (Given n s) x y e = e
+taken-front (Refused r) x y e = refl
+
+module _ (ws lent : List ℕ) {room : ℕ} (is : room ≡ min (length lent) 8192) {a : Answer} {made : List ℕ} (t : Into ws room a made) {count : ℕ} (says : count ≡ writtenOf a) where
+  abbrev own : List ℕ
+  own = replicate room 0
+
+  own-long : length own ≡ room
+  own-long = length-replicate {A = ℕ} room 0
+
+  answered : a ≡ resolveAnswer ws (length own)
+  answered = t .each own own-long .0
+
+  pub count-within : (count ≤ length lent) × (count ≤ 8192)
+  count-within = go a refl
+    where
+      go : (b : Answer) → a ≡ b → (count ≤ length lent) × (count ≤ 8192)
+      go (Given n s) e =
+          let w = answer-within ws (length own) (sym answered ∙ e) in
+          let c : count ≡ n = says ∙ ap writtenOf e in
+          (omega (arith, w, c, own-long, is), omega (arith, w, c, own-long, is))
+      go (Refused r) e = let c : count ≡ 0 = says ∙ ap writtenOf e in (omega arith, omega arith)
+
+  pub copied-out : {left : List ℕ} → left ≡ take count made ++ drop count lent → Answered resolveAnswer resolveBuffer ws lent a left
+  copied-out e =
+      let same : length own ≡ min (length lent) 8192 = own-long ∙ is in
+      let c : count ≡ writtenOf (resolveAnswer ws (length own)) = says ∙ ap writtenOf answered in
+      let f : take count made ≡ take (writtenOf (resolveAnswer ws (length own))) (resolveBuffer ws own) =
+      ap (λ (n : ℕ). take n made) says ∙ taken-front a made (resolveBuffer ws own) (t .each own own-long .1) ∙ ap (λ (x : Answer). take (writtenOf x) (resolveBuffer ws own)) answered
+      in
+      record {
+        answers = answered ∙ ap (resolveAnswer ws) same ∙ answer-enough ws (length lent);
+        leaves = e ∙ (λ i. f i ++ drop (c i) lent) ∙ sym (whole-buffer ws lent own same);
+      }
+
+pub room-made : (ws : List ℕ) (many : ℕ) {room : ℕ} → room ≡ min many 8192 → RoomFor ws (replicate 8193 0) room
+room-made ws many e =
+    let a = length-replicate {A = ℕ} 8193 0 in
+    record { first = omega arith; blank = getD-replicate {A = ℕ} 8193 0 0 0 (omega arith); noted = λ m. omega arith; fits = omega arith }

@@ -1,11 +1,12 @@
 -- What the parts of Resolve promise each other: the first three steps of Resolving, and the result.
 use Prim.Native.Nat.{ℕ, _+_, _<_, _≤_}
 use mathlib.Core.Path.{_≡_}
-use mathlib.Core.List.{List, map}
+use mathlib.Core.List.{List, map, []}
 use mathlib.Core.Bool.{_||_}
 use mathlib.Core.Option.{none, some}
-use lib.ListN.{length, getD}
+use lib.ListN.{length, getD, take}
 use Rattle.pack.specs.declared.answer.Answer.{Answer}
+use Rattle.pack.specs.declared.answer.Answer.the-variants.{Given, Refused}
 use Rattle.pack.specs.Table.{pick}
 use Rattle.pack.specs.Pack.{Relation, Pack, yes, read, words}
 use Rattle.chains.specs.Kinds.{find, allKinds}
@@ -18,7 +19,7 @@ use Rattle.filtered.specs.Taking.{NamesLow, Filled}
 use Rattle.directions.specs.Turning.{Outcome, done, refused}
 use Rattle.directions.specs.Tables.{tables}
 use Rattle.directions.specs.Resolving.{defaultedEqual, equalRefusal, stamp, atomNames, inDerivation, roleJudgment}
-use Rattle.resolve.specs.Operations.{givenOut, writtenOut}
+use Rattle.resolve.specs.Operations.{givenOut, writtenOut, resolveAnswer, resolveBuffer}
 use Rattle.resolve.specs.Writing.{withRelations}
 use Rattle.directions.specs.Records.{turned, placesIn, Tabled}
 use Rattle.turning.specs.declared.turns.Ended.{Ended}
@@ -83,15 +84,26 @@ pub record ResolveAsked (ws dir marks taken notes : List ℕ) (f : Figures) (wor
   pub many : f .notes .blocks .count ≡ valueAt ws (layout .blocks)
   pub noted : NotesIn (directory .checked .pack) notes (f .notes .noted) (f .notes .all)
   pub room : length work ≡ length ws
+  pub fits : f .room ≤ length notes
 
-pub record CheckedAsked (ws : List ℕ) (l : Layout) (dir notes work : List ℕ) : Type 0 where
+pub record CheckedAsked (ws : List ℕ) (l : Layout) (dir out : List ℕ) (room : ℕ) (work : List ℕ) : Type 0 where
   pub directory : IsDirectory ws l dir
-  pub notes-in : NotesIn (directory .checked .pack) notes (l .noted) (l .all)
-  pub room : length work ≡ length ws
+  pub notes-in : NotesIn (directory .checked .pack) out (l .noted) (l .all)
+  pub same : length work ≡ length ws
+  pub fits : room ≤ length out
 
--- an array for the notes of a pack, which has none yet, and one for a copy of its words
-pub record RoomFor (ws notes work : List ℕ) : Type 0 where
-  pub first : 0 < length notes
-  pub blank : getD notes 0 0 ≡ 0
-  pub noted : length ws ≤ 8192 → length ws < length notes
-  pub copied : length ws ≤ 8192 → length ws ≤ length work
+-- a slice that has no notes yet, with room for those of a pack, and for a result of so many words
+pub record RoomFor (ws out : List ℕ) (room : ℕ) : Type 0 where
+  pub first : 0 < length out
+  pub blank : getD out 0 0 ≡ 0
+  pub noted : length ws ≤ 8192 → length ws < length out
+  pub fits : room ≤ length out
+
+-- the words that an answer says are written, at the front of a slice
+abbrev pub frontOf : Answer → List ℕ → List ℕ
+frontOf (Given n steps) l = take n l
+frontOf (Refused r) l = []
+
+-- Resolve's answer for a slice of so many words, and at the front of another what Resolve writes there; of what is left after a refusal nothing is said
+pub record Into (ws : List ℕ) (room : ℕ) (a : Answer) (left : List ℕ) : Type 0 where
+  pub each : (lent : List ℕ) → length lent ≡ room → (a ≡ resolveAnswer ws (length lent)) × (frontOf a left ≡ frontOf a (resolveBuffer ws lent))

@@ -11,11 +11,13 @@ use turning::root::ByName;
 use turning::turns::Counts;
 ghost use Rattle.resolve.specs.Finish.{FinishAsked, FinishCame};
 
-// Of a checked pack: its relations, its notes, and the declarations that were read for its kinds.
+// Of a checked pack: its relations, its notes, and the declarations that were read for its kinds; and how many words there
+// is room for.
 pub struct Figures {
     pub relations: usize,
     pub notes: Counts,
     pub steps: u32,
+    pub room: usize,
 }
 
 // From the words of a pack whose trees are resolved.

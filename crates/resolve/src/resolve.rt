@@ -6,6 +6,7 @@ use chains::entry::start;
 use chains::record::value_at;
 use checking::check::answer;
 use checking::check::check_notes;
+use checking::rewrite::written;
 use directions::equal::first_equal;
 use filtered::taking::read_tables;
 use pack::answer::Answer;
@@ -24,7 +25,10 @@ use turning::turns::Ended;
 use turning::turns::turn_pack;
 ghost use Rattle.chains.specs.Answers.{Answered};
 ghost use Rattle.resolve.specs.Operations.{resolveAnswer, resolveBuffer};
-ghost use Rattle.resolve.specs.Finish.{TreesAsked, TreesCame, ResolveAsked, CheckedAsked, RoomFor};
+ghost use mathlib.Core.Path.{_≡_};
+ghost use Prim.Native.Nat.{_≤_, min};
+ghost use lib.ListN.{length};
+ghost use Rattle.resolve.specs.Finish.{TreesAsked, TreesCame, ResolveAsked, CheckedAsked, RoomFor, Into};
 
 // Defaulted names with equal kinds are refused; then all trees are resolved, in a copy of the words.
 fn resolve_trees(
@@ -52,41 +56,43 @@ fn resolve_trees(
 }
 
 // A checked pack with its tables and its notes, and a slice for its words. What stamping asks of the notes is asked
-// before they are turned.
+// before they are turned; after that the result takes their place, if there is room for it.
 fn resolve_in(
     pack: &[u32],
     dir: &Words,
     marks: &ByName,
     taken: &ByName,
-    notes: &mut [u32],
+    out: &mut [u32],
     figures: Figures,
     work: &mut [u32],
-    out: &mut [u32],
 ) -> Answer
-    requires { ⌜ ResolveAsked (now pack) (now dir) (now marks) (now taken) (now notes) figures (now work) ⌝ }
-    ensures { λ r. ⌜ Answered resolveAnswer resolveBuffer (now (pack .entry)) (now (out .entry)) r (now (out .exit)) ⌝ }
+    requires { ⌜ ResolveAsked (now pack) (now dir) (now marks) (now taken) (now out) figures (now work) ⌝ }
+    ensures { λ r. ⌜ Into (now (pack .entry)) (figures .room) r (now (out .exit)) ⌝ }
 {
     let counts = figures.notes;
     let mut asked: Asked = [0u8; Pack::MOST_NAMES as usize];
-    ask_notes(pack, notes, counts.all, &mut asked);
+    ask_notes(pack, out, counts.all, &mut asked);
     copy(pack, work);
-    match resolve_trees(pack, dir, marks, taken, work, notes, counts) {
-        Ended::All => finish(pack, dir, marks, &asked, work, figures, out),
+    match resolve_trees(pack, dir, marks, taken, work, out, counts) {
+        Ended::All => {
+            let room = figures.room;
+            finish(pack, dir, marks, &asked, work, figures, &mut out[..room])
+        }
         Ended::Refused(x) => Answer::Refused(x),
     }
 }
 
-// A checked pack with its directory and its notes.
+// A checked pack with its directory, and its notes where the result is to stand.
 fn resolve_checked(
     pack: &[u32],
     l: Layout,
     dir: &Words,
-    notes: &mut [u32],
-    work: &mut [u32],
     out: &mut [u32],
+    room: usize,
+    work: &mut [u32],
 ) -> Answer
-    requires { ⌜ CheckedAsked (now pack) l (now dir) (now notes) (now work) ⌝ }
-    ensures { λ r. ⌜ Answered resolveAnswer resolveBuffer (now (pack .entry)) (now (out .entry)) r (now (out .exit)) ⌝ }
+    requires { ⌜ CheckedAsked (now pack) l (now dir) (now out) room (now work) ⌝ }
+    ensures { λ r. ⌜ Into (now (pack .entry)) room r (now (out .exit)) ⌝ }
 {
     let mut marks: ByName = [0u32; Pack::MOST_NAMES as usize];
     let mut taken: ByName = [0u32; Pack::MOST_NAMES as usize];
@@ -102,36 +108,58 @@ fn resolve_checked(
         relations,
         notes: counts,
         steps,
+        room,
     };
-    resolve_in(pack, dir, &marks, &taken, notes, figures, work, out)
+    resolve_in(pack, dir, &marks, &taken, out, figures, work)
 }
 
-// With an array for the notes, which has none yet, and one for a copy of the words.
-fn resolve_with(pack: &[u32], notes: &mut [u32], words: &mut [u32], out: &mut [u32]) -> Answer
-    requires { ⌜ RoomFor (now pack) (now notes) (now words) ⌝ }
-    ensures { λ r. ⌜ Answered resolveAnswer resolveBuffer (now (pack .entry)) (now (out .entry)) r (now (out .exit)) ⌝ }
+// With a slice for a copy of the words.
+fn resolve_with(pack: &[u32], out: &mut [u32], room: usize, words: &mut [u32]) -> Answer
+    requires { ⌜ RoomFor (now pack) (now out) room × (length (now pack) ≤ 8192 → length (now pack) ≤ length (now words)) ⌝ }
+    ensures { λ r. ⌜ Into (now (pack .entry)) room r (now (out .exit)) ⌝ }
 {
     let mut dir: Words = [0u32; Directory::WORDS];
-    let r = check_notes(pack, &mut dir, notes);
+    let r = check_notes(pack, &mut dir, out);
     let Laid::Yes(l) = r else {
         return answer(r);
     };
     let len = pack.len();
-    resolve_checked(pack, l, &dir, notes, &mut words[0..len], out)
+    resolve_checked(pack, l, &dir, out, room, &mut words[0..len])
+}
+
+// Resolve for an output of so many words, into a slice that holds notes before the result, and anything after a refusal. A
+// small pack has a small copy, since clearing a large one would take longer than the work.
+pub fn resolve_into(pack: &[u32], out: &mut [u32], room: usize) -> Answer
+    requires { ⌜ RoomFor (now pack) (now out) room ⌝ }
+    ensures { λ r. ⌜ Into (now (pack .entry)) room r (now (out .exit)) ⌝ }
+{
+    if pack.len() <= Pack::FEW_WORDS {
+        let mut few = [0u32; Pack::FEW_WORDS];
+        return resolve_with(pack, out, room, &mut few);
+    }
+    let mut words = [0u32; Pack::MOST_WORDS];
+    resolve_with(pack, out, room, &mut words)
 }
 
 // The whole pack in record order, with slots and lists as resolving leaves them; the answer is its number of words and
-// how many declarations were read for its kinds. A small pack has small arrays, since clearing large ones would take longer
-// than the work.
+// how many declarations were read for its kinds.
 pub fn resolve(pack: &[u32], out: &mut [u32]) -> Answer
     ensures { λ r. ⌜ Answered resolveAnswer resolveBuffer (now (pack .entry)) (now (out .entry)) r (now (out .exit)) ⌝ }
 {
-    if pack.len() <= Pack::FEW_WORDS {
-        let mut few_notes = [0u32; Pack::FEW_WORDS + 1];
-        let mut few_words = [0u32; Pack::FEW_WORDS];
-        return resolve_with(pack, &mut few_notes, &mut few_words, out);
+    let mut made = [0u32; Pack::MOST_WORDS + 1];
+    let a = resolve_into(pack, &mut made, at_most(out.len()));
+    let count = written(a);
+    copy(&made[..count], &mut out[..count]);
+    a
+}
+
+// So many words, or as many as a pack may have.
+fn at_most(words: usize) -> usize
+    ensures { λ r. ⌜ r ≡ min words 8192 ⌝ }
+{
+    if words < Pack::MOST_WORDS {
+        words
+    } else {
+        Pack::MOST_WORDS
     }
-    let mut notes = [0u32; Pack::MOST_WORDS + 1];
-    let mut words = [0u32; Pack::MOST_WORDS];
-    resolve_with(pack, &mut notes, &mut words, out)
 }

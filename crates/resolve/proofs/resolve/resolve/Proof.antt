@@ -1,39 +1,47 @@
 -- `resolve::resolve::resolve` meets its contract.
 use native.Mathlib.Omega.{arith}
-use Rattle.resolve.proofs.ResolveLaws.{room-for}
+use mathlib.Core.Path.{_≡_, refl, sym, _∙_, ap}
+use mathlib.Core.List.{List, _++_}
+use Prim.Native.Nat.{ℕ}
+use lib.ListN.{drop}
+use lib.Seq.{length-take-le}
+use Rattle.resolve.proofs.ResolveLaws.{room-made, count-within, copied-out}
 use borrow.Author.Needs.{needs}
 use Rattle.resolve.proofs.resolve.resolve.Statement.{statement}
 use Rattle.resolve.proofs.resolve.resolve.Tie as tie
 
-slice-aggregate-resolve-with : tie.Need-slice-aggregate-resolve-with
-slice-aggregate-resolve-with c = search needs
+slice-aggregate-resolve-into : tie.Need-slice-aggregate-resolve-into
+slice-aggregate-resolve-into c = search needs
 
-slice-aggregate-resolve-with-2 : tie.Need-slice-aggregate-resolve-with-2
-slice-aggregate-resolve-with-2 c = search needs
+at-most-requires : tie.Need-at-most-requires
+at-most-requires c κs = search needs
 
-resolve-with-requires : tie.Need-resolve-with-requires
-resolve-with-requires c κs = room-for _ 256 (λ m. omega arith)
+resolve-into-requires : tie.Need-resolve-into-requires
+resolve-into-requires c κs = room-made _ _ (c .at-most .ensures)
+
+written-requires : tie.Need-written-requires
+written-requires c κs = search needs
+
+array-share-prefix-made : tie.Need-array-share-prefix-made
+array-share-prefix-made c = let w = count-within _ (c .before .before .before .before .before .before .before .args .out .now) (c .before .before .before .at-most .ensures) (c .before .before .resolve-into .ensures) (c .written .ensures) in omega (arith, w .1, c .before .before .resolve-into .kept .1 .0)
+
+slice-aggregate-copy : tie.Need-slice-aggregate-copy
+slice-aggregate-copy c = sym (length-take-le _ _ (array-share-prefix-made (c .before)))
+
+slice-relend-prefix-copy : tie.Need-slice-relend-prefix-copy
+slice-relend-prefix-copy c = count-within _ (c .before .before .before .before .before .before .before .before .args .out .now) (c .before .before .before .before .at-most .ensures) (c .before .before .before .resolve-into .ensures) (c .before .written .ensures) .0
+
+slice-aggregate-copy-2 : tie.Need-slice-aggregate-copy-2
+slice-aggregate-copy-2 c = sym (length-take-le _ _ (slice-relend-prefix-copy (c .before)))
+
+copy-requires : tie.Need-copy-requires
+copy-requires c κs = length-take-le _ _ (slice-relend-prefix-copy (c .before)) ∙ sym (length-take-le _ _ (array-share-prefix-made (c .before .before)))
 
 same-length : tie.Need-same-length
 same-length c = search needs
 
 returns : tie.Need-returns
-returns c = c .before .before .before .before .resolve-with .ensures
-
-slice-aggregate-resolve-with-3 : tie.Need-slice-aggregate-resolve-with-3
-slice-aggregate-resolve-with-3 c = search needs
-
-slice-aggregate-resolve-with-4 : tie.Need-slice-aggregate-resolve-with-4
-slice-aggregate-resolve-with-4 c = search needs
-
-resolve-with-requires-2 : tie.Need-resolve-with-requires-2
-resolve-with-requires-2 c κs = room-for _ 8192 (λ m. m)
-
-same-length-2 : tie.Need-same-length-2
-same-length-2 c = search needs
-
-returns-2 : tie.Need-returns-2
-returns-2 c = c .before .before .before .before .resolve-with2 .ensures
+returns c = copied-out _ _ (c .before .before .before .before .before .before .before .before .at-most .ensures) (c .before .before .before .before .before .before .before .resolve-into .ensures) (c .before .before .before .before .before .written .ensures) (ap (λ (l : List ℕ). l ++ drop (c .before .before .before .before .before .written .result) (c .before .before .before .before .before .before .before .before .before .before .before .before .args .out .now)) (c .before .before .copy .ensures))
 
 pub resolve-spec : {M : Type 1} → statement M
-resolve-spec = tie.close (tie.spec slice-aggregate-resolve-with slice-aggregate-resolve-with-2 resolve-with-requires same-length returns slice-aggregate-resolve-with-3 slice-aggregate-resolve-with-4 resolve-with-requires-2 same-length-2 returns-2)
+resolve-spec = tie.close (tie.spec slice-aggregate-resolve-into at-most-requires resolve-into-requires written-requires array-share-prefix-made slice-aggregate-copy slice-relend-prefix-copy slice-aggregate-copy-2 copy-requires same-length returns)

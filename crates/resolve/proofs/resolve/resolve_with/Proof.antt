@@ -3,7 +3,7 @@ use native.Mathlib.Omega.{arith}
 use mathlib.Core.Path.{_≡_, _∙_, ap, refl}
 use Rattle.checking.specs.Checked.{answerIn}
 use Rattle.chains.proofs.EntryLaws.{clear-all}
-use Rattle.resolve.proofs.ResolveLaws.{resolve-refused, its-words, checked-asked}
+use Rattle.resolve.proofs.ResolveLaws.{resolve-refused, its-words, checked-asked, into-refused}
 use borrow.Author.Needs.{needs}
 use Rattle.resolve.proofs.resolve.resolve_with.Statement.{statement}
 use Rattle.resolve.proofs.resolve.resolve_with.Tie as tie
@@ -27,7 +27,7 @@ same-length : tie.Need-same-length
 same-length c = search needs
 
 returns : tie.Need-returns
-returns c = resolve-refused _ _ ((c .answer .ensures) ∙ (c .before .before .before .before .before .before .check-notes .ensures .answers)) ((c .answer .ensures) ∙ ap answerIn (c .before .enum-told .given .1))
+returns c = into-refused _ _ ((c .answer .ensures) ∙ ap answerIn (c .before .enum-told .given .1)) (λ lent. resolve-refused _ lent ((c .answer .ensures) ∙ (c .before .before .before .before .before .before .check-notes .ensures .answers)) ((c .answer .ensures) ∙ ap answerIn (c .before .enum-told .given .1)) .answers)
 
 sub-resolve-checked : tie.Need-sub-resolve-checked
 sub-resolve-checked c = search needs
@@ -36,10 +36,10 @@ part-resolve-checked-start : tie.Need-part-resolve-checked-start
 part-resolve-checked-start c = search needs
 
 part-resolve-checked-end : tie.Need-part-resolve-checked-end
-part-resolve-checked-end c = let m = its-words (clear-all _) (c .before .before .before .before .before .before .before .before .check-notes .ensures) (c .before .before .before .r .given .1) in omega (arith, (c .before .before .before .before .before .before .before .before .before .before .before .before .before .before .before .pre) .copied m)
+part-resolve-checked-end c = let m = its-words (clear-all _) (c .before .before .before .before .before .before .before .before .check-notes .ensures) (c .before .before .before .r .given .1) in omega (arith, (c .before .before .before .before .before .before .before .before .before .before .before .before .before .before .pre) .1 m)
 
 resolve-checked-requires : tie.Need-resolve-checked-requires
-resolve-checked-requires c κs = checked-asked (clear-all _) (c .before .before .before .before .before .before .before .before .before .before .check-notes .ensures) (c .before .before .before .before .before .r .given .1) (c .before .before .before .before .before .before .before .before .before .before .before .before .before .before .before .before .before .pre) (search needs)
+resolve-checked-requires c κs = checked-asked (clear-all _) (c .before .before .before .before .before .before .before .before .before .check-notes .ensures) (c .before .before .before .before .r .given .1) ((c .before .before .before .before .before .before .before .before .before .before .before .before .before .before .before .pre) .0) (search needs) (search needs)
 
 same-length-2 : tie.Need-same-length-2
 same-length-2 c = search needs
@@ -47,11 +47,8 @@ same-length-2 c = search needs
 same-length-3 : tie.Need-same-length-3
 same-length-3 c = search needs
 
-same-length-4 : tie.Need-same-length-4
-same-length-4 c = search needs
-
 returns-2 : tie.Need-returns-2
-returns-2 c = c .before .before .before .before .before .before .resolve-checked .ensures
+returns-2 c = c .before .before .before .before .resolve-checked .ensures
 
 pub resolve-with-spec : {M : Type 1} → statement M
-resolve-with-spec = tie.close (tie.spec slice-aggregate-check-notes check-notes-requires enum-known-r enum-told answer-requires same-length returns sub-resolve-checked part-resolve-checked-start part-resolve-checked-end resolve-checked-requires same-length-2 same-length-3 same-length-4 returns-2)
+resolve-with-spec = tie.close (tie.spec slice-aggregate-check-notes check-notes-requires enum-known-r enum-told answer-requires same-length returns sub-resolve-checked part-resolve-checked-start part-resolve-checked-end resolve-checked-requires same-length-2 same-length-3 returns-2)
