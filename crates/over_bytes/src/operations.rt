@@ -1,5 +1,5 @@
 // The operations over bytes: each loads the pack's words and answers by one number. Clearing large arrays would take longer
-// than the work on a small pack, of up to 256 words: it has small ones.
+// than the work on a small pack: it has small ones.
 use checking::check::check;
 use checking::rewrite::rewrite;
 use filtered::filtered::Filter;
@@ -9,7 +9,7 @@ use kinds::kinds_of::kinds_of;
 use kinds::lean::lean;
 use pack::answer::Answer;
 use pack::kinds::Pack;
-use resolve::resolve::resolve;
+use resolve::resolve::resolve_into;
 use wire::answer::encode;
 use wire::answer::give;
 use wire::bytes::load;
@@ -17,7 +17,8 @@ use wire::bytes::room;
 ghost use mathlib.Core.Path.{_≡_};
 ghost use lib.ListN.{length};
 ghost use Rattle.wire.specs.Bytes.{encode, overBytes, Gives, Holds, Tried};
-ghost use Rattle.over_bytes.specs.Operations.{answerTo, answerOf, bufferOf, Ran};
+ghost use Rattle.resolve.specs.Operations.{resolveAnswer, resolveBuffer};
+ghost use Rattle.over_bytes.specs.Operations.{answerTo, answerOf, bufferOf, asWriting, Ran, RoomIn};
 
 // The operations that only answer.
 pub enum Question {
@@ -32,6 +33,22 @@ pub enum Writing {
     AllKinds,
     Filtered(Filter),
     Resolve,
+}
+
+// Those of them that leave their slice alone where they refuse.
+pub enum Plain {
+    Rewrite,
+    AllKinds,
+    Filtered(Filter),
+}
+
+// How many words small packs have, and how many most of what they give has.
+pub struct Short {}
+
+impl Short {
+    pub const BYTES: usize = 4 * Pack::FEW_WORDS;
+
+    pub const WRITTEN: usize = 1024;
 }
 
 fn answer_to(q: Question, words: &[u32]) -> Answer
@@ -56,29 +73,28 @@ fn ask_in(q: Question, pack: &[u8], words: &mut [u32]) -> u64
 pub fn ask(q: Question, pack: &[u8]) -> u64
     ensures { λ r. ⌜ r ≡ encode (overBytes (answerTo q) (now (pack .entry))) ⌝ }
 {
-    if pack.len() <= 1024 {
-        let mut few = [0u32; 256];
+    if pack.len() <= Short::BYTES {
+        let mut few = [0u32; Pack::FEW_WORDS];
         return ask_in(q, pack, &mut few);
     }
     let mut words = [0u32; Pack::MOST_WORDS];
     ask_in(q, pack, &mut words)
 }
 
-fn run(w: Writing, words: &[u32], out: &mut [u32]) -> Answer
-    ensures { λ r. ⌜ Ran w (now (words .entry)) (now (out .entry)) r (now (out .exit)) ⌝ }
+fn run(w: Plain, words: &[u32], out: &mut [u32]) -> Answer
+    ensures { λ r. ⌜ Ran (asWriting w) (now (words .entry)) (now (out .entry)) r (now (out .exit)) ⌝ }
 {
     match w {
-        Writing::Rewrite => rewrite(words, out),
-        Writing::AllKinds => all_kinds(words, out),
-        Writing::Filtered(filter) => filtered(words, filter, out),
-        Writing::Resolve => resolve(words, out),
+        Plain::Rewrite => rewrite(words, out),
+        Plain::AllKinds => all_kinds(words, out),
+        Plain::Filtered(filter) => filtered(words, filter, out),
     }
 }
 
 // With slices for the words of the pack and for those that are written, of which the output is given as many as are answered.
-fn write_in(w: Writing, pack: &[u8], words: &mut [u32], written: &mut [u32], out: &mut [u8]) -> u64
+fn write_in(w: Plain, pack: &[u8], words: &mut [u32], written: &mut [u32], out: &mut [u8]) -> u64
     requires { ⌜ Holds (length (now pack)) (length (now words)) ⌝ }
-    ensures { λ r. ⌜ Tried (answerOf w) (bufferOf w) (now (pack .entry)) (length (now (written .entry))) (now (out .entry)) r (now (out .exit)) ⌝ }
+    ensures { λ r. ⌜ Tried (answerOf (asWriting w)) (bufferOf (asWriting w)) (now (pack .entry)) (length (now (written .entry))) (now (out .entry)) r (now (out .exit)) ⌝ }
 {
     let n = load(pack, words);
     let m = room(out.len(), written.len());
@@ -86,14 +102,14 @@ fn write_in(w: Writing, pack: &[u8], words: &mut [u32], written: &mut [u32], out
     give(a, written, out)
 }
 
-// No operation writes more than 8,192 words. What a small pack gives most often fits 1,024: only where that is refused for
-// want of room, by 16, it is run again.
-pub fn write(w: Writing, pack: &[u8], out: &mut [u8]) -> u64
-    ensures { λ r. ⌜ Gives (answerOf w) (bufferOf w) (now (pack .entry)) (now (out .entry)) r (now (out .exit)) ⌝ }
+// No operation writes more than 8,192 words. What a small pack gives most often fits the short slice: only where that is
+// refused for want of room, by 16, it is run again.
+fn written(w: Plain, pack: &[u8], out: &mut [u8]) -> u64
+    ensures { λ r. ⌜ Gives (answerOf (asWriting w)) (bufferOf (asWriting w)) (now (pack .entry)) (now (out .entry)) r (now (out .exit)) ⌝ }
 {
-    if pack.len() <= 1024 {
-        let mut few = [0u32; 256];
-        let mut short = [0u32; 1024];
+    if pack.len() <= Short::BYTES {
+        let mut few = [0u32; Pack::FEW_WORDS];
+        let mut short = [0u32; Short::WRITTEN];
         let r = write_in(w, pack, &mut few, &mut short, out);
         if r != 16 {
             return r;
@@ -102,4 +118,42 @@ pub fn write(w: Writing, pack: &[u8], out: &mut [u8]) -> u64
     let mut words = [0u32; Pack::MOST_WORDS];
     let mut written = [0u32; Pack::MOST_WORDS];
     write_in(w, pack, &mut words, &mut written, out)
+}
+
+// Resolve likewise, whose notes stand in the slice before what is written; so it has one word more than may be written.
+fn resolve_in(pack: &[u8], words: &mut [u32], made: &mut [u32], most: usize, out: &mut [u8]) -> u64
+    requires { ⌜ Holds (length (now pack)) (length (now words)) × RoomIn (length (now words)) (now made) most ⌝ }
+    ensures { λ r. ⌜ Tried resolveAnswer resolveBuffer (now (pack .entry)) most (now (out .entry)) r (now (out .exit)) ⌝ }
+{
+    let n = load(pack, words);
+    let m = room(out.len(), most);
+    let a = resolve_into(&words[..n], made, m);
+    give(a, made, out)
+}
+
+fn resolved(pack: &[u8], out: &mut [u8]) -> u64
+    ensures { λ r. ⌜ Gives resolveAnswer resolveBuffer (now (pack .entry)) (now (out .entry)) r (now (out .exit)) ⌝ }
+{
+    if pack.len() <= Short::BYTES {
+        let mut few = [0u32; Pack::FEW_WORDS];
+        let mut short = [0u32; Short::WRITTEN + 1];
+        let r = resolve_in(pack, &mut few, &mut short, Short::WRITTEN, out);
+        if r != 16 {
+            return r;
+        }
+    }
+    let mut words = [0u32; Pack::MOST_WORDS];
+    let mut made = [0u32; Pack::MOST_WORDS + 1];
+    resolve_in(pack, &mut words, &mut made, Pack::MOST_WORDS, out)
+}
+
+pub fn write(w: Writing, pack: &[u8], out: &mut [u8]) -> u64
+    ensures { λ r. ⌜ Gives (answerOf w) (bufferOf w) (now (pack .entry)) (now (out .entry)) r (now (out .exit)) ⌝ }
+{
+    match w {
+        Writing::Rewrite => written(Plain::Rewrite, pack, out),
+        Writing::AllKinds => written(Plain::AllKinds, pack, out),
+        Writing::Filtered(filter) => written(Plain::Filtered(filter), pack, out),
+        Writing::Resolve => resolved(pack, out),
+    }
 }

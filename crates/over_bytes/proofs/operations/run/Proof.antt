@@ -1,4 +1,4 @@
--- `over_bytes::operations::run` meets its contract, by the operations that write.
+-- `over_bytes::operations::run` meets its contract.
 use borrow.Author.Needs.{needs}
 use Rattle.over_bytes.proofs.operations.run.Statement.{statement}
 use Rattle.over_bytes.proofs.operations.run.Tie as tie
@@ -21,61 +21,23 @@ enum-known-w c = search needs
 filtered-requires : tie.Need-filtered-requires
 filtered-requires c κs = search needs
 
-enum-told-3 : tie.Need-enum-told-3
-enum-told-3 c = search needs
-
-resolve-requires : tie.Need-resolve-requires
-resolve-requires c κs = search needs
-
 same-length : tie.Need-same-length
 same-length c = search needs
 
 returns : tie.Need-returns
-returns c =
-    let called = c .before .before in
-    rw (called .before .before .enum-told .given .1) (record { answers = called .rewrite .ensures .answers; leaves = called .rewrite .ensures .leaves })
+returns c = rw (c .before .before .before .before .enum-told .given .1) (record { answers = c .before .before .rewrite .ensures .answers; leaves = c .before .before .rewrite .ensures .leaves })
 
 same-length-2 : tie.Need-same-length-2
 same-length-2 c = search needs
 
 returns-2 : tie.Need-returns-2
-returns-2 c =
-    let called = c .before .before in
-    rw (called .before .before .enum-told2 .given .1) (record { answers = called .all-kinds .ensures .answers; leaves = called .all-kinds .ensures .leaves })
+returns-2 c = rw (c .before .before .before .before .enum-told2 .given .1) (record { answers = c .before .before .all-kinds .ensures .answers; leaves = c .before .before .all-kinds .ensures .leaves })
 
 same-length-3 : tie.Need-same-length-3
 same-length-3 c = search needs
 
 returns-3 : tie.Need-returns-3
-returns-3 c =
-    let called = c .before .before in
-    rw (called .before .before .before .w .given .1) (record { answers = called .filtered .ensures .answers; leaves = called .filtered .ensures .leaves })
-
-same-length-4 : tie.Need-same-length-4
-same-length-4 c = search needs
-
-returns-4 : tie.Need-returns-4
-returns-4 c =
-    let called = c .before .before in
-    rw (called .before .before .enum-told3 .given .1) (record { answers = called .resolve .ensures .answers; leaves = called .resolve .ensures .leaves })
+returns-3 c = rw (c .before .before .before .before .before .w .given .1) (record { answers = c .before .before .filtered .ensures .answers; leaves = c .before .before .filtered .ensures .leaves })
 
 pub run-spec : {M : Type 1} → statement M
-run-spec =
-    tie.close
-    (tie.spec
-    enum-told
-    rewrite-requires
-    enum-told-2
-    all-kinds-requires
-    enum-known-w
-    filtered-requires
-    enum-told-3
-    resolve-requires
-    same-length
-    returns
-    same-length-2
-    returns-2
-    same-length-3
-    returns-3
-    same-length-4
-    returns-4)
+run-spec = tie.close (tie.spec enum-told rewrite-requires enum-told-2 all-kinds-requires enum-known-w filtered-requires same-length returns same-length-2 returns-2 same-length-3 returns-3)

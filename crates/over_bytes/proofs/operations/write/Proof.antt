@@ -1,54 +1,55 @@
--- `over_bytes::operations::write` meets its contract: 16 in the short slice leaves the output as it was, and any other answer is the same with more room.
+-- `over_bytes::operations::write` meets its contract.
 use borrow.Author.Needs.{needs}
-use mathlib.Core.Path.{refl, ap, _∙_}
-use mathlib.Core.Logic.{⊎-elim}
-use lib.ListN.{length}
-use Rattle.over_bytes.proofs.Writes.{writes}
-use Rattle.wire.proofs.OverBytes.{given-short, given-long, kept-out}
 use Rattle.over_bytes.proofs.operations.write.Statement.{statement}
 use Rattle.over_bytes.proofs.operations.write.Tie as tie
 
-slice-aggregate-write-in : tie.Need-slice-aggregate-write-in
-slice-aggregate-write-in c = search needs
+enum-told : tie.Need-enum-told
+enum-told c = search needs
 
-slice-aggregate-write-in-2 : tie.Need-slice-aggregate-write-in-2
-slice-aggregate-write-in-2 c = search needs
+written-requires : tie.Need-written-requires
+written-requires c κs = search needs
 
-write-in-requires : tie.Need-write-in-requires
-write-in-requires c κs = search needs
+enum-told-2 : tie.Need-enum-told-2
+enum-told-2 c = search needs
+
+written-requires-2 : tie.Need-written-requires-2
+written-requires-2 c κs = search needs
+
+enum-known-w : tie.Need-enum-known-w
+enum-known-w c = search needs
+
+written-requires-3 : tie.Need-written-requires-3
+written-requires-3 c κs = search needs
+
+enum-told-3 : tie.Need-enum-told-3
+enum-told-3 c = search needs
+
+resolved-requires : tie.Need-resolved-requires
+resolved-requires c κs = search needs
 
 same-length : tie.Need-same-length
 same-length c = search needs
 
 returns : tie.Need-returns
-returns c = given-short (writes (c .before .before .before .before .before .before .before .before .before .before .before .before .args .w)) (c .before .before .before .before .before .write-in .ensures) (c .if2 .taken)
-
-slice-aggregate-write-in-3 : tie.Need-slice-aggregate-write-in-3
-slice-aggregate-write-in-3 c = search needs
-
-slice-aggregate-write-in-4 : tie.Need-slice-aggregate-write-in-4
-slice-aggregate-write-in-4 c = search needs
-
-write-in-requires-2 : tie.Need-write-in-requires-2
-write-in-requires-2 c κs = search needs
+returns c = rw (c .before .before .before .before .enum-told .given .1) (c .before .before .written .ensures)
 
 same-length-2 : tie.Need-same-length-2
-same-length-2 c = c .before .before .before .before .write-in2 .kept .1 .1 .1 .1 .0 ∙ ap length (⊎-elim (λ w. w .10 ∙ kept-out (writes (c .before .before .before .before .before .before .before .before .before .before .before .args .w)) (w .4 .ensures) (w .9 .left)) (λ w. w .1) (c .before .before .before .before .before .before .before .before .if1 .came))
+same-length-2 c = search needs
 
 returns-2 : tie.Need-returns-2
-returns-2 c = given-long (writes (c .before .before .before .before .before .before .before .before .before .before .before .args .w)) (c .before .before .before .before .write-in2 .ensures) _ (⊎-elim (λ w. w .10 ∙ kept-out (writes (c .before .before .before .before .before .before .before .before .before .before .before .args .w)) (w .4 .ensures) (w .9 .left)) (λ w. w .1) (c .before .before .before .before .before .before .before .before .if1 .came)) refl
+returns-2 c = rw (c .before .before .before .before .enum-told2 .given .1) (c .before .before .written2 .ensures)
+
+same-length-3 : tie.Need-same-length-3
+same-length-3 c = search needs
+
+returns-3 : tie.Need-returns-3
+returns-3 c = rw (c .before .before .before .before .before .w .given .1) (c .before .before .written3 .ensures)
+
+same-length-4 : tie.Need-same-length-4
+same-length-4 c = search needs
+
+returns-4 : tie.Need-returns-4
+returns-4 c = rw (c .before .before .before .before .enum-told3 .given .1) (c .before .before .resolved .ensures)
 
 pub write-spec : {M : Type 1} → statement M
-write-spec =
-    tie.close
-    (tie.spec
-    slice-aggregate-write-in
-    slice-aggregate-write-in-2
-    write-in-requires
-    same-length
-    returns
-    slice-aggregate-write-in-3
-    slice-aggregate-write-in-4
-    write-in-requires-2
-    same-length-2
-    returns-2)
+write-spec = tie.close (tie.spec enum-told written-requires enum-told-2 written-requires-2 enum-known-w written-requires-3 enum-told-3 resolved-requires same-length returns same-length-2 returns-2 same-length-3 returns-3 same-length-4 returns-4)

@@ -2,6 +2,7 @@
 use borrow.Author.Needs.{needs}
 use mathlib.Core.Path.{sym}
 use lib.Seq.{length-take-le}
+use Rattle.over_bytes.specs.Operations.{asWriting}
 use Rattle.over_bytes.proofs.Writes.{writes}
 use Rattle.wire.proofs.OverBytes.{fits-out, tried}
 use Rattle.over_bytes.proofs.operations.write_in.Statement.{statement}
@@ -32,7 +33,7 @@ give-requires : tie.Need-give-requires
 give-requires c κs =
     let called = c .before .before .before .before in
     let roomed = called .before .before .before in
-    fits-out (writes (roomed .before .before .before .before .before .before .before .before .before .args .w)) _ _ (called .run .last .1 .1 .0) _ _ (roomed .room .ensures) (called .run .ensures .answers) (called .run .kept .1 .1 .0)
+    fits-out (writes (asWriting (roomed .before .before .before .before .before .before .before .before .before .args .w))) _ _ (called .run .last .1 .1 .0) _ _ (roomed .room .ensures) (called .run .ensures .answers) (called .run .kept .1 .1 .0)
 
 same-length : tie.Need-same-length
 same-length c = search needs
@@ -49,7 +50,7 @@ returns c =
     let called = gave .before .before .before .before .before in
     let roomed = called .before .before .before in
     let loaded = roomed .before .before .before in
-    tried (writes (loaded .before .before .before .before .before .before .args .w)) _ _ (loaded .load .ensures) (roomed .room .ensures) (called .run .ensures .answers) (called .run .ensures .leaves) (called .run .kept .1 .1 .0) (gave .give .ensures)
+    tried (writes (asWriting (loaded .before .before .before .before .before .before .args .w))) _ _ (loaded .load .ensures) (roomed .room .ensures) (called .run .ensures .answers) (called .run .ensures .leaves) (called .run .kept .1 .1 .0) (gave .give .ensures)
 
 pub write-in-spec : {M : Type 1} → statement M
 write-in-spec =
