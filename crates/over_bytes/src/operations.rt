@@ -137,9 +137,9 @@ fn resolved(pack: &[u8], out: &mut [u8]) -> u64
     if pack.len() <= Short::BYTES {
         let mut few = [0u32; Pack::FEW_WORDS];
         let mut short = [0u32; Short::WRITTEN + 1];
-        let r = resolve_in(pack, &mut few, &mut short, Short::WRITTEN, out);
-        if r != 16 {
-            return r;
+        let given = resolve_in(pack, &mut few, &mut short, Short::WRITTEN, out);
+        if given != 16 {
+            return given;
         }
     }
     let mut words = [0u32; Pack::MOST_WORDS];
