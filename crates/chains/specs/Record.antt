@@ -1,7 +1,7 @@
 -- What the code reads of a relation from the words of a pack, at the place where its record starts.
-use Prim.Native.Nat.{ℕ, _+_, _*_, _≤_}
+use Prim.Native.Nat.{ℕ, _+_, _*_, _<_, _≤_}
 use mathlib.Core.List.{List}
-use lib.ListN.{getD}
+use lib.ListN.{length, getD}
 use Rattle.pack.specs.Table.{valueOf}
 use Rattle.pack.specs.Form.{repeats}
 
@@ -22,6 +22,7 @@ slotsPlace ws start = start + 4 + kindCount ws start + 3 + 3 * repeats (valueAt 
 unfoldable pub entityCount : List ℕ → ℕ → ℕ
 entityCount ws start = valueAt ws (slotsPlace ws start + 4)
 
--- no record starts past the place 65,536, so that sums of places stay small
-unfoldable pub Recorded : List ℕ → Type 0
-Recorded records = (n : ℕ) → getD records n 0 ≤ 65536
+-- each record starts at a word of the slice, which has at most 8,192, so that sums of places stay small
+pub record Recorded (ws records : List ℕ) : Type 0 where
+  pub within : (n : ℕ) → getD records n 0 < length ws
+  pub few : length ws ≤ 8192

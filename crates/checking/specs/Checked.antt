@@ -5,12 +5,12 @@ use mathlib.Core.List.{List}
 use lib.ListN.{length, getD}
 use lib.Dec.{leb}
 use Rattle.pack.specs.declared.answer.Answer.{Answer}
-use Rattle.pack.specs.declared.answer.Answer.the-variants.{Given, Refused}
+use Rattle.pack.specs.declared.answer.Answer.the-variants.{Refused}
 use Rattle.pack.specs.Table.{pick, valueOf}
 use Rattle.pack.specs.Form.{got, readBy}
 use Rattle.pack.specs.Pack.{Records, undated, layout, Pack, yes, read, toRow}
 use Rattle.pack.specs.Steps.{walk}
-use Rattle.pack.specs.Operations.{checkAnswer}
+use Rattle.pack.specs.Operations.{saysYes, checkAnswer}
 use Rattle.records.specs.declared.directory.Laid.{Laid}
 use Rattle.records.specs.declared.directory.Laid.the-variants.{Yes, No}
 use Rattle.records.specs.Directory.{stepIn, layoutOf, directoryOf}
@@ -29,7 +29,7 @@ pub record LaidWhole (len : ℕ) (ws d e : List ℕ) (r : Laid) (d′ e′ : Lis
   pub notes : (t : ℕ × (ℕ × Records)) (next : ℕ) (rest : List ℕ) → readBy (layout undated len) 0 ws ≡ got t next rest → e′ ≡ notesLeft (t .1 .0) 2 (t .1 .1) e
 
 abbrev pub answerIn : Laid → Answer
-answerIn (Yes l) = Given 1 0
+answerIn (Yes l) = saysYes
 answerIn (No r) = Refused r
 
 -- Check's answer; and of a pack, where its records stand, the directory of its relations, and the notes

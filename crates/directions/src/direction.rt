@@ -31,7 +31,7 @@ pub enum Membership {
     Unknown,
 }
 
-// A membership in one number, as the walkers hand it on: UNKNOWN, or one more than the current kind and VALUES times the
+// A membership in one number, as turning hands it on: UNKNOWN, or one more than the current kind and VALUES times the
 // related one.
 pub struct Code {}
 

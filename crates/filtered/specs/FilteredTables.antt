@@ -2,14 +2,17 @@
 use Prim.Native.Nat.{ℕ}
 use mathlib.Core.List.{List}
 use mathlib.Core.Option.{Option, none, some}
+use lib.ListN.{length}
+use lib.Dec.{leb}
 use Rattle.pack.specs.declared.answer.Answer.{Answer}
+use Rattle.pack.specs.Table.{pick}
 use Rattle.pack.specs.Table as table
 use Rattle.pack.specs.Pack.{Pack, read}
-use Rattle.pack.specs.Operations.{answer, buffer}
+use Rattle.pack.specs.Operations.{answer, buffer, wordsWritten, noRoom}
 use Rattle.filtered.specs.declared.filtered.Filter.{Filter}
 use Rattle.filtered.specs.declared.filtered.Filter.the-variants.{Direct, Innermost, Alias, Unresolved}
 use Rattle.filtered.specs.Filtered.{direct, alias, unresolved, innermost}
-use Rattle.chains.specs.Answers.{writeAnswer, writeBuffer, yesNo}
+use Rattle.chains.specs.Answers.{writeBuffer, yesNo}
 use Rattle.chains.specs.ByName.{tableFrom}
 
 abbrev pub orNone : Option ℕ → ℕ
@@ -28,7 +31,7 @@ filterWords f p = tableFrom (says f p) 0 (p .names)
 
 -- "Filtered tables .. give Check's refusals, then 16 if the slice has fewer than N words. N words are written, the rest kept."
 unfoldable pub filterAnswer : Filter → List ℕ → ℕ → Answer
-filterAnswer f ws room = answer (read ws) (λ p. writeAnswer (filterWords f p) 0 room)
+filterAnswer f ws room = answer (read ws) (λ p. pick (leb (length (filterWords f p)) room) (wordsWritten (length (filterWords f p))) noRoom)
 
 unfoldable pub filterBuffer : Filter → List ℕ → List ℕ → List ℕ
 filterBuffer f ws lent = buffer (read ws) (λ p. writeBuffer (filterWords f p) lent) lent

@@ -63,7 +63,7 @@ unfoldable pub takenIn : List ℕ → List ℕ → List ℕ → List ℕ → Lis
 takenIn ws slots marks [] t = t
 takenIn ws slots marks (n ∷ ns) t = takenIn ws slots marks ns (takenBy ws marks t n (getD slots n 0))
 
--- they are names
+-- each is below 4,096, the most that N may be
 unfoldable pub NamesLow : List ℕ → Type 0
 NamesLow names = (j : ℕ) → getD names j 0 < 4096
 

@@ -1,4 +1,4 @@
--- Check and Rewrite refuse by 01's numbers alone: 1 to 8, and Rewrite 16 too. Places lie within the slice, or are its length where it has ended, and names are values of words.
+-- Check and Rewrite refuse by 01's numbers alone: 1 to 8, and Rewrite 16 too. Places lie within the slice, or are its length where it has ended, and names are below 2^24.
 use Prim.Native.Nat.{ℕ, zero, suc, _+_, _-_, _≤_, _<_}
 use native.Mathlib.Omega.{arith}
 use mathlib.Core.Path.{_≡_, refl, ap, sym, _∙_}
@@ -17,11 +17,12 @@ use Rattle.pack.specs.Pack.{defaultedName, defaulted, nameList, hop, pat
 use Rattle.pack.specs.Operations.{answer, noRoom, checkAnswer, rewriteAnswer}
 use Rattle.pack.proofs.FormLaws.{lawful}
 
--- A refusal by one of the numbers from 1 to 8, of words that end before the place `end`. By 3 its place is that end, by 2 and 4 to 8 a word's.
+-- A refusal by one of the numbers from 1 to 8, of words that end before the place `end`. By 1 its place is 0, by 3 that end, by 2 and 4 to 8 a word's.
 pub record Within (end : ℕ) (r : Refusal) : Type 0 where
   pub least : 1 ≤ r .number
   pub most : r .number ≤ 8
   pub place : r .place ≤ end
+  pub size : r .number ≡ 1 → r .place ≡ 0
   pub ended : r .number ≡ 3 → r .place ≡ end
   pub word : 2 ≤ r .number → (r .number ≡ 3 → ⊥) → r .place < end
   pub name : r .name < 16777216
@@ -43,10 +44,10 @@ OfWord number = (2 ≤ number) × (number ≤ 8) × (number ≡ 3 → ⊥)
 
 at-word : (number place name end : ℕ) → OfWord number → place < end → name < 16777216 → Within end (record { number = number; place = place; name = name; other = 0 })
 at-word number place name end h p l =
-    record { least = omega (arith, h .0); most = h .1; place = omega arith; ended = λ e. absurd (h .2 e); word = λ lo n. p; name = l; other = refl }
+    record { least = omega (arith, h .0); most = h .1; place = omega arith; size = λ e. absurd (omega (arith, h .0)); ended = λ e. absurd (h .2 e); word = λ lo n. p; name = l; other = refl }
 
 at-end : (end : ℕ) → Within end (record { number = 3; place = end; name = 0; other = 0 })
-at-end end = record { least = omega arith; most = omega arith; place = omega arith; ended = λ e. refl; word = λ lo n. absurd (n refl); name = omega arith; other = refl }
+at-end end = record { least = omega arith; most = omega arith; place = omega arith; size = λ e. absurd (omega arith); ended = λ e. refl; word = λ lo n. absurd (n refl); name = omega arith; other = refl }
 
 plain : {A : Type 0} (number place end : ℕ) (r : Refusal) → OfWord number → place < end → _≡_ {A = Read A} (because number place) (refused r) → Within end r
 plain number place end r h p e = rw (← same-refusal e) (at-word number place 0 end h p (omega arith))
@@ -244,17 +245,18 @@ both : (a b : Bool) → (a && b) ≡ true → b ≡ true
 both true b e = e
 both false b e = let z : _≡_ {A = ℕ} 0 1 = cc in absurd (omega arith)
 
--- One of Check's refusals of a slice: its place is within the slice, or the slice's length for 3. A slice of over 8,192 words is refused at 0.
+-- One of Check's refusals of a slice: its place is within the slice, or the slice's length for 3. A slice of over 8,192 words is refused by 1, at 0.
 pub record CheckRefuses (ws : List ℕ) (r : Refusal) : Type 0 where
   pub within : Within (length ws) r
   pub few : r .place ≤ 8192
+  pub many : 8192 < length ws → (r .number ≡ 1) × (r .place ≡ 0)
 
 pub read-numbers : (ws : List ℕ) (r : Refusal) → read ws ≡ refuse r → CheckRefuses ws r
 unfolding read
 read-numbers ws r e = size (leb 6 (length ws) && leb (length ws) 8192) refl e
   where
     placed : length ws ≤ 8192 → Within (length ws) r → CheckRefuses ws r
-    placed l b = record { within = b; few = omega (arith, b .place) }
+    placed l b = record { within = b; few = omega (arith, b .place); many = λ m. absurd (omega arith) }
 
     found : (m : Read _) → readBy (layout (editionOf ws) (length ws)) 0 ws ≡ m → complete (editionOf ws) m ≡ refuse r → Within (length ws) r
     found (got t at []) q e = let z : _≡_ {A = ℕ} 0 1 = cc in absurd (omega arith)
@@ -272,8 +274,8 @@ read-numbers ws r e = size (leb 6 (length ws) && leb (length ws) 8192) refl e
     size false h e =
         let s : record { number = 1; place = 0; name = 0; other = 0 } ≡ r = cc in
         let one : Within (length ws) (record { number = 1; place = 0; name = 0; other = 0 }) =
-        record { least = omega arith; most = omega arith; place = omega arith; ended = λ e. absurd (omega arith); word = λ lo n. absurd (omega arith); name = omega arith; other = refl } in
-        rw (← s) (record { within = one; few = omega arith })
+        record { least = omega arith; most = omega arith; place = omega arith; size = λ e. refl; ended = λ e. absurd (omega arith); word = λ lo n. absurd (omega arith); name = omega arith; other = refl } in
+        rw (← s) (record { within = one; few = omega arith; many = λ m. (refl, refl) })
 
 pub check-numbers : (ws : List ℕ) (r : Refusal) → checkAnswer ws ≡ Refused r → CheckRefuses ws r
 unfolding checkAnswer

@@ -185,21 +185,22 @@ module _ {ws dir marks asked work : List ℕ} {relations steps : ℕ} (a : Finis
     their-places : order ≡ placesIn p
     their-places = ordered ∙ ap (orderIn dir) room-long ∙ a .places
 
-    finish-recorded : Recorded order
-    unfolding Recorded
-    finish-recorded i =
+    place-within : (i : ℕ) → getD order i 0 < length ws
+    place-within i =
         let R : List ℕ = wordsOf (relationWords (p .names)) (p .relations) in
-        let m = w .most in
         let l = ap length (pack-words p) ∙ length-append (front p) (R ++ (wordOf 22 (length (p .rules)) ∷ rulesOn p)) in
         let k = length-append R (wordOf 22 (length (p .rules)) ∷ rulesOn p) in
         let e : getD order i 0 ≡ getD (placesIn p) i 0 = ap (λ (o : List ℕ). getD o i 0) their-places in
-        omega (arith, places-inside (p .names) (firstRelation p) (p .relations) i, words-length p, front-long p)
+        omega (arith, places-inside (p .names) (firstRelation p) (p .relations) i, front-long p, ap length (words-read ws p h .same))
+
+    finish-recorded : Recorded ws order
+    finish-recorded = record { within = place-within; few = (let m = w .most in omega (arith, words-length p, ap length (words-read ws p h .same))) }
 
     order-long : length order ≡ relations
     unfolding orderIn
     order-long = ap length ordered ∙ table-length (λ i. getD (startsIn dir) (getD dir i 0) 0) 0 _ ∙ room-long
 
-    pub finish-lists : Recorded order × (length {A = ℕ} (midOf 0 (relations - 0) (replicate 512 0)) ≡ length order) × (length order ≤ 512)
+    pub finish-lists : Recorded ws order × (length {A = ℕ} (midOf 0 (relations - 0) (replicate 512 0)) ≡ length order) × (length order ≤ 512)
     finish-lists = (finish-recorded, room-long ∙ sym order-long, omega (arith, order-long, few-starts))
 
   -- the words written

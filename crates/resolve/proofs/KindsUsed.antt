@@ -17,19 +17,50 @@ use Rattle.pack.specs.Pack.{Derivation, Relation, Rule, Pack, WellFormed, yes, 
 use Rattle.pack.specs.Tree.{Tree}
 use Rattle.pack.specs.Operations.{noRoom}
 use Rattle.pack.proofs.PackLaws.{words-read}
-use Rattle.chains.specs.Kinds.{list21, listOf, find, allKinds, kindsOf}
+use Rattle.chains.specs.Chain.{end, same}
+use Rattle.chains.specs.Kinds.{list9, list21, declares, listOf, find, kindStep, declared, allKinds, ownAnswer, namesOf, kindsOf}
 use Rattle.chains.specs.Reach.{any}
 use Rattle.chains.specs.Places.{firstRelation}
 use Rattle.chains.proofs.Names.{apart, or-cases, or-left, or-right, among-append, any-of, of-any}
-use Rattle.chains.proofs.PackIndex.{parts, EachFound, all-found}
+use Rattle.chains.proofs.ChainLaws.{own-end}
+use Rattle.chains.proofs.KindLaws.{kind-leads}
+use Rattle.chains.proofs.PackIndex.{parts, find-name, EachFound, all-found}
 use Rattle.filtered.specs.Filtered.{kindAt, listed, entityIs, takes, takenFrom, taken, single, direct}
-use Rattle.directions.specs.Tables.{Derived, Tables, derivedBy, derivedAt, tables}
+use Rattle.directions.specs.Tables.{Derived, Tables, derivedBy, derivedAt, pair, typedBy, typedAt, tables}
 use Rattle.directions.specs.Turning.{Outcome, done, refused, andThen, mapDone, result}
 use Rattle.directions.specs.Resolving.{sameKind, equalKinds, defaultedEqual, equalRefusal, resolveRules, predicateBy, resolvePredicate, resolveDerivation, resolveRelation, withPredicate, resolveRelations, empty, unlike, passedOver, orKinds, stampedWith, stampBy, stampDerived, stamp, firstRule, resolveRecords, resolved}
 use Rattle.directions.proofs.Numbers.{Numbered, rules-numbered, relations-numbered}
 use Rattle.resolve.specs.Operations.{givenOut, resolveAnswer}
 use Rattle.resolve.specs.Demand3.{relationOut, DerivedRelation, TakesOne, EqualKinds, ListsLeft, as-they-stood, stamped, KindsUsed}
 use Rattle.resolve.proofs.ResolveLaws.{equal-named}
+
+-- ---- the table of typed relations
+
+typed-kinds : (rs : List Relation) (n : ℕ) (ks : List ℕ) → typedAt (find n rs) ≡ some ks → kindsOf rs n ≡ some ks
+unfolding kindsOf kindStep
+typed-kinds rs n ks e = found (find n rs) refl e
+  where
+    -- two slot kinds and no derivation settle the name at list 9
+    settled : (r : Relation) → find n rs ≡ some r → r .derivation ≡ none → declares (r .name) (r .slotKinds) none ≡ end (some (record { owner = r .name; which = list9 })) → r .slotKinds ≡ ks
+        → namesOf rs (ownAnswer rs n) ≡ some ks
+    settled r f d s k =
+        let a : ownAnswer rs n ≡ some (record { owner = r .name; which = list9 }) = own-end none same refl (kindStep rs) (declared rs) (kind-leads rs) n _ (rw (f, d) s) in
+        let g : find (r .name) rs ≡ some r = subst (λ (m : ℕ). find m rs ≡ some r) (find-name rs n r f) f in
+        rw (a, g) (ap some k)
+
+    pairs : (r : Relation) → find n rs ≡ some r → r .derivation ≡ none → (l : List ℕ) → r .slotKinds ≡ l → pair l ≡ some ks → namesOf rs (ownAnswer rs n) ≡ some ks
+    pairs r f d [] l e = let z : _≡_ {A = ℕ} 0 1 = cc in absurd (omega arith)
+    pairs r f d (a ∷ []) l e = let z : _≡_ {A = ℕ} 0 1 = cc in absurd (omega arith)
+    pairs r f d (a ∷ b ∷ []) l e = settled r f d (rw l refl) (let k : a ∷ b ∷ [] ≡ ks = cc in l ∙ k)
+    pairs r f d (a ∷ b ∷ c ∷ m) l e = let z : _≡_ {A = ℕ} 0 1 = cc in absurd (omega arith)
+
+    underived : (r : Relation) → find n rs ≡ some r → (o : Option Derivation) → r .derivation ≡ o → typedBy (r .slotKinds) o ≡ some ks → namesOf rs (ownAnswer rs n) ≡ some ks
+    underived r f none d e = pairs r f d (r .slotKinds) refl e
+    underived r f (some b) d e = let z : _≡_ {A = ℕ} 0 1 = cc in absurd (omega arith)
+
+    found : (o : Option Relation) → find n rs ≡ o → typedAt o ≡ some ks → namesOf rs (ownAnswer rs n) ≡ some ks
+    found none f e = let z : _≡_ {A = ℕ} 0 1 = cc in absurd (omega arith)
+    found (some r) f e = underived r f (r .derivation) refl e
 
 -- ---- the table of derived relations
 
@@ -40,6 +71,10 @@ derived-kinds ks (some r) d e = go (r .derivation) e
     go : (o : Option Derivation) → derivedBy ks o ≡ some d → d .kinds ≡ ks
     go none e = let z : _≡_ {A = ℕ} 0 1 = cc in absurd (omega arith)
     go (some b) e = let u : record { current = b .current; related = b .related; kinds = ks } ≡ d = cc in ap (λ (x : Derived). x .kinds) (sym u)
+
+derived-back : (p : Pack) (n : ℕ) (b : DerivedRelation p n)
+    → derivedAt (kindsOf (p .relations) n) (find n (p .relations)) ≡ some (record { current = b .derivation .current; related = b .derivation .related; kinds = kindsOf (p .relations) n })
+derived-back p n b = rw (b .declared, b .derived) refl
 
 -- ---- the kinds that entities take
 
@@ -184,6 +219,28 @@ equal-kinds p n = go (find n (p .relations)) refl
     go none f h = let z : _≡_ {A = ℕ} 0 1 = cc in absurd (omega arith)
     go (some x) f h = of x f (x .derivation) refl h
 
+equal-back : (p : Pack) (n : ℕ) → EqualKinds p n → equalKinds (derivedAt (kindsOf (p .relations) n) (find n (p .relations))) ≡ true
+equal-back p n e = rw (derived-back p n (e .by), e .current, e .related) (eq-eqb (e .kind) (e .kind) refl)
+
+equal-among : (T : Tables) (ds : List ℕ) (n : ℕ) → defaultedEqual T ds ≡ some n → among n ds ≡ true
+unfolding defaultedEqual
+equal-among T [] n e = let z : _≡_ {A = ℕ} 0 1 = cc in absurd (omega arith)
+equal-among T (d ∷ ds) n e = go (equalKinds (T .derived d)) e (equal-among T ds n)
+  where
+    go : (b : Bool) → pick b (some d) (defaultedEqual T ds) ≡ some n → (defaultedEqual T ds ≡ some n → among n ds ≡ true) → among n (d ∷ ds) ≡ true
+    go true e ih = let z : n ≡ d = cc in or-left (among n ds) (eq-eqb n d z)
+    go false e ih = or-right (eqb n d) (ih e)
+
+some-equal : (T : Tables) (ds : List ℕ) (n : ℕ) → among n ds ≡ true → equalKinds (T .derived n) ≡ true → (m : ℕ) × (defaultedEqual T ds ≡ some m)
+unfolding defaultedEqual
+some-equal T [] n i h = let z : _≡_ {A = ℕ} 0 1 = cc in absurd (omega arith)
+some-equal T (d ∷ ds) n i h = go (equalKinds (T .derived d)) refl (or-cases (eqb n d) (among n ds) i) (λ j. some-equal T ds n j h)
+  where
+    go : (b : Bool) → equalKinds (T .derived d) ≡ b → (eqb n d ≡ true) ⊎ (among n ds ≡ true) → (among n ds ≡ true → (m : ℕ) × (defaultedEqual T ds ≡ some m)) → (m : ℕ) × (pick b (some d) (defaultedEqual T ds) ≡ some m)
+    go true q i ih = (d, refl)
+    go false q (inl i) ih = apart (subst (λ (x : ℕ). equalKinds (T .derived x) ≡ true) (eqb-true n d i) h) q
+    go false q (inr i) ih = ih i
+
 -- trees are refused by other numbers, and so is a result for which there is no room
 no-9 : (o : Outcome (List Rule)) (e : Outcome (List Relation)) (f : List Rule → List Relation → Pack) (steps room : ℕ) (r : Refusal) → Numbered o → Numbered e
     → givenOut steps room (andThen o (λ rl. mapDone (f rl) e)) ≡ Refused r → r .number ≡ 9 → ⊥
@@ -195,18 +252,26 @@ no-9 (done rl) (done rs) f steps room r h k q n = go (leb (total (f rl rs)) 8192
     go true q = let z : _≡_ {A = ℕ} 0 1 = cc in omega arith
     go false q = let v : record { number = 16; place = 0; name = 0; other = 0 } ≡ r = cc in let u = ap (λ (x : Refusal). x .number) v in omega arith
 
-refused-9 : (ws : List ℕ) (p : Pack) → read ws ≡ yes p → (room : ℕ) (r : Refusal) → resolveAnswer ws room ≡ Refused r → r .number ≡ 9 → EqualKinds p (r .name)
+refused-9 : (ws : List ℕ) (p : Pack) → read ws ≡ yes p → (room : ℕ) (r : Refusal) → resolveAnswer ws room ≡ Refused r → r .number ≡ 9 → (among (r .name) (p .defaulted) ≡ true) × EqualKinds p (r .name)
 unfolding resolveAnswer resolved tables
 refused-9 ws p h room r e n = go (defaultedEqual (tables (p .relations)) (p .defaulted)) refl (rw h at e)
   where
     go : (o : Option ℕ) → defaultedEqual (tables (p .relations)) (p .defaulted) ≡ o
-        → givenOut (allKinds (p .relations) .steps) room (elim o [ some m ↦ refused (equalRefusal p m) | none ↦ resolveRecords p ]) ≡ Refused r → EqualKinds p (r .name)
+        → givenOut (allKinds (p .relations) .steps) room (elim o [ some m ↦ refused (equalRefusal p m) | none ↦ resolveRecords p ]) ≡ Refused r → (among (r .name) (p .defaulted) ≡ true) × EqualKinds p (r .name)
     go (some m) d q =
         let u : equalRefusal p m ≡ r = cc in
-        subst (EqualKinds p) (ap (λ (x : Refusal). x .name) u) (equal-kinds p m (equal-named (tables (p .relations)) (p .defaulted) m d))
+        subst (λ (n : ℕ). (among n (p .defaulted) ≡ true) × EqualKinds p n) (ap (λ (x : Refusal). x .name) u)
+        (equal-among (tables (p .relations)) (p .defaulted) m d, equal-kinds p m (equal-named (tables (p .relations)) (p .defaulted) m d))
     go none d q =
         absurd (no-9 (resolveRules p (firstRule p) (p .rules)) (resolveRelations p (firstRelation p) (p .relations)) _ (allKinds (p .relations) .steps) room r
         (rules-numbered p (firstRule p) (p .rules)) (relations-numbered p (firstRelation p) (p .relations)) q n)
+
+refused-9-back : (ws : List ℕ) (p : Pack) → read ws ≡ yes p → (room n : ℕ) → among n (p .defaulted) ≡ true → EqualKinds p n → (r : Refusal) × (resolveAnswer ws room ≡ Refused r) × (r .number ≡ 9)
+unfolding resolveAnswer resolved tables
+refused-9-back ws p h room n i e =
+    let m = some-equal (tables (p .relations)) (p .defaulted) n i (equal-back p n e) in
+    let first = ap (λ (o : Option ℕ). givenOut (allKinds (p .relations) .steps) room (elim o [ some m ↦ refused (equalRefusal p m) | none ↦ resolveRecords p ])) (m .1) in
+    (equalRefusal p (m .0), rw h first, refl)
 
 -- ---- the lists that are left
 
@@ -252,14 +317,17 @@ lists-left p r out = go (r .derivation) refl
 
 -- ---- all of them
 
-pub kinds-used : (ws : List ℕ) (p : Pack) → read ws ≡ yes p → KindsUsed ws p
+pub kinds-used : (ws : List ℕ) (p : Pack) → read ws ≡ yes p → KindsUsed p (resolveAnswer ws)
 unfolding tables predicateBy
 kinds-used ws p h =
     record {
+      typed = typed-kinds (p .relations);
       derived = λ n d e. derived-kinds (kindsOf (p .relations) n) (find n (p .relations)) d e;
+      derived-back = derived-back p;
       direct = λ e. takes-one p e (words-read ws p h .fine);
       direct-back = λ e k. takes-back p e k (words-read ws p h .fine);
       predicate = λ at r d. refl;
       refused-by-9 = refused-9 ws p h;
+      refused-by-9-back = refused-9-back ws p h;
       lists = lists-left p;
     }

@@ -3,11 +3,13 @@
 use Prim.Native.Nat.{ℕ, _+_, _<_}
 use mathlib.Core.Path.{_≡_}
 use mathlib.Core.List.{List, [], _∷_, _++_}
+use mathlib.Core.Bool.{true}
 use mathlib.Core.Option.{Option, some, Option·map}
 use lib.ListN.{length, drop}
 use Rattle.pack.specs.declared.answer.Refusal.{Refusal}
 use Rattle.pack.specs.declared.answer.Answer.{Answer}
 use Rattle.pack.specs.declared.answer.Answer.the-variants.{Refused}
+use Rattle.pack.specs.Form.{among}
 use Rattle.pack.specs.Pack.{Derivation, Relation, Rule, Block, Pack, total, words}
 use Rattle.pack.specs.Operations.{wordsAndSteps}
 use Rattle.pack.specs.Dealt.{Checked, Shuffled, InAnyOrder, SameBlock}
@@ -121,21 +123,27 @@ pub data ListsLeft (p : Pack) (r out : Relation) : Type 0 where
   as-they-stood : out .slotKinds ≡ r .slotKinds → listOf list21 out ≡ listOf list21 r → ListsLeft p r out
   stamped : kindsOf (p .relations) (r .name) ≡ some (listOf list21 out) → out .slotKinds ≡ orKinds (r .slotKinds) (listOf list21 out) → ListsLeft p r out
 
--- "in Resolve, those that tables and stamping use, so a stamped list holds them": all that looks at kinds looks at those of the own walk
-pub record KindsUsed (ws : List ℕ) (p : Pack) : Type 0 where
-  -- the table of derived relations, by which aggregates and membership tests go
+-- "in Resolve, those that tables and stamping use, so a stamped list holds them": all that looks at kinds looks at those of the own walk. Of a pack, and of what
+-- Resolve answers for it by the room that is lent.
+pub record KindsUsed (p : Pack) (answers : ℕ → Answer) : Type 0 where
+  -- the table of typed relations: their slots are matched in aggregates and membership tests
+  pub typed : (n : ℕ) (ks : List ℕ) → tables (p .relations) .typed n ≡ some ks → kindsOf (p .relations) n ≡ some ks
+  -- the table of derived relations, just these: they supply slots and kinds in aggregates and membership tests, and 9 goes by it
   pub derived : (n : ℕ) (d : Derived) → tables (p .relations) .derived n ≡ some d → d .kinds ≡ kindsOf (p .relations) n
-  -- the table by which an entity is matched: just where it takes one kind
+  pub derived-back : (n : ℕ) (b : DerivedRelation p n)
+      → tables (p .relations) .derived n ≡ some (record { current = b .derivation .current; related = b .derivation .related; kinds = kindsOf (p .relations) n })
+  -- the table by which an aggregate's entity is matched: just where it takes one kind
   pub direct : (e k : ℕ) → tables (p .relations) .direct e ≡ some k → TakesOne p e k
   pub direct-back : (e k : ℕ) → e < p .names → TakesOne p e k → tables (p .relations) .direct e ≡ some k
-  -- a predicate's entity and membership
+  -- a predicate's entity and membership, with which its tree is resolved
   pub predicate : (at : ℕ) (r : Relation) (d : Derivation)
       → resolvePredicate p at r d
       ≡ resolveTree (cites p (r .name) (r .origin)) (kindOrZero (kindsOf (p .relations) (r .name)) (d .related)) (membership (kindBorne p (r .name) (d .current)) (kindBorne p (r .name) (d .related)))
       (at + predicatePlace r d) (d .predicate)
-  -- a refusal by 9
-  pub refused-by-9 : (room : ℕ) (r : Refusal) → resolveAnswer ws room ≡ Refused r → r .number ≡ 9 → EqualKinds p (r .name)
-  -- the lists of every relation that is left in the words
+  -- an answer of 9: just where a defaulted relation has equal kinds, and it names one
+  pub refused-by-9 : (room : ℕ) (r : Refusal) → answers room ≡ Refused r → r .number ≡ 9 → (among (r .name) (p .defaulted) ≡ true) × EqualKinds p (r .name)
+  pub refused-by-9-back : (room n : ℕ) → among n (p .defaulted) ≡ true → EqualKinds p n → (r : Refusal) × (answers room ≡ Refused r) × (r .number ≡ 9)
+  -- the lists of every relation that comes out into the buffer
   pub lists : (r out : Relation) → relationOut p r ≡ some out → ListsLeft p r out
 
 -- ---- steps
@@ -162,8 +170,8 @@ pub record Demand3 (ws : List ℕ) (p q : Pack) (vs : List ℕ) : Type 0 where
   pub all-kinds : (lent : List ℕ) (n steps : ℕ) → allKindsAnswer ws (length lent) ≡ wordsAndSteps n steps → KindsWritten ws (p .relations) (p .relations) (allKindsBuffer ws lent)
   pub all-kinds-again : (lent : List ℕ) (n steps : ℕ) → allKindsAnswer vs (length lent) ≡ wordsAndSteps n steps → KindsWritten vs (q .relations) (q .relations) (allKindsBuffer vs lent)
   -- ".. and in Resolve, are exactly those of its own walk,"
-  pub kinds-used : KindsUsed ws p
-  pub kinds-used-again : KindsUsed vs q
+  pub kinds-used : KindsUsed p (resolveAnswer ws)
+  pub kinds-used-again : KindsUsed q (resolveAnswer vs)
   -- "and alike in both packs."
   pub same-kinds : (n : ℕ) → kindsOf (p .relations) n ≡ kindsOf (q .relations) n
   pub same-answers : (room : ℕ) → allKindsAnswer ws room ≡ allKindsAnswer vs room

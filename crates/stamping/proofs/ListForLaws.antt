@@ -167,6 +167,5 @@ module _ (ws work marks asked : List ℕ) where
             few = let w = s .within in omega (arith, s .small);
           }
 
-pub recorded : (places : List ℕ) (i : ℕ) → Recorded places → getD places i 0 ≤ 65536
-unfolding Recorded
-recorded places i h = h i
+pub recorded : {ws : List ℕ} (places : List ℕ) (i : ℕ) → Recorded ws places → getD places i 0 ≤ 65536
+recorded places i h = omega (arith, h .within i)

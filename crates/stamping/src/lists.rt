@@ -111,7 +111,7 @@ pub fn lists(
     order: &[u32],
     table: &mut [u32],
 ) -> usize
-    requires { ⌜ Recorded (now order) × (length (now table) ≡ length (now order)) × (length (now order) ≤ 512) ⌝ }
+    requires { ⌜ Recorded (now pack) (now order) × (length (now table) ≡ length (now order)) × (length (now order) ≤ 512) ⌝ }
     ensures { λ r. ⌜ Listed (now (pack .entry)) (now (work .entry)) (now (marks .entry)) (now (asked .entry)) (now (order .entry)) (now (table .exit)) r ⌝ }
 {
     let mut more: usize = 0;
