@@ -62,6 +62,9 @@ typed-kinds rs n ks e = found (find n rs) refl e
     found none f e = let z : _≡_ {A = ℕ} 0 1 = cc in absurd (omega arith)
     found (some r) f e = underived r f (r .derivation) refl e
 
+typed-two : (rs : List Relation) (n a b : ℕ) (r : Relation) → find n rs ≡ some r → r .derivation ≡ none → r .slotKinds ≡ a ∷ b ∷ [] → typedAt (find n rs) ≡ some (a ∷ b ∷ [])
+typed-two rs n a b r f d k = rw (f, d, k) refl
+
 -- ---- the table of derived relations
 
 derived-kinds : (ks : Option (List ℕ)) (o : Option Relation) (d : Derived) → derivedAt ks o ≡ some d → d .kinds ≡ ks
@@ -322,6 +325,7 @@ unfolding tables predicateBy
 kinds-used ws p h =
     record {
       typed = typed-kinds (p .relations);
+      typed-back = typed-two (p .relations);
       derived = λ n d e. derived-kinds (kindsOf (p .relations) n) (find n (p .relations)) d e;
       derived-back = derived-back p;
       direct = λ e. takes-one p e (words-read ws p h .fine);

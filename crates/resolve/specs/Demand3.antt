@@ -4,7 +4,7 @@ use Prim.Native.Nat.{ℕ, _+_, _<_}
 use mathlib.Core.Path.{_≡_}
 use mathlib.Core.List.{List, [], _∷_, _++_}
 use mathlib.Core.Bool.{true}
-use mathlib.Core.Option.{Option, some, Option·map}
+use mathlib.Core.Option.{Option, none, some, Option·map}
 use lib.ListN.{length, drop}
 use Rattle.pack.specs.declared.answer.Refusal.{Refusal}
 use Rattle.pack.specs.declared.answer.Answer.{Answer}
@@ -126,8 +126,9 @@ pub data ListsLeft (p : Pack) (r out : Relation) : Type 0 where
 -- "in Resolve, those that tables and stamping use, so a stamped list holds them": all that looks at kinds looks at those of the own walk. Of a pack, and of what
 -- Resolve answers for it by the room that is lent.
 pub record KindsUsed (p : Pack) (answers : ℕ → Answer) : Type 0 where
-  -- the table of typed relations: their slots are matched in aggregates and membership tests
+  -- the table of typed relations, "without derivation and with exactly two slot kinds", just these: their slots are matched in aggregates and membership tests
   pub typed : (n : ℕ) (ks : List ℕ) → tables (p .relations) .typed n ≡ some ks → kindsOf (p .relations) n ≡ some ks
+  pub typed-back : (n a b : ℕ) (r : Relation) → find n (p .relations) ≡ some r → r .derivation ≡ none → r .slotKinds ≡ a ∷ b ∷ [] → tables (p .relations) .typed n ≡ some (a ∷ b ∷ [])
   -- the table of derived relations, just these: they supply slots and kinds in aggregates and membership tests, and 9 goes by it
   pub derived : (n : ℕ) (d : Derived) → tables (p .relations) .derived n ≡ some d → d .kinds ≡ kindsOf (p .relations) n
   pub derived-back : (n : ℕ) (b : DerivedRelation p n)
