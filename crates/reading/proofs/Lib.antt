@@ -4,3 +4,4 @@ pub mod NotingLaws
 pub mod RowLaws
 pub mod NotesLaws
 pub mod BoundLaws
+pub mod PartLaws

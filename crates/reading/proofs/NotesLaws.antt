@@ -109,14 +109,18 @@ opens Slots e = no (sym e)
 opens Atom e = no (sym e)
 opens Exists e = no (sym e)
 
+no-base : (inside : ℕ) (lost : Bool) → contextOf inside lost % 8192 ≡ 0
+no-base inside true = omega arith
+no-base inside false = omega arith
+
 -- the context of a child
 child-in : (w : Follows) (by : Bool) → (lookBy w .opens ≡ true → by ≡ true) → (i inside : ℕ) (lost : Bool) (d : List ℕ) → (lookBy w .opens ≡ true → nextNote d ≡ i)
     → childIn w by (contextOf inside lost) d ≡ contextOf (pick (lookBy w .opens) i inside) (lost || by)
 unfolding childIn
 child-in w by b i inside lost d n = go (lookBy w .opens) refl
   where
-    go : (o : Bool) → lookBy w .opens ≡ o → pick (lookBy w .opens) (inNext d) (pick by (losing (contextOf inside lost)) (contextOf inside lost)) ≡ contextOf (pick (lookBy w .opens) i inside) (lost || by)
-    go true e = rw (e, b e, or-true lost, n e) refl
+    go : (o : Bool) → lookBy w .opens ≡ o → pick (lookBy w .opens) (inNext d + contextOf inside lost % 8192) (pick by (losing (contextOf inside lost)) (contextOf inside lost)) ≡ contextOf (pick (lookBy w .opens) i inside) (lost || by)
+    go true e = rw (e, b e, or-true lost, n e, no-base inside lost) (omega arith)
     go false e = rw e (loses inside lost by)
 
 -- ---- trees

@@ -1,5 +1,5 @@
 -- Laws of what was read and noted: a row of trees, a node, what follows a head word.
-use Prim.Native.Nat.{ℕ, zero, suc, _+_, _-_, _≤_, _<_}
+use Prim.Native.Nat.{ℕ, zero, suc, _+_, _-_, _%_, _≤_, _<_}
 use native.Mathlib.Omega.{arith}
 use mathlib.Core.Path.{_≡_, refl, ap, sym, _∙_, subst}
 use mathlib.Core.List.{List, [], _∷_}
@@ -198,7 +198,7 @@ module _ (n left : ℕ) (ws : List ℕ) (at : ℕ) where
 
   pub where-came : {a b d k : ℕ} → a ≡ coded (walk (one 80) ws at) → a < 65536 → b ≡ coded (walk (one 81) ws a) → b < 65536 → d ≡ coded (walk (one 86) ws b) → d < 65536
       → k ≡ coded (walk (one 83) ws d) → k < 65536 → d ≤ length ws → (c : ℕ) {r : ℕ} {e₀ e : List ℕ}
-      → Rowed n left ws (inNext e₀) (inNext e₀) (replicate (valueOf (getD ws d 0)) judgment) k (push (at + c) e₀) r e
+      → Rowed n left ws (inNext e₀ + c % 8192) (inNext e₀ + c % 8192) (replicate (valueOf (getD ws d 0)) judgment) k (push (at + c) e₀) r e
       → Came (follow n (tree n left) Aggregate 0) (λ p. noteFollow c true Aggregate (toForest (p .1))) ws at e₀ r e
   unfolding fields fieldsOf childrenOf childIn lookBy
   where-came {a} {b} {d} {k} ea ha eb hb ed hd ek hk l c {r} {e₀} {e} h =

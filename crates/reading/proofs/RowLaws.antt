@@ -1,5 +1,5 @@
 -- Laws of the walkers: a row of trees word by word, an aggregate with its where tree, a tree's step.
-use Prim.Native.Nat.{ℕ, suc, _+_, _-_, _≤_, _<_}
+use Prim.Native.Nat.{ℕ, suc, _+_, _-_, _%_, _≤_, _<_}
 use native.Mathlib.Omega.{arith}
 use mathlib.Core.Path.{_≡_, refl, ap, sym, _∙_, subst}
 use mathlib.Core.List.{List, [], _∷_}
@@ -151,7 +151,7 @@ fielded n ws at most l e1 z1 e2 z2 e3 z3 e4 z4 =
     let m4 = passed (only (83 ∷ [])) n ws (at + 3) e4 most (m3 .there) z4 (at + 4) (omega arith) in
     record { current = m1; related = m2; opaque = m3; flag = m4 }
 
-pub where-rows : (n left c : ℕ) (ws : List ℕ) (at : ℕ) → Fielded n ws at → {inner r : ℕ} {d d₁ e : List ℕ} → inner ≡ inNext d → d₁ ≡ push (at + c) d
+pub where-rows : (n left c : ℕ) (ws : List ℕ) (at : ℕ) → Fielded n ws at → {inner r : ℕ} {d d₁ e : List ℕ} → inner ≡ inNext d + c % 8192 → d₁ ≡ push (at + c) d
     → Rows n left judgment (valueOf (getD ws (at + 3) 0)) inner ws (at + 4) d₁ r e → Shape n left true Aggregate 0 c ws at d r e
 where-rows n left c ws at f {inner} {r} {d} {d₁} {e} p q h =
     let a = f .current in

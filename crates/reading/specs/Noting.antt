@@ -1,5 +1,5 @@
 -- The nodes that resolving looks at, noted by the readers of trees on their way, in an array whose word 0 is how many there are.
-use Prim.Native.Nat.{ℕ, _+_, _-_, _*_, _%_, _<_, _≤_}
+use Prim.Native.Nat.{ℕ, _+_, _-_, _*_, _/_, _%_, _<_, _≤_}
 use mathlib.Core.Path.{_≡_}
 use mathlib.Core.List.{List, [], _∷_, map}
 use mathlib.Core.Bool.{Bool, true}
@@ -29,13 +29,19 @@ pub record ReadyFor (ws t : List ℕ) (n : ℕ) : Type 0 where
 
 -- ---- contexts
 
--- A context is 16384 times the number of the note inside which a tree stands, and 8192 where membership is lost.
+-- A context is 16384 times the number of the note inside which a tree stands, 8192 where membership is lost, and the base: where in the
+-- pack the words begin that are read. Added to the place after a word it is the word's note.
+pub record Based (ws : List ℕ) (c : ℕ) : Type 0 where
+  pub few : c < 134250496
+  pub room : c % 8192 + length ws ≤ 8192
+
+-- a context in a whole pack, with the base 0: 8192 times a number below 16386
 abbrev pub Context : ℕ → Type 0
-Context c = c < 134234112
+Context c = 8192 * (c / 8192 % 16386) ≡ c
 
 -- the same without membership
 unfoldable pub losing : ℕ → ℕ
-losing c = c - c % 16384 + 8192
+losing c = c - c % 16384 + 8192 + c % 8192
 
 -- ---- the array
 
@@ -62,7 +68,7 @@ past noted w c s = (s .0 + length (fieldsOf w), pick noted (push (s .0 + c) (s .
 
 -- the context of a child, which stands inside the node or where the node stands
 unfoldable pub childIn : Follows → Bool → ℕ → List ℕ → ℕ
-childIn w lost c d = pick (lookBy w .opens) (inNext d) (pick lost (losing c) c)
+childIn w lost c d = pick (lookBy w .opens) (inNext d + c % 8192) (pick lost (losing c) c)
 
 -- a tree, and a row of trees, of which the first has another context than the others
 unfoldable mutual

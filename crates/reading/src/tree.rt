@@ -24,7 +24,7 @@ ghost use Rattle.pack.specs.Form.{word, only};
 ghost use Rattle.pack.specs.Tree.{heads, fields, root};
 ghost use Rattle.pack.specs.Steps.{walk, coded, fault, decoded};
 ghost use Rattle.reading.specs.Notes.{contextOf, noteCode, note};
-ghost use Rattle.reading.specs.Noting.{nextNote, Ready, Context, losing, push, inNext, noteTree, NotedStep, Sorted, Rows, Shape, After};
+ghost use Rattle.reading.specs.Noting.{nextNote, Ready, Based, Context, losing, push, inNext, noteTree, NotedStep, Sorted, Rows, Shape, After};
 
 // The code of a refusal.
 fn refused(number: u32, at: usize) -> usize
@@ -186,10 +186,10 @@ pub fn open(notes: &mut [u32], at: usize) -> u32
 
 // A context without membership.
 fn lost(context: u32) -> u32
-    requires { ⌜ Context context ⌝ }
-    ensures { λ r. ⌜ (r ≡ losing context) × Context r ⌝ }
+    requires { ⌜ context < 134250496 ⌝ }
+    ensures { λ r. ⌜ r ≡ losing context ⌝ }
 {
-    context - context % Pack::INSIDE + Pack::LOST
+    context - context % Pack::INSIDE + Pack::LOST + context % Pack::LOST
 }
 
 // A row of scalars. The last one's own row, where it has one, takes the place of the row that ends with it.
@@ -202,7 +202,7 @@ fn scalars(
     context: u32,
     notes: &mut [u32],
 ) -> usize
-    requires { ⌜ Ready (now s) (now t) × (start ≤ length (now s)) × Context context ⌝ }
+    requires { ⌜ Ready (now s) (now t) × (start ≤ length (now s)) × Based (now s) context ⌝ }
     ensures { λ r. ⌜ Rows (boundOf (now (t .entry))) levels scalar count context (now (s .entry)) start (now (notes .entry)) r (now (notes .exit)) ⌝ }
 {
     let mut at = start;
@@ -244,7 +244,7 @@ fn judgments(
     context: u32,
     notes: &mut [u32],
 ) -> usize
-    requires { ⌜ Ready (now s) (now t) × (start ≤ length (now s)) × Context context ⌝ }
+    requires { ⌜ Ready (now s) (now t) × (start ≤ length (now s)) × Based (now s) context ⌝ }
     ensures { λ r. ⌜ Rows (boundOf (now (t .entry))) left judgment count context (now (s .entry)) start (now (notes .entry)) r (now (notes .exit)) ⌝ }
 {
     let mut at = start;
@@ -269,7 +269,7 @@ fn judgments(
 
 // The condition and the two cases of an If.
 fn choice(s: &[u32], t: &[u32; 256], at: usize, left: u32, context: u32, notes: &mut [u32]) -> usize
-    requires { ⌜ Ready (now s) (now t) × (at ≤ length (now s)) × Context context ⌝ }
+    requires { ⌜ Ready (now s) (now t) × (at ≤ length (now s)) × Based (now s) context ⌝ }
     ensures { λ r. ⌜ Sorted (boundOf (now (t .entry))) left (judgment ∷ scalar ∷ scalar ∷ []) context context (now (s .entry)) at (now (notes .entry)) r (now (notes .exit)) ⌝ }
 {
     let next = judgments(s, t, at, 1, left, context, notes);
@@ -289,7 +289,7 @@ fn patterns(
     context: u32,
     notes: &mut [u32],
 ) -> usize
-    requires { ⌜ Ready (now s) (now t) × (at ≤ length (now s)) × Context context ⌝ }
+    requires { ⌜ Ready (now s) (now t) × (at ≤ length (now s)) × Based (now s) context ⌝ }
     ensures { λ r. ⌜ Sorted (boundOf (now (t .entry))) left (replicate (count + 1) scalar) context (losing context) (now (s .entry)) at (now (notes .entry)) r (now (notes .exit)) ⌝ }
 {
     let next = scalars(s, t, at, 1, left, context, notes);
@@ -300,7 +300,8 @@ fn patterns(
     scalars(s, t, next, count, left, without, notes)
 }
 
-// The fields of an aggregate, which is noted, and its where tree. Of a Comparison the two scalars are walked at once.
+// The fields of an aggregate, which is noted, and its where tree, which is handed on as the part of the words that starts at its root:
+// that is the base of its context, and places in the part count on from there. Of a Comparison the two scalars are walked at once.
 fn aggregate(
     s: &[u32],
     t: &[u32; 256],
@@ -309,7 +310,7 @@ fn aggregate(
     context: u32,
     notes: &mut [u32],
 ) -> usize
-    requires { ⌜ Ready (now s) (now t) × (at ≤ length (now s)) × Context context ⌝ }
+    requires { ⌜ Ready (now s) (now t) × (at ≤ length (now s)) × Based (now s) context ⌝ }
     ensures { λ r. ⌜ Shape (boundOf (now (t .entry))) left true Aggregate 0 context (now (s .entry)) at (now (notes .entry)) r (now (notes .exit)) ⌝ }
 {
     let f1 = up_to(s, at, Pack::CURRENT, Pack::NONE);
@@ -328,19 +329,20 @@ fn aggregate(
     if f4 != 0 {
         return f4;
     }
-    let inner = note(notes, at as u32 + context);
+    let inner = note(notes, at as u32 + context) + context % Pack::LOST;
     let flag = s[at + 3] % Pack::VALUES;
     if flag == 1 {
         if compares(s, at + 4, left) {
             return scalars(s, t, at + 5, 2, left - 1, inner, notes);
         }
     }
-    judgments(s, t, at + 4, flag, left, inner, notes)
+    let root = at + 4;
+    judgments(&s[root..], t, 0, flag, left, inner + root as u32, notes) + root
 }
 
 // The arguments of an Exists, which is noted, and its body.
 fn exists(s: &[u32], t: &[u32; 256], at: usize, left: u32, context: u32, notes: &mut [u32]) -> usize
-    requires { ⌜ Ready (now s) (now t) × (at ≤ length (now s)) × Context context ⌝ }
+    requires { ⌜ Ready (now s) (now t) × (at ≤ length (now s)) × Based (now s) context ⌝ }
     ensures { λ r. ⌜ Shape (boundOf (now (t .entry))) left true Exists 0 context (now (s .entry)) at (now (notes .entry)) r (now (notes .exit)) ⌝ }
 {
     let f1 = up_to(s, at, Pack::ARGUMENTS, Pack::NONE);
@@ -360,7 +362,7 @@ fn after_scalar(
     context: u32,
     notes: &mut [u32],
 ) -> usize
-    requires { ⌜ Ready (now s) (now t) × (at < length (now s)) × (kindOf (getD (now s) at 0) ≤ 95) × Context context ⌝ }
+    requires { ⌜ Ready (now s) (now t) × (at < length (now s)) × (kindOf (getD (now s) at 0) ≤ 95) × Based (now s) context ⌝ }
     ensures { λ r. ⌜ After (boundOf (now (t .entry))) left context (now (s .entry)) at (now (notes .entry)) r (now (notes .exit)) ⌝ }
 {
     let w = s[at];
@@ -400,7 +402,7 @@ fn after_judgment(
     context: u32,
     notes: &mut [u32],
 ) -> usize
-    requires { ⌜ Ready (now s) (now t) × (at < length (now s)) × (96 ≤ kindOf (getD (now s) at 0)) × Context context ⌝ }
+    requires { ⌜ Ready (now s) (now t) × (at < length (now s)) × (96 ≤ kindOf (getD (now s) at 0)) × Based (now s) context ⌝ }
     ensures { λ r. ⌜ After (boundOf (now (t .entry))) left context (now (s .entry)) at (now (notes .entry)) r (now (notes .exit)) ⌝ }
 {
     let w = s[at];

@@ -1,11 +1,12 @@
 -- The walkers of trees meet their contracts. What falls at each call is the number of levels left, and at the same level the rank of the walker; in a row, the number of words left.
-use Prim.Native.Nat.{ℕ, suc, _+_, _-_, _*_, _<_, _≤_}
+use Prim.Native.Nat.{ℕ, suc, _+_, _-_, _*_, _%_, _<_, _≤_}
 use native.Mathlib.Omega.{arith}
 use mathlib.Core.Path.{_≡_, refl, ap, _∙_}
 use mathlib.Core.Bool.{true, false}
 use mathlib.Core.Logic.{⊎-elim}
 use lib.ListN.{length, getD}
 use borrow.Author.Needs.{needs}
+use borrow.Rule.Slice.PartAt.{part-to-end}
 use borrow.Author.Tests.{leb-true}
 use Rattle.pack.specs.declared.table.Follows.the-variants.{Patterns, Periods, Choice, Aggregate, OnlyRelated, Slots, Atom, Exists}
 use Rattle.pack.specs.Table.{kindOf, valueOf, entryOf, table, fieldsOf, childrenOf, howMany}
@@ -14,9 +15,10 @@ use Rattle.pack.specs.Packed.{boundOf}
 use Rattle.pack.specs.Tree.{fields, follow}
 use Rattle.reading.specs.Notes.{lookBy, noted}
 use Rattle.reading.proofs.TreeLaws.{aggregate-kind, scalars-in-row, judgments-in-row, scalar-row, comparison-row, judgment-row, above, leaf-past, leaf-low, leaf-last, leaf-between, compared, scalar-kind, judgment-kind}
-use Rattle.reading.proofs.CodeLaws.{code-within, passed, fault-code, fault-large, first-code, next-code, last-code, then-code, up-to-any, up-to-most}
+use Rattle.reading.proofs.CodeLaws.{code-within, passed, fault-code, fault-large, first-code, next-code, last-code, then-code, up-to-any, up-to-most, row-small}
 use Rattle.reading.proofs.NotingLaws.{by-shape, after-row, after-bare, after-leaf, after-words, steady-scalar, steady-judgment, noted-aggregate, plain-low, plain-between, plain-last}
 use Rattle.reading.proofs.RowLaws.{refuses, Walking, walking, walked, head-refused, begun, past-leaf, past-last, node-refused, forward, past-node, first-refused, first-then, rows-as, fielded, where-rows, exists-rows, compared-rows}
+use Rattle.reading.proofs.PartLaws.{based-losing, based-inside, based-part, part-long, ready-part, part-rows}
 use borrow.Fn.Kinds.{In}
 use borrow.Fn.PlainCycle.{Measures, is, falls, and}
 use Rattle.reading.proofs.tree.after_judgment.Reads as after-judgment
@@ -318,10 +320,10 @@ after-scalar-by-table-requires : (t : ℕ) → after-scalar-lts.Need-by-table-re
 after-scalar-by-table-requires t c κs = (omega (arith, (c .before .shared-slice-known2) .given ((c .before .before .before .before .args) .at)), (c .before .before .before .before .pre) .1 .0 .tabled, omega arith)
 
 after-scalar-lost-requires : (t : ℕ) → after-scalar-lts.Need-lost-requires (after-scalar-calls t) (after-scalar-at t) after-scalar.Post
-after-scalar-lost-requires t c κs = (c .before .before .before .before .before .pre) .1 .3
+after-scalar-lost-requires t c κs = (c .before .before .before .before .before .pre) .1 .3 .few
 
 after-scalar-scalars-requires : (t : ℕ) → after-scalar-lts.Need-scalars-requires (after-scalar-calls t) (after-scalar-at t) after-scalar.Post
-after-scalar-scalars-requires t c κs = (omega arith, ((c .before .before .before .before .before .before .before .pre) .1 .0, omega (arith, (c .before .before .before .before .before .before .before .pre) .1 .1), (c .before .lost) .ensures .1))
+after-scalar-scalars-requires t c κs = (omega arith, ((c .before .before .before .before .before .before .before .pre) .1 .0, omega (arith, (c .before .before .before .before .before .before .before .pre) .1 .1), based-losing _ ((c .before .before .before .before .before .before .before .pre) .1 .3) ((c .before .lost) .ensures)))
 
 after-scalar-add-choice : (t : ℕ) → after-scalar-lts.Need-add-choice (after-scalar-calls t) (after-scalar-at t) after-scalar.Post
 after-scalar-add-choice t c = omega (arith, (c .before .before .before .before .pre) .1 .0 .most, (c .before .before .before .before .pre) .1 .1)
@@ -377,7 +379,7 @@ after-scalar-same-length-2 t c = search needs
 
 after-scalar-returns-2 : (t : ℕ) → after-scalar-lts.Need-returns-2 (after-scalar-calls t) (after-scalar-at t) after-scalar.Post
 unfolding entryOf table fieldsOf childrenOf noted lookBy
-after-scalar-returns-2 t c = after-bare _ _ _ _ (kindOf (getD ((c .before .before .before .before .before .before .before .before .before .before .args) .s .now) ((c .before .before .before .before .before .before .before .before .before .before .args) .at) 0)) (valueOf (getD ((c .before .before .before .before .before .before .before .before .before .before .args) .s .now) ((c .before .before .before .before .before .before .before .before .before .before .args) .at) 0)) _ Periods (ap (λ (k : ℕ). entryOf k .follows) ((c .before .before .before .before .before .before .match) .keys2)) (ap noted ((c .before .before .before .before .before .before .match) .keys2)) refl (rows-as _ _ scalar-sort _ ((c .before .before .before .before .before .by-table) .ensures ∙ ap (λ (k : ℕ). howMany (entryOf k .follows) (valueOf (getD ((c .before .before .before .before .before .before .before .before .before .before .args) .s .now) ((c .before .before .before .before .before .before .before .before .before .before .args) .at) 0))) ((c .before .before .before .before .before .before .match) .keys2)) ((c .before .before .before .before .lost) .ensures .0) ((c .before .before .scalars) .ensures))
+after-scalar-returns-2 t c = after-bare _ _ _ _ (kindOf (getD ((c .before .before .before .before .before .before .before .before .before .before .args) .s .now) ((c .before .before .before .before .before .before .before .before .before .before .args) .at) 0)) (valueOf (getD ((c .before .before .before .before .before .before .before .before .before .before .args) .s .now) ((c .before .before .before .before .before .before .before .before .before .before .args) .at) 0)) _ Periods (ap (λ (k : ℕ). entryOf k .follows) ((c .before .before .before .before .before .before .match) .keys2)) (ap noted ((c .before .before .before .before .before .before .match) .keys2)) refl (rows-as _ _ scalar-sort _ ((c .before .before .before .before .before .by-table) .ensures ∙ ap (λ (k : ℕ). howMany (entryOf k .follows) (valueOf (getD ((c .before .before .before .before .before .before .before .before .before .before .args) .s .now) ((c .before .before .before .before .before .before .before .before .before .before .args) .at) 0))) ((c .before .before .before .before .before .before .match) .keys2)) ((c .before .before .before .before .lost) .ensures) ((c .before .before .scalars) .ensures))
 
 after-scalar-same-length-3 : (t : ℕ) → after-scalar-lts.Need-same-length-3 (after-scalar-calls t) (after-scalar-at t) after-scalar.Post
 after-scalar-same-length-3 t c = search needs
@@ -459,6 +461,9 @@ aggregate-add-note t c = omega (arith, (c .before .before .before .before .befor
 aggregate-note-requires : (t : ℕ) → aggregate-lts.Need-note-requires (aggregate-calls t) (aggregate-at t) aggregate.Post
 aggregate-note-requires t c κs = search needs
 
+aggregate-add-inner : (t : ℕ) → aggregate-lts.Need-add-inner (aggregate-calls t) (aggregate-at t) aggregate.Post
+aggregate-add-inner t c = omega (arith, (c .before .before .note) .ensures .0)
+
 aggregate-add-flag : (t : ℕ) → aggregate-lts.Need-add-flag (aggregate-calls t) (aggregate-at t) aggregate.Post
 aggregate-add-flag t c = omega (arith, (c .before .before .before .before .before .before .before .before .before .before .before .before .before .before .pre) .1 .0 .most, (c .before .before .before .before .before .before .before .before .before .before .before .before .before .before .pre) .1 .1)
 
@@ -481,25 +486,46 @@ aggregate-sub-scalars : (t : ℕ) → aggregate-lts.Need-sub-scalars (aggregate-
 aggregate-sub-scalars t c = omega (arith, (c .before .compares) .ensures ((c .if6) .taken) .level)
 
 aggregate-scalars-requires : (t : ℕ) → aggregate-lts.Need-scalars-requires (aggregate-calls t) (aggregate-at t) aggregate.Post
-aggregate-scalars-requires t c κs = let p = (c .before .before .compares) .ensures ((c .before .if6) .taken) in (omega (arith, p .level, (c .before .before .before .before .before .before .before .before .before .before .before .before .before .before .before .before .before .before .before .pre) .0), ((c .before .before .before .before .before .before .before .before .before .before .before .before .before .before .before .before .before .before .before .pre) .1 .0, omega (arith, p .inside), omega (arith, (c .before .before .before .before .before .before .before .note) .ensures .0)))
+aggregate-scalars-requires t c κs = let p = (c .before .before .compares) .ensures ((c .before .if6) .taken) in (omega (arith, p .level, (c .before .before .before .before .before .before .before .before .before .before .before .before .before .before .before .before .before .before .before .pre) .0), ((c .before .before .before .before .before .before .before .before .before .before .before .before .before .before .before .before .before .before .before .pre) .1 .0, omega (arith, p .inside), based-inside _ ((c .before .before .before .before .before .before .before .before .before .before .before .before .before .before .before .before .before .before .before .pre) .1 .2) ((c .before .before .before .before .before .before .before .before .before .before .before .before .before .before .before .before .before .before .before .args) .notes .now) ((c .before .before .before .before .before .before .before .note) .ensures .0)))
 
 aggregate-same-length : (t : ℕ) → aggregate-lts.Need-same-length (aggregate-calls t) (aggregate-at t) aggregate.Post
 aggregate-same-length t c = search needs
 
 aggregate-returns-5 : (t : ℕ) → aggregate-lts.Need-returns-5 (aggregate-calls t) (aggregate-at t) aggregate.Post
-aggregate-returns-5 t c = let f = fielded (boundOf ((c .before .before .before .before .before .before .before .before .before .before .before .before .before .before .before .before .before .before .before .before .before .before .args) .t .now)) _ _ ((c .before .before .before .before .before .before .before .before .before .before .before .before .before .before .before .before .before .before .before .before .before .before .pre) .1 .0 .most) ((c .before .before .before .before .before .before .before .before .before .before .before .before .before .before .before .before .before .before .before .before .before .before .pre) .1 .1) ((c .before .before .before .before .before .before .before .before .before .before .before .before .before .before .before .before .before .before .before .up-to) .ensures (boundOf ((c .before .before .before .before .before .before .before .before .before .before .before .before .before .before .before .before .before .before .before .before .before .before .args) .t .now))) ((c .before .before .before .before .before .before .before .before .before .before .before .before .before .before .before .before .before .before .if1) .left) ((c .before .before .before .before .before .before .before .before .before .before .before .before .before .before .before .before .before .up-to2) .ensures (boundOf ((c .before .before .before .before .before .before .before .before .before .before .before .before .before .before .before .before .before .before .before .before .before .before .args) .t .now))) ((c .before .before .before .before .before .before .before .before .before .before .before .before .before .before .before .before .if2) .left) ((c .before .before .before .before .before .before .before .before .before .before .before .before .before .before .before .up-to3) .ensures (boundOf ((c .before .before .before .before .before .before .before .before .before .before .before .before .before .before .before .before .before .before .before .before .before .before .args) .t .now))) ((c .before .before .before .before .before .before .before .before .before .before .before .before .before .before .if3) .left) ((c .before .before .before .before .before .before .before .before .before .before .before .before .before .up-to4) .ensures (boundOf ((c .before .before .before .before .before .before .before .before .before .before .before .before .before .before .before .before .before .before .before .before .before .before .args) .t .now))) ((c .before .before .before .before .before .before .before .before .before .before .before .before .if4) .left) in where-rows _ _ ((c .before .before .before .before .before .before .before .before .before .before .before .before .before .before .before .before .before .before .before .before .before .before .args) .context) _ _ f ((c .before .before .before .before .before .before .before .before .before .before .note) .ensures .0) ((c .before .before .before .before .before .before .before .before .before .before .note) .ensures .1) (compared-rows _ _ _ _ _ ((c .before .before .before .before .before .before .before .before .before .before .before .before .before .before .before .before .before .before .before .before .before .before .pre) .1 .0 .most) ((c .before .before .before .before .before .compares) .ensures ((c .before .before .before .before .if6) .taken)) ((c .before .before .before .before .before .before .if5) .taken) _ (omega arith) ((c .before .before .scalars) .ensures))
+aggregate-returns-5 t c = let f = fielded (boundOf ((c .before .before .before .before .before .before .before .before .before .before .before .before .before .before .before .before .before .before .before .before .before .before .args) .t .now)) _ _ ((c .before .before .before .before .before .before .before .before .before .before .before .before .before .before .before .before .before .before .before .before .before .before .pre) .1 .0 .most) ((c .before .before .before .before .before .before .before .before .before .before .before .before .before .before .before .before .before .before .before .before .before .before .pre) .1 .1) ((c .before .before .before .before .before .before .before .before .before .before .before .before .before .before .before .before .before .before .before .up-to) .ensures (boundOf ((c .before .before .before .before .before .before .before .before .before .before .before .before .before .before .before .before .before .before .before .before .before .before .args) .t .now))) ((c .before .before .before .before .before .before .before .before .before .before .before .before .before .before .before .before .before .before .if1) .left) ((c .before .before .before .before .before .before .before .before .before .before .before .before .before .before .before .before .before .up-to2) .ensures (boundOf ((c .before .before .before .before .before .before .before .before .before .before .before .before .before .before .before .before .before .before .before .before .before .before .args) .t .now))) ((c .before .before .before .before .before .before .before .before .before .before .before .before .before .before .before .before .if2) .left) ((c .before .before .before .before .before .before .before .before .before .before .before .before .before .before .before .up-to3) .ensures (boundOf ((c .before .before .before .before .before .before .before .before .before .before .before .before .before .before .before .before .before .before .before .before .before .before .args) .t .now))) ((c .before .before .before .before .before .before .before .before .before .before .before .before .before .before .if3) .left) ((c .before .before .before .before .before .before .before .before .before .before .before .before .before .up-to4) .ensures (boundOf ((c .before .before .before .before .before .before .before .before .before .before .before .before .before .before .before .before .before .before .before .before .before .before .args) .t .now))) ((c .before .before .before .before .before .before .before .before .before .before .before .before .if4) .left) in where-rows _ _ ((c .before .before .before .before .before .before .before .before .before .before .before .before .before .before .before .before .before .before .before .before .before .before .args) .context) _ _ f (ap (λ (i : ℕ). i + (c .before .before .before .before .before .before .before .before .before .before .before .before .before .before .before .before .before .before .before .before .before .before .args) .context % 8192) ((c .before .before .before .before .before .before .before .before .before .before .note) .ensures .0)) ((c .before .before .before .before .before .before .before .before .before .before .note) .ensures .1) (compared-rows _ _ _ _ _ ((c .before .before .before .before .before .before .before .before .before .before .before .before .before .before .before .before .before .before .before .before .before .before .pre) .1 .0 .most) ((c .before .before .before .before .before .compares) .ensures ((c .before .before .before .before .if6) .taken)) ((c .before .before .before .before .before .before .if5) .taken) _ (omega arith) ((c .before .before .scalars) .ensures))
+
+aggregate-add-root : (t : ℕ) → aggregate-lts.Need-add-root (aggregate-calls t) (aggregate-at t) aggregate.Post
+aggregate-add-root t c = omega (arith, (c .before .before .before .before .before .before .before .before .before .before .before .before .before .before .before .before .pre) .1 .0 .most, (c .before .before .before .before .before .before .before .before .before .before .before .before .before .before .before .before .pre) .1 .1)
+
+aggregate-mul-judgments : (t : ℕ) → aggregate-lts.Need-mul-judgments (aggregate-calls t) (aggregate-at t) aggregate.Post
+aggregate-mul-judgments t c = let f = fielded (boundOf ((c .before .before .before .before .before .before .before .before .before .before .before .before .before .before .before .before .args) .t .now)) _ _ ((c .before .before .before .before .before .before .before .before .before .before .before .before .before .before .before .before .pre) .1 .0 .most) ((c .before .before .before .before .before .before .before .before .before .before .before .before .before .before .before .before .pre) .1 .1) ((c .before .before .before .before .before .before .before .before .before .before .before .before .before .up-to) .ensures (boundOf ((c .before .before .before .before .before .before .before .before .before .before .before .before .before .before .before .before .args) .t .now))) ((c .before .before .before .before .before .before .before .before .before .before .before .before .if1) .left) ((c .before .before .before .before .before .before .before .before .before .before .before .up-to2) .ensures (boundOf ((c .before .before .before .before .before .before .before .before .before .before .before .before .before .before .before .before .args) .t .now))) ((c .before .before .before .before .before .before .before .before .before .before .if2) .left) ((c .before .before .before .before .before .before .before .before .before .up-to3) .ensures (boundOf ((c .before .before .before .before .before .before .before .before .before .before .before .before .before .before .before .before .args) .t .now))) ((c .before .before .before .before .before .before .before .before .if3) .left) ((c .before .before .before .before .before .before .before .up-to4) .ensures (boundOf ((c .before .before .before .before .before .before .before .before .before .before .before .before .before .before .before .before .args) .t .now))) ((c .before .before .before .before .before .before .if4) .left) in omega (arith, f .flag .there, (c .before .before .before .before .before .before .before .before .before .before .before .before .before .before .before .before .pre) .1 .0 .most)
+
+aggregate-sub-judgments : (t : ℕ) → aggregate-lts.Need-sub-judgments (aggregate-calls t) (aggregate-at t) aggregate.Post
+aggregate-sub-judgments t c = let f = fielded (boundOf ((c .before .before .before .before .before .before .before .before .before .before .before .before .before .before .before .before .args) .t .now)) _ _ ((c .before .before .before .before .before .before .before .before .before .before .before .before .before .before .before .before .pre) .1 .0 .most) ((c .before .before .before .before .before .before .before .before .before .before .before .before .before .before .before .before .pre) .1 .1) ((c .before .before .before .before .before .before .before .before .before .before .before .before .before .up-to) .ensures (boundOf ((c .before .before .before .before .before .before .before .before .before .before .before .before .before .before .before .before .args) .t .now))) ((c .before .before .before .before .before .before .before .before .before .before .before .before .if1) .left) ((c .before .before .before .before .before .before .before .before .before .before .before .up-to2) .ensures (boundOf ((c .before .before .before .before .before .before .before .before .before .before .before .before .before .before .before .before .args) .t .now))) ((c .before .before .before .before .before .before .before .before .before .before .if2) .left) ((c .before .before .before .before .before .before .before .before .before .up-to3) .ensures (boundOf ((c .before .before .before .before .before .before .before .before .before .before .before .before .before .before .before .before .args) .t .now))) ((c .before .before .before .before .before .before .before .before .if3) .left) ((c .before .before .before .before .before .before .before .up-to4) .ensures (boundOf ((c .before .before .before .before .before .before .before .before .before .before .before .before .before .before .before .before .args) .t .now))) ((c .before .before .before .before .before .before .if4) .left) in omega (arith, f .flag .there, (c .before .before .before .before .before .before .before .before .before .before .before .before .before .before .before .before .pre) .1 .0 .most)
+
+aggregate-part-judgments-start : (t : ℕ) → aggregate-lts.Need-part-judgments-start (aggregate-calls t) (aggregate-at t) aggregate.Post
+aggregate-part-judgments-start t c = let f = fielded (boundOf ((c .before .before .before .before .before .before .before .before .before .before .before .before .before .before .before .before .args) .t .now)) _ _ ((c .before .before .before .before .before .before .before .before .before .before .before .before .before .before .before .before .pre) .1 .0 .most) ((c .before .before .before .before .before .before .before .before .before .before .before .before .before .before .before .before .pre) .1 .1) ((c .before .before .before .before .before .before .before .before .before .before .before .before .before .up-to) .ensures (boundOf ((c .before .before .before .before .before .before .before .before .before .before .before .before .before .before .before .before .args) .t .now))) ((c .before .before .before .before .before .before .before .before .before .before .before .before .if1) .left) ((c .before .before .before .before .before .before .before .before .before .before .before .up-to2) .ensures (boundOf ((c .before .before .before .before .before .before .before .before .before .before .before .before .before .before .before .before .args) .t .now))) ((c .before .before .before .before .before .before .before .before .before .before .if2) .left) ((c .before .before .before .before .before .before .before .before .before .up-to3) .ensures (boundOf ((c .before .before .before .before .before .before .before .before .before .before .before .before .before .before .before .before .args) .t .now))) ((c .before .before .before .before .before .before .before .before .if3) .left) ((c .before .before .before .before .before .before .before .up-to4) .ensures (boundOf ((c .before .before .before .before .before .before .before .before .before .before .before .before .before .before .before .before .args) .t .now))) ((c .before .before .before .before .before .before .if4) .left) in omega (arith, f .flag .there, (c .before .before .before .before .before .before .before .before .before .before .before .before .before .before .before .before .pre) .1 .0 .most)
+
+aggregate-part-judgments-end : (t : ℕ) → aggregate-lts.Need-part-judgments-end (aggregate-calls t) (aggregate-at t) aggregate.Post
+aggregate-part-judgments-end t c = let f = fielded (boundOf ((c .before .before .before .before .before .before .before .before .before .before .before .before .before .before .before .before .args) .t .now)) _ _ ((c .before .before .before .before .before .before .before .before .before .before .before .before .before .before .before .before .pre) .1 .0 .most) ((c .before .before .before .before .before .before .before .before .before .before .before .before .before .before .before .before .pre) .1 .1) ((c .before .before .before .before .before .before .before .before .before .before .before .before .before .up-to) .ensures (boundOf ((c .before .before .before .before .before .before .before .before .before .before .before .before .before .before .before .before .args) .t .now))) ((c .before .before .before .before .before .before .before .before .before .before .before .before .if1) .left) ((c .before .before .before .before .before .before .before .before .before .before .before .up-to2) .ensures (boundOf ((c .before .before .before .before .before .before .before .before .before .before .before .before .before .before .before .before .args) .t .now))) ((c .before .before .before .before .before .before .before .before .before .before .if2) .left) ((c .before .before .before .before .before .before .before .before .before .up-to3) .ensures (boundOf ((c .before .before .before .before .before .before .before .before .before .before .before .before .before .before .before .before .args) .t .now))) ((c .before .before .before .before .before .before .before .before .if3) .left) ((c .before .before .before .before .before .before .before .up-to4) .ensures (boundOf ((c .before .before .before .before .before .before .before .before .before .before .before .before .before .before .before .before .args) .t .now))) ((c .before .before .before .before .before .before .if4) .left) in omega (arith, f .flag .there, (c .before .before .before .before .before .before .before .before .before .before .before .before .before .before .before .before .pre) .1 .0 .most)
+
+aggregate-cast-judgments : (t : ℕ) → aggregate-lts.Need-cast-judgments (aggregate-calls t) (aggregate-at t) aggregate.Post
+aggregate-cast-judgments t c = let f = fielded (boundOf ((c .before .before .before .before .before .before .before .before .before .before .before .before .before .before .before .before .before .args) .t .now)) _ _ ((c .before .before .before .before .before .before .before .before .before .before .before .before .before .before .before .before .before .pre) .1 .0 .most) ((c .before .before .before .before .before .before .before .before .before .before .before .before .before .before .before .before .before .pre) .1 .1) ((c .before .before .before .before .before .before .before .before .before .before .before .before .before .before .up-to) .ensures (boundOf ((c .before .before .before .before .before .before .before .before .before .before .before .before .before .before .before .before .before .args) .t .now))) ((c .before .before .before .before .before .before .before .before .before .before .before .before .before .if1) .left) ((c .before .before .before .before .before .before .before .before .before .before .before .before .up-to2) .ensures (boundOf ((c .before .before .before .before .before .before .before .before .before .before .before .before .before .before .before .before .before .args) .t .now))) ((c .before .before .before .before .before .before .before .before .before .before .before .if2) .left) ((c .before .before .before .before .before .before .before .before .before .before .up-to3) .ensures (boundOf ((c .before .before .before .before .before .before .before .before .before .before .before .before .before .before .before .before .before .args) .t .now))) ((c .before .before .before .before .before .before .before .before .before .if3) .left) ((c .before .before .before .before .before .before .before .before .up-to4) .ensures (boundOf ((c .before .before .before .before .before .before .before .before .before .before .before .before .before .before .before .before .before .args) .t .now))) ((c .before .before .before .before .before .before .before .if4) .left) in omega (arith, f .flag .there, (c .before .before .before .before .before .before .before .before .before .before .before .before .before .before .before .before .before .pre) .1 .0 .most)
 
 aggregate-add-judgments : (t : ℕ) → aggregate-lts.Need-add-judgments (aggregate-calls t) (aggregate-at t) aggregate.Post
-aggregate-add-judgments t c = omega (arith, (c .before .before .before .before .before .before .before .before .before .before .before .before .before .before .before .before .pre) .1 .0 .most, (c .before .before .before .before .before .before .before .before .before .before .before .before .before .before .before .before .pre) .1 .1)
+aggregate-add-judgments t c = let f = fielded (boundOf ((c .before .before .before .before .before .before .before .before .before .before .before .before .before .before .before .before .before .args) .t .now)) _ _ ((c .before .before .before .before .before .before .before .before .before .before .before .before .before .before .before .before .before .pre) .1 .0 .most) ((c .before .before .before .before .before .before .before .before .before .before .before .before .before .before .before .before .before .pre) .1 .1) ((c .before .before .before .before .before .before .before .before .before .before .before .before .before .before .up-to) .ensures (boundOf ((c .before .before .before .before .before .before .before .before .before .before .before .before .before .before .before .before .before .args) .t .now))) ((c .before .before .before .before .before .before .before .before .before .before .before .before .before .if1) .left) ((c .before .before .before .before .before .before .before .before .before .before .before .before .up-to2) .ensures (boundOf ((c .before .before .before .before .before .before .before .before .before .before .before .before .before .before .before .before .before .args) .t .now))) ((c .before .before .before .before .before .before .before .before .before .before .before .if2) .left) ((c .before .before .before .before .before .before .before .before .before .before .up-to3) .ensures (boundOf ((c .before .before .before .before .before .before .before .before .before .before .before .before .before .before .before .before .before .args) .t .now))) ((c .before .before .before .before .before .before .before .before .before .if3) .left) ((c .before .before .before .before .before .before .before .before .up-to4) .ensures (boundOf ((c .before .before .before .before .before .before .before .before .before .before .before .before .before .before .before .before .before .args) .t .now))) ((c .before .before .before .before .before .before .before .if4) .left) in omega (arith, f .flag .there, (c .before .before .before .before .before .before .before .before .before .before .before .before .before .before .before .before .before .pre) .1 .0 .most, (c .before .before .before .before .before .note) .ensures .0)
 
 aggregate-judgments-requires : (t : ℕ) → aggregate-lts.Need-judgments-requires (aggregate-calls t) (aggregate-at t) aggregate.Post
-aggregate-judgments-requires t c κs = let f = fielded (boundOf ((c .before .before .before .before .before .before .before .before .before .before .before .before .before .before .before .before .before .args) .t .now)) _ _ ((c .before .before .before .before .before .before .before .before .before .before .before .before .before .before .before .before .before .pre) .1 .0 .most) ((c .before .before .before .before .before .before .before .before .before .before .before .before .before .before .before .before .before .pre) .1 .1) ((c .before .before .before .before .before .before .before .before .before .before .before .before .before .before .up-to) .ensures (boundOf ((c .before .before .before .before .before .before .before .before .before .before .before .before .before .before .before .before .before .args) .t .now))) ((c .before .before .before .before .before .before .before .before .before .before .before .before .before .if1) .left) ((c .before .before .before .before .before .before .before .before .before .before .before .before .up-to2) .ensures (boundOf ((c .before .before .before .before .before .before .before .before .before .before .before .before .before .before .before .before .before .args) .t .now))) ((c .before .before .before .before .before .before .before .before .before .before .before .if2) .left) ((c .before .before .before .before .before .before .before .before .before .before .up-to3) .ensures (boundOf ((c .before .before .before .before .before .before .before .before .before .before .before .before .before .before .before .before .before .args) .t .now))) ((c .before .before .before .before .before .before .before .before .before .if3) .left) ((c .before .before .before .before .before .before .before .before .up-to4) .ensures (boundOf ((c .before .before .before .before .before .before .before .before .before .before .before .before .before .before .before .before .before .args) .t .now))) ((c .before .before .before .before .before .before .before .if4) .left) in (omega arith, ((c .before .before .before .before .before .before .before .before .before .before .before .before .before .before .before .before .before .pre) .1 .0, f .flag .there, omega (arith, (c .before .before .before .before .before .note) .ensures .0)))
+aggregate-judgments-requires t c κs = let f = fielded (boundOf ((c .before .before .before .before .before .before .before .before .before .before .before .before .before .before .before .before .before .before .args) .t .now)) _ _ ((c .before .before .before .before .before .before .before .before .before .before .before .before .before .before .before .before .before .before .pre) .1 .0 .most) ((c .before .before .before .before .before .before .before .before .before .before .before .before .before .before .before .before .before .before .pre) .1 .1) ((c .before .before .before .before .before .before .before .before .before .before .before .before .before .before .before .up-to) .ensures (boundOf ((c .before .before .before .before .before .before .before .before .before .before .before .before .before .before .before .before .before .before .args) .t .now))) ((c .before .before .before .before .before .before .before .before .before .before .before .before .before .before .if1) .left) ((c .before .before .before .before .before .before .before .before .before .before .before .before .before .up-to2) .ensures (boundOf ((c .before .before .before .before .before .before .before .before .before .before .before .before .before .before .before .before .before .before .args) .t .now))) ((c .before .before .before .before .before .before .before .before .before .before .before .before .if2) .left) ((c .before .before .before .before .before .before .before .before .before .before .before .up-to3) .ensures (boundOf ((c .before .before .before .before .before .before .before .before .before .before .before .before .before .before .before .before .before .before .args) .t .now))) ((c .before .before .before .before .before .before .before .before .before .before .if3) .left) ((c .before .before .before .before .before .before .before .before .before .up-to4) .ensures (boundOf ((c .before .before .before .before .before .before .before .before .before .before .before .before .before .before .before .before .before .before .args) .t .now))) ((c .before .before .before .before .before .before .before .before .if4) .left) in let l = part-long ((c .before .before .before .before .before .before .before .before .before .before .before .before .before .before .before .before .before .before .args) .s .now) ((c .before .before .before .before .before .before .before .before .before .before .before .before .before .before .before .before .before .before .args) .at + 4) (f .flag .there) in (omega arith, (ready-part _ ((c .before .before .before .before .before .before .before .before .before .before .before .before .before .before .before .before .before .before .pre) .1 .0) l, omega arith, based-part _ _ l ((c .before .before .before .before .before .before .before .before .before .before .before .before .before .before .before .before .before .before .pre) .1 .2) ((c .before .before .before .before .before .before .before .before .before .before .before .before .before .before .before .before .before .before .args) .notes .now) ((c .before .before .before .before .before .before .note) .ensures .0)))
+
+aggregate-add-result : (t : ℕ) → aggregate-lts.Need-add-result (aggregate-calls t) (aggregate-at t) aggregate.Post
+aggregate-add-result t c = let f = fielded (boundOf ((c .before .before .before .before .before .before .before .before .before .before .before .before .before .before .before .before .before .before .before .before .before .args) .t .now)) _ _ ((c .before .before .before .before .before .before .before .before .before .before .before .before .before .before .before .before .before .before .before .before .before .pre) .1 .0 .most) ((c .before .before .before .before .before .before .before .before .before .before .before .before .before .before .before .before .before .before .before .before .before .pre) .1 .1) ((c .before .before .before .before .before .before .before .before .before .before .before .before .before .before .before .before .before .before .up-to) .ensures (boundOf ((c .before .before .before .before .before .before .before .before .before .before .before .before .before .before .before .before .before .before .before .before .before .args) .t .now))) ((c .before .before .before .before .before .before .before .before .before .before .before .before .before .before .before .before .before .if1) .left) ((c .before .before .before .before .before .before .before .before .before .before .before .before .before .before .before .before .up-to2) .ensures (boundOf ((c .before .before .before .before .before .before .before .before .before .before .before .before .before .before .before .before .before .before .before .before .before .args) .t .now))) ((c .before .before .before .before .before .before .before .before .before .before .before .before .before .before .before .if2) .left) ((c .before .before .before .before .before .before .before .before .before .before .before .before .before .before .up-to3) .ensures (boundOf ((c .before .before .before .before .before .before .before .before .before .before .before .before .before .before .before .before .before .before .before .before .before .args) .t .now))) ((c .before .before .before .before .before .before .before .before .before .before .before .before .before .if3) .left) ((c .before .before .before .before .before .before .before .before .before .before .before .before .up-to4) .ensures (boundOf ((c .before .before .before .before .before .before .before .before .before .before .before .before .before .before .before .before .before .before .before .before .before .args) .t .now))) ((c .before .before .before .before .before .before .before .before .before .before .before .if4) .left) in let l = part-long ((c .before .before .before .before .before .before .before .before .before .before .before .before .before .before .before .before .before .before .before .before .before .args) .s .now) ((c .before .before .before .before .before .before .before .before .before .before .before .before .before .before .before .before .before .before .before .before .before .args) .at + 4) (f .flag .there) in omega (arith, row-small _ _ _ _ _ (omega (arith, l, (c .before .before .before .before .before .before .before .before .before .before .before .before .before .before .before .before .before .before .before .before .before .pre) .1 .0 .most)) (omega arith) ((c .before .before .judgments) .ensures .answers), f .flag .there, (c .before .before .before .before .before .before .before .before .before .before .before .before .before .before .before .before .before .before .before .before .before .pre) .1 .0 .most)
 
 aggregate-same-length-2 : (t : ℕ) → aggregate-lts.Need-same-length-2 (aggregate-calls t) (aggregate-at t) aggregate.Post
 aggregate-same-length-2 t c = search needs
 
 aggregate-returns-6 : (t : ℕ) → aggregate-lts.Need-returns-6 (aggregate-calls t) (aggregate-at t) aggregate.Post
-aggregate-returns-6 t c = let f = fielded (boundOf ((c .before .before .before .before .before .before .before .before .before .before .before .before .before .before .before .before .before .before .before .before .args) .t .now)) _ _ ((c .before .before .before .before .before .before .before .before .before .before .before .before .before .before .before .before .before .before .before .before .pre) .1 .0 .most) ((c .before .before .before .before .before .before .before .before .before .before .before .before .before .before .before .before .before .before .before .before .pre) .1 .1) ((c .before .before .before .before .before .before .before .before .before .before .before .before .before .before .before .before .before .up-to) .ensures (boundOf ((c .before .before .before .before .before .before .before .before .before .before .before .before .before .before .before .before .before .before .before .before .args) .t .now))) ((c .before .before .before .before .before .before .before .before .before .before .before .before .before .before .before .before .if1) .left) ((c .before .before .before .before .before .before .before .before .before .before .before .before .before .before .before .up-to2) .ensures (boundOf ((c .before .before .before .before .before .before .before .before .before .before .before .before .before .before .before .before .before .before .before .before .args) .t .now))) ((c .before .before .before .before .before .before .before .before .before .before .before .before .before .before .if2) .left) ((c .before .before .before .before .before .before .before .before .before .before .before .before .before .up-to3) .ensures (boundOf ((c .before .before .before .before .before .before .before .before .before .before .before .before .before .before .before .before .before .before .before .before .args) .t .now))) ((c .before .before .before .before .before .before .before .before .before .before .before .before .if3) .left) ((c .before .before .before .before .before .before .before .before .before .before .before .up-to4) .ensures (boundOf ((c .before .before .before .before .before .before .before .before .before .before .before .before .before .before .before .before .before .before .before .before .args) .t .now))) ((c .before .before .before .before .before .before .before .before .before .before .if4) .left) in where-rows _ _ ((c .before .before .before .before .before .before .before .before .before .before .before .before .before .before .before .before .before .before .before .before .args) .context) _ _ f ((c .before .before .before .before .before .before .before .before .note) .ensures .0) ((c .before .before .before .before .before .before .before .before .note) .ensures .1) ((c .before .before .judgments) .ensures)
+aggregate-returns-6 t c = let f = fielded (boundOf ((c .before .before .before .before .before .before .before .before .before .before .before .before .before .before .before .before .before .before .before .before .before .args) .t .now)) _ _ ((c .before .before .before .before .before .before .before .before .before .before .before .before .before .before .before .before .before .before .before .before .before .pre) .1 .0 .most) ((c .before .before .before .before .before .before .before .before .before .before .before .before .before .before .before .before .before .before .before .before .before .pre) .1 .1) ((c .before .before .before .before .before .before .before .before .before .before .before .before .before .before .before .before .before .before .up-to) .ensures (boundOf ((c .before .before .before .before .before .before .before .before .before .before .before .before .before .before .before .before .before .before .before .before .before .args) .t .now))) ((c .before .before .before .before .before .before .before .before .before .before .before .before .before .before .before .before .before .if1) .left) ((c .before .before .before .before .before .before .before .before .before .before .before .before .before .before .before .before .up-to2) .ensures (boundOf ((c .before .before .before .before .before .before .before .before .before .before .before .before .before .before .before .before .before .before .before .before .before .args) .t .now))) ((c .before .before .before .before .before .before .before .before .before .before .before .before .before .before .before .if2) .left) ((c .before .before .before .before .before .before .before .before .before .before .before .before .before .before .up-to3) .ensures (boundOf ((c .before .before .before .before .before .before .before .before .before .before .before .before .before .before .before .before .before .before .before .before .before .args) .t .now))) ((c .before .before .before .before .before .before .before .before .before .before .before .before .before .if3) .left) ((c .before .before .before .before .before .before .before .before .before .before .before .before .up-to4) .ensures (boundOf ((c .before .before .before .before .before .before .before .before .before .before .before .before .before .before .before .before .before .before .before .before .before .args) .t .now))) ((c .before .before .before .before .before .before .before .before .before .before .before .if4) .left) in let i = ap (λ (i : ℕ). i + (c .before .before .before .before .before .before .before .before .before .before .before .before .before .before .before .before .before .before .before .before .before .args) .context % 8192) ((c .before .before .before .before .before .before .before .before .before .note) .ensures .0) in let g = based-inside _ ((c .before .before .before .before .before .before .before .before .before .before .before .before .before .before .before .before .before .before .before .before .before .pre) .1 .2) ((c .before .before .before .before .before .before .before .before .before .before .before .before .before .before .before .before .before .before .before .before .before .args) .notes .now) ((c .before .before .before .before .before .before .before .before .before .note) .ensures .0) in where-rows _ _ ((c .before .before .before .before .before .before .before .before .before .before .before .before .before .before .before .before .before .before .before .before .before .args) .context) _ _ f i ((c .before .before .before .before .before .before .before .before .before .note) .ensures .1) (part-rows _ _ judgment-sort (valueOf (getD ((c .before .before .before .before .before .before .before .before .before .before .before .before .before .before .before .before .before .before .before .before .before .args) .s .now) ((c .before .before .before .before .before .before .before .before .before .before .before .before .before .before .before .before .before .before .before .before .before .args) .at + 3) 0)) _ _ _ (g .room) (part-to-end ((c .before .before .before .before .before .before .before .before .before .before .before .before .before .before .before .before .before .before .before .before .before .args) .s .now) ((c .before .before .before .before .before .before .before .before .before .before .before .before .before .before .before .before .before .before .before .before .before .args) .at + 4)) ((c .before .before .judgments) .ensures))
 
 choice-judgments-requires : (t : ℕ) → choice-lts.Need-judgments-requires (choice-calls t) (choice-at t) choice.Post
 choice-judgments-requires t c κs = (omega arith, ((c .before .before .before .pre) .1 .0, (c .before .before .before .pre) .1 .1, (c .before .before .before .pre) .1 .2))
@@ -619,16 +645,16 @@ patterns-returns : (t : ℕ) → patterns-lts.Need-returns (patterns-calls t) (p
 patterns-returns t c = let z : (c .before .before .before .before .before .before .before .args) .count + 1 ≡ suc ((c .before .before .before .before .before .before .before .args) .count) = omega arith in rw z (first-refused _ _ _ _ _ scalar-sort _ ((c .before .before .before .scalars) .ensures) ((c .before .before .before .before .before .before .before .pre) .1 .0 .most) ((c .before .before .before .before .before .before .before .pre) .1 .1) ((c .if1) .taken) _)
 
 patterns-lost-requires : (t : ℕ) → patterns-lts.Need-lost-requires (patterns-calls t) (patterns-at t) patterns.Post
-patterns-lost-requires t c κs = (c .before .before .before .before .before .before .before .pre) .1 .2
+patterns-lost-requires t c κs = (c .before .before .before .before .before .before .before .pre) .1 .2 .few
 
 patterns-scalars-requires-2 : (t : ℕ) → patterns-lts.Need-scalars-requires-2 (patterns-calls t) (patterns-at t) patterns.Post
-patterns-scalars-requires-2 t c κs = (omega arith, ((c .before .before .before .before .before .before .before .before .before .pre) .1 .0, code-within _ _ _ ((c .before .before .before .before .before .scalars) .ensures .answers) ((c .before .before .before .before .before .before .before .before .before .pre) .1 .1) ((c .before .before .if1) .left), omega (arith, (c .before .lost) .ensures .1, (c .before .before .before .before .before .before .before .before .before .pre) .1 .2)))
+patterns-scalars-requires-2 t c κs = (omega arith, ((c .before .before .before .before .before .before .before .before .before .pre) .1 .0, code-within _ _ _ ((c .before .before .before .before .before .scalars) .ensures .answers) ((c .before .before .before .before .before .before .before .before .before .pre) .1 .1) ((c .before .before .if1) .left), based-losing _ ((c .before .before .before .before .before .before .before .before .before .pre) .1 .2) ((c .before .lost) .ensures)))
 
 patterns-same-length-2 : (t : ℕ) → patterns-lts.Need-same-length-2 (patterns-calls t) (patterns-at t) patterns.Post
 patterns-same-length-2 t c = search needs
 
 patterns-returns-2 : (t : ℕ) → patterns-lts.Need-returns-2 (patterns-calls t) (patterns-at t) patterns.Post
-patterns-returns-2 t c = let z : (c .before .before .before .before .before .before .before .before .before .before .before .before .args) .count + 1 ≡ suc ((c .before .before .before .before .before .before .before .before .before .before .before .before .args) .count) = omega arith in rw z (first-then _ _ _ _ _ scalar-sort _ ((c .before .before .before .before .before .before .before .before .scalars) .ensures) ((c .before .before .before .before .before .if1) .left) _ (rows-as _ _ scalar-sort _ {m = (c .before .before .before .before .before .before .before .before .before .before .before .before .args) .count} refl ((c .before .before .before .before .lost) .ensures .0) ((c .before .before .scalars2) .ensures)))
+patterns-returns-2 t c = let z : (c .before .before .before .before .before .before .before .before .before .before .before .before .args) .count + 1 ≡ suc ((c .before .before .before .before .before .before .before .before .before .before .before .before .args) .count) = omega arith in rw z (first-then _ _ _ _ _ scalar-sort _ ((c .before .before .before .before .before .before .before .before .scalars) .ensures) ((c .before .before .before .before .before .if1) .left) _ (rows-as _ _ scalar-sort _ {m = (c .before .before .before .before .before .before .before .before .before .before .before .before .args) .count} refl ((c .before .before .before .before .lost) .ensures) ((c .before .before .scalars2) .ensures)))
 
 abbrev scalars-Inv-loop : scalars-lts.InvT-loop
 scalars-Inv-loop s t start count levels context notes₀ at₀ k₀ left₀ notes at k left =
@@ -813,6 +839,7 @@ pub +after-judgment+after-scalar+aggregate+choice+exists+judgments+patterns+scal
     (aggregate-cast-note t)
     (aggregate-add-note t)
     (aggregate-note-requires t)
+    (aggregate-add-inner t)
     (aggregate-add-flag t)
     (aggregate-mul-flag t)
     (aggregate-shared-slice-read-flag t)
@@ -823,8 +850,15 @@ pub +after-judgment+after-scalar+aggregate+choice+exists+judgments+patterns+scal
     (aggregate-scalars-requires t)
     (aggregate-same-length t)
     (aggregate-returns-5 t)
+    (aggregate-add-root t)
+    (aggregate-mul-judgments t)
+    (aggregate-sub-judgments t)
+    (aggregate-part-judgments-start t)
+    (aggregate-part-judgments-end t)
+    (aggregate-cast-judgments t)
     (aggregate-add-judgments t)
     (aggregate-judgments-requires t)
+    (aggregate-add-result t)
     (aggregate-same-length-2 t)
     (aggregate-returns-6 t))
     (λ t. choice-lts.spec (choice-calls t) (choice-at t)
