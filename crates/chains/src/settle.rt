@@ -3,10 +3,14 @@
 use crate::entry::Declaration;
 use crate::entry::declared;
 use crate::entry::name_at;
+use pack::kinds::Pack;
 use records::directory::Words;
 ghost use Prim.Native.Nat.{_+_, _<_, _≤_};
 ghost use Rattle.chains.specs.Entry.{declarationsIn, namesIn};
 ghost use Rattle.chains.specs.Settle.{ReadOne, Walkable, WalkedHere, Settleable, SettledAll};
+
+// Numbers by name.
+pub type ByName = [u32; Pack::MOST_NAMES as usize];
 
 pub struct Mark {}
 
@@ -29,7 +33,7 @@ fn read_name(dir: &Words, n: usize, steps: &mut u32) -> u32
 }
 
 // The walk from a name: its answer. A name on the path is a ring.
-pub fn walk(dir: &Words, marks: &mut [u32; 4096], steps: &mut u32, n: usize, fuel: u32) -> u32
+pub fn walk(dir: &Words, marks: &mut ByName, steps: &mut u32, n: usize, fuel: u32) -> u32
     requires { ⌜ Walkable (declarationsIn (now dir)) (now marks) (now steps) n fuel ⌝ }
     ensures { λ r. ⌜ WalkedHere (declarationsIn (now (dir .entry))) (now (marks .entry)) (now (steps .entry)) n fuel r (now (marks .exit)) (now (steps .exit)) ⌝ }
 {
@@ -61,7 +65,7 @@ pub fn walk(dir: &Words, marks: &mut [u32; 4096], steps: &mut u32, n: usize, fue
 }
 
 // The walks from so many relations in record order: the number of declarations read.
-pub fn settle_all(dir: &Words, marks: &mut [u32; 4096], count: u32) -> u32
+pub fn settle_all(dir: &Words, marks: &mut ByName, count: u32) -> u32
     requires { ⌜ (count ≤ 512) × Settleable (declarationsIn (now dir)) (now marks) (namesIn (now dir) count) 0 (count + 1) ⌝ }
     ensures { λ r. ⌜ SettledAll (declarationsIn (now (dir .entry))) (now (marks .entry)) (namesIn (now (dir .entry)) count) 0 (count + 1) (now (marks .exit)) r ⌝ }
 {

@@ -1,5 +1,6 @@
 // The refusal of a name that a pack does not have.
 use pack::answer::Answer;
+use pack::answer::Number;
 use pack::answer::Refusal;
 ghost use mathlib.Core.Path.{_≡_};
 ghost use Rattle.chains.specs.Answers.{unknown};
@@ -9,7 +10,7 @@ pub fn unknown_name(name: u32) -> Answer
     ensures { λ r. ⌜ r ≡ unknown name ⌝ }
 {
     Answer::Refused(Refusal {
-        number: 17,
+        number: Number::UNKNOWN,
         place: 0,
         name,
         other: 0,

@@ -1,5 +1,6 @@
 // Check: whether a slice of words is a pack.
 use pack::answer::Answer;
+use pack::answer::Number;
 use pack::answer::Refusal;
 use pack::cursor::Step;
 use pack::kinds::Pack;
@@ -64,10 +65,10 @@ pub fn check_notes(pack: &[u32], dir: &mut [u32], notes: &mut [u32]) -> Laid
 {
     let len = pack.len();
     if len < Pack::LEAST_WORDS {
-        return no(1, 0);
+        return no(Number::LENGTH, 0);
     }
     if Pack::MOST_WORDS < len {
-        return no(1, 0);
+        return no(Number::LENGTH, 0);
     }
     let r = layout(pack, len as u32, dir, notes);
     let Laid::Yes(l) = r else {
@@ -75,7 +76,7 @@ pub fn check_notes(pack: &[u32], dir: &mut [u32], notes: &mut [u32]) -> Laid
     };
     let end = l.end;
     if end < len {
-        return no(8, end);
+        return no(Number::LEFT_OVER, end);
     }
     Laid::Yes(l)
 }

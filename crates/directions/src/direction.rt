@@ -4,6 +4,7 @@ use chains::record::flag_at;
 use chains::record::kind_count;
 use chains::record::slots_place;
 use chains::record::value_at;
+use chains::settle::ByName;
 use filtered::filtered::direct_of;
 use filtered::taking::Kind;
 use filtered::taking::kind_at;
@@ -121,7 +122,7 @@ fn between(a: u32, b: u32, c: u32, r: u32, current: u32, related: u32) -> Direct
 }
 
 // The kind by which an entity is matched: the one that it takes, or itself.
-fn matching_kind(taken: &[u32; 4096], entity: u32) -> u32
+fn matching_kind(taken: &ByName, entity: u32) -> u32
     ensures { λ r. ⌜ r ≡ orElse (directBy (now (taken .entry)) entity) entity ⌝ }
 {
     if Pack::MOST_NAMES <= entity {
@@ -137,7 +138,7 @@ fn matching_kind(taken: &[u32; 4096], entity: u32) -> u32
 // An aggregate over a relation without derivation, whose record starts at a place.
 fn towards(
     pack: &[u32],
-    taken: &[u32; 4096],
+    taken: &ByName,
     start: usize,
     entity: u32,
     current: u32,
@@ -158,8 +159,8 @@ fn towards(
 pub fn turn(
     pack: &[u32],
     dir: &Words,
-    marks: &[u32; 4096],
-    taken: &[u32; 4096],
+    marks: &ByName,
+    taken: &ByName,
     relation: usize,
     entity: u32,
     current: u32,

@@ -4,6 +4,7 @@ use chains::entry::start;
 use chains::record::flag_at;
 use chains::record::slots_place;
 use chains::record::value_at;
+use chains::settle::ByName;
 use filtered::taking::Kind;
 use filtered::taking::kind_at;
 use filtered::taking::place_of;
@@ -32,7 +33,7 @@ pub fn slot_kinds(pack: &[u32], work: &[u32], list: u32, start: usize) -> Member
 }
 
 // Whether a name is that of a derived relation with equal kinds there.
-pub fn equal_kinds(pack: &[u32], dir: &Words, marks: &[u32; 4096], name: usize) -> bool
+pub fn equal_kinds(pack: &[u32], dir: &Words, marks: &ByName, name: usize) -> bool
     requires { ⌜ name < 4096 ⌝ }
     ensures { λ r. ⌜ r ≡ equalIn (now (pack .entry)) (startsIn (now (dir .entry))) (now (marks .entry)) name ⌝ }
 {
@@ -50,7 +51,7 @@ pub fn equal_kinds(pack: &[u32], dir: &Words, marks: &[u32; 4096], name: usize) 
 }
 
 // The first defaulted name of a checked pack with equal kinds, or NONE.
-pub fn first_equal(pack: &[u32], dir: &Words, marks: &[u32; 4096]) -> u32
+pub fn first_equal(pack: &[u32], dir: &Words, marks: &ByName) -> u32
     requires { ⌜ DefaultedFit (now pack) ⌝ }
     ensures { λ r. ⌜ r ≡ firstEqual (now (pack .entry)) (startsIn (now (dir .entry))) (now (marks .entry)) 3 (valueAt (now (pack .entry)) 2) ⌝ }
 {

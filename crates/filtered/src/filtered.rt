@@ -3,11 +3,13 @@ use crate::inner::settle_all;
 use crate::taking::Taken;
 use crate::taking::take_kinds;
 use chains::entry::Declaration;
+use chains::settle::ByName;
 use chains::settle::Mark;
 use checking::check::answer;
 use checking::check::check_directory;
 use checking::check::refuse;
 use pack::answer::Answer;
+use pack::answer::Number;
 use pack::kinds::Pack;
 use records::directory::Directory;
 use records::directory::Laid;
@@ -91,7 +93,7 @@ fn say(filter: Filter, x: u32, mark: u32, e: u32) -> u32
 }
 
 // What a table says of each name.
-fn say_all(taken: &[u32; 4096], marks: &[u32; 4096], filter: Filter, out: &mut [u32])
+fn say_all(taken: &ByName, marks: &ByName, filter: Filter, out: &mut [u32])
     requires { ⌜ length (now out) ≤ 4096 ⌝ }
     ensures { λ r. ⌜ now (out .exit) ≡ tableFrom (saidIn filter (now (taken .entry)) (now (marks .entry))) 0 (length (now (out .entry))) ⌝ }
 {
@@ -118,7 +120,7 @@ fn inner_entry(x: u32, e: u32) -> u32
 }
 
 // The direct kinds of the first names as declarations.
-fn inner_entries(taken: &[u32; 4096], names: usize, table: &mut [u32; 4096])
+fn inner_entries(taken: &ByName, names: usize, table: &mut ByName)
     requires { ⌜ Directed (now taken) × (names ≤ 4096) × (length (now table) ≡ 4096) ⌝ }
     ensures { λ r. ⌜ now (table .exit) ≡ tableFrom (entriesIn (now (taken .entry))) 0 names ++ drop names (now (table .entry)) ⌝ }
 {
@@ -142,11 +144,11 @@ fn count_up(out: &mut [u32])
 }
 
 // The walks along the direct kinds of all names, for which a slice has one word each.
-fn walk_inner(taken: &[u32; 4096], names: &mut [u32], marks: &mut [u32; 4096])
+fn walk_inner(taken: &ByName, names: &mut [u32], marks: &mut ByName)
     requires { ⌜ Directed (now taken) × (length (now names) ≤ 4096) × (now marks ≡ replicate 4096 0) ⌝ }
     ensures { λ r. ⌜ InnerMarked (now (taken .entry)) (length (now (names .entry))) (now (marks .exit)) ⌝ }
 {
-    let mut table = [0u32; 4096];
+    let mut table: ByName = [0u32; Pack::MOST_NAMES as usize];
     let mut steps: u32 = 0;
     inner_entries(taken, names.len(), &mut table);
     count_up(names);
@@ -154,7 +156,7 @@ fn walk_inner(taken: &[u32; 4096], names: &mut [u32], marks: &mut [u32; 4096])
 }
 
 // The walks, where a table needs them.
-fn mark_inner(filter: Filter, taken: &[u32; 4096], names: &mut [u32], marks: &mut [u32; 4096])
+fn mark_inner(filter: Filter, taken: &ByName, names: &mut [u32], marks: &mut ByName)
     requires { ⌜ Directed (now taken) × (length (now names) ≤ 4096) × (now marks ≡ replicate 4096 0) ⌝ }
     ensures { λ r. ⌜ InnerFor filter (now (taken .entry)) (length (now (names .entry))) (now (marks .exit)) ⌝ }
 {
@@ -171,8 +173,8 @@ fn fill(pack: &[u32], l: Layout, dir: &Words, filter: Filter, out: &mut [u32])
     requires { ⌜ IsDirectory (now pack) l (now dir) × FilterAsked (now pack) (now out) ⌝ }
     ensures { λ r. ⌜ FilterLeft filter (now (pack .entry)) (now (out .exit)) ⌝ }
 {
-    let mut taken = [0u32; 4096];
-    let mut marks = [0u32; 4096];
+    let mut taken: ByName = [0u32; Pack::MOST_NAMES as usize];
+    let mut marks: ByName = [0u32; Pack::MOST_NAMES as usize];
     take_kinds(pack, l, dir, &mut taken);
     mark_inner(filter, &taken, out, &mut marks);
     say_all(&taken, &marks, filter, out);
@@ -190,7 +192,7 @@ pub fn filtered(pack: &[u32], filter: Filter, out: &mut [u32]) -> Answer
     let names = l.names;
     let count = names as usize;
     if out.len() < count {
-        return refuse(16, 0);
+        return refuse(Number::NO_ROOM, 0);
     }
     fill(pack, l, &dir, filter, &mut out[0..count]);
     Answer::Given(names, 0)

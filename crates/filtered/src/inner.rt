@@ -1,11 +1,12 @@
 // The chain walk over a table by name, for the innermost kinds: an answer is 1 and the name that a chain ends at, 0 in a ring.
 use chains::entry::Declaration;
+use chains::settle::ByName;
 use chains::settle::Mark;
 ghost use Prim.Native.Nat.{_+_, _<_};
 ghost use Rattle.chains.specs.Settle.{ReadOne, Walkable, WalkedHere, Settleable, SettledAll};
 
 // One entry read at a name.
-fn read_entry(table: &[u32; 4096], n: usize, steps: &mut u32) -> u32
+fn read_entry(table: &ByName, n: usize, steps: &mut u32) -> u32
     requires { ⌜ (n < 4096) × (now steps < 4294967295) ⌝ }
     ensures { λ r. ⌜ ReadOne (now (table .entry)) n (now (steps .entry)) r (now (steps .exit)) ⌝ }
 {
@@ -14,13 +15,7 @@ fn read_entry(table: &[u32; 4096], n: usize, steps: &mut u32) -> u32
 }
 
 // The walk from a name: its answer. A name on the path is a ring.
-pub fn walk(
-    table: &[u32; 4096],
-    marks: &mut [u32; 4096],
-    steps: &mut u32,
-    n: usize,
-    fuel: u32,
-) -> u32
+pub fn walk(table: &ByName, marks: &mut ByName, steps: &mut u32, n: usize, fuel: u32) -> u32
     requires { ⌜ Walkable (now table) (now marks) (now steps) n fuel ⌝ }
     ensures { λ r. ⌜ WalkedHere (now (table .entry)) (now (marks .entry)) (now (steps .entry)) n fuel r (now (marks .exit)) (now (steps .exit)) ⌝ }
 {
@@ -52,13 +47,7 @@ pub fn walk(
 }
 
 // The walks from all starts in order.
-pub fn settle_all(
-    table: &[u32; 4096],
-    marks: &mut [u32; 4096],
-    steps: &mut u32,
-    starts: &[u32],
-    fuel: u32,
-)
+pub fn settle_all(table: &ByName, marks: &mut ByName, steps: &mut u32, starts: &[u32], fuel: u32)
     requires { ⌜ Settleable (now table) (now marks) (now starts) (now steps) fuel ⌝ }
     ensures { λ r. ⌜ SettledAll (now (table .entry)) (now (marks .entry)) (now (starts .entry)) (now (steps .entry)) fuel (now (marks .exit)) (now (steps .exit)) ⌝ }
 {

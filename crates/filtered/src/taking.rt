@@ -2,6 +2,7 @@
 use chains::entry::name_at;
 use chains::entry::slots;
 use chains::record::value_at;
+use chains::settle::ByName;
 use chains::settle::Mark;
 use chains::settle::settle_all;
 use pack::kinds::Pack;
@@ -31,7 +32,7 @@ impl Taken {
     pub const ONE: u32 = 2;
 
     // It takes several.
-    pub const SEVERAL: u32 = 16777218;
+    pub const SEVERAL: u32 = Taken::ONE + Pack::VALUES;
 }
 
 // The kind at a slot of the list whose count word stands at a place; at place 0 there is none.
@@ -56,7 +57,7 @@ pub fn kind_at(pack: &[u32], place: u32, slot: u32) -> Kind
 }
 
 // The place of the list that settles a name, 0 for none.
-pub fn place_of(marks: &[u32; 4096], name: usize) -> u32
+pub fn place_of(marks: &ByName, name: usize) -> u32
     requires { ⌜ name < 4096 ⌝ }
     ensures { λ r. ⌜ r ≡ getD (now (marks .entry)) name 0 - 2 ⌝ }
 {
@@ -92,7 +93,7 @@ fn taken_after(x: u32, kind: Kind) -> u32
 }
 
 // An entity of a derivation and the kind that it takes there; one that is no name is passed over.
-fn take_at(table: &mut [u32; 4096], entity: u32, kind: Kind)
+fn take_at(table: &mut ByName, entity: u32, kind: Kind)
     requires { ⌜ Small kind ⌝ }
     ensures { λ r. ⌜ now (table .exit) ≡ takeAt (now (table .entry)) entity (kindIn kind) ⌝ }
 {
@@ -105,7 +106,7 @@ fn take_at(table: &mut [u32; 4096], entity: u32, kind: Kind)
 }
 
 // The relation of a name, whose slots stand at a place: its entity takes the kind at its current slot. At 0 there are none.
-fn take_slots(pack: &[u32], marks: &[u32; 4096], table: &mut [u32; 4096], name: usize, at: usize)
+fn take_slots(pack: &[u32], marks: &ByName, table: &mut ByName, name: usize, at: usize)
     requires { ⌜ (name < 4096) × (at ≤ 65536) ⌝ }
     ensures { λ r. ⌜ now (table .exit) ≡ takenBy (now (pack .entry)) (now (marks .entry)) (now (table .entry)) name at ⌝ }
 {
@@ -117,7 +118,7 @@ fn take_slots(pack: &[u32], marks: &[u32; 4096], table: &mut [u32; 4096], name: 
 }
 
 // What every derivation's entity takes, from the directory of so many relations and their marks.
-fn take_all(pack: &[u32], dir: &Words, count: u32, marks: &[u32; 4096], table: &mut [u32; 4096])
+fn take_all(pack: &[u32], dir: &Words, count: u32, marks: &ByName, table: &mut ByName)
     requires { ⌜ (count ≤ 512) × NamesLow (namesIn (now dir) count) ⌝ }
     ensures { λ r. ⌜ now (table .exit) ≡ takenIn (now (pack .entry)) (slotsIn (now (dir .entry))) (now (marks .entry)) (namesIn (now (dir .entry)) count) (now (table .entry)) ⌝ }
 {
@@ -134,8 +135,8 @@ pub fn read_tables(
     pack: &[u32],
     l: Layout,
     dir: &Words,
-    marks: &mut [u32; 4096],
-    taken: &mut [u32; 4096],
+    marks: &mut ByName,
+    taken: &mut ByName,
 ) -> u32
     requires { ⌜ IsDirectory (now pack) l (now dir) × (now marks ≡ replicate 4096 0) × (now taken ≡ replicate 4096 0) ⌝ }
     ensures { λ r. ⌜ Filled (now (pack .entry)) (namesIn (now (dir .entry)) (l .relations)) (startsIn (now (dir .entry))) (now (marks .exit)) (now (taken .exit)) r ⌝ }
@@ -147,10 +148,10 @@ pub fn read_tables(
 }
 
 // What is known of every entity of a checked pack; the table holds zeros before.
-pub fn take_kinds(pack: &[u32], l: Layout, dir: &Words, table: &mut [u32; 4096])
+pub fn take_kinds(pack: &[u32], l: Layout, dir: &Words, table: &mut ByName)
     requires { ⌜ IsDirectory (now pack) l (now dir) × (now table ≡ replicate 4096 0) ⌝ }
     ensures { λ r. ⌜ Known (now (pack .entry)) (now (table .exit)) ⌝ }
 {
-    let mut marks = [0u32; 4096];
+    let mut marks: ByName = [0u32; Pack::MOST_NAMES as usize];
     read_tables(pack, l, dir, &mut marks, table);
 }

@@ -1,5 +1,6 @@
 // The input that an OnlyRelated node names: the blocks of an origin, and the declarations of a name in them.
 use chains::record::value_at;
+use pack::answer::Number;
 use pack::kinds::Pack;
 ghost use mathlib.Core.Path.{_≡_};
 ghost use Prim.Native.Nat.{_≤_};
@@ -95,22 +96,22 @@ fn input_number(pack: &[u32], seen: usize, owner: u32) -> u32
     ensures { λ r. ⌜ r ≡ inputNumber (now (pack .entry)) seen owner ⌝ }
 {
     if seen == Seen::LACKING {
-        return 12;
+        return Number::NO_SEQUENCE;
     }
     if seen == 0 {
-        return 13;
+        return Number::NOT_ONCE;
     }
     if seen == Seen::SEVERAL {
-        return 13;
+        return Number::NOT_ONCE;
     }
     if value_at(pack, seen + 1) != 1 {
-        return 14;
+        return Number::NOT_BOOLEAN;
     }
     if owner == 0 {
-        return 15;
+        return Number::OTHER_ENTITY;
     }
     if value_at(pack, seen + 2) != owner {
-        return 15;
+        return Number::OTHER_ENTITY;
     }
     0
 }

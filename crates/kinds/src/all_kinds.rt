@@ -1,11 +1,14 @@
 // All kinds: the effective kinds of every relation, as places, and how many declarations were read for them.
 use chains::entry::name_at;
+use chains::settle::ByName;
 use chains::settle::Mark;
 use chains::settle::settle_all;
 use checking::check::answer;
 use checking::check::check_directory;
 use checking::check::refuse;
 use pack::answer::Answer;
+use pack::answer::Number;
+use pack::kinds::Pack;
 use records::directory::Directory;
 use records::directory::Laid;
 use records::directory::Words;
@@ -20,7 +23,7 @@ ghost use Rattle.kinds.specs.Parts.{placeAt};
 ghost use Rattle.kinds.specs.Operations.{allKindsAnswer, allKindsBuffer};
 
 // The place of each relation's list in record order, for as many as there is room.
-fn places(dir: &Words, marks: &[u32; 4096], out: &mut [u32])
+fn places(dir: &Words, marks: &ByName, out: &mut [u32])
     requires { ⌜ (length (now out) ≤ 512) × Placeable (now marks) (namesIn (now dir) (length (now out))) ⌝ }
     ensures { λ r. ⌜ now (out .exit) ≡ tableFrom (placeAt (now (marks .entry)) (now (dir .entry))) 0 (length (now (out .entry))) ⌝ }
 {
@@ -44,9 +47,9 @@ pub fn all_kinds(pack: &[u32], out: &mut [u32]) -> Answer
     let relations = l.relations;
     let count = relations as usize;
     if out.len() < count {
-        return refuse(16, 0);
+        return refuse(Number::NO_ROOM, 0);
     }
-    let mut marks = [0u32; 4096];
+    let mut marks: ByName = [0u32; Pack::MOST_NAMES as usize];
     let steps = settle_all(&dir, &mut marks, relations);
     places(&dir, &marks, &mut out[0..count]);
     Answer::Given(relations, steps)

@@ -1,9 +1,11 @@
 // Kinds of one name: those of its own walk.
+use chains::settle::ByName;
 use chains::settle::walk;
 use chains::unknown::unknown_name;
 use checking::check::answer;
 use checking::check::check_directory;
 use pack::answer::Answer;
+use pack::kinds::Pack;
 use records::directory::Directory;
 use records::directory::Laid;
 use records::directory::Words;
@@ -22,7 +24,7 @@ pub fn kinds_of(pack: &[u32], name: u32) -> Answer
     if l.names <= name {
         return unknown_name(name);
     }
-    let mut marks = [0u32; 4096];
+    let mut marks: ByName = [0u32; Pack::MOST_NAMES as usize];
     let mut steps: u32 = 0;
     let fuel = l.relations + 1;
     let place = walk(&dir, &mut marks, &mut steps, name as usize, fuel);

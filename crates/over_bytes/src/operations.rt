@@ -8,6 +8,7 @@ use kinds::all_kinds::all_kinds;
 use kinds::kinds_of::kinds_of;
 use kinds::lean::lean;
 use pack::answer::Answer;
+use pack::answer::Number;
 use pack::kinds::Pack;
 use resolve::resolve::resolve_into;
 use wire::answer::encode;
@@ -49,6 +50,9 @@ impl Short {
     pub const BYTES: usize = 4 * Pack::FEW_WORDS;
 
     pub const WRITTEN: usize = 1024;
+
+    // What is answered where they do not suffice.
+    pub const NO_ROOM: u64 = Number::NO_ROOM as u64;
 }
 
 fn answer_to(q: Question, words: &[u32]) -> Answer
@@ -111,7 +115,7 @@ fn written(w: Plain, pack: &[u8], out: &mut [u8]) -> u64
         let mut few = [0u32; Pack::FEW_WORDS];
         let mut short = [0u32; Short::WRITTEN];
         let r = write_in(w, pack, &mut few, &mut short, out);
-        if r != 16 {
+        if r != Short::NO_ROOM {
             return r;
         }
     }
@@ -138,7 +142,7 @@ fn resolved(pack: &[u8], out: &mut [u8]) -> u64
         let mut few = [0u32; Pack::FEW_WORDS];
         let mut short = [0u32; Short::WRITTEN + 1];
         let given = resolve_in(pack, &mut few, &mut short, Short::WRITTEN, out);
-        if given != 16 {
+        if given != Short::NO_ROOM {
             return given;
         }
     }

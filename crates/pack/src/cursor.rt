@@ -1,4 +1,5 @@
 // The reading place, and the words that are read there.
+use crate::answer::Number;
 use crate::answer::Refusal;
 use crate::kinds::Pack;
 use crate::table::Rule;
@@ -49,7 +50,7 @@ impl Cursor {
         if at < s.len() {
             Step::On(s[at], Cursor { at: at + 1 })
         } else {
-            stop(3, at)
+            stop(Number::ENDED, at)
         }
     }
 
@@ -64,13 +65,13 @@ impl Cursor {
             return f;
         };
         if w / Pack::VALUES != kind {
-            return stop(2, at);
+            return stop(Number::KIND, at);
         }
         let v = w % Pack::VALUES;
         if allows(rule, n, v) {
             Step::On(v, c)
         } else {
-            stop(4, at)
+            stop(Number::VALUE, at)
         }
     }
 
@@ -99,13 +100,13 @@ impl Cursor {
         let kind = w / Pack::VALUES;
         if kind != a {
             if kind != b {
-                return stop(2, at);
+                return stop(Number::KIND, at);
             }
         }
         if allows(rule, n, w % Pack::VALUES) {
             Step::On(0, c)
         } else {
-            stop(4, at)
+            stop(Number::VALUE, at)
         }
     }
 }

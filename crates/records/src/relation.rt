@@ -2,6 +2,7 @@
 use crate::derivation::name_list;
 use crate::derivation::optional_derivation;
 use crate::directory::Directory;
+use pack::answer::Number;
 use pack::answer::Refusal;
 use pack::cursor::Cursor;
 use pack::cursor::Step;
@@ -56,7 +57,7 @@ fn new_name(from: Cursor, s: &[u32], n: u32, dir: &[u32]) -> Step
     };
     if 0 < dir[Directory::NAMES + v as usize] {
         return Step::Refused(Refusal {
-            number: 7,
+            number: Number::USED,
             place: at,
             name: v,
             other: 0,

@@ -1,13 +1,14 @@
 // The result: relations stamped, and the whole pack written out if there is room for it.
 use crate::order::order;
 use crate::write::write;
+use chains::settle::ByName;
 use checking::check::refuse;
 use pack::answer::Answer;
+use pack::answer::Number;
 use pack::kinds::Pack;
 use records::directory::Words;
 use stamping::lists::lists;
 use turning::asked::Asked;
-use turning::root::ByName;
 use turning::turns::Counts;
 ghost use Rattle.resolve.specs.Finish.{FinishAsked, FinishCame};
 
@@ -41,10 +42,10 @@ pub fn finish(
     let stamped = &mut found[0..count];
     let len = work.len() + lists(pack, work, marks, asked, places, stamped);
     if Pack::MOST_WORDS < len {
-        return refuse(16, 0);
+        return refuse(Number::NO_ROOM, 0);
     }
     if out.len() < len {
-        return refuse(16, 0);
+        return refuse(Number::NO_ROOM, 0);
     }
     write(pack, work, places, stamped, &mut out[0..len]);
     Answer::Given(len as u32, figures.steps)

@@ -4,12 +4,14 @@ use crate::finish::finish;
 use crate::write::copy;
 use chains::entry::start;
 use chains::record::value_at;
+use chains::settle::ByName;
 use checking::check::answer;
 use checking::check::check_notes;
 use checking::rewrite::written;
 use directions::equal::first_equal;
 use filtered::taking::read_tables;
 use pack::answer::Answer;
+use pack::answer::Number;
 use pack::answer::Refusal;
 use pack::kinds::Pack;
 use records::directory::Directory;
@@ -18,7 +20,6 @@ use records::directory::Layout;
 use records::directory::Words;
 use turning::asked::Asked;
 use turning::asked::ask_notes;
-use turning::root::ByName;
 use turning::step::Blocks;
 use turning::turns::Counts;
 use turning::turns::Ended;
@@ -48,7 +49,7 @@ fn resolve_trees(
         return turn_pack(pack, dir, marks, taken, work, notes, counts);
     }
     Ended::Refused(Refusal {
-        number: 9,
+        number: Number::EQUAL,
         place: start(dir, name as usize),
         name,
         other: 0,

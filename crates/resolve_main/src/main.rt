@@ -3,10 +3,11 @@
 mod report;
 
 use host::cogunwa_resolve;
+use pack::kinds::Pack;
 
 fn main() {
     let mut pack = io::large_buffer();
-    let mut out = [0u8; 32768];
+    let mut out = [0u8; 4 * Pack::MOST_WORDS];
     let n = io::read_full(0, &mut pack);
     let answer = cogunwa_resolve(&pack[..n], &mut out);
     report::report(answer, &out);

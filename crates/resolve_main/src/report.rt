@@ -1,19 +1,9 @@
 // What the program writes to standard output.
 use libc::STDOUT_FILENO;
+use wire::answer::Field;
 ghost use mathlib.Core.Path.{_≡_};
 ghost use Prim.Native.Nat.{_<_};
 ghost use Rattle.resolve_main.specs.Text.{digitOf};
-
-// The fields of the host's answer: the number in the lowest bits, then the place, the name or value, and the other or the steps.
-struct Field {}
-
-impl Field {
-    const PLACE: u64 = 64;
-
-    const NAME: u64 = 1048576;
-
-    const OTHER: u64 = 4503599627370496;
-}
 
 fn text(bytes: &[u8]) {
     io::write_all(STDOUT_FILENO, bytes);
@@ -65,9 +55,9 @@ fn lines(out: &[u8], count: u64) {
     }
 }
 
-// An answer, and the words that go with it.
+// The host's answer, and the words that go with it: where the number is 0, the name is how many they are and the other the steps.
 pub fn report(answer: u64, out: &[u8]) {
-    let name = answer / Field::NAME % 4294967296;
+    let name = answer / Field::NAME % Field::NAMES;
     let other = answer / Field::OTHER;
     if answer % Field::PLACE == 0 {
         text(b"ok");
@@ -79,7 +69,7 @@ pub fn report(answer: u64, out: &[u8]) {
     }
     text(b"refused");
     next_number(answer % Field::PLACE);
-    next_number(answer / Field::PLACE % 16384);
+    next_number(answer / Field::PLACE % Field::PLACES as u64);
     next_number(name);
     next_number(other);
     text(b"\n");

@@ -3,6 +3,7 @@ use chains::entry::start;
 use chains::record::flag_at;
 use chains::record::slots_place;
 use chains::record::value_at;
+use chains::settle::ByName;
 use directions::direction::Code;
 use directions::direction::kind_or_zero;
 use directions::direction::membership_code;
@@ -18,9 +19,6 @@ ghost use Rattle.chains.specs.Entry.{startsIn};
 ghost use Rattle.directions.specs.Words.{derivedBy, membershipIn};
 ghost use Rattle.turning.specs.Turns.{relatedKind, memberKinds};
 ghost use Rattle.turning.specs.Steps.{RootStands, PairOf, RootOpened};
-
-// Numbers by name.
-pub type ByName = [u32; Pack::MOST_NAMES as usize];
 
 // Its name, its origin and its membership in one number, and the entity of its trees.
 pub struct Root {

@@ -1,9 +1,10 @@
 // What comes of one node, read in the words of the pack.
-use crate::root::ByName;
+use chains::settle::ByName;
 use directions::direction::Direction;
 use directions::direction::member;
 use directions::direction::turn;
 use inputs::inputs::input;
+use pack::answer::Number;
 use pack::kinds::Pack;
 use records::directory::Words;
 ghost use mathlib.Core.Path.{_≡_};
@@ -43,15 +44,6 @@ pub struct Node {
     pub at: usize,
     pub entity: u32,
     pub m: u64,
-}
-
-// The refusals of a node that are told here; the others are those of inputs.
-pub struct Number {}
-
-impl Number {
-    pub const OPEN: u32 = 10;
-
-    pub const DERIVED: u32 = 11;
 }
 
 // Its direction as an aggregate.

@@ -1,5 +1,4 @@
 // All notes, turned one after the other.
-use crate::root::ByName;
 use crate::root::Root;
 use crate::root::nowhere;
 use crate::root::opened;
@@ -9,6 +8,7 @@ use crate::step::Cited;
 use crate::step::Node;
 use crate::step::Out;
 use crate::step::step;
+use chains::settle::ByName;
 use directions::direction::Code;
 use pack::answer::Refusal;
 use pack::kinds::Pack;

@@ -5,12 +5,31 @@ ghost use mathlib.Core.Path.{_≡_};
 ghost use lib.ListN.{length};
 ghost use Rattle.wire.specs.Bytes.{inBits, encode, outAfter, Fits};
 
+// The fields of an answer's number, the lowest first: how many values each has, and what one of it counts.
+pub struct Field {}
+
+impl Field {
+    pub const NUMBERS: u32 = 64;
+
+    pub const PLACES: usize = 16384;
+
+    pub const NAMES: u64 = 4294967296;
+
+    pub const OTHERS: u32 = 4096;
+
+    pub const PLACE: u64 = Field::NUMBERS as u64;
+
+    pub const NAME: u64 = Field::PLACE * Field::PLACES as u64;
+
+    pub const OTHER: u64 = Field::NAME * Field::NAMES;
+}
+
 // The number takes 6 bits, the place 14, the name 32 and the other 12.
 fn in_bits(number: u32, place: usize, name: u32, other: u32) -> u64
     ensures { λ r. ⌜ r ≡ inBits number place name other ⌝ }
 {
-    let low = (number % 64) as u64 + (place % 16384) as u64 * 64;
-    low + name as u64 * 1048576 + (other % 4096) as u64 * 4503599627370496
+    let low = (number % Field::NUMBERS) as u64 + (place % Field::PLACES) as u64 * Field::PLACE;
+    low + name as u64 * Field::NAME + (other % Field::OTHERS) as u64 * Field::OTHER
 }
 
 pub fn encode(a: Answer) -> u64

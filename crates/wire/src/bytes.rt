@@ -6,6 +6,19 @@ ghost use Prim.Native.Nat.{_+_, _*_, _/_, _≤_, min};
 ghost use lib.ListN.{length, take, drop};
 ghost use Rattle.wire.specs.Bytes.{wordFrom, bytesOf, areWords, Holds, Loaded};
 
+// How many values a byte has, and what one of each byte of a word but the first counts.
+struct Byte {}
+
+impl Byte {
+    const VALUES: u32 = 256;
+
+    const SECOND: u32 = Byte::VALUES;
+
+    const THIRD: u32 = Byte::SECOND * Byte::VALUES;
+
+    const FOURTH: u32 = Byte::THIRD * Byte::VALUES;
+}
+
 // Whether so many bytes are words, and not more than a pack may have.
 fn are_words(count: usize) -> bool
     ensures { λ r. ⌜ r ≡ areWords count ⌝ }
@@ -24,7 +37,7 @@ pub fn room(count: usize, most: usize) -> usize
 fn word_from(a: u8, b: u8, c: u8, d: u8) -> u32
     ensures { λ r. ⌜ r ≡ wordFrom a b c d ⌝ }
 {
-    a as u32 + b as u32 * 256 + c as u32 * 65536 + d as u32 * 16777216
+    a as u32 + b as u32 * Byte::SECOND + c as u32 * Byte::THIRD + d as u32 * Byte::FOURTH
 }
 
 // The words of the bytes, at the front of the slice, and how many there are. Bytes that are no words give none, which every operation refuses by 1.
@@ -49,10 +62,10 @@ fn store_word(w: u32, out: &mut [u8], at: usize)
     requires { ⌜ at + 4 ≤ length (now out) ⌝ }
     ensures { λ r. ⌜ now (out .exit) ≡ take at (now (out .entry)) ++ bytesOf (w ∷ []) ++ drop (at + 4) (now (out .entry)) ⌝ }
 {
-    out[at] = (w % 256) as u8;
-    out[at + 1] = (w / 256 % 256) as u8;
-    out[at + 2] = (w / 65536 % 256) as u8;
-    out[at + 3] = (w / 16777216 % 256) as u8;
+    out[at] = (w % Byte::VALUES) as u8;
+    out[at + 1] = (w / Byte::SECOND % Byte::VALUES) as u8;
+    out[at + 2] = (w / Byte::THIRD % Byte::VALUES) as u8;
+    out[at + 3] = (w / Byte::FOURTH % Byte::VALUES) as u8;
 }
 
 // The bytes of the first n words; the bytes past them stay.
