@@ -1,24 +1,24 @@
 -- A part of the words that starts at a place: what is read in it from its start is read in the words from that place on, and what is
 -- noted in it, in a context with that place in its base, is noted in the words.
-use Prim.Native.Nat.{ℕ, zero, suc, _+_, _-_, _*_, _/_, _%_, _≤_, _<_}
+use Prim.Native.Nat.{ℕ, zero, suc, _+_, _-_, _%_, _≤_, _<_}
 use native.Mathlib.Omega.{arith}
 use mathlib.Core.Path.{_≡_, refl, ap, sym, _∙_, subst}
 use mathlib.Core.List.{List, [], _∷_}
 use mathlib.Core.Bool.{Bool, true, false}
-use lib.ListN.{length, take, drop, getD, replicate, length-drop}
+use lib.ListN.{length, take, drop, replicate, length-drop}
 use lib.Seq.{drop-drop}
 use lib.Dec.{eqb}
 use borrow.Rule.Slice.PartAt.{part-to-end}
 use Rattle.pack.specs.declared.answer.Refusal.{Refusal}
 use Rattle.pack.specs.declared.table.Follows.{Follows}
 use Rattle.pack.specs.Table.{pick, kindOf, valueOf, entryOf, fieldsOf, childrenOf}
-use Rattle.pack.specs.Form.{Read, got, refused, because, bind, mapRead, allowedHere, readWord, readEach, only, Form, word, empty, each, _▹_, via, readBy}
+use Rattle.pack.specs.Form.{Read, got, refused, because, bind, mapRead, allowedHere, only, Form, word, empty, each, _▹_, via, readBy}
 use Rattle.pack.specs.Tree.{Tree, Forest, node, more, toForest, toTree, ofTree, to-of, of-to, heads, lastField, fields, follow, tree}
 use Rattle.pack.specs.Tree as trees
 use Rattle.pack.specs.Steps.{stepBy, stepOf, walk, coded}
 use Rattle.pack.proofs.FormLaws.{clash}
 use Rattle.reading.specs.Notes.{lookBy, noted}
-use Rattle.reading.specs.Noting.{Ready, Based, Context, State, losing, push, nextNote, inNext, past, childIn, noteTree, noteForest, Came, Sorted, Rows}
+use Rattle.reading.specs.Noting.{Ready, Based, Context, State, losing, push, inNext, past, childIn, noteTree, noteForest, Sorted, Rows}
 
 -- ---- bases
 
