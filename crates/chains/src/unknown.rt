@@ -10,7 +10,7 @@ pub fn unknown_name(name: u32) -> Answer
     ensures { λ r. ⌜ r ≡ unknown name ⌝ }
 {
     Answer::Refused(Refusal {
-        number: Number::UNKNOWN,
+        number: Number::NOT_A_NAME,
         place: 0,
         name,
         other: 0,

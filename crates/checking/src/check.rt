@@ -65,10 +65,10 @@ pub fn check_notes(pack: &[u32], dir: &mut [u32], notes: &mut [u32]) -> Laid
 {
     let len = pack.len();
     if len < Pack::LEAST_WORDS {
-        return no(Number::LENGTH, 0);
+        return no(Number::WRONG_LENGTH, 0);
     }
     if Pack::MOST_WORDS < len {
-        return no(Number::LENGTH, 0);
+        return no(Number::WRONG_LENGTH, 0);
     }
     let r = layout(pack, len as u32, dir, notes);
     let Laid::Yes(l) = r else {

@@ -99,19 +99,19 @@ fn input_number(pack: &[u32], seen: usize, owner: u32) -> u32
         return Number::NO_SEQUENCE;
     }
     if seen == 0 {
-        return Number::NOT_ONCE;
+        return Number::NOT_DECLARED_ONCE;
     }
     if seen == Seen::SEVERAL {
-        return Number::NOT_ONCE;
+        return Number::NOT_DECLARED_ONCE;
     }
     if value_at(pack, seen + 1) != 1 {
         return Number::NOT_BOOLEAN;
     }
     if owner == 0 {
-        return Number::OTHER_ENTITY;
+        return Number::WRONG_OWNER;
     }
     if value_at(pack, seen + 2) != owner {
-        return Number::OTHER_ENTITY;
+        return Number::WRONG_OWNER;
     }
     0
 }

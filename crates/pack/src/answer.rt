@@ -8,30 +8,31 @@ pub struct Refusal {
     pub other: u32,
 }
 
-// The numbers of refusals; first those of Check, which every operation gives for what is no pack.
+// The numbers of refusals, named as include/cogunwa.h names them; first those of Check, which every operation gives for what is
+// no pack.
 pub struct Number {}
 
 impl Number {
     // The bytes are not whole words, or too few or too many.
-    pub const LENGTH: u32 = 1;
+    pub const WRONG_LENGTH: u32 = 1;
 
     // A word is of the wrong kind.
-    pub const KIND: u32 = 2;
+    pub const WRONG_KIND: u32 = 2;
 
     // The pack has ended where one more word is due.
     pub const ENDED: u32 = 3;
 
     // A word has a value that is not allowed.
-    pub const VALUE: u32 = 4;
+    pub const WRONG_VALUE: u32 = 4;
 
     // A tree node is too deep.
-    pub const DEPTH: u32 = 5;
+    pub const TOO_DEEP: u32 = 5;
 
     // A defaulted name is not above the one before.
-    pub const ORDER: u32 = 6;
+    pub const NOT_RISING: u32 = 6;
 
     // A relation has a name that was used before.
-    pub const USED: u32 = 7;
+    pub const NAME_USED: u32 = 7;
 
     // Words are left over after the last block.
     pub const LEFT_OVER: u32 = 8;
@@ -40,25 +41,25 @@ impl Number {
 // Those of resolving.
 impl Number {
     // A defaulted relation has equal kinds in both slots.
-    pub const EQUAL: u32 = 9;
+    pub const EQUAL_KINDS: u32 = 9;
 
     // The direction of a node is open.
-    pub const OPEN: u32 = 10;
+    pub const DIRECTION_OPEN: u32 = 10;
 
     // An OnlyRelated asks for a derived name.
-    pub const DERIVED: u32 = 11;
+    pub const DERIVED_INPUT: u32 = 11;
 
     // It asks for an input, but a block of the citing origin is no sequence.
     pub const NO_SEQUENCE: u32 = 12;
 
     // For one that is not declared exactly once.
-    pub const NOT_ONCE: u32 = 13;
+    pub const NOT_DECLARED_ONCE: u32 = 13;
 
     // For one that is not Boolean.
     pub const NOT_BOOLEAN: u32 = 14;
 
     // For one of another entity, or of none.
-    pub const OTHER_ENTITY: u32 = 15;
+    pub const WRONG_OWNER: u32 = 15;
 }
 
 // Those of what is handed over with a pack.
@@ -67,7 +68,7 @@ impl Number {
     pub const NO_ROOM: u32 = 16;
 
     // A name is not one of the pack's.
-    pub const UNKNOWN: u32 = 17;
+    pub const NOT_A_NAME: u32 = 17;
 }
 
 // A value and a number of steps, each 0 where an operation has none; or a refusal. Of a yes the value is 1, of a no it is 0.

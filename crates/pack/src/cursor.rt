@@ -65,13 +65,13 @@ impl Cursor {
             return f;
         };
         if w / Pack::VALUES != kind {
-            return stop(Number::KIND, at);
+            return stop(Number::WRONG_KIND, at);
         }
         let v = w % Pack::VALUES;
         if allows(rule, n, v) {
             Step::On(v, c)
         } else {
-            stop(Number::VALUE, at)
+            stop(Number::WRONG_VALUE, at)
         }
     }
 
@@ -100,13 +100,13 @@ impl Cursor {
         let kind = w / Pack::VALUES;
         if kind != a {
             if kind != b {
-                return stop(Number::KIND, at);
+                return stop(Number::WRONG_KIND, at);
             }
         }
         if allows(rule, n, w % Pack::VALUES) {
             Step::On(0, c)
         } else {
-            stop(Number::VALUE, at)
+            stop(Number::WRONG_VALUE, at)
         }
     }
 }

@@ -1,5 +1,6 @@
 // Trees: scalar and judgment walkers, which call each other. With each level the number of levels left falls.
 // They answer a plain number: the place after the tree, or a refusal's code. On their way they note the nodes that resolving looks at.
+use pack::answer::Number;
 use pack::cursor::Cursor;
 use pack::cursor::Step;
 use pack::cursor::stop;
@@ -40,21 +41,21 @@ fn head(s: &[u32], t: &[u32; 256], at: usize, sort: u32, left: u32) -> usize
     ensures { λ r. ⌜ r ≡ fault (walk (word (heads sort left) (boundOf (now (t .entry)))) (now (s .entry)) at) ⌝ }
 {
     if s.len() <= at {
-        return refused(3, at);
+        return refused(Number::ENDED, at);
     }
     let w = s[at];
     let kind = w / Pack::VALUES;
     let found = sort_of(t, kind);
     if found != sort {
-        return refused(2, at);
+        return refused(Number::WRONG_KIND, at);
     }
     if left == 0 {
-        return refused(5, at);
+        return refused(Number::TOO_DEEP, at);
     }
     if allows_head(t, kind, w % Pack::VALUES) {
         0
     } else {
-        refused(4, at)
+        refused(Number::WRONG_VALUE, at)
     }
 }
 
@@ -64,14 +65,14 @@ fn up_to(s: &[u32], at: usize, kind: u32, most: u32) -> usize
     ensures { λ r. ⌜ ((n : ℕ) → r ≡ fault (walk (word (only (kind ∷ [])) n) (now (s .entry)) at)) ⌝ }
 {
     if s.len() <= at {
-        return refused(3, at);
+        return refused(Number::ENDED, at);
     }
     let w = s[at];
     if w / Pack::VALUES != kind {
-        return refused(2, at);
+        return refused(Number::WRONG_KIND, at);
     }
     if most < w % Pack::VALUES {
-        return refused(4, at);
+        return refused(Number::WRONG_VALUE, at);
     }
     0
 }

@@ -57,7 +57,7 @@ fn new_name(from: Cursor, s: &[u32], n: u32, dir: &[u32]) -> Step
     };
     if 0 < dir[Directory::NAMES + v as usize] {
         return Step::Refused(Refusal {
-            number: Number::USED,
+            number: Number::NAME_USED,
             place: at,
             name: v,
             other: 0,

@@ -49,7 +49,7 @@ fn resolve_trees(
         return turn_pack(pack, dir, marks, taken, work, notes, counts);
     }
     Ended::Refused(Refusal {
-        number: Number::EQUAL,
+        number: Number::EQUAL_KINDS,
         place: start(dir, name as usize),
         name,
         other: 0,

@@ -70,7 +70,7 @@ fn went(d: Direction) -> Out
 {
     match d {
         Direction::Turned(c, r, kind) => Out::Opens(c, r, kind),
-        Direction::Open(other) => Out::Stops(Number::OPEN, other),
+        Direction::Open(other) => Out::Stops(Number::DIRECTION_OPEN, other),
     }
 }
 
@@ -80,7 +80,7 @@ fn tested(d: Direction) -> Out
 {
     match d {
         Direction::Turned(c, r, _) => Out::Sets(c, r),
-        Direction::Open(other) => Out::Stops(Number::OPEN, other),
+        Direction::Open(other) => Out::Stops(Number::DIRECTION_OPEN, other),
     }
 }
 
@@ -94,7 +94,7 @@ fn only(pack: &[u32], cited: Cited, d: Direction, word: u32) -> Out
     };
     let name = word % Pack::VALUES;
     if word / Pack::VALUES == Pack::DERIVED {
-        return Out::Stops(Number::DERIVED, name);
+        return Out::Stops(Number::DERIVED_INPUT, name);
     }
     let blocks = cited.blocks;
     let number = input(pack, blocks.at, blocks.count, cited.origin, owner, name);
