@@ -24,6 +24,7 @@ use Rattle.chains.proofs.FillLaws.{table-length}
 use Rattle.directions.specs.Turning.{Outcome, done, refused}
 use Rattle.directions.specs.Resolving.{resolved}
 use Rattle.resolve.specs.Operations.{givenOut, writtenOut, resolveAnswer, resolveBuffer}
+use Rattle.resolve.proofs.ResolveLaws.{given-enough}
 use Rattle.wire.specs.Bytes.{notWords, outAfter}
 use Rattle.wire.proofs.Room.{Within, Writes, leb-min, leb-more, tested-more, tested-own, after-refusal}
 use Rattle.over_bytes.specs.declared.operations.Question.{Question}
@@ -119,24 +120,12 @@ module _ (steps : ℕ) where
       go true false e = tt
       go false b e = tt
 
-  -- the room past 8,192 words does not matter
-  both-min : (n room : ℕ) → (leb n 8192 && leb n (min room 8192)) ≡ (leb n 8192 && leb n room)
-  both-min n room = go (leb n 8192) refl
-    where
-      go : (b : Bool) → leb n 8192 ≡ b → (b && leb n (min room 8192)) ≡ (b && leb n room)
-      go true e = leb-min n room (leb-true n 8192 e)
-      go false e = refl
-
   both-more : (n few room : ℕ) → few ≤ room → (leb n 8192 && leb n few) ≡ true → (leb n 8192 && leb n room) ≡ true
   both-more n few room h = go (leb n 8192)
     where
       go : (b : Bool) → (b && leb n few) ≡ true → (b && leb n room) ≡ true
       go true e = leb-more n few room h e
       go false e = e
-
-  outcome-enough : (o : Outcome Pack) (room : ℕ) → givenOut steps (min room 8192) o ≡ givenOut steps room o
-  outcome-enough (refused r) room = refl
-  outcome-enough (done q) room = rw (both-min (total q) room)
 
   outcome-more : (o : Outcome Pack) (few room : ℕ) → few ≤ room → (givenOut steps few o ≡ noRoom → ⊥) → givenOut steps few o ≡ givenOut steps room o
   outcome-more (refused r) few room h other = refl
@@ -166,7 +155,7 @@ resolve-writes =
     fits (refuse r) room = tt
 
     enough : (r : Reading) (room : ℕ) → answer r (gives (min room 8192)) ≡ answer r (gives room)
-    enough (yes p) room = outcome-enough (allKinds (p .relations) .steps) (resolved p) room
+    enough (yes p) room = given-enough (allKinds (p .relations) .steps) (resolved p) room
     enough (refuse r) room = refl
 
     more : (r : Reading) (few room : ℕ) → few ≤ room → (answer r (gives few) ≡ noRoom → ⊥) → answer r (gives few) ≡ answer r (gives room)
