@@ -142,11 +142,11 @@ fn stack_of(call: &mut dyn FnMut()) -> usize {
 pub fn run() -> bool {
     let one = typed(100, &[1]);
     let shapes: [(&str, Pack, f64); 5] = [
-        ("mixed", mixed(60, 77), 20.0),
-        ("one chain of 500", chain(500, one), 20.0),
-        ("one ring of 500", chain(500, derived(100, derivation(599))), 20.0),
-        ("nested where trees", nested(58), 3.0),
-        ("small", small(), 1.0),
+        ("mixed", mixed(60, 77), 15.0),
+        ("one chain of 500", chain(500, one), 22.0),
+        ("one ring of 500", chain(500, derived(100, derivation(599))), 17.0),
+        ("nested where trees", nested(58), 4.5),
+        ("small", small(), 4.0),
     ];
     println!(
         "Medians of {ROUNDS} rounds, in microseconds. Ours has Check in it and goes from bytes to bytes. The original's names"
