@@ -17,13 +17,12 @@ use Rattle.chains.specs.Places.{placeOf}
 use Rattle.chains.specs.Settle.{stepAt, settledIn, walkIn, walksIn, SettledAll}
 use Rattle.chains.proofs.MappedLaws.{AnswersMapped, answers-mapped}
 use Rattle.chains.proofs.KindLaws.{kinds-own}
-use Rattle.chains.proofs.PackIndex.{zeros, zero-at}
 use Rattle.chains.proofs.PlaceBounds.{Indexes}
 
 -- at first nothing is settled
-pub zeros-nothing : settledIn zeros ≡ nothing
+pub clear-nothing : (marks : List ℕ) → ((n : ℕ) → getD marks n 0 ≡ 0) → settledIn marks ≡ nothing
 unfolding settledIn
-zeros-nothing = fun-ext (λ n. rw (zero-at 4096 n) refl)
+clear-nothing marks clear = fun-ext (λ n. rw (clear n) refl)
 
 -- a settled name's mark
 pub settled-mark : (marks : List ℕ) (n x : ℕ) → settledIn marks n ≡ some x → getD marks n 0 ≡ 2 + x
@@ -52,12 +51,12 @@ module _ (p : Pack) (index : List ℕ) (indexed : Indexes p index) where
   over-index = answers-mapped (placeOf p) none 0 place-none same same (λ r. refl) (kindStep rs) (stepAt index) (indexed .says) (declared rs) (declared rs)
 
   -- one name's own walk
-  pub own-found : (n : ℕ) → walkIn index (suc (length (declared rs))) (settledIn zeros) [] n .answer ≡ placeOf p (ownAnswer rs n)
+  pub own-found : (marks₀ : List ℕ) → ((m : ℕ) → getD marks₀ m 0 ≡ 0) → (n : ℕ) → walkIn index (suc (length (declared rs))) (settledIn marks₀) [] n .answer ≡ placeOf p (ownAnswer rs n)
   unfolding own
-  own-found n = ap (λ (t : Settled ℕ). walkIn index (suc (length (declared rs))) t [] n .answer) zeros-nothing ∙ over-index .own-walks n
+  own-found marks₀ clear n = ap (λ (t : Settled ℕ). walkIn index (suc (length (declared rs))) t [] n .answer) (clear-nothing marks₀ clear) ∙ over-index .own-walks n
 
-  pub kinds-found : (marks : List ℕ) (steps : ℕ) → SettledAll index zeros (declared rs) 0 (suc (length (declared rs))) marks steps → KindsFound p marks steps
-  kinds-found marks steps s =
+  pub kinds-found : {marks₀ : List ℕ} → ((m : ℕ) → getD marks₀ m 0 ≡ 0) → (marks : List ℕ) (steps : ℕ) → SettledAll index marks₀ (declared rs) 0 (suc (length (declared rs))) marks steps → KindsFound p marks steps
+  kinds-found {marks₀} clear marks steps s =
       record {
         counts = s .counts ∙ ap (λ (a : All ℕ). a .steps) over ∙ over-index .steps;
         marked = λ n i.
@@ -65,5 +64,5 @@ module _ (p : Pack) (index : List ℕ) (indexed : Indexes p index) where
             (ap (λ (t : Settled ℕ). t n) (s .settles ∙ ap (λ (a : All ℕ). a .settled) over) ∙ over-index .settled n ∙ ap (Option·map (placeOf p)) (kinds-own rs .each n i));
       }
     where
-      over : walksIn index (suc (length (declared rs))) (declared rs) (settledIn zeros) 0 ≡ walkAll 0 same (stepAt index) (declared rs) (declared rs) nothing 0
-      over = ap (λ (t : Settled ℕ). walkAll 0 same (stepAt index) (declared rs) (declared rs) t 0) zeros-nothing
+      over : walksIn index (suc (length (declared rs))) (declared rs) (settledIn marks₀) 0 ≡ walkAll 0 same (stepAt index) (declared rs) (declared rs) nothing 0
+      over = ap (λ (t : Settled ℕ). walkAll 0 same (stepAt index) (declared rs) (declared rs) t 0) (clear-nothing marks₀ clear)

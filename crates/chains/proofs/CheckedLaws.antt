@@ -20,7 +20,7 @@ use Rattle.chains.specs.Entry.{declarationsIn, namesIn}
 use Rattle.chains.specs.Settle.{Leading, Marked, OnPath, Settleable, SettledAll, Placeable}
 use Rattle.records.specs.declared.directory.Layout.{Layout}
 use Rattle.checking.specs.Checked.{namesSaid}
-use Rattle.chains.specs.AllKinds.{IsPack, Counted, Named, IsDirectory, KindsMarked}
+use Rattle.chains.specs.AllKinds.{IsPack, Counted, Named, IsDirectory, KindsMarked, Lent}
 use Rattle.chains.proofs.RelationScan.{RelationsFine, kept}
 use Rattle.chains.proofs.PackIndex.{zeros, zero-at, parts, split, opening, opening-length, relationsPart}
 use Rattle.chains.proofs.Names.{or-left, or-right}
@@ -66,30 +66,29 @@ module _ {ws : List ℕ} (c : IsPack ws) where
 
 -- ---- the kinds
 
-names-below : (n : ℕ) → n ≤ 4096 → (used : List ℕ) (rs : List Relation) → RelationsFine n used rs → (j : ℕ) → getD (declared rs) j 0 < 4096
+pub names-below : (n : ℕ) → 1 ≤ n → (used : List ℕ) (rs : List Relation) → RelationsFine n used rs → (j : ℕ) → getD (declared rs) j 0 < n
 names-below n m used [] f j = omega arith
-names-below n m used (r ∷ rs) f zero = omega (arith, kept n (λ v. among v used) r (f .0) .below)
+names-below n m used (r ∷ rs) f zero = kept n (λ v. among v used) r (f .0) .below
 names-below n m used (r ∷ rs) f (suc j) = names-below n m (r .name ∷ used) rs (f .1) j
 
 -- what walks with nothing settled ask for
-pub settleable-zeros : (table starts : List ℕ) (fuel : ℕ) → ((j : ℕ) → getD starts j 0 < 4096) → Leading table → length starts ≤ 4096 → fuel ≤ 4097 → Settleable table zeros starts 0 fuel
-unfolding Marked OnPath
-settleable-zeros table starts fuel names leading h l =
+pub settleable-clear : {names : ℕ} (table : List ℕ) {marks : List ℕ} (starts : List ℕ) (fuel : ℕ) → Lent names marks → ((j : ℕ) → getD starts j 0 < names) → Leading names table → length starts ≤ 4096 → fuel ≤ 4097
+    → Settleable table marks starts 0 fuel
+unfolding Marked OnPath Leading
+settleable-clear table starts fuel lent names leading h l =
     record {
-      names = names;
-      leading = leading;
-      marked = λ n. rw (zero-at 4096 n) (omega arith);
-      long = length-replicate {A = ℕ} 4096 0;
-      idle = λ n. rw (zero-at 4096 n) refl;
+      names = λ j. omega (arith, names j, lent .long);
+      leading = λ n. omega (arith, leading n, lent .long);
+      marked = λ n. rw (lent .clear n) (omega arith);
+      idle = λ n. rw (lent .clear n) refl;
       room = let m : length starts * fuel ≤ 4096 * fuel = mul-le-mul-right fuel h in omega arith;
     }
 
--- and those from the relations of a pack
-pub settleable-pack : (p : Pack) → WellFormed p → (table : List ℕ) → Indexes p table → Settleable table zeros (declared (p .relations)) 0 (suc (length (declared (p .relations))))
-settleable-pack p w table says =
+pub settleable-pack : (p : Pack) → WellFormed p → (table : List ℕ) → Indexes p table → {marks : List ℕ} → Lent (p .names) marks → Settleable table marks (declared (p .relations)) 0 (suc (length (declared (p .relations))))
+settleable-pack p w table says lent =
     let h = parts p w in
     let l : length (declared (p .relations)) ≡ length (p .relations) = length-map (p .relations) (λ (r : Relation). r .name) in
-    settleable-zeros table (declared (p .relations)) (suc (length (declared (p .relations)))) (names-below (p .names) (h .most) [] (p .relations) (h .relations-fine))
+    settleable-clear table (declared (p .relations)) (suc (length (declared (p .relations)))) lent (names-below (p .names) (h .least) [] (p .relations) (h .relations-fine))
     (says .leading) (omega (arith, h .few-relations)) (omega (arith, h .few-relations))
 
 pub same-pack : (ws : List ℕ) {p q : Pack} → read ws ≡ yes p → read ws ≡ yes q → p ≡ q
@@ -127,12 +126,23 @@ module _ {ws : List ℕ} {l : Layout} {dir : List ℕ} (d : IsDirectory ws l dir
   pub few-relations : l .relations ≤ 512
   few-relations = omega (arith, its-count, parts p fine .few-relations)
 
-  pub settleable : Settleable table zeros names 0 (l .relations + 1)
-  settleable = rw (its-fuel, its-names) (settleable-pack p fine table its-index)
+  its-most : {t : List ℕ} → Lent (l .names) t → Lent (p .names) t
+  its-most {t} lent = subst (λ (n : ℕ). Lent n t) (d .named .names p (d .checked .reads)) lent
 
-  pub kinds-marked : {marks : List ℕ} {steps : ℕ} → SettledAll table zeros names 0 (l .relations + 1) marks steps → KindsMarked ws steps names marks
-  kinds-marked {marks} {steps} s =
-      let found : KindsFound p marks steps = kinds-found p table its-index marks steps (rw (its-fuel, its-names) at s) in
+  pub settleable : {marks : List ℕ} → Lent (l .names) marks → Settleable table marks names 0 (l .relations + 1)
+  settleable lent = rw (its-fuel, its-names) (settleable-pack p fine table its-index (its-most lent))
+
+  -- an array of zeros has room for all names
+  pub lent-all : Lent (l .names) zeros
+  lent-all = record { long = omega (arith, below-most (d .checked) (d .named), length-replicate {A = ℕ} 4096 0); short = omega (arith, length-replicate {A = ℕ} 4096 0); clear = zero-at 4096 }
+
+  -- the names of the relations are among N
+  pub its-low : (j : ℕ) → getD names j 0 < l .names
+  its-low j = rw its-names (omega (arith, d .named .names p (d .checked .reads), names-below (p .names) (parts p fine .least) [] rs (parts p fine .relations-fine) j))
+
+  pub kinds-marked : {marks₀ : List ℕ} → Lent (l .names) marks₀ → {marks : List ℕ} {steps : ℕ} → SettledAll table marks₀ names 0 (l .relations + 1) marks steps → KindsMarked ws steps names marks
+  kinds-marked lent {marks} {steps} s =
+      let found : KindsFound p marks steps = kinds-found p table its-index (lent .clear) marks steps (rw (its-fuel, its-names) at s) in
       let it : (q : Pack) → read ws ≡ yes q → p ≡ q = λ q h. same-pack ws (d .checked .reads) h in
       record {
         counts = λ q h. found .counts ∙ ap (λ (p : Pack). allKinds (p .relations) .steps) (it q h);
@@ -148,12 +158,12 @@ among-at [] j h = absurd (omega arith)
 among-at (n ∷ l) zero h = or-left (among n l) (eq-eqb n n refl)
 among-at (n ∷ l) (suc j) h = or-right (eqb (getD l j 0) n) (among-at l j (omega arith))
 
-module _ {ws names marks : List ℕ} {steps : ℕ} (c : IsPack ws) (m : KindsMarked ws steps names marks) where
+module _ {ws names marks : List ℕ} {steps : ℕ} (c : IsPack ws) (m : KindsMarked ws steps names marks) {most : ℕ} (named : Named ws most) (long : most ≤ length marks) where
   pub placeable : Placeable marks names
   placeable =
       let p : Pack = c .pack in
       rw (m .named p (c .reads))
       (record {
-        names-below = names-below (p .names) (parts p (is-fine c) .most) [] (p .relations) (parts p (is-fine c) .relations-fine);
+        names-below = λ j. omega (arith, names-below (p .names) (parts p (is-fine c) .least) [] (p .relations) (parts p (is-fine c) .relations-fine) j, named .names p (c .reads));
         settled = λ j h. (let e = m .marked p (c .reads) (getD (declared (p .relations)) j 0) (among-at (declared (p .relations)) j h) in omega arith);
       })

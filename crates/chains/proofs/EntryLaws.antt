@@ -6,7 +6,7 @@ use mathlib.Core.Path.{_≡_, refl, ap, sym, _∙_, subst}
 use mathlib.Core.List.{List, [], _∷_, _++_, append-assoc, append-nil}
 use mathlib.Core.Bool.{Bool, true, false}
 use mathlib.Core.Option.{Option, none, some}
-use lib.ListN.{length, getD, set, take, replicate, length-set, length-append}
+use lib.ListN.{length, getD, set, take, replicate, length-replicate, length-set, length-append}
 use lib.Seq.{getD-set-same, getD-set-other, take-set-le, take-suc-set, length-take-le, getD-take, ext-getD}
 use lib.Dec.{eqb, ltb}
 use borrow.Author.Tests.{eq-eqb, ne-eqb, eqb-true, eqb-false, lt-ltb, le-ltb, ltb-true, ltb-false}
@@ -26,7 +26,7 @@ use Rattle.chains.specs.Places as places
 use Rattle.chains.specs.Declaration.{coded, placed, declarationAt}
 use Rattle.chains.specs.ByName.{tableFrom}
 use Rattle.chains.specs.Settle.{ReadOne}
-use Rattle.chains.specs.Entry.{wordIn, startBy, slotsBy, declaredBy, startIn, slotIn, declaredIn, startsIn, slotsIn, declarationsIn, namesIn}
+use Rattle.chains.specs.Entry.{Reaches, wordIn, startBy, slotsBy, declaredBy, startIn, slotIn, declaredIn, startsIn, slotsIn, declarationsIn, namesIn}
 use Rattle.chains.specs.AllKinds.{placeIn, recordOf, slotsFor, slotsOf, IsPack, IsDirectory}
 use Rattle.pack.proofs.PackLaws.{words-read}
 use Rattle.checking.proofs.CheckLaws.{clear-zeros, said-most}
@@ -268,6 +268,10 @@ module _ (p : Pack) (w : WellFormed p) (d : List ℕ) (clear : Clear (p .names) 
       words-at n m 0 (relationsAt n 2 (toRow p .1) + 1) [] rs d (omega (arith, parts p w .few-relations)) (clear .long) (parts p w .relations-fine)
       ∙ rw (clear .clear m, first-there) refl
 
+  pub as-long : 512 + n ≤ length the-directory
+  unfolding directoryOf
+  as-long = long-all n 0 (relationsAt n 2 (toRow p .1) + 1) rs d (clear .long)
+
   pub names-there : namesIn the-directory (length rs) ≡ declared rs
   unfolding directoryOf
   names-there =
@@ -322,9 +326,13 @@ module _ (p : Pack) (w : WellFormed p) (d : List ℕ) (clear : Clear (p .names) 
           ∙ ap coded (mapped-alike (placed (startsAt m) r) (placeOf p) (r .name) refl (λ c. rw (f, s) refl) (r .slotKinds) (r .derivation))
 
 -- one name read
-pub read-one : (dir : List ℕ) {n steps : ℕ} → n < 4096 → {r : ℕ} → r ≡ declaredIn dir n → ReadOne (declarationsIn dir) n steps r (steps + 1)
+pub read-one : (dir : List ℕ) {n steps : ℕ} → Reaches dir (n + 1) → {r : ℕ} → r ≡ declaredIn dir n → ReadOne (declarationsIn dir) n steps r (steps + 1)
 unfolding declarationsIn
-read-one dir {n} h e = record { says = e ∙ sym (whole-at (declaredIn dir) 4096 n h); counts = refl }
+read-one dir {n} h e = record { says = e ∙ sym (whole-at (declaredIn dir) 4096 n (omega (arith, h .most))); counts = refl }
+
+-- what reaches so many names reaches each
+pub reaches-one : {dir : List ℕ} {names n : ℕ} → Reaches dir names → n < names → Reaches dir (n + 1)
+reaches-one r h = record { most = omega (arith, r .most); long = omega (arith, r .long) }
 
 -- ---- what Check gives
 
@@ -363,6 +371,11 @@ module _ {ws d : List ℕ} (clear : Clear (namesSaid ws) d) {r : Laid} {d′ : L
       record {
         checked = it;
         named = record { names = of-any (λ q. l .names ≡ q .names) (ap (λ (x : Layout). x .names) laid) };
+        reaches =
+            record {
+              most = omega (arith, ap (λ (x : Layout). x .names) laid, parts p fine .most);
+              long = omega (arith, ap (λ (x : Layout). x .names) laid, ap length same-directory, as-long p fine d clear-names);
+            };
         counted = record { relations = of-any (λ q. l .relations ≡ length (q .relations)) (ap (λ (x : Layout). x .relations) laid) };
         ruled = record { after = of-any (λ q. l .rules ≡ relationsEnd (q .names) (firstRelation q) (q .relations)) (ap (λ (x : Layout). x .rules) laid ∙ rules-there p fine d clear-names) };
         blocked = record { after = of-any (λ q. l .blocks ≡ blocksAt (q .names) 2 (toRow q .1)) (ap (λ (x : Layout). x .blocks) laid) };
@@ -382,3 +395,7 @@ module _ {ws d : List ℕ} (clear : Clear (namesSaid ws) d) {r : Laid} {d′ : L
 -- a cleared directory for all names
 pub clear-all : (ws : List ℕ) → Clear (namesSaid ws) (replicate 4608 0)
 clear-all ws = clear-zeros (namesSaid ws) 4608 (omega (arith, said-most ws))
+
+-- and it reaches all names still
+pub reaches-all : {dir : List ℕ} → length dir ≡ length (replicate {A = ℕ} 4608 0) → Reaches dir 4096
+reaches-all e = record { most = omega arith; long = omega (arith, length-replicate {A = ℕ} 4608 0) }

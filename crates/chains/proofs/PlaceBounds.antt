@@ -95,15 +95,15 @@ found-small n name used (s ∷ rs) r f e = go (eqb name (s .name)) e (found-smal
 
 -- ---- every step
 
-abbrev Decodes : Step ℕ → Type 0
-Decodes (end place) = place < 65536
-Decodes (next name) = name < 4096
+abbrev Decodes : ℕ → Step ℕ → Type 0
+Decodes names (end place) = place < 65536
+Decodes names (next name) = name < names
 
-step-small : (p : Pack) → WellFormed p → (m : ℕ) → Decodes (mapped (placeOf p) (kindStep (p .relations) m))
+step-small : (p : Pack) → WellFormed p → (m : ℕ) → Decodes (p .names) (mapped (placeOf p) (kindStep (p .relations) m))
 unfolding kindStep placeOf
 step-small p w m = go (find m (p .relations)) refl
   where
-    go : (o : Option Relation) → find m (p .relations) ≡ o → Decodes (mapped (placeOf p) (readAt o))
+    go : (o : Option Relation) → find m (p .relations) ≡ o → Decodes (p .names) (mapped (placeOf p) (readAt o))
     go none e = omega arith
     go (some r) e =
         let h = parts p w in
@@ -112,27 +112,27 @@ step-small p w m = go (find m (p .relations)) refl
         let s = found-small (p .names) m [] (p .relations) r (h .relations-fine) e in
         let b = start-within (p .names) (r .name) (firstRelation p) [] (p .relations) in
         let room = relations-room p w in
-        let here : (c : Which) → Decodes (mapped (placeOf p) (from (r .name) c)) = λ c. rw (f) (omega (arith, b, room, s .place c)) in
-        each-way (λ s. Decodes (mapped (placeOf p) s)) (r .name) (omega arith) (here list9) (r .slotKinds) (r .derivation) (λ d g. here list21)
-        (λ d g z. omega (arith, s .leads d g z, h .most))
+        let here : (c : Which) → Decodes (p .names) (mapped (placeOf p) (from (r .name) c)) = λ c. rw (f) (omega (arith, b, room, s .place c)) in
+        each-way (λ s. Decodes (p .names) (mapped (placeOf p) s)) (r .name) (omega arith) (here list9) (r .slotKinds) (r .derivation) (λ d g. here list21)
+        (λ d g z. omega (arith, s .leads d g z))
 
 pub end-small : (p : Pack) → WellFormed p → (m : ℕ) (a : Answer) → kindStep (p .relations) m ≡ end a → placeOf p a < 65536
-end-small p w m a e = subst (λ (s : Step Answer). Decodes (mapped (placeOf p) s)) e (step-small p w m)
+end-small p w m a e = subst (λ (s : Step Answer). Decodes (p .names) (mapped (placeOf p) s)) e (step-small p w m)
 
-decoded : (table : List ℕ) (n : ℕ) (s : Step ℕ) → getD table n 0 ≡ coded s → Decodes s → (stepAt table n ≡ s) × (getD table n 0 < 69632)
+decoded : (names : ℕ) (table : List ℕ) (n : ℕ) (s : Step ℕ) → getD table n 0 ≡ coded s → Decodes names s → (stepAt table n ≡ s) × (getD table n 0 < 65536 + names)
 unfolding stepAt
-decoded table n (end x) e h = (rw (e, lt-ltb x 65536 h) refl, omega arith)
-decoded table n (next m) e h =
+decoded names table n (end x) e h = (rw (e, lt-ltb x 65536 h) refl, omega arith)
+decoded names table n (next m) e h =
     let k : 65536 + m - 65536 ≡ m = omega arith in
     (rw (e, le-ltb (65536 + m) 65536 (omega arith), k) refl, omega arith)
 
 -- a table that says at each name what one declaration read there says
 pub record Indexes (p : Pack) (table : List ℕ) : Type 0 where
   pub says : (m : ℕ) → mapped (placeOf p) (kindStep (p .relations) m) ≡ stepAt table m
-  pub leading : Leading table
+  pub leading : Leading (p .names) table
 
 pub indexes : (p : Pack) → WellFormed p → (t : List ℕ) → ((m : ℕ) → getD t m 0 ≡ coded (mapped (placeOf p) (kindStep (p .relations) m))) → Indexes p t
 unfolding Leading
 indexes p w t e =
-    let d : (m : ℕ) → (stepAt t m ≡ mapped (placeOf p) (kindStep (p .relations) m)) × (getD t m 0 < 69632) = λ m. decoded t m (mapped (placeOf p) (kindStep (p .relations) m)) (e m) (step-small p w m) in
+    let d : (m : ℕ) → (stepAt t m ≡ mapped (placeOf p) (kindStep (p .relations) m)) × (getD t m 0 < 65536 + p .names) = λ m. decoded (p .names) t m (mapped (placeOf p) (kindStep (p .relations) m)) (e m) (step-small p w m) in
     record { says = λ m. sym (d m .0); leading = λ m. d m .1 }

@@ -3,7 +3,7 @@ use Prim.Native.Nat.{ℕ, zero, suc, _+_, _-_, _*_, _<_, _≤_}
 use native.Mathlib.Omega.{arith}
 use native.Mathlib.Nat.{add-zero, suc-mul, mul-le-mul-right}
 use native.Mathlib.Numerals.{add-one}
-use mathlib.Core.Path.{_≡_, refl, ap, sym, _∙_, fun-ext}
+use mathlib.Core.Path.{_≡_, refl, ap, sym, _∙_, fun-ext, subst}
 use mathlib.Core.List.{List, [], _∷_}
 use mathlib.Core.Bool.{Bool, true, false, _||_}
 use mathlib.Core.Option.{Option, none, some}
@@ -73,7 +73,7 @@ module _ (marks : List ℕ) (n : ℕ) where
 
 -- ---- the walk's cases
 
-module _ (table marks : List ℕ) (steps n : ℕ) (marked : Marked marks) (long : length marks ≡ 4096) where
+module _ (table marks : List ℕ) (steps n : ℕ) (marked : Marked marks) where
   -- a walk that settles nothing
   stays : (fuel r : ℕ) → r < 65536 → ((path : List ℕ) → OnPath marks path → walkIn table fuel (settledIn marks) path n ≡ record { answer = r; settled = settledIn marks; steps = 0 }) → WalkedHere table marks steps n fuel r marks steps
   stays fuel r l e =
@@ -82,7 +82,7 @@ module _ (table marks : List ℕ) (steps n : ℕ) (marked : Marked marks) (long 
         settles = λ p h. sym (ap (λ (w : Walked ℕ). w .settled) (e p h));
         counts = λ p h. rw (ap (λ (w : Walked ℕ). w .steps) (e p h)) (sym (add-zero steps));
         path = λ m. refl;
-        long = long;
+        long = refl;
         marked = marked;
         small = l;
         fits = omega arith;
@@ -103,10 +103,7 @@ module _ (table marks : List ℕ) (steps n : ℕ) (marked : Marked marks) (long 
   at-ring zero z h e = absurd (z refl)
   at-ring (suc f) z h e = stays (suc f) 0 (omega arith) (λ p o. (let q : among n p ≡ true = o n ∙ eq-eqb (getD marks n 0) 1 e in rw (unseen-none marks n h, q, walk) refl))
 
-  module _ (inside : n < 4096) (unseen : getD marks n 0 < 2) (off : getD marks n 0 ≡ 1 → ⊥) where
-    within : n < length marks
-    within = omega (arith, long)
-
+  module _ (within : n < length marks) (unseen : getD marks n 0 < 2) (off : getD marks n 0 ≡ 1 → ⊥) where
     off-path : (path : List ℕ) → OnPath marks path → among n path ≡ false
     unfolding OnPath
     off-path path h = h n ∙ ne-eqb (getD marks n 0) 1 off
@@ -124,7 +121,7 @@ module _ (table marks : List ℕ) (steps n : ℕ) (marked : Marked marks) (long 
     at-end zero z l = absurd (z refl)
     at-end (suc f) z l =
         let x : ℕ = getD table n 0 in
-        let s : length (set marks n 1) ≡ 4096 = length-set marks n 1 ∙ long in
+        let s : length (set marks n 1) ≡ length marks = length-set marks n 1 in
         let i : n < length (set marks n 1) = omega arith in
         let e : (path : List ℕ) → OnPath marks path → walkIn table (suc f) (settledIn marks) path n ≡ record { answer = x; settled = put n x (settledIn marks); steps = 1 } =
         λ path h. rw (unseen-none marks n unseen, off-path path h, lt-ltb x 65536 l, walk) refl in
@@ -146,7 +143,7 @@ module _ (table marks : List ℕ) (steps n : ℕ) (marked : Marked marks) (long 
     at-next (suc f) z l {r} {marks′} {steps′} w =
         let m : suc f - 1 ≡ f = omega arith in
         let k : ℕ = getD table n 0 - 65536 in
-        let i : n < length marks′ = omega (arith, w .long) in
+        let i : n < length marks′ = omega (arith, w .long, length-set marks n 1) in
         let inner : List ℕ → Walked ℕ = λ path. walkIn table f (settledIn marks) (n ∷ path) k in
         let q = path-settles-none marks n within unseen in
         let e : (path : List ℕ) → OnPath marks path
@@ -160,7 +157,7 @@ module _ (table marks : List ℕ) (steps n : ℕ) (marked : Marked marks) (long 
           settles = λ p h. put-settles marks′ n i r ∙ ap (λ (x : ℕ). put n x (settledIn marks′)) (a p h) ∙ ap (λ (t : Settled ℕ). put n (inner p .answer) t) (s p h) ∙ sym (ap (λ (v : Walked ℕ). v .settled) (e p h));
           counts = λ p h. (let g : walkIn table (suc f) (settledIn marks) p n .steps ≡ suc (inner p .steps) = ap (λ (v : Walked ℕ). v .steps) (e p h) in omega (arith, c p h, g));
           path = path-kept marks′ r i (w .path);
-          long = length-set marks′ n (2 + r) ∙ w .long;
+          long = length-set marks′ n (2 + r) ∙ w .long ∙ length-set marks n 1;
           marked = marked-store marks′ n i (2 + r) (omega (arith, w .small)) (w .marked);
           small = w .small;
           fits = omega (arith, w .fits);
@@ -171,15 +168,17 @@ pub walkable-next : {table marks : List ℕ} {steps n fuel : ℕ} → Walkable t
     → Walkable table (set marks n 1) steps′ (x - 65536) (fuel - 1)
 unfolding Leading
 walkable-next {table} {marks} {steps} {n} {fuel} w z e l s =
-    let i : n < length marks = omega (arith, w .name, w .long) in
     let b = w .leading n in
+    let k : length (set marks n 1) ≡ length marks = length-set marks n 1 in
     record {
       name = omega arith;
-      leading = w .leading;
-      marked = marked-store marks n i 1 (omega arith) (w .marked);
-      long = length-set marks n 1 ∙ w .long;
+      leading = λ m. (let c = w .leading m in omega arith);
+      marked = marked-store marks n (w .name) 1 (omega arith) (w .marked);
       room = omega (arith, w .room);
     }
+
+leads-too : (table : List ℕ) {a b : ℕ} → b ≡ a → Leading a table → Leading b table
+leads-too table e h = subst (λ (n : ℕ). Leading n table) (sym e) h
 
 -- ---- all starts
 
@@ -190,18 +189,18 @@ module _ (table marks₀ starts : List ℕ) (steps₀ fuel : ℕ) where
   pub record Settling (marks : List ℕ) (steps j : ℕ) : Type 0 where
     pub within : j ≤ length starts
     pub marked : Marked marks
-    pub long : length marks ≡ 4096
+    pub long : length marks ≡ length marks₀
     pub idle : OnPath marks []
     pub bound : steps ≤ steps₀ + j * fuel
     pub todo : goal ≡ walksIn table fuel (drop j starts) (settledIn marks) steps
 
   module _ (asked : Settleable table marks₀ starts steps₀ fuel) where
     pub begin : Settling marks₀ steps₀ 0
-    begin = record { within = omega arith; marked = asked .marked; long = asked .long; idle = asked .idle; bound = omega arith; todo = refl }
+    begin = record { within = omega arith; marked = asked .marked; long = refl; idle = asked .idle; bound = omega arith; todo = refl }
 
     module _ {marks : List ℕ} {steps j : ℕ} (s : Settling marks steps j) where
-      pub name-here : getD starts j 0 < 4096
-      name-here = asked .names j
+      name-here : getD starts j 0 < length marks
+      name-here = omega (arith, asked .names j, s .long)
 
       module _ (h : j < length starts) where
         once-more : steps + fuel ≤ steps₀ + suc j * fuel
@@ -211,9 +210,8 @@ module _ (table marks₀ starts : List ℕ) (steps₀ fuel : ℕ) where
         walkable =
             record {
               name = name-here;
-              leading = asked .leading;
+              leading = leads-too table (s .long) (asked .leading);
               marked = s .marked;
-              long = s .long;
               room =
                   let o = once-more in
                   let a = asked .room in
@@ -227,7 +225,7 @@ module _ (table marks₀ starts : List ℕ) (steps₀ fuel : ℕ) where
             record {
               within = omega arith;
               marked = w .marked;
-              long = w .long;
+              long = w .long ∙ s .long;
               idle = λ n. s .idle n ∙ sym (w .path n);
               bound = let o = once-more in let f = w .fits in let e : j + 1 ≡ suc j = add-one j in rw e (omega arith);
               todo = s .todo ∙ rw (drop-cons starts j 0 h, add-one j, w .settles [] (s .idle), w .counts [] (s .idle)) refl;

@@ -1,5 +1,5 @@
 -- What the parts of the operations promise each other, of words that Check accepts.
-use Prim.Native.Nat.{ℕ, _+_, _*_}
+use Prim.Native.Nat.{ℕ, _+_, _*_, _≤_}
 use mathlib.Core.Path.{_≡_}
 use mathlib.Core.List.{List}
 use mathlib.Core.Bool.{true}
@@ -13,7 +13,7 @@ use Rattle.chains.specs.Chain.{mapped}
 use Rattle.chains.specs.Kinds.{find, declared, kindStep, allKinds, ownAnswer}
 use Rattle.chains.specs.Places.{startOf, firstRelation, relationsEnd, hops, placeOf}
 use Rattle.chains.specs.Declaration.{coded}
-use Rattle.chains.specs.Entry.{startsIn, slotsIn, declarationsIn, namesIn}
+use Rattle.chains.specs.Entry.{Reaches, startsIn, slotsIn, declarationsIn, namesIn}
 
 -- the words are those of a pack
 pub record IsPack (ws : List ℕ) : Type 0 where
@@ -57,10 +57,17 @@ pub record RulesAt (ws : List ℕ) (at : ℕ) : Type 0 where
 pub record BlocksAt (ws : List ℕ) (at : ℕ) : Type 0 where
   pub after : (p : Pack) → read ws ≡ yes p → at ≡ blocksAt (p .names) 2 (toRow p .1)
 
+-- a table with a word for each of so many names, all 0
+pub record Lent (names : ℕ) (t : List ℕ) : Type 0 where
+  pub long : names ≤ length t
+  pub short : length t ≤ 4096
+  pub clear : (m : ℕ) → getD t m 0 ≡ 0
+
 -- the layout and the directory of a pack: what they say of its records
 pub record IsDirectory (ws : List ℕ) (l : Layout) (dir : List ℕ) : Type 0 where
   pub checked : IsPack ws
   pub named : Named ws (l .names)
+  pub reaches : Reaches dir (l .names)
   pub counted : Counted ws (l .relations)
   pub ruled : RulesAt ws (l .rules)
   pub blocked : BlocksAt ws (l .blocks)

@@ -1,10 +1,15 @@
 -- What the directory says of a name: its word is 0, or the place of its relation and what is noted of it (records, `Directory`).
-use Prim.Native.Nat.{ℕ, _+_, _-_, _/_, _%_}
+use Prim.Native.Nat.{ℕ, _+_, _-_, _/_, _%_, _≤_}
 use mathlib.Core.List.{List}
-use lib.ListN.{getD}
+use lib.ListN.{length, getD}
 use lib.Dec.{eqb, ltb}
 use Rattle.pack.specs.Table.{pick}
 use Rattle.chains.specs.ByName.{tableFrom}
+
+-- a directory with a word for each of so many names
+pub record Reaches (dir : List ℕ) (names : ℕ) : Type 0 where
+  pub most : names ≤ 4096
+  pub long : 512 + names ≤ length dir
 
 abbrev pub wordIn : List ℕ → ℕ → ℕ
 wordIn dir m = getD dir (512 + m) 0

@@ -13,9 +13,9 @@ use Rattle.chains.specs.Chain.{Step, end, next, Settled, Walked, walk, A
 unfoldable pub stepAt : List ℕ → ℕ → Step ℕ
 stepAt table n = pick (ltb (getD table n 0) 65536) (end (getD table n 0)) (next (getD table n 0 - 65536))
 
--- every entry is a place or leads to a name below 4,096
-unfoldable pub Leading : List ℕ → Type 0
-Leading table = (n : ℕ) → getD table n 0 < 69632
+-- every entry is a place or leads to one of so many names
+unfoldable pub Leading : ℕ → List ℕ → Type 0
+Leading names table = (n : ℕ) → getD table n 0 < 65536 + names
 
 -- what the marks say is settled: 2 and the answer
 unfoldable pub settledIn : List ℕ → Settled ℕ
@@ -38,12 +38,11 @@ pub record ReadOne (table : List ℕ) (n steps r steps′ : ℕ) : Type 0 where
 unfoldable pub Marked : List ℕ → Type 0
 Marked marks = (n : ℕ) → getD marks n 0 < 65538
 
--- what a walk asks for: a name, a table and marks, and room for as many more steps as there is fuel
+-- what a walk asks for: a name that has a mark, a table that leads to such names, and room for as many more steps as there is fuel
 pub record Walkable (table marks : List ℕ) (steps n fuel : ℕ) : Type 0 where
-  pub name : n < 4096
-  pub leading : Leading table
+  pub name : n < length marks
+  pub leading : Leading (length marks) table
   pub marked : Marked marks
-  pub long : length marks ≡ 4096
   pub room : steps + fuel < 4294967295
 
 -- what a walk leaves: its answer, what is settled, the steps, and the path's marks as they were
@@ -52,7 +51,7 @@ pub record WalkedHere (table marks : List ℕ) (steps n fuel r : ℕ) (marks′ 
   pub settles : (path : List ℕ) → OnPath marks path → settledIn marks′ ≡ walkIn table fuel (settledIn marks) path n .settled
   pub counts : (path : List ℕ) → OnPath marks path → steps′ ≡ steps + walkIn table fuel (settledIn marks) path n .steps
   pub path : (m : ℕ) → eqb (getD marks′ m 0) 1 ≡ eqb (getD marks m 0) 1
-  pub long : length marks′ ≡ 4096
+  pub long : length marks′ ≡ length marks
   pub marked : Marked marks′
   pub small : r < 65536
   pub fits : steps′ ≤ steps + fuel
@@ -62,10 +61,9 @@ walksIn table fuel starts t k = walksFrom 0 same (stepAt table) fuel starts t k
 
 -- what walks from all starts ask for
 pub record Settleable (table marks starts : List ℕ) (steps fuel : ℕ) : Type 0 where
-  pub names : (j : ℕ) → getD starts j 0 < 4096
-  pub leading : Leading table
+  pub names : (j : ℕ) → getD starts j 0 < length marks
+  pub leading : Leading (length marks) table
   pub marked : Marked marks
-  pub long : length marks ≡ 4096
   pub idle : OnPath marks []
   pub room : steps + length starts * fuel < 4294967295
 
@@ -74,9 +72,9 @@ pub record SettledAll (table marks starts : List ℕ) (steps fuel : ℕ) (marks�
   pub settles : settledIn marks′ ≡ walksIn table fuel starts (settledIn marks) steps .settled
   pub counts : steps′ ≡ walksIn table fuel starts (settledIn marks) steps .steps
   pub marked : Marked marks′
-  pub long : length marks′ ≡ 4096
+  pub long : length marks′ ≡ length marks
 
 -- every name of a list is settled
 pub record Placeable (marks names : List ℕ) : Type 0 where
-  pub names-below : (j : ℕ) → getD names j 0 < 4096
+  pub names-below : (j : ℕ) → getD names j 0 < length marks
   pub settled : (j : ℕ) → j < length names → 2 ≤ getD marks (getD names j 0) 0

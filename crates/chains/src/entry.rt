@@ -1,10 +1,9 @@
 // What the directory of a pack says of a name, and its relations in record order.
 use records::directory::Directory;
-use records::directory::Words;
 ghost use mathlib.Core.Path.{_≡_};
-ghost use Prim.Native.Nat.{_/_, _<_};
-ghost use lib.ListN.{getD};
-ghost use Rattle.chains.specs.Entry.{startsIn, slotsIn, declaredIn};
+ghost use Prim.Native.Nat.{_+_, _/_, _<_};
+ghost use lib.ListN.{length, getD};
+ghost use Rattle.chains.specs.Entry.{Reaches, startsIn, slotsIn, declaredIn};
 
 // A declaration in one number: the place of the count word of the list that settles it, 0 for no kinds, or LEADS and the name that it leads on to.
 pub struct Declaration {}
@@ -16,8 +15,8 @@ impl Declaration {
 }
 
 // The place where the record of its relation starts, 0 for a name that no relation has.
-pub fn start(dir: &Words, name: usize) -> usize
-    requires { ⌜ name < 4096 ⌝ }
+pub fn start(dir: &[u32], name: usize) -> usize
+    requires { ⌜ Reaches (now dir) (name + 1) ⌝ }
     ensures { λ r. ⌜ (r ≡ getD (startsIn (now (dir .entry))) name 0) × (r < 8192) ⌝ }
 {
     (dir[Directory::NAMES + name] % Directory::PLACES) as usize
@@ -31,8 +30,8 @@ fn link(word: u32) -> u32
 }
 
 // The place of its slots, 0 without a derivation.
-pub fn slots(dir: &Words, name: usize) -> usize
-    requires { ⌜ name < 4096 ⌝ }
+pub fn slots(dir: &[u32], name: usize) -> usize
+    requires { ⌜ Reaches (now dir) (name + 1) ⌝ }
     ensures { λ r. ⌜ (r ≡ getD (slotsIn (now (dir .entry))) name 0) × (r < 16384) ⌝ }
 {
     let word = dir[Directory::NAMES + name];
@@ -48,8 +47,8 @@ pub fn slots(dir: &Words, name: usize) -> usize
 }
 
 // Its declaration; without a relation it has no kinds.
-pub fn declared(dir: &Words, name: usize) -> u32
-    requires { ⌜ name < 4096 ⌝ }
+pub fn declared(dir: &[u32], name: usize) -> u32
+    requires { ⌜ Reaches (now dir) (name + 1) ⌝ }
     ensures { λ r. ⌜ r ≡ declaredIn (now (dir .entry)) name ⌝ }
 {
     let word = dir[Directory::NAMES + name];
@@ -65,8 +64,8 @@ pub fn declared(dir: &Words, name: usize) -> u32
 }
 
 // The name of the relation with a number.
-pub fn name_at(dir: &Words, i: usize) -> usize
-    requires { ⌜ i < 512 ⌝ }
+pub fn name_at(dir: &[u32], i: usize) -> usize
+    requires { ⌜ i < length (now dir) ⌝ }
     ensures { λ r. ⌜ r ≡ getD (now (dir .entry)) i 0 ⌝ }
 {
     wide(dir[i])

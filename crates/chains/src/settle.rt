@@ -4,9 +4,9 @@ use crate::entry::Declaration;
 use crate::entry::declared;
 use crate::entry::name_at;
 use pack::kinds::Pack;
-use records::directory::Words;
 ghost use Prim.Native.Nat.{_+_, _<_, _≤_};
-ghost use Rattle.chains.specs.Entry.{declarationsIn, namesIn};
+ghost use lib.ListN.{length};
+ghost use Rattle.chains.specs.Entry.{Reaches, declarationsIn, namesIn};
 ghost use Rattle.chains.specs.Settle.{ReadOne, Walkable, WalkedHere, Settleable, SettledAll};
 
 // Numbers by name.
@@ -24,8 +24,8 @@ impl Mark {
 }
 
 // One declaration read at a name: the only place that adds to the steps.
-fn read_name(dir: &Words, n: usize, steps: &mut u32) -> u32
-    requires { ⌜ (n < 4096) × (now steps < 4294967295) ⌝ }
+fn read_name(dir: &[u32], n: usize, steps: &mut u32) -> u32
+    requires { ⌜ Reaches (now dir) (n + 1) × (now steps < 4294967295) ⌝ }
     ensures { λ r. ⌜ ReadOne (declarationsIn (now (dir .entry))) n (now (steps .entry)) r (now (steps .exit)) ⌝ }
 {
     *steps += 1;
@@ -33,8 +33,8 @@ fn read_name(dir: &Words, n: usize, steps: &mut u32) -> u32
 }
 
 // The walk from a name: its answer. A name on the path is a ring.
-pub fn walk(dir: &Words, marks: &mut ByName, steps: &mut u32, n: usize, fuel: u32) -> u32
-    requires { ⌜ Walkable (declarationsIn (now dir)) (now marks) (now steps) n fuel ⌝ }
+pub fn walk(dir: &[u32], marks: &mut [u32], steps: &mut u32, n: usize, fuel: u32) -> u32
+    requires { ⌜ Walkable (declarationsIn (now dir)) (now marks) (now steps) n fuel × Reaches (now dir) (length (now marks)) ⌝ }
     ensures { λ r. ⌜ WalkedHere (declarationsIn (now (dir .entry))) (now (marks .entry)) (now (steps .entry)) n fuel r (now (marks .exit)) (now (steps .exit)) ⌝ }
 {
     if fuel == 0 {
@@ -65,8 +65,8 @@ pub fn walk(dir: &Words, marks: &mut ByName, steps: &mut u32, n: usize, fuel: u3
 }
 
 // The walks from so many relations in record order: the number of declarations read.
-pub fn settle_all(dir: &Words, marks: &mut ByName, count: u32) -> u32
-    requires { ⌜ (count ≤ 512) × Settleable (declarationsIn (now dir)) (now marks) (namesIn (now dir) count) 0 (count + 1) ⌝ }
+pub fn settle_all(dir: &[u32], marks: &mut [u32], count: u32) -> u32
+    requires { ⌜ (count ≤ 512) × Settleable (declarationsIn (now dir)) (now marks) (namesIn (now dir) count) 0 (count + 1) × Reaches (now dir) (length (now marks)) ⌝ }
     ensures { λ r. ⌜ SettledAll (declarationsIn (now (dir .entry))) (now (marks .entry)) (namesIn (now (dir .entry)) count) 0 (count + 1) (now (marks .exit)) r ⌝ }
 {
     let mut steps: u32 = 0;

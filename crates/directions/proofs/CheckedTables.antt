@@ -7,23 +7,22 @@ use mathlib.Core.Bool.{Bool, true, false, _||_}
 use mathlib.Core.Option.{Option, none, some}
 use lib.ListN.{getD}
 use lib.Dec.{eqb, ltb}
-use borrow.Author.Tests.{ne-eqb, ltb-true, ltb-false}
+use borrow.Author.Tests.{ne-eqb, eqb-true, ltb-true, ltb-false}
 use Rattle.pack.specs.Table.{pick, table, entryOf}
 use Rattle.pack.specs.Table as table
 use Rattle.pack.specs.Form.{among, allowedHere, items, Fine}
 use Rattle.pack.specs.Pack.{Derivation, Relation, Pack, WellFormed, yes, read, words, derivation, member, optionalDerivation, relationTail}
 use Rattle.pack.proofs.PackLaws.{words-read}
 use Rattle.chains.specs.Kinds.{find, declared, kindsOf, ownAnswer}
-use Rattle.filtered.specs.Filtered.{entityIs, takenFrom, taken, single, direct}
-use Rattle.filtered.specs.Filtered as filtered
+use Rattle.filtered.specs.Filtered.{direct}
 use Rattle.chains.specs.Places.{startOf, firstRelation, placeOf, namesAt}
 use Rattle.chains.specs.AllKinds.{Noted, KindsMarked}
 use Rattle.filtered.specs.Taking.{Known}
 use Rattle.filtered.specs.Said.{directIn}
-use Rattle.chains.proofs.RelationScan.{RelationsFine, kept}
 use Rattle.chains.proofs.PackIndex.{parts}
 use Rattle.chains.proofs.ListAt.{InWords, place-holds}
 use Rattle.chains.proofs.DeclarationLaws.{no-record, a-record, standing}
+use Rattle.filtered.proofs.EntityBounds.{no-direct}
 use Rattle.filtered.proofs.SaysLaws.{direct-in}
 use Rattle.directions.specs.Tables.{derivedAt, typedAt, Tables, tables}
 use Rattle.directions.specs.Words.{directBy, typedIn, derivedIn, tablesIn}
@@ -32,7 +31,7 @@ use Rattle.directions.proofs.TablesLaws.{typed-read, derived-read}
 
 -- ---- the names of records
 
-found-among : (m : ℕ) (rs : List Relation) (r : Relation) → find m rs ≡ some r → among m (declared rs) ≡ true
+pub found-among : (m : ℕ) (rs : List Relation) (r : Relation) → find m rs ≡ some r → among m (declared rs) ≡ true
 unfolding find
 found-among m [] r e = let z : _≡_ {A = ℕ} 0 1 = cc in absurd (omega arith)
 found-among m (s ∷ rs) r e = go (eqb m (s .name)) e (found-among m rs r)
@@ -41,36 +40,14 @@ found-among m (s ∷ rs) r e = go (eqb m (s .name)) e (found-among m rs r)
     go true e ih = refl
     go false e ih = ih e
 
--- ---- entities are names of the pack
-
-entity-allowed : (n v e : ℕ) → allowedHere n 19 v ≡ true → n ≤ e → entityIs v e ≡ false
-unfolding allowedHere entryOf table
-entity-allowed n v e a l = go (eqb v table.none) refl
+pub not-among : (m : ℕ) (rs : List Relation) → find m rs ≡ none → among m (declared rs) ≡ false
+unfolding find
+not-among m [] e = refl
+not-among m (s ∷ rs) e = go (eqb m (s .name)) e (not-among m rs)
   where
-    below : (b : Bool) → eqb v table.none ≡ false → ltb v n ≡ b → (b || eqb v table.none) ≡ true → eqb v e ≡ false
-    below true q h a = ne-eqb v e (λ z. (let u = ltb-true v n h in omega arith))
-    below false q h a = let z : _≡_ {A = ℕ} 0 1 = cc in absurd (omega arith)
-
-    go : (b : Bool) → eqb v table.none ≡ b → pick b false (eqb v e) ≡ false
-    go true q = refl
-    go false q = below (ltb v n) q refl a
-
-option-entity : (n : ℕ) (o : Option Derivation) → Fine (optionalDerivation n) o → (d : Derivation) → o ≡ some d → allowedHere n 19 (d .entity) ≡ true
-unfolding optionalDerivation derivation member Fine items
-option-entity n none f d e = let z : _≡_ {A = ℕ} 0 1 = cc in absurd (omega arith)
-option-entity n (some b) f d e = let s : b ≡ d = cc in rw (← s) (f .2 .0 .1 .0 .1)
-
-tail-entity : (n : ℕ) (r : Relation) → Fine (relationTail n) (r .origin, (r .arity, (r .slotKinds, r .derivation))) → (d : Derivation) → r .derivation ≡ some d → allowedHere n 19 (d .entity) ≡ true
-unfolding relationTail Fine
-tail-entity n r f = option-entity n (r .derivation) (f .1 .1 .1)
-
-none-taken : (n : ℕ) (all : List Relation) (e : ℕ) → n ≤ e → (used : List ℕ) (l : List Relation) → RelationsFine n used l → takenFrom all e l ≡ []
-none-taken n all e h used [] f = refl
-none-taken n all e h used (r ∷ l) f = rw (go (r .derivation) (tail-entity n r (kept n (λ v. among v used) r (f .0) .tail)), none-taken n all e h (r .name ∷ used) l (f .1)) refl
-  where
-    go : (o : Option Derivation) → ((d : Derivation) → o ≡ some d → allowedHere n 19 (d .entity) ≡ true) → filtered.takes all e (r .name) o ≡ []
-    go none q = refl
-    go (some d) q = rw (entity-allowed n (d .entity) e (q d refl) h) refl
+    go : (b : Bool) → pick b (some s) (find m rs) ≡ none → (find m rs ≡ none → among m (declared rs) ≡ false) → (b || among m (declared rs)) ≡ false
+    go true e ih = let z : _≡_ {A = ℕ} 0 1 = cc in absurd (omega arith)
+    go false e ih = ih e
 
 -- ---- the tables
 
@@ -129,17 +106,12 @@ module _ (ws records marks taken₀ names : List ℕ) (steps : ℕ) (p : Pack) (
           rw (ne-eqb (getD records m 0) 0 (record-some m r e))
           (derived-read ws (getD records m 0) n r (stands m r e) (parts p w .most) place ∙ ap (λ k. derivedAt k (some r)) kinds)
 
-  -- no entity past the names takes a kind
-  past-names : (e : ℕ) → n ≤ e → direct rs e ≡ none
-  unfolding direct taken
-  past-names e a = ap single (none-taken n rs e a [] rs (parts p w .relations-fine))
-
   direct-alike : (e : ℕ) → directBy taken₀ e ≡ direct rs e
   direct-alike e = go (ltb e 4096) refl
     where
       go : (b : Bool) → ltb e 4096 ≡ b → pick b (directIn taken₀ e) none ≡ direct rs e
       go true y = direct-in p h knows e (ltb-true e 4096 y)
-      go false y = let v = ltb-false e 4096 y in let t = parts p w .most in sym (past-names e (omega arith))
+      go false y = let v = ltb-false e 4096 y in let t = parts p w .most in sym (no-direct p w e (omega arith))
 
   pub tables-are : tablesIn ws records marks taken₀ ≡ tables rs
   unfolding tablesIn tables

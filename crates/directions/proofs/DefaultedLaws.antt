@@ -18,6 +18,7 @@ use Rattle.directions.specs.Tables.{Tables}
 use Rattle.directions.specs.Resolving.{equalKinds, defaultedEqual}
 use Rattle.directions.specs.Words.{derivedBy, equalIn, firstEqual, DefaultedFit}
 use Rattle.chains.specs.Record.{valueAt}
+use Rattle.chains.specs.ByName.{tableFrom}
 
 -- a name, or the number for none
 abbrev pub orNone : Option ℕ → ℕ
@@ -46,7 +47,7 @@ module _ (ws : List ℕ) (n : ℕ) (most : n ≤ 4096) where
   front-length front w at e = let l = length-append front (w ∷ []) in omega arith
 
   names-fit : (ns : List ℕ) (low : ℕ) (front rest : List ℕ) (at : ℕ) → at ≡ length front → NamesFine low ns → ws ≡ front ++ (nameWords low ns ++ rest)
-      → (i : ℕ) → i < length ns → valueAt ws (at + i) < 4096
+      → (i : ℕ) → i < length ns → valueAt ws (at + i) < n
   unfolding defaultedName Fine wordsBy
   names-fit [] low front rest at e f s i h = absurd (omega arith)
   names-fit (v ∷ ns) low front rest at e f s zero h =
@@ -56,6 +57,15 @@ module _ (ws : List ℕ) (n : ℕ) (most : n ≤ 4096) where
       let q = names-fit ns (above low v) (front ++ (wordOf 4 v ∷ [])) rest (at + 1) (front-length front (wordOf 4 v) at e) (f .1) (after front (nameWords (above low v) ns ++ rest) (wordOf 4 v) s) i (omega arith) in
       let p : at + suc i ≡ at + 1 + i = omega arith in
       rw p q
+
+  names-are : (ns : List ℕ) (low : ℕ) (front rest : List ℕ) (at : ℕ) → at ≡ length front → NamesFine low ns → ws ≡ front ++ (nameWords low ns ++ rest)
+      → tableFrom (valueAt ws) at (length ns) ≡ ns
+  unfolding defaultedName Fine wordsBy
+  names-are [] low front rest at e f s = refl
+  names-are (v ∷ ns) low front rest at e f s =
+      let q = name-at front (nameWords (above low v) ns ++ rest) v at (f .0 .0 .0) e s in
+      let r = names-are ns (above low v) (front ++ (wordOf 4 v ∷ [])) rest (suc at) (omega (arith, front-length front (wordOf 4 v) at e)) (f .1) (after front (nameWords (above low v) ns ++ rest) (wordOf 4 v) s) in
+      rw (q, r) refl
 
   module _ (records marks : List ℕ) (T : Tables) (same : (m : ℕ) → derivedBy ws records marks m ≡ T .derived m) where
     equal-is : (m : ℕ) → equalIn ws records marks m ≡ equalKinds (T .derived m)
@@ -94,8 +104,15 @@ module _ (ws : List ℕ) (p : Pack) (h : read ws ≡ yes p) where
   unfolding valueAt
   count-is = ap (λ (l : List ℕ). valueOf (getD l 2 0)) stands ∙ omega (arith, its .defaulted-count)
 
+  -- the names as they stand in the words
+  pub defaulted-are : tableFrom (valueAt ws) 3 (valueAt ws 2) ≡ p .defaulted
+  defaulted-are = ap (tableFrom (valueAt ws) 3) count-is ∙ names-are ws (p .names) (its .most) (p .defaulted) 0 front rest 3 refl (its .defaulted-fine) stands
+
+  pub defaulted-below : (i : ℕ) → i < valueAt ws 2 → valueAt ws (3 + i) < p .names
+  defaulted-below i g = names-fit ws (p .names) (its .most) (p .defaulted) 0 front rest 3 refl (its .defaulted-fine) stands i (rw count-is at g)
+
   pub defaulted-fit : DefaultedFit ws
-  defaulted-fit = record { each = λ i g. names-fit ws (p .names) (its .most) (p .defaulted) 0 front rest 3 refl (its .defaulted-fine) stands i (rw count-is at g) }
+  defaulted-fit = record { each = λ i g. omega (arith, defaulted-below i g, its .most) }
 
   pub first-equal-is : (records marks : List ℕ) (T : Tables) → ((m : ℕ) → derivedBy ws records marks m ≡ T .derived m)
       → firstEqual ws records marks 3 (valueAt ws 2) ≡ orNone (defaultedEqual T (p .defaulted))

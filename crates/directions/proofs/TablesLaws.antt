@@ -43,7 +43,7 @@ module _ (ws : List ℕ) (start n : ℕ) (r : Relation) (i : InWords ws start n 
             (omega (arith, f .1 .0)),
       )
 
-  read-pair : (l : List ℕ) → ks ≡ l → pick (eqb (kindCount ws start) 2) (some (valueAt ws (start + 4) ∷ valueAt ws (start + 5) ∷ [])) none ≡ pair l
+  pub read-pair : (l : List ℕ) → ks ≡ l → pick (eqb (kindCount ws start) 2) (some (valueAt ws (start + 4) ∷ valueAt ws (start + 5) ∷ [])) none ≡ pair l
   read-pair [] e = rw (counted ws start n r i most ∙ ap length e) refl
   read-pair (a ∷ []) e = rw (counted ws start n r i most ∙ ap length e) refl
   read-pair (a ∷ b ∷ []) e = let t = two-kinds a b e in rw (counted ws start n r i most ∙ ap length e, t .0, t .1) refl

@@ -50,7 +50,7 @@ pub fn membership_code(m: Membership) -> u64
     1 + (c as u64 + Pack::VALUES as u64 * r as u64)
 }
 
-fn membership_of(code: u64) -> Membership
+pub fn membership_of(code: u64) -> Membership
     ensures { λ r. ⌜ membershipOf r ≡ membershipIn code ⌝ }
 {
     if code == Code::UNKNOWN {
@@ -72,7 +72,7 @@ pub fn kind_or_zero(pack: &[u32], place: u32, slot: u32) -> u32
 }
 
 // A typed relation of two kinds, matched against a kind.
-fn matched(a: u32, b: u32, kind: u32, entity: u32, current: u32, related: u32) -> Direction
+pub fn matched(a: u32, b: u32, kind: u32, entity: u32, current: u32, related: u32) -> Direction
     ensures { λ r. ⌜ r ≡ matched (a ∷ b ∷ []) entity current related (bearing kind 0 (a ∷ b ∷ [])) ⌝ }
 {
     if a == kind {
@@ -94,7 +94,7 @@ fn matched(a: u32, b: u32, kind: u32, entity: u32, current: u32, related: u32) -
 }
 
 // A test of membership between two kinds, over a typed relation of two kinds.
-fn between(a: u32, b: u32, c: u32, r: u32, current: u32, related: u32) -> Direction
+pub fn between(a: u32, b: u32, c: u32, r: u32, current: u32, related: u32) -> Direction
     ensures { λ d. ⌜ d ≡ between (a ∷ b ∷ []) (c, r) current related ⌝ }
 {
     if c == r {

@@ -6,7 +6,7 @@ use mathlib.Core.Path.{_≡_, refl, ap, sym, _∙_}
 use mathlib.Core.List.{List, [], _++_, append-nil}
 use mathlib.Core.Bool.{Bool, true, false}
 use mathlib.Core.Option.{Option, none, some, Option·map}
-use lib.ListN.{length, getD, drop}
+use lib.ListN.{length, getD, drop, length-replicate}
 use lib.Seq.{getD-drop}
 use lib.Dec.{eqb, ltb}
 use borrow.Author.Tests.{eq-eqb, eqb-false, lt-ltb, le-ltb, ltb-true, ltb-false}
@@ -22,8 +22,8 @@ use Rattle.chains.proofs.Names.{or-left, or-right}
 use Rattle.chains.proofs.MappedLaws.{AnswersMapped, answers-mapped}
 use Rattle.filtered.proofs.FilteredLaws.{inner-own}
 use Rattle.chains.proofs.PackIndex.{zeros, zero-at}
-use Rattle.chains.proofs.AllKindsLaws.{zeros-nothing, settled-mark}
-use Rattle.chains.proofs.CheckedLaws.{settleable-zeros}
+use Rattle.chains.proofs.AllKindsLaws.{clear-nothing, settled-mark}
+use Rattle.chains.proofs.CheckedLaws.{settleable-clear}
 use Rattle.chains.proofs.FillLaws.{table-length, table-at, table-past}
 
 up-to-length : (n : ℕ) → length (upTo n) ≡ n
@@ -54,7 +54,7 @@ module _ (taken : List ℕ) (n : ℕ) (most : n ≤ 4096) (directed : Directed t
   -- what a name's entry says
   record Says (m x : ℕ) : Type 0 where
     step : pick (ltb x 65536) (end x) (next (x - 65536)) ≡ mapped answered (innerStep n (directIn taken) m)
-    small : x < 69632
+    small : x < 65536 + 4096
 
   ends : (m x : ℕ) (a : Option ℕ) → innerStep n (directIn taken) m ≡ end a → x ≡ answered a → x < 65536 → Says m x
   ends m x a e q l = record { step = rw (lt-ltb x 65536 l, e, q) refl; small = omega arith }
@@ -88,7 +88,7 @@ module _ (taken : List ℕ) (n : ℕ) (most : n ≤ 4096) (directed : Directed t
       go true e = let h = ltb-true m n e in rw (entry-in m h) (entry-says m h)
       go false e = let h = ltb-false m n e in rw (entry-past m h) (ends m 0 none (rw e refl) refl (omega arith))
 
-  leading : Leading index
+  leading : Leading 4096 index
   unfolding Leading
   leading m = all-says m .small
 
@@ -110,7 +110,7 @@ module _ (taken : List ℕ) (n : ℕ) (most : n ≤ 4096) (directed : Directed t
           omega arith
 
   settleable-inner : Settleable index zeros names 0 (n + 1)
-  settleable-inner = settleable-zeros index names (n + 1) name-below leading (omega (arith, table-length plainly 0 n)) (omega arith)
+  settleable-inner = settleable-clear index names (n + 1) (record { long = omega (arith, length-replicate {A = ℕ} 4096 0); short = omega (arith, length-replicate {A = ℕ} 4096 0); clear = zero-at 4096 }) name-below leading (omega (arith, table-length plainly 0 n)) (omega arith)
 
   over-index : AnswersMapped answered none same (innerStep n (directIn taken)) 0 same (stepAt index) (upTo n) names
   over-index = answers-mapped answered none 0 refl same same (λ r. refl) (innerStep n (directIn taken)) (stepAt index) steps-are (upTo n) names
@@ -119,7 +119,7 @@ module _ (taken : List ℕ) (n : ℕ) (most : n ≤ 4096) (directed : Directed t
   inner-marked {marks} s =
       let f : n + 1 ≡ suc (length (upTo n)) = add-one n ∙ ap suc (sym (up-to-length n)) in
       let over : walksIn index (n + 1) names (settledIn zeros) 0 ≡ walkAll 0 same (stepAt index) (upTo n) names nothing 0 =
-      ap (λ (k : ℕ). walksIn index k names (settledIn zeros) 0) f ∙ ap (λ (t : Settled ℕ). walkAll 0 same (stepAt index) (upTo n) names t 0) zeros-nothing in
+      ap (λ (k : ℕ). walksIn index k names (settledIn zeros) 0) f ∙ ap (λ (t : Settled ℕ). walkAll 0 same (stepAt index) (upTo n) names t 0) (clear-nothing zeros (zero-at 4096)) in
       record {
         marked = λ e h.
             let o : 0 + e ≡ e = omega arith in

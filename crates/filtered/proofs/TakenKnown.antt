@@ -5,10 +5,10 @@ use mathlib.Core.Path.{_≡_, refl, ap, sym, _∙_, subst}
 use mathlib.Core.List.{List, [], _∷_, _++_, map, append-nil, append-assoc}
 use mathlib.Core.Bool.{Bool, true, false, _||_, not, or-assoc}
 use mathlib.Core.Option.{Option, none, some}
-use lib.ListN.{length, getD, take, drop, set, length-set, length-replicate, List·getD-map}
+use lib.ListN.{length, getD, take, drop, set, length-set, List·getD-map, List·getD-eq-default}
 use lib.Seq.{getD-set-same, getD-set-other}
 use lib.Dec.{eqb, ltb}
-use borrow.Author.Tests.{eq-eqb, ne-eqb, eqb-true, eqb-false, lt-ltb, le-ltb}
+use borrow.Author.Tests.{eq-eqb, ne-eqb, eqb-true, eqb-false, lt-ltb, le-ltb, ltb-true, ltb-false}
 use Rattle.pack.specs.Table.{pick, valueOf}
 use Rattle.pack.specs.Table as table
 use Rattle.pack.specs.Form.{among}
@@ -21,15 +21,16 @@ use Rattle.chains.specs.Places.{startOf, firstRelation, hops, placeOf, namesAt}
 use Rattle.chains.specs.Record.{valueAt, slotsPlace}
 use Rattle.records.specs.declared.directory.Layout.{Layout}
 use Rattle.chains.specs.Entry.{startsIn, slotsIn, namesIn}
-use Rattle.chains.specs.AllKinds.{slotsOf, Noted, IsDirectory, KindsMarked}
+use Rattle.chains.specs.AllKinds.{slotsOf, Noted, Lent, IsDirectory, KindsMarked}
 use Rattle.filtered.specs.Taking.{several, known, namedAfter, takenAfter, takeAt, takenBy, kindMarked, takenIn, NamesLow, Filled}
 use Rattle.pack.proofs.PackLaws.{words-read}
 use Rattle.chains.proofs.Names.{or-left, or-right, or-false, or-true}
-use Rattle.chains.proofs.PackIndex.{zeros, zero-at, parts, EachFound, all-found}
+use Rattle.chains.proofs.PackIndex.{parts, EachFound, all-found}
 use Rattle.chains.proofs.ListAt.{InWords, place-holds}
 use Rattle.chains.proofs.RecordLaws.{slots-at, current-there, entity-there}
 use Rattle.chains.proofs.DeclarationLaws.{a-record, standing}
-use Rattle.chains.proofs.CheckedLaws.{placeable}
+use Rattle.chains.proofs.CheckedLaws.{its-low}
+use Rattle.filtered.proofs.EntityBounds.{takes-nothing, nobody-names}
 
 -- ---- what is known, after one more derivation
 
@@ -113,8 +114,21 @@ module _ (kind : ℕ → ℕ → Option ℕ) where
   takenOf e [] = []
   takenOf e (r ∷ rs) = takesBy e (r .name) (r .derivation) ++ takenOf e rs
 
-  module _ (fits : (n slot : ℕ) → Fits (kind n slot)) (e : ℕ) (inside : e < 4096) where
-    take-known : (t : List ℕ) (n : ℕ) (o : Option Derivation) (b : Bool) (ks : List ℕ) → length t ≡ 4096 → getD t e 0 ≡ known b ks
+  take-long : (t : List ℕ) (n : ℕ) (o : Option Derivation) → length (tableAfter n o t) ≡ length t
+  unfolding takeAt
+  take-long t n none = refl
+  take-long t n (some d) = go (ltb (d .entity) (length t))
+    where
+      go : (c : Bool) → length (pick c (set t (d .entity) (takenAfter (namedAfter (getD t (d .entity) 0)) (kind n (d .current)))) t) ≡ length t
+      go true = simp length-set
+      go false = refl
+
+  all-long : (l : List Relation) (t : List ℕ) → length (afterAll l t) ≡ length t
+  all-long [] t = refl
+  all-long (r ∷ l) t = all-long l (tableAfter (r .name) (r .derivation) t) ∙ take-long t (r .name) (r .derivation)
+
+  module _ (fits : (n slot : ℕ) → Fits (kind n slot)) (e : ℕ) (small : e < 4096) where
+    take-known : (t : List ℕ) (n : ℕ) (o : Option Derivation) (b : Bool) (ks : List ℕ) → e < length t → getD t e 0 ≡ known b ks
         → getD (tableAfter n o t) e 0 ≡ known (b || namesEntity e o) (ks ++ takesBy e n o)
     unfolding takeAt
     take-known t n none b ks l h = h ∙ rw (append-nil ks, or-false b) refl
@@ -123,35 +137,26 @@ module _ (kind : ℕ → ℕ → Option ℕ) where
         k : Option ℕ
         k = kind n (d .current)
 
-        kept-or : (c : Bool) → ltb (d .entity) 4096 ≡ c → (e ≡ d .entity → ⊥) → getD (pick c (set t (d .entity) (takenAfter (namedAfter (getD t (d .entity) 0)) k)) t) e 0 ≡ getD t e 0
+        kept-or : (c : Bool) → ltb (d .entity) (length t) ≡ c → (e ≡ d .entity → ⊥) → getD (pick c (set t (d .entity) (takenAfter (namedAfter (getD t (d .entity) 0)) k)) t) e 0 ≡ getD t e 0
         kept-or true q z = getD-set-other t (d .entity) e _ 0 z
         kept-or false q z = refl
 
         go : (c : Bool) → entityIs (d .entity) e ≡ c
-            → getD (pick (ltb (d .entity) 4096) (set t (d .entity) (takenAfter (namedAfter (getD t (d .entity) 0)) k)) t) e 0 ≡ known (b || c) (ks ++ pick c (listed k) [])
+            → getD (pick (ltb (d .entity) (length t)) (set t (d .entity) (takenAfter (namedAfter (getD t (d .entity) 0)) k)) t) e 0 ≡ known (b || c) (ks ++ pick c (listed k) [])
         go true q =
             let m : d .entity ≡ e = entity-is (d .entity) e q in
-            rw (m, lt-ltb e 4096 inside, or-true b)
-            (getD-set-same t e (takenAfter (namedAfter (getD t e 0)) k) 0 (omega arith) ∙ ap (λ (x : ℕ). takenAfter (namedAfter x) k) h ∙ more-known b ks k (fits n (d .current)))
+            rw (m, lt-ltb e (length t) l, or-true b)
+            (getD-set-same t e (takenAfter (namedAfter (getD t e 0)) k) 0 l ∙ ap (λ (x : ℕ). takenAfter (namedAfter x) k) h ∙ more-known b ks k (fits n (d .current)))
         go false q =
-            kept-or (ltb (d .entity) 4096) refl (entity-not (d .entity) e inside q) ∙ h ∙ rw (or-false b, append-nil ks) refl
+            kept-or (ltb (d .entity) (length t)) refl (entity-not (d .entity) e small q) ∙ h ∙ rw (or-false b, append-nil ks) refl
 
-    take-long : (t : List ℕ) (n : ℕ) (o : Option Derivation) → length t ≡ 4096 → length (tableAfter n o t) ≡ 4096
-    unfolding takeAt
-    take-long t n none l = l
-    take-long t n (some d) l = go (ltb (d .entity) 4096)
-      where
-        go : (c : Bool) → length (pick c (set t (d .entity) (takenAfter (namedAfter (getD t (d .entity) 0)) (kind n (d .current)))) t) ≡ 4096
-        go true = rw length-set l
-        go false = l
-
-    relations-known : (l : List Relation) (t : List ℕ) (b : Bool) (ks : List ℕ) → length t ≡ 4096 → getD t e 0 ≡ known b ks
+    relations-known : (l : List Relation) (t : List ℕ) (b : Bool) (ks : List ℕ) → e < length t → getD t e 0 ≡ known b ks
         → getD (afterAll l t) e 0 ≡ known (b || any (λ (r : Relation). namesEntity e (r .derivation)) l) (ks ++ takenOf e l)
     relations-known [] t b ks l h = h ∙ rw (append-nil ks, or-false b) refl
     relations-known (r ∷ rs) t b ks l h =
         let c : Bool = namesEntity e (r .derivation) in
         let js : List ℕ = takesBy e (r .name) (r .derivation) in
-        relations-known rs (tableAfter (r .name) (r .derivation) t) (b || c) (ks ++ js) (take-long t (r .name) (r .derivation) l) (take-known t (r .name) (r .derivation) b ks l h)
+        relations-known rs (tableAfter (r .name) (r .derivation) t) (b || c) (ks ++ js) (omega (arith, take-long t (r .name) (r .derivation))) (take-known t (r .name) (r .derivation) b ks l h)
         ∙ rw (or-assoc b c (any (λ (r : Relation). namesEntity e (r .derivation)) rs), append-assoc ks js (takenOf e rs)) refl
 
 -- ---- a checked pack
@@ -232,18 +237,34 @@ module _ {ws names records : List ℕ} (slots : List ℕ) {marks : List ℕ} {st
   all-take [] f t = refl
   all-take (r ∷ l) f t = ap (takenIn ws slots marks (declared l)) (slots-take r (f .0) t) ∙ all-take l (f .1) (tableAfter kind (r .name) (r .derivation) t)
 
-  entity-known : {t : List ℕ} → t ≡ takenIn ws slots marks names zeros → (e : ℕ) → e < 4096
-      → getD t e 0 ≡ known (any (λ r. namesEntity e (r .derivation)) (p .relations)) (taken (p .relations) e)
-  unfolding taken
-  entity-known q e i =
-      ap (λ (u : List ℕ). getD u e 0) (q ∙ ap (λ (l : List ℕ). takenIn ws slots marks l zeros) (noted .named p h) ∙ all-take (p .relations) (all-found p fine) zeros)
-      ∙ relations-known kind (marked-fits ws marks) e i (p .relations) zeros false [] (length-replicate {A = ℕ} 4096 0) (zero-at 4096 e)
-      ∙ ap (known (any (λ (r : Relation). namesEntity e (r .derivation)) (p .relations))) (taken-alike kind (p .relations) e (p .relations) (kind-of m p h same fine))
+  module _ {t t₀ : List ℕ} (lent : Lent (p .names) t₀) (q : t ≡ takenIn ws slots marks names t₀) where
+    is-after : t ≡ afterAll kind (p .relations) t₀
+    is-after = q ∙ ap (λ (l : List ℕ). takenIn ws slots marks l t₀) (noted .named p h) ∙ all-take (p .relations) (all-found p fine) t₀
+
+    entity-known : (e : ℕ) → e < 4096 → getD t e 0 ≡ known (any (λ r. namesEntity e (r .derivation)) (p .relations)) (taken (p .relations) e)
+    unfolding taken
+    entity-known e small = go (ltb e (length t₀)) refl
+      where
+        go : (b : Bool) → ltb e (length t₀) ≡ b → getD t e 0 ≡ known (any (λ r. namesEntity e (r .derivation)) (p .relations)) (taken (p .relations) e)
+        go true y =
+            ap (λ (u : List ℕ). getD u e 0) is-after
+            ∙ relations-known kind (marked-fits ws marks) e small (p .relations) t₀ false [] (ltb-true e (length t₀) y) (lent .clear e)
+            ∙ ap (known (any (λ (r : Relation). namesEntity e (r .derivation)) (p .relations))) (taken-alike kind (p .relations) e (p .relations) (kind-of m p h same fine))
+        go false y =
+            let past : length t₀ ≤ e = ltb-false e (length t₀) y in
+            let beyond : p .names ≤ e = omega (arith, lent .long) in
+            List·getD-eq-default t 0 (omega (arith, ap length is-after, all-long kind (p .relations) t₀))
+            ∙ sym (rw (nobody-names p fine e beyond, takes-nothing p fine e beyond) refl)
 
 module _ {ws : List ℕ} {l : Layout} {dir marks : List ℕ} {steps : ℕ} (d : IsDirectory ws l dir) (m : KindsMarked ws steps (namesIn dir (l .relations)) marks) where
-  pub takeable : NamesLow (namesIn dir (l .relations))
+  pub takeable : {most : ℕ} → l .names ≤ most → NamesLow most (namesIn dir (l .relations))
   unfolding NamesLow
-  takeable = placeable (d .checked) m .names-below
+  takeable h j = omega (arith, its-low d j)
 
-  pub filled : {t : List ℕ} → t ≡ takenIn ws (slotsIn dir) marks (namesIn dir (l .relations)) zeros → Filled ws (namesIn dir (l .relations)) (startsIn dir) marks t steps
-  filled q = record { noted = d .noted; marked = m; knows = record { holds = λ p h. entity-known (slotsIn dir) (d .noted) (d .slotted) m p h q } }
+  pub filled : {t t₀ : List ℕ} → Lent (l .names) t₀ → t ≡ takenIn ws (slotsIn dir) marks (namesIn dir (l .relations)) t₀ → Filled ws (namesIn dir (l .relations)) (startsIn dir) marks t steps
+  filled {t₀ = t₀} lent q =
+      record {
+        noted = d .noted;
+        marked = m;
+        knows = record { holds = λ p h. entity-known (slotsIn dir) (d .noted) (d .slotted) m p h (subst (λ (n : ℕ). Lent n t₀) (d .named .names p h) lent) q };
+      }

@@ -85,13 +85,13 @@ module _ (x : ℕ) where
 pub small-kind : {kind : Kind} {k : ℕ} → kind ≡ Is k → Small kind → k < 16777216
 small-kind e s = rw e at s
 
-pub no-entity : (t : List ℕ) (e : ℕ) (kind : Option ℕ) → 4096 ≤ e → t ≡ takeAt t e kind
+pub no-entity : (t : List ℕ) (e : ℕ) (kind : Option ℕ) → length t ≤ e → t ≡ takeAt t e kind
 unfolding takeAt
-no-entity t e kind h = sym (rw (le-ltb e 4096 h) refl)
+no-entity t e kind h = sym (rw (le-ltb e (length t) h) refl)
 
-pub an-entity : (t : List ℕ) (e : ℕ) (kind : Option ℕ) → e < 4096 → {x y : ℕ} → x ≡ namedAfter (getD t e 0) → y ≡ takenAfter x kind → set t e y ≡ takeAt t e kind
+pub an-entity : (t : List ℕ) (e : ℕ) (kind : Option ℕ) → e < length t → {x y : ℕ} → x ≡ namedAfter (getD t e 0) → y ≡ takenAfter x kind → set t e y ≡ takeAt t e kind
 unfolding takeAt
-an-entity t e kind h n k = sym (rw (lt-ltb e 4096 h, ← n, ← k) refl)
+an-entity t e kind h n k = sym (rw (lt-ltb e (length t) h, ← n, ← k) refl)
 
 -- ---- one relation
 
@@ -125,6 +125,6 @@ module _ (ws slots marks names t₀ : List ℕ) where
     unfolding takenIn
     taken-next h e = record { todo = s .todo ∙ rw (drop-cons names j 0 h, add-one j, e) refl }
 
-pub name-low : (names : List ℕ) → NamesLow names → (j : ℕ) → getD names j 0 < 4096
+pub name-low : (most : ℕ) (names : List ℕ) → NamesLow most names → (j : ℕ) → getD names j 0 < most
 unfolding NamesLow
-name-low names h j = h j
+name-low most names h j = h j

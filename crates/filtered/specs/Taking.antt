@@ -4,7 +4,7 @@ use mathlib.Core.Path.{_≡_}
 use mathlib.Core.List.{List, [], _∷_}
 use mathlib.Core.Bool.{Bool, not}
 use mathlib.Core.Option.{Option, none, some}
-use lib.ListN.{getD, set}
+use lib.ListN.{length, getD, set}
 use lib.Dec.{ltb, eqb}
 use Rattle.pack.specs.Table.{pick}
 use Rattle.pack.specs.Pack.{Pack, yes, read}
@@ -46,9 +46,9 @@ unfoldable pub takenAfter : ℕ → Option ℕ → ℕ
 takenAfter x none = x
 takenAfter x (some k) = pick (ltb x 2) (2 + k) (pick (eqb x (2 + k)) x several)
 
--- an entity that is no name is passed over
+-- an entity past the table is passed over
 unfoldable pub takeAt : List ℕ → ℕ → Option ℕ → List ℕ
-takeAt t e kind = pick (ltb e 4096) (set t e (takenAfter (namedAfter (getD t e 0)) kind)) t
+takeAt t e kind = pick (ltb e (length t)) (set t e (takenAfter (namedAfter (getD t e 0)) kind)) t
 
 -- the kind at a slot of a name, from the marks of all names
 unfoldable pub kindMarked : List ℕ → List ℕ → ℕ → ℕ → Option ℕ
@@ -63,9 +63,9 @@ unfoldable pub takenIn : List ℕ → List ℕ → List ℕ → List ℕ → Lis
 takenIn ws slots marks [] t = t
 takenIn ws slots marks (n ∷ ns) t = takenIn ws slots marks ns (takenBy ws marks t n (getD slots n 0))
 
--- each is below 4,096, the most that N may be
-unfoldable pub NamesLow : List ℕ → Type 0
-NamesLow names = (j : ℕ) → getD names j 0 < 4096
+-- they are so many names at most
+unfoldable pub NamesLow : ℕ → List ℕ → Type 0
+NamesLow most names = (j : ℕ) → getD names j 0 < most
 
 -- what is known of every entity of a checked pack
 pub record Known (ws t : List ℕ) : Type 0 where

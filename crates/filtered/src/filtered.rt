@@ -20,6 +20,7 @@ ghost use mathlib.Core.List.{_++_};
 ghost use Prim.Native.Nat.{_<_, _≤_};
 ghost use lib.ListN.{length, drop, replicate};
 ghost use Rattle.chains.specs.ByName.{tableFrom};
+ghost use Rattle.chains.specs.Entry.{Reaches};
 ghost use Rattle.chains.specs.AllKinds.{IsDirectory};
 ghost use Rattle.chains.specs.Answers.{Answered};
 ghost use Rattle.filtered.specs.FilteredTables.{filterAnswer, filterBuffer};
@@ -169,8 +170,8 @@ fn mark_inner(filter: Filter, taken: &ByName, names: &mut [u32], marks: &mut ByN
 }
 
 // A table of a checked pack into a slice with one word for each name.
-fn fill(pack: &[u32], l: Layout, dir: &Words, filter: Filter, out: &mut [u32])
-    requires { ⌜ IsDirectory (now pack) l (now dir) × FilterAsked (now pack) (now out) ⌝ }
+fn fill(pack: &[u32], l: Layout, dir: &[u32], filter: Filter, out: &mut [u32])
+    requires { ⌜ IsDirectory (now pack) l (now dir) × Reaches (now dir) 4096 × FilterAsked (now pack) (now out) ⌝ }
     ensures { λ r. ⌜ FilterLeft filter (now (pack .entry)) (now (out .exit)) ⌝ }
 {
     let mut taken: ByName = [0u32; Pack::MOST_NAMES as usize];

@@ -2,7 +2,9 @@
 use chains::entry::Declaration;
 use chains::settle::ByName;
 use chains::settle::Mark;
+ghost use mathlib.Core.Path.{_≡_};
 ghost use Prim.Native.Nat.{_+_, _<_};
+ghost use lib.ListN.{length};
 ghost use Rattle.chains.specs.Settle.{ReadOne, Walkable, WalkedHere, Settleable, SettledAll};
 
 // One entry read at a name.
@@ -15,8 +17,14 @@ fn read_entry(table: &ByName, n: usize, steps: &mut u32) -> u32
 }
 
 // The walk from a name: its answer. A name on the path is a ring.
-pub fn walk(table: &ByName, marks: &mut ByName, steps: &mut u32, n: usize, fuel: u32) -> u32
-    requires { ⌜ Walkable (now table) (now marks) (now steps) n fuel ⌝ }
+pub fn walk(
+    table: &ByName,
+    marks: &mut ByName,
+    steps: &mut u32,
+    n: usize,
+    fuel: u32,
+) -> u32
+    requires { ⌜ Walkable (now table) (now marks) (now steps) n fuel × (length (now marks) ≡ 4096) ⌝ }
     ensures { λ r. ⌜ WalkedHere (now (table .entry)) (now (marks .entry)) (now (steps .entry)) n fuel r (now (marks .exit)) (now (steps .exit)) ⌝ }
 {
     if fuel == 0 {
@@ -47,8 +55,14 @@ pub fn walk(table: &ByName, marks: &mut ByName, steps: &mut u32, n: usize, fuel:
 }
 
 // The walks from all starts in order.
-pub fn settle_all(table: &ByName, marks: &mut ByName, steps: &mut u32, starts: &[u32], fuel: u32)
-    requires { ⌜ Settleable (now table) (now marks) (now starts) (now steps) fuel ⌝ }
+pub fn settle_all(
+    table: &ByName,
+    marks: &mut ByName,
+    steps: &mut u32,
+    starts: &[u32],
+    fuel: u32,
+)
+    requires { ⌜ Settleable (now table) (now marks) (now starts) (now steps) fuel × (length (now marks) ≡ 4096) ⌝ }
     ensures { λ r. ⌜ SettledAll (now (table .entry)) (now (marks .entry)) (now (starts .entry)) (now (steps .entry)) fuel (now (marks .exit)) (now (steps .exit)) ⌝ }
 {
     let mut j: usize = 0;

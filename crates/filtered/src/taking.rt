@@ -7,12 +7,11 @@ use chains::settle::Mark;
 use chains::settle::settle_all;
 use pack::kinds::Pack;
 use records::directory::Layout;
-use records::directory::Words;
 ghost use mathlib.Core.Path.{_≡_};
 ghost use Prim.Native.Nat.{_-_, _<_, _≤_};
-ghost use lib.ListN.{getD, replicate};
-ghost use Rattle.chains.specs.Entry.{startsIn, slotsIn, namesIn};
-ghost use Rattle.chains.specs.AllKinds.{IsDirectory};
+ghost use lib.ListN.{length, getD};
+ghost use Rattle.chains.specs.Entry.{Reaches, startsIn, slotsIn, namesIn};
+ghost use Rattle.chains.specs.AllKinds.{Lent, IsDirectory};
 ghost use Rattle.filtered.specs.Taking.{kindIn, Small, KindFound, namedAfter, takenAfter, takeAt, takenBy, takenIn, NamesLow, Known, Filled};
 
 // A relation's kind at a slot, where it is known.
@@ -57,8 +56,8 @@ pub fn kind_at(pack: &[u32], place: u32, slot: u32) -> Kind
 }
 
 // The place of the list that settles a name, 0 for none.
-pub fn place_of(marks: &ByName, name: usize) -> u32
-    requires { ⌜ name < 4096 ⌝ }
+pub fn place_of(marks: &[u32], name: usize) -> u32
+    requires { ⌜ name < length (now marks) ⌝ }
     ensures { λ r. ⌜ r ≡ getD (now (marks .entry)) name 0 - 2 ⌝ }
 {
     let m = marks[name];
@@ -92,22 +91,22 @@ fn taken_after(x: u32, kind: Kind) -> u32
     Taken::SEVERAL
 }
 
-// An entity of a derivation and the kind that it takes there; one that is no name is passed over.
-fn take_at(table: &mut ByName, entity: u32, kind: Kind)
+// An entity of a derivation and the kind that it takes there; one past the table is none and passed over.
+pub fn take_at(table: &mut [u32], entity: u32, kind: Kind)
     requires { ⌜ Small kind ⌝ }
     ensures { λ r. ⌜ now (table .exit) ≡ takeAt (now (table .entry)) entity (kindIn kind) ⌝ }
 {
-    if Pack::MOST_NAMES <= entity {
+    let e = entity as usize;
+    if table.len() <= e {
         return;
     }
-    let e = entity as usize;
     let x = named_after(table[e]);
     table[e] = taken_after(x, kind);
 }
 
 // The relation of a name, whose slots stand at a place: its entity takes the kind at its current slot. At 0 there are none.
-fn take_slots(pack: &[u32], marks: &ByName, table: &mut ByName, name: usize, at: usize)
-    requires { ⌜ (name < 4096) × (at ≤ 65536) ⌝ }
+fn take_slots(pack: &[u32], marks: &[u32], table: &mut [u32], name: usize, at: usize)
+    requires { ⌜ (name < length (now marks)) × (at ≤ 65536) ⌝ }
     ensures { λ r. ⌜ now (table .exit) ≡ takenBy (now (pack .entry)) (now (marks .entry)) (now (table .entry)) name at ⌝ }
 {
     if at == 0 {
@@ -118,8 +117,8 @@ fn take_slots(pack: &[u32], marks: &ByName, table: &mut ByName, name: usize, at:
 }
 
 // What every derivation's entity takes, from the directory of so many relations and their marks.
-fn take_all(pack: &[u32], dir: &Words, count: u32, marks: &ByName, table: &mut ByName)
-    requires { ⌜ (count ≤ 512) × NamesLow (namesIn (now dir) count) ⌝ }
+fn take_all(pack: &[u32], dir: &[u32], count: u32, marks: &[u32], table: &mut [u32])
+    requires { ⌜ (count ≤ 512) × NamesLow (length (now marks)) (namesIn (now dir) count) × Reaches (now dir) (length (now marks)) ⌝ }
     ensures { λ r. ⌜ now (table .exit) ≡ takenIn (now (pack .entry)) (slotsIn (now (dir .entry))) (now (marks .entry)) (namesIn (now (dir .entry)) count) (now (table .entry)) ⌝ }
 {
     let mut j: u32 = 0;
@@ -134,11 +133,11 @@ fn take_all(pack: &[u32], dir: &Words, count: u32, marks: &ByName, table: &mut B
 pub fn read_tables(
     pack: &[u32],
     l: Layout,
-    dir: &Words,
-    marks: &mut ByName,
-    taken: &mut ByName,
+    dir: &[u32],
+    marks: &mut [u32],
+    taken: &mut [u32],
 ) -> u32
-    requires { ⌜ IsDirectory (now pack) l (now dir) × (now marks ≡ replicate 4096 0) × (now taken ≡ replicate 4096 0) ⌝ }
+    requires { ⌜ IsDirectory (now pack) l (now dir) × Lent (l .names) (now marks) × Reaches (now dir) (length (now marks)) × Lent (l .names) (now taken) ⌝ }
     ensures { λ r. ⌜ Filled (now (pack .entry)) (namesIn (now (dir .entry)) (l .relations)) (startsIn (now (dir .entry))) (now (marks .exit)) (now (taken .exit)) r ⌝ }
 {
     let count = l.relations;
@@ -148,8 +147,8 @@ pub fn read_tables(
 }
 
 // What is known of every entity of a checked pack; the table holds zeros before.
-pub fn take_kinds(pack: &[u32], l: Layout, dir: &Words, table: &mut ByName)
-    requires { ⌜ IsDirectory (now pack) l (now dir) × (now table ≡ replicate 4096 0) ⌝ }
+pub fn take_kinds(pack: &[u32], l: Layout, dir: &[u32], table: &mut [u32])
+    requires { ⌜ IsDirectory (now pack) l (now dir) × Reaches (now dir) 4096 × Lent (l .names) (now table) ⌝ }
     ensures { λ r. ⌜ Known (now (pack .entry)) (now (table .exit)) ⌝ }
 {
     let mut marks: ByName = [0u32; Pack::MOST_NAMES as usize];

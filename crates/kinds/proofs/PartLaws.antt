@@ -3,21 +3,20 @@ use Prim.Native.Nat.{ℕ, zero, suc, _+_, _-_, _<_, _≤_}
 use native.Mathlib.Omega.{arith}
 use mathlib.Core.Path.{_≡_, refl, ap, sym, _∙_}
 use mathlib.Core.List.{List, [], _∷_, map}
-use lib.ListN.{getD}
-use Rattle.pack.specs.Pack.{Relation, Pack, WellFormed, yes, read}
+use lib.ListN.{length, getD}
+use Rattle.pack.specs.Pack.{Relation, Pack, yes, read}
 use Rattle.chains.specs.Kinds.{declared, ownAnswer}
 use Rattle.chains.specs.Places.{placeOf, allKindsWords}
 use Rattle.records.specs.declared.directory.Layout.{Layout}
 use Rattle.chains.specs.ByName.{tableFrom}
 use Rattle.chains.specs.Entry.{declarationsIn, namesIn}
 use Rattle.chains.specs.Settle.{Walkable, WalkedHere, Placeable}
-use Rattle.chains.specs.AllKinds.{IsDirectory, KindsMarked}
+use Rattle.chains.specs.AllKinds.{IsDirectory, KindsMarked, Lent}
 use Rattle.kinds.specs.Parts.{placeAt, OwnPlace, KindsLeft}
-use Rattle.chains.proofs.PackIndex.{zeros}
 use Rattle.chains.proofs.KindLaws.{in-row, words-own}
 use Rattle.chains.proofs.EntryLaws.{name-here, names-long}
 use Rattle.chains.proofs.AllKindsLaws.{own-found}
-use Rattle.chains.proofs.CheckedLaws.{is-fine, settleable-pack, same-pack, its-index, its-fuel, few-relations}
+use Rattle.chains.proofs.CheckedLaws.{settleable, same-pack, its-index, its-fuel, few-relations}
 
 -- ---- one name
 
@@ -28,18 +27,15 @@ module _ {ws : List ℕ} {l : Layout} {dir : List ℕ} (d : IsDirectory ws l dir
   abbrev table : List ℕ
   table = declarationsIn dir
 
-  fine : WellFormed p
-  fine = is-fine (d .checked)
+  pub walkable-own : {name : ℕ} {marks₀ : List ℕ} → name < l .names → Lent (l .names) marks₀ → Walkable table marks₀ 0 name (l .relations + 1)
+  walkable-own h lent =
+      let s = settleable d lent in
+      record { name = omega (arith, lent .long); leading = s .leading; marked = s .marked; room = omega (arith, few-relations d) }
 
-  pub walkable-own : {name : ℕ} → name < 4096 → Walkable table zeros 0 name (l .relations + 1)
-  walkable-own h =
-      let s = settleable-pack p fine table (its-index d) in
-      record { name = h; leading = s .leading; marked = s .marked; long = s .long; room = omega (arith, few-relations d) }
-
-  pub own-place : {name r steps : ℕ} {marks : List ℕ} → WalkedHere table zeros 0 name (l .relations + 1) r marks steps → OwnPlace ws name r
-  own-place {name} {r} w =
+  pub own-place : {name r steps : ℕ} {marks₀ marks : List ℕ} → Lent (l .names) marks₀ → WalkedHere table marks₀ 0 name (l .relations + 1) r marks steps → OwnPlace ws name r
+  own-place {name} {r} {marks₀ = marks₀} lent w =
       let e : r ≡ placeOf p (ownAnswer (p .relations) name) =
-      w .answers [] (settleable-pack p fine table (its-index d) .idle) ∙ rw (its-fuel d) (own-found p table (its-index d) name) in
+      w .answers [] (settleable d lent .idle) ∙ rw (its-fuel d) (own-found p table (its-index d) marks₀ (lent .clear) name) in
       record { says = λ q h. e ∙ ap (λ (p : Pack). placeOf p (ownAnswer (p .relations) name)) (same-pack ws (d .checked .reads) h) }
 
 -- ---- the places of all relations
@@ -68,7 +64,7 @@ module _ {ws marks : List ℕ} (dir : List ℕ) {steps : ℕ} (many : ℕ) (m : 
 
 -- each name of the directory has a settled mark
 module _ (marks dir : List ℕ) (many : ℕ) (asked : Placeable marks (namesIn dir many)) (j : ℕ) (h : j < many) {name : ℕ} (e : name ≡ getD dir j 0) where
-  pub named-low : name < 4096
+  pub named-low : name < length marks
   named-low = omega (arith, asked .names-below j, name-here dir many j h)
 
   pub named-settled : 2 ≤ getD marks name 0

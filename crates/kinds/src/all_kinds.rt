@@ -23,8 +23,8 @@ ghost use Rattle.kinds.specs.Parts.{placeAt};
 ghost use Rattle.kinds.specs.Operations.{allKindsAnswer, allKindsBuffer};
 
 // The place of each relation's list in record order, for as many as there is room.
-fn places(dir: &Words, marks: &ByName, out: &mut [u32])
-    requires { ⌜ (length (now out) ≤ 512) × Placeable (now marks) (namesIn (now dir) (length (now out))) ⌝ }
+fn places(dir: &[u32], marks: &[u32], out: &mut [u32])
+    requires { ⌜ (length (now out) ≤ 512) × (512 ≤ length (now dir)) × Placeable (now marks) (namesIn (now dir) (length (now out))) ⌝ }
     ensures { λ r. ⌜ now (out .exit) ≡ tableFrom (placeAt (now (marks .entry)) (now (dir .entry))) 0 (length (now (out .entry))) ⌝ }
 {
     let mut j: usize = 0;

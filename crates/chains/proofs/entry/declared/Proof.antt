@@ -13,8 +13,8 @@ add-word c = search needs
 mul-word : tie.Need-mul-word
 mul-word c = search needs
 
-element-copy-out-word : tie.Need-element-copy-out-word
-element-copy-out-word c = search needs
+shared-slice-read-word : tie.Need-shared-slice-read-word
+shared-slice-read-word c = search needs
 
 add-result : tie.Need-add-result
 add-result c = search needs
@@ -43,7 +43,7 @@ declared-spec =
     (tie.spec
     add-word
     mul-word
-    element-copy-out-word
+    shared-slice-read-word
     add-result
     returns
     link-requires

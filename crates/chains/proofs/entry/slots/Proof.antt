@@ -14,15 +14,15 @@ add-word c = search needs
 mul-word : tie.Need-mul-word
 mul-word c = search needs
 
-element-copy-out-word : tie.Need-element-copy-out-word
-element-copy-out-word c = search needs
+shared-slice-read-word : tie.Need-shared-slice-read-word
+shared-slice-read-word c = search needs
 
 link-requires : tie.Need-link-requires
 link-requires c κs = search needs
 
 returns : tie.Need-returns
 unfolding slotIn slotsIn
-returns c = (sym (whole-at (slotIn (c .before .before .before .args .dir .now)) 4096 _ (c .before .before .before .pre) ∙ rw (← (c .before .link .ensures .0), eq-eqb _ _ (c .if1 .taken)) refl), omega arith)
+returns c = (sym (whole-at (slotIn (c .before .before .before .before .args .dir .now)) 4096 (c .before .before .before .before .args .name) (omega (arith, c .before .before .before .before .pre .most)) ∙ rw (← (c .before .link .ensures .0), eq-eqb _ _ (c .if1 .taken)) refl), omega arith)
 
 cast-at : tie.Need-cast-at
 cast-at c = search needs
@@ -35,7 +35,7 @@ add-result c = search needs
 
 returns-2 : tie.Need-returns-2
 unfolding slotIn slotsIn
-returns-2 c = (sym (whole-at (slotIn (c .before .before .before .before .args .dir .now)) 4096 _ (c .before .before .before .before .pre) ∙ rw (← (c .before .before .link .ensures .0), ne-eqb _ _ (c .before .if1 .left), lt-ltb _ _ (c .if2 .taken)) refl), omega (arith, c .if2 .taken))
+returns-2 c = (sym (whole-at (slotIn (c .before .before .before .before .before .args .dir .now)) 4096 (c .before .before .before .before .before .args .name) (omega (arith, c .before .before .before .before .before .pre .most)) ∙ rw (← (c .before .before .link .ensures .0), ne-eqb _ _ (c .before .if1 .left), lt-ltb _ _ (c .if2 .taken)) refl), omega (arith, c .if2 .taken))
 
 cast-result-2 : tie.Need-cast-result-2
 cast-result-2 c = search needs
@@ -45,7 +45,7 @@ add-result-2 c = search needs
 
 returns-3 : tie.Need-returns-3
 unfolding slotIn slotsIn
-returns-3 c = (sym (whole-at (slotIn (c .before .before .before .before .args .dir .now)) 4096 _ (c .before .before .before .before .pre) ∙ rw (← (c .before .before .link .ensures .0), ne-eqb _ _ (c .before .if1 .left), le-ltb _ _ (c .if2 .left)) refl), omega arith)
+returns-3 c = (sym (whole-at (slotIn (c .before .before .before .before .before .args .dir .now)) 4096 (c .before .before .before .before .before .args .name) (omega (arith, c .before .before .before .before .before .pre .most)) ∙ rw (← (c .before .before .link .ensures .0), ne-eqb _ _ (c .before .if1 .left), le-ltb _ _ (c .if2 .left)) refl), omega arith)
 
 pub slots-spec : {M : Type 1} → statement M
 slots-spec =
@@ -53,7 +53,7 @@ slots-spec =
     (tie.spec
     add-word
     mul-word
-    element-copy-out-word
+    shared-slice-read-word
     link-requires
     returns
     cast-at

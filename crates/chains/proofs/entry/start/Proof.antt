@@ -13,15 +13,16 @@ add-result c = search needs
 mul-result : tie.Need-mul-result
 mul-result c = search needs
 
-element-copy-out-result : tie.Need-element-copy-out-result
-element-copy-out-result c = search needs
+shared-slice-read-result : tie.Need-shared-slice-read-result
+shared-slice-read-result c = search needs
 
 cast-result : tie.Need-cast-result
 cast-result c = search needs
 
 returns : tie.Need-returns
 unfolding startIn startsIn
-returns c = (sym (whole-at (startIn (c .before .args .dir .now)) 4096 _ (c .before .pre)), omega arith)
+returns c = (sym (whole-at (startIn (c .before .args .dir .now)) 4096 _ (omega (arith, c .before .pre .most))), omega arith)
 
 pub start-spec : {M : Type 1} → statement M
-start-spec = tie.close (tie.spec add-result mul-result element-copy-out-result cast-result returns)
+start-spec =
+    tie.close (tie.spec add-result mul-result shared-slice-read-result cast-result returns)

@@ -11,7 +11,7 @@ declared-requires : tie.Need-declared-requires
 declared-requires c κs = search needs
 
 returns : tie.Need-returns
-returns c = read-one _ (c .before .before .pre .0) (c .declared .ensures)
+returns c = read-one _ (c .before .before .before .pre .0) (c .declared .ensures)
 
 pub read-name-spec : {M : Type 1} → statement M
 read-name-spec = tie.close (tie.spec add-steps declared-requires returns)

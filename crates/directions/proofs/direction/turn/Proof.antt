@@ -41,7 +41,7 @@ kind-or-zero-requires : tie.Need-kind-or-zero-requires
 kind-or-zero-requires c κs = search needs
 
 returns-3 : tie.Need-returns-3
-returns-3 c = is-derived _ _ _ _ _ _ _ _ (λ z. (c .before .before .before .before .before .before .before .if1 .left) ((c .before .before .before .before .before .before .before .before .start .ensures .0) ∙ z)) ((c .before .before .before .before .before .before .flag-at .ensures) ∙ ap (flagAt _) (c .before .before .before .before .before .before .before .before .start .ensures .0)) (c .before .before .before .before .before .if2 .left) ((c .before .before .before .before .slots-place .ensures .0) ∙ ap (slotsPlace _) (c .before .before .before .before .before .before .before .before .start .ensures .0)) (c .before .before .before .value-at .ensures .0) (c .before .before .value-at2 .ensures .0) (c .before .place-of .ensures) (c .kind-or-zero .ensures)
+returns-3 c = is-derived _ _ _ _ _ _ _ _ (λ z. (c .before .before .before .before .before .before .before .before .if1 .left) ((c .before .before .before .before .before .before .before .before .before .start .ensures .0) ∙ z)) ((c .before .before .before .before .before .before .before .flag-at .ensures) ∙ ap (flagAt _) (c .before .before .before .before .before .before .before .before .before .start .ensures .0)) (c .before .before .before .before .before .before .if2 .left) ((c .before .before .before .before .before .slots-place .ensures .0) ∙ ap (slotsPlace _) (c .before .before .before .before .before .before .before .before .before .start .ensures .0)) (c .before .before .before .before .value-at .ensures .0) (c .before .before .before .value-at2 .ensures .0) (c .before .place-of .ensures) (c .kind-or-zero .ensures)
 
 pub turn-spec : {M : Type 1} → statement M
 turn-spec =

@@ -23,7 +23,7 @@ place-of-requires : tie.Need-place-of-requires
 place-of-requires c κs = search needs
 
 slot-kinds-requires : tie.Need-slot-kinds-requires
-slot-kinds-requires c κs = omega (arith, c .before .before .before .before .start .ensures .1)
+slot-kinds-requires c κs = omega (arith, c .before .before .before .before .before .start .ensures .1)
 
 enum-known-c : tie.Need-enum-known-c
 enum-known-c c = search needs
@@ -32,10 +32,10 @@ enum-told : tie.Need-enum-told
 enum-told c = search needs
 
 returns-3 : tie.Need-returns-3
-returns-3 c = unknown-kinds _ _ _ _ (λ z. (c .before .before .before .before .before .before .if1 .left) ((c .before .before .before .before .before .before .before .start .ensures .0) ∙ z)) ((c .before .before .before .before .before .flag-at .ensures) ∙ ap (flagAt _) (c .before .before .before .before .before .before .before .start .ensures .0)) (c .before .before .before .before .if2 .left) (c .before .before .before .place-of .ensures) _ (rw (c .before .before .before .before .before .before .before .start .ensures .0) at (c .before .before .slot-kinds .ensures .0)) (c .enum-told .given .1)
+returns-3 c = unknown-kinds _ _ _ _ (λ z. (c .before .before .before .before .before .before .before .if1 .left) ((c .before .before .before .before .before .before .before .before .start .ensures .0) ∙ z)) ((c .before .before .before .before .before .before .flag-at .ensures) ∙ ap (flagAt _) (c .before .before .before .before .before .before .before .before .start .ensures .0)) (c .before .before .before .before .before .if2 .left) (c .before .before .before .place-of .ensures) _ (rw (c .before .before .before .before .before .before .before .before .start .ensures .0) at (c .before .before .slot-kinds .ensures .0)) (c .enum-told .given .1)
 
 returns-4 : tie.Need-returns-4
-returns-4 c = known-kinds _ _ _ _ (λ z. (c .before .before .before .before .before .before .before .if1 .left) ((c .before .before .before .before .before .before .before .before .start .ensures .0) ∙ z)) ((c .before .before .before .before .before .before .flag-at .ensures) ∙ ap (flagAt _) (c .before .before .before .before .before .before .before .before .start .ensures .0)) (c .before .before .before .before .before .if2 .left) (c .before .before .before .before .place-of .ensures) _ (rw (c .before .before .before .before .before .before .before .before .start .ensures .0) at (c .before .before .before .slot-kinds .ensures .0)) (c .before .c .given .1)
+returns-4 c = known-kinds _ _ _ _ (λ z. (c .before .before .before .before .before .before .before .before .if1 .left) ((c .before .before .before .before .before .before .before .before .before .start .ensures .0) ∙ z)) ((c .before .before .before .before .before .before .before .flag-at .ensures) ∙ ap (flagAt _) (c .before .before .before .before .before .before .before .before .before .start .ensures .0)) (c .before .before .before .before .before .before .if2 .left) (c .before .before .before .before .place-of .ensures) _ (rw (c .before .before .before .before .before .before .before .before .before .start .ensures .0) at (c .before .before .before .slot-kinds .ensures .0)) (c .before .c .given .1)
 
 pub equal-kinds-spec : {M : Type 1} → statement M
 equal-kinds-spec =

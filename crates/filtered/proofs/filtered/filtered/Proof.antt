@@ -2,7 +2,7 @@
 use native.Mathlib.Omega.{arith}
 use mathlib.Core.Path.{_∙_, ap}
 use Rattle.checking.specs.Checked.{answerIn}
-use Rattle.chains.proofs.EntryLaws.{clear-all, directed}
+use Rattle.chains.proofs.EntryLaws.{clear-all, directed, reaches-all}
 use Rattle.filtered.proofs.FilterLaws.{filter-refused, filter-room, filter-asked, filter-done}
 use borrow.Author.Needs.{needs}
 use Rattle.filtered.proofs.filtered.filtered.Statement.{statement}
@@ -35,6 +35,9 @@ refuse-requires c κs = search needs
 returns-2 : tie.Need-returns-2
 returns-2 c = let d = directed (clear-all _) (c .before .before .before .before .before .before .check-directory .ensures) (c .before .before .before .r .given .1) in filter-room _ _ _ (d .checked) (d .named) (omega arith) (c .refuse .ensures)
 
+slice-aggregate-fill : tie.Need-slice-aggregate-fill
+slice-aggregate-fill c = search needs
+
 sub-fill : tie.Need-sub-fill
 sub-fill c = search needs
 
@@ -45,7 +48,7 @@ part-fill-end : tie.Need-part-fill-end
 part-fill-end c = search needs
 
 fill-requires : tie.Need-fill-requires
-fill-requires c κs = let d = directed (clear-all _) (c .before .before .before .before .before .before .before .check-directory .ensures) (c .before .before .before .before .r .given .1) in (d, filter-asked _ _ (d .checked) (d .named) (omega arith))
+fill-requires c κs = let d = directed (clear-all _) (c .before .before .before .before .before .before .before .check-directory .ensures) (c .before .before .before .before .r .given .1) in (d, reaches-all (c .before .before .before .before .before .before .before .check-directory .kept .1 .0), filter-asked _ _ (d .checked) (d .named) (omega arith))
 
 same-length : tie.Need-same-length
 same-length c = search needs
@@ -66,6 +69,7 @@ filtered-spec =
     cast-count
     refuse-requires
     returns-2
+    slice-aggregate-fill
     sub-fill
     part-fill-start
     part-fill-end

@@ -1,4 +1,6 @@
 -- `filtered::filtered::walk_inner` meets its contract.
+use Prim.Native.Nat.{ℕ}
+use lib.ListN.{length-replicate}
 use Rattle.filtered.proofs.InnerLaws.{walks-asked, walks-left}
 use borrow.Author.Needs.{needs}
 use Rattle.filtered.proofs.filtered.walk_inner.Statement.{statement}
@@ -17,7 +19,7 @@ add-settle-all : tie.Need-add-settle-all
 add-settle-all c = search needs
 
 settle-all-requires : tie.Need-settle-all-requires
-settle-all-requires c κs = walks-asked _ _ ((c .before .before .before .before .before .before .before .before .before .before .before .pre) .1) ((c .before .before .before .before .before .before .before .before .before .before .before .pre) .0) ((c .before .before .before .before .before .before .before .before .inner-entries) .ensures) ((c .before .before .before .before .before .before .count-up) .ensures) ((c .before .before .before .before .before .before .before .before .before .before .before .pre) .2)
+settle-all-requires c κs = (walks-asked _ _ ((c .before .before .before .before .before .before .before .before .before .before .before .pre) .1) ((c .before .before .before .before .before .before .before .before .before .before .before .pre) .0) ((c .before .before .before .before .before .before .before .before .inner-entries) .ensures) ((c .before .before .before .before .before .before .count-up) .ensures) ((c .before .before .before .before .before .before .before .before .before .before .before .pre) .2), rw (c .before .before .before .before .before .before .before .before .before .before .before .pre .2) (length-replicate {A = ℕ} 4096 0))
 
 same-length : tie.Need-same-length
 same-length c = search needs

@@ -11,8 +11,8 @@ returns c = no-entity _ _ _ (omega arith)
 mul-named-after : tie.Need-mul-named-after
 mul-named-after c = search needs
 
-element-copy-out-named-after : tie.Need-element-copy-out-named-after
-element-copy-out-named-after c = search needs
+slice-read-named-after : tie.Need-slice-read-named-after
+slice-read-named-after c = search needs
 
 named-after-requires : tie.Need-named-after-requires
 named-after-requires c κs = search needs
@@ -23,11 +23,14 @@ taken-after-requires c κs = search needs
 mul-table : tie.Need-mul-table
 mul-table c = search needs
 
-element-write-table : tie.Need-element-write-table
-element-write-table c = search needs
+slice-write-table : tie.Need-slice-write-table
+slice-write-table c = search needs
+
+same-length : tie.Need-same-length
+same-length c = search needs
 
 returns-2 : tie.Need-returns-2
-returns-2 c = an-entity _ _ _ (omega arith) ((c .before .named-after) .ensures) ((c .taken-after) .ensures)
+returns-2 c = an-entity _ _ _ (omega arith) (c .before .named-after .ensures) (c .taken-after .ensures)
 
 pub take-at-spec : {M : Type 1} → statement M
 take-at-spec =
@@ -35,9 +38,10 @@ take-at-spec =
     (tie.spec
     returns
     mul-named-after
-    element-copy-out-named-after
+    slice-read-named-after
     named-after-requires
     taken-after-requires
     mul-table
-    element-write-table
+    slice-write-table
+    same-length
     returns-2)

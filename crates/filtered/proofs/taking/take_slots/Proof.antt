@@ -25,8 +25,11 @@ value-at-requires-2 c κs = search needs
 take-at-requires : tie.Need-take-at-requires
 take-at-requires c κs = search needs
 
+same-length : tie.Need-same-length
+same-length c = search needs
+
 returns-2 : tie.Need-returns-2
-returns-2 c = one-takes _ _ _ _ _ (c .before .before .before .before .before .before .if1 .left) (c .before .before .before .before .before .place-of .ensures) (c .before .before .before .before .value-at .ensures .0) (c .before .before .before .kind-at .ensures) (c .before .value-at2 .ensures .0) (c .take-at .ensures)
+returns-2 c = one-takes _ _ _ _ _ (c .before .before .before .before .before .before .before .before .if1 .left) (c .before .before .before .before .before .before .before .place-of .ensures) (c .before .before .before .before .before .before .value-at .ensures .0) (c .before .before .before .before .before .kind-at .ensures) (c .before .before .before .value-at2 .ensures .0) (c .before .before .take-at .ensures)
 
 pub take-slots-spec : {M : Type 1} → statement M
 take-slots-spec =
@@ -39,4 +42,5 @@ take-slots-spec =
     add-value-at
     value-at-requires-2
     take-at-requires
+    same-length
     returns-2)

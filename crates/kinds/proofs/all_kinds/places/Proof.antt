@@ -20,16 +20,16 @@ loop-holds : tie.Need-loop-holds Inv-loop μ-loop
 loop-holds c = begin _ _
 
 name-at-requires : tie.Need-name-at-requires Inv-loop μ-loop
-name-at-requires c κs = omega (arith, (c .before .loop .inv) .long, (c .before .before .before .pre) .0)
+name-at-requires c κs = omega (arith, (c .before .loop .inv) .long, c .before .before .before .before .before .pre .0, c .before .before .before .before .before .pre .1)
 
 mul-out : tie.Need-mul-out Inv-loop μ-loop
-mul-out c = omega (arith, named-low _ _ _ (c .before .before .before .before .pre .1) _ (omega (arith, (c .before .before .loop .inv) .long)) (c .name-at .ensures))
+mul-out c = omega (arith, named-low _ _ _ (c .before .before .before .before .before .before .pre .2) _ (omega (arith, (c .before .before .loop .inv) .long)) (c .name-at .ensures))
 
-element-copy-out-out : tie.Need-element-copy-out-out Inv-loop μ-loop
-element-copy-out-out c = omega (arith, named-low _ _ _ (c .before .before .before .before .pre .1) _ (omega (arith, (c .before .before .loop .inv) .long)) (c .name-at .ensures))
+shared-slice-read-out : tie.Need-shared-slice-read-out Inv-loop μ-loop
+shared-slice-read-out c = omega (arith, named-low _ _ _ (c .before .before .before .before .before .before .before .pre .2) _ (omega (arith, (c .before .before .before .loop .inv) .long)) (c .before .name-at .ensures))
 
 sub-out : tie.Need-sub-out Inv-loop μ-loop
-sub-out c = omega (arith, named-settled _ _ _ (c .before .before .before .before .before .pre .1) _ (omega (arith, (c .before .before .before .loop .inv) .long)) (c .before .name-at .ensures))
+sub-out c = omega (arith, named-settled _ _ _ (c .before .before .before .before .before .before .before .pre .2) _ (omega (arith, (c .before .before .before .loop .inv) .long)) (c .before .name-at .ensures))
 
 mul-out-2 : tie.Need-mul-out-2 Inv-loop μ-loop
 mul-out-2 c = search needs
@@ -62,7 +62,7 @@ places-spec =
     loop-holds
     name-at-requires
     mul-out
-    element-copy-out-out
+    shared-slice-read-out
     sub-out
     mul-out-2
     slice-write-out

@@ -2,8 +2,8 @@
 use native.Mathlib.Omega.{arith}
 use mathlib.Core.Path.{_∙_, ap}
 use Rattle.checking.specs.Checked.{answerIn}
-use Rattle.chains.proofs.CheckedLaws.{few-relations, below-most}
-use Rattle.chains.proofs.EntryLaws.{clear-all, directed}
+use Rattle.chains.proofs.CheckedLaws.{few-relations, lent-all}
+use Rattle.chains.proofs.EntryLaws.{clear-all, directed, reaches-all}
 use Rattle.kinds.proofs.PartLaws.{walkable-own, own-place}
 use Rattle.kinds.proofs.OperationLaws.{name-refused, name-unknown, name-place}
 use borrow.Author.Needs.{needs}
@@ -37,11 +37,17 @@ returns-2 c = let d = directed (clear-all _) (c .before .before .before .before 
 add-fuel : tie.Need-add-fuel
 add-fuel c = let d = directed (clear-all _) (c .before .before .before .before .before .before .before .check-directory .ensures) (c .before .before .before .before .r .given .1) in omega (arith, few-relations d)
 
+slice-aggregate-walk : tie.Need-slice-aggregate-walk
+slice-aggregate-walk c = search needs
+
+slice-aggregate-walk-2 : tie.Need-slice-aggregate-walk-2
+slice-aggregate-walk-2 c = search needs
+
 walk-requires : tie.Need-walk-requires
-walk-requires c κs = let d = directed (clear-all _) (c .before .before .before .before .before .before .before .before .before .before .check-directory .ensures) (c .before .before .before .before .before .before .before .r .given .1) in walkable-own d (omega (arith, below-most (d .checked) (d .named)))
+walk-requires c κs = let d = directed (clear-all _) (c .before .before .before .before .before .before .before .before .before .before .check-directory .ensures) (c .before .before .before .before .before .before .before .r .given .1) in (walkable-own d (omega arith) (lent-all d), reaches-all (c .before .before .before .before .before .before .before .before .before .before .check-directory .kept .1 .0))
 
 returns-3 : tie.Need-returns-3
-returns-3 c = let d = directed (clear-all _) (c .before .before .before .before .before .before .before .before .before .before .before .check-directory .ensures) (c .before .before .before .before .before .before .before .before .r .given .1) in name-place _ _ (d .checked) (d .named) (omega arith) (own-place d (c .walk .ensures))
+returns-3 c = let d = directed (clear-all _) (c .before .before .before .before .before .before .before .before .before .before .before .before .check-directory .ensures) (c .before .before .before .before .before .before .before .before .before .r .given .1) in name-place _ _ (d .checked) (d .named) (omega arith) (own-place d (lent-all d) (c .before .walk .ensures))
 
 pub kinds-of-spec : {M : Type 1} → statement M
 kinds-of-spec =
@@ -56,5 +62,7 @@ kinds-of-spec =
     unknown-name-requires
     returns-2
     add-fuel
+    slice-aggregate-walk
+    slice-aggregate-walk-2
     walk-requires
     returns-3)

@@ -24,16 +24,16 @@ unlike-requires : tie.Need-unlike-requires
 unlike-requires c κs = search needs
 
 returns-2 : tie.Need-returns-2
-returns-2 c = alike _ _ _ _ _ ((c .before .before .before .before .before .unstamped) .ensures) (not-false _ ((c .before .before .before .before .if1) .left)) (its-name _ _ ((c .before .before .before .value-at) .ensures .0)) ((c .before .before .place-of) .ensures) ((c .before .unlike) .ensures) (not-true _ ((c .if2) .taken))
+returns-2 c = alike _ _ _ _ _ ((c .before .before .before .before .before .before .unstamped) .ensures) (not-false _ ((c .before .before .before .before .before .if1) .left)) (its-name _ _ ((c .before .before .before .before .value-at) .ensures .0)) ((c .before .before .place-of) .ensures) ((c .before .unlike) .ensures) (not-true _ ((c .if2) .taken))
 
 passed-over-requires : tie.Need-passed-over-requires
 passed-over-requires c κs = search needs
 
 returns-3 : tie.Need-returns-3
-returns-3 c = stamped _ _ _ _ _ ((c .before .before .before .before .before .before .before .unstamped) .ensures) (not-false _ ((c .before .before .before .before .before .before .if1) .left)) (its-name _ _ ((c .before .before .before .before .before .value-at) .ensures .0)) ((c .before .before .before .before .place-of) .ensures) ((c .before .before .before .unlike) .ensures) (not-false _ ((c .before .before .if2) .left)) ((c .before .passed-over) .ensures) (not-true _ ((c .if3) .taken))
+returns-3 c = stamped _ _ _ _ _ ((c .before .before .before .before .before .before .before .before .unstamped) .ensures) (not-false _ ((c .before .before .before .before .before .before .before .if1) .left)) (its-name _ _ ((c .before .before .before .before .before .before .value-at) .ensures .0)) ((c .before .before .before .before .place-of) .ensures) ((c .before .before .before .unlike) .ensures) (not-false _ ((c .before .before .if2) .left)) ((c .before .passed-over) .ensures) (not-true _ ((c .if3) .taken))
 
 returns-4 : tie.Need-returns-4
-returns-4 c = passed _ _ _ _ _ ((c .before .before .before .before .before .before .before .unstamped) .ensures) (not-false _ ((c .before .before .before .before .before .before .if1) .left)) (its-name _ _ ((c .before .before .before .before .before .value-at) .ensures .0)) ((c .before .before .before .before .place-of) .ensures) ((c .before .before .before .unlike) .ensures) (not-false _ ((c .before .before .if2) .left)) ((c .before .passed-over) .ensures) (not-false _ ((c .if3) .left))
+returns-4 c = passed _ _ _ _ _ ((c .before .before .before .before .before .before .before .before .unstamped) .ensures) (not-false _ ((c .before .before .before .before .before .before .before .if1) .left)) (its-name _ _ ((c .before .before .before .before .before .before .value-at) .ensures .0)) ((c .before .before .before .before .place-of) .ensures) ((c .before .before .before .unlike) .ensures) (not-false _ ((c .before .before .if2) .left)) ((c .before .passed-over) .ensures) (not-false _ ((c .if3) .left))
 
 pub list-for-spec : {M : Type 1} → statement M
 list-for-spec =
