@@ -1,5 +1,6 @@
 pub mod FilteredLaws
 pub mod TakingLaws
+pub mod ActLaws
 pub mod EntityBounds
 pub mod TakenKnown
 pub mod SaidLaws

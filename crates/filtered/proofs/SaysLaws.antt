@@ -112,7 +112,7 @@ module _ {ws t : List ℕ} (p : Pack) (h : read ws ≡ yes p) (k : Known ws t) w
     named = any (λ (r : Relation). namesEntity e (r .derivation)) rs
 
     it : getD t e 0 ≡ known named (taken rs e)
-    it = k .holds p h e i
+    it = k .holds p h e
 
     directly : directOf (getD t e 0) ≡ orNone (direct rs e)
     unfolding direct

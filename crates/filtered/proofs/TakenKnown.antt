@@ -22,7 +22,10 @@ use Rattle.chains.specs.Record.{valueAt, slotsPlace}
 use Rattle.records.specs.declared.directory.Layout.{Layout}
 use Rattle.chains.specs.Entry.{startsIn, slotsIn, namesIn}
 use Rattle.chains.specs.AllKinds.{slotsOf, Noted, Lent, IsDirectory, KindsMarked}
-use Rattle.filtered.specs.Taking.{several, known, namedAfter, takenAfter, takeAt, takenBy, kindMarked, takenIn, NamesLow, Filled}
+use Rattle.chains.specs.Settle.{Marked}
+use Rattle.filtered.specs.Acts.{partIn, listIn, actsFrom}
+use Rattle.filtered.specs.Taking.{several, known, namedAfter, takenAfter, takeAt, takenBy, kindMarked, takenIn, RelationsRead, NamesLow, Filled}
+use Rattle.filtered.proofs.ActLaws.{part-is, list-is}
 use Rattle.pack.proofs.PackLaws.{words-read}
 use Rattle.chains.proofs.Names.{or-left, or-right, or-false, or-true}
 use Rattle.chains.proofs.PackIndex.{parts, EachFound, all-found}
@@ -176,10 +179,10 @@ value-fits l slot = rw (List·getD-map valueOf l slot 0) (omega arith)
 
 marked-fits : (ws marks : List ℕ) (n slot : ℕ) → Fits (kindMarked ws marks n slot)
 unfolding kindMarked namesAt
-marked-fits ws marks n slot = go (eqb (getD marks n 0 - 2) 0)
+marked-fits ws marks n slot = go (eqb (listIn (getD marks n 0)) 0)
   where
     l : List ℕ
-    l = take (valueOf (getD ws (getD marks n 0 - 2) 0)) (drop (suc (getD marks n 0 - 2)) ws)
+    l = take (valueOf (getD ws (listIn (getD marks n 0)) 0)) (drop (suc (listIn (getD marks n 0))) ws)
 
     at : (c : Bool) → Fits (pick c (some (getD (map valueOf l) slot 0)) none)
     at true = value-fits l slot
@@ -189,15 +192,15 @@ marked-fits ws marks n slot = go (eqb (getD marks n 0 - 2) 0)
     go true = tt
     go false = at (ltb slot (length (map valueOf l)))
 
-pub kind-of : {ws names marks : List ℕ} {steps : ℕ} → KindsMarked ws steps names marks → (p : Pack) → read ws ≡ yes p → words p ≡ ws → WellFormed p
+pub kind-of : {ws names marks : List ℕ} {steps : ℕ} → KindsMarked ws steps names marks → Marked marks → (p : Pack) → read ws ≡ yes p → words p ≡ ws → WellFormed p
     → (n : ℕ) → among n (declared (p .relations)) ≡ true → (slot : ℕ) → kindMarked ws marks n slot ≡ kindAt (kindsOf (p .relations) n) slot
-unfolding kindMarked
-kind-of {ws} {marks = marks} m p h same fine n i slot =
-    let q : getD marks n 0 - 2 ≡ placeOf p (ownAnswer (p .relations) n) = (let k = m .marked p h n i in omega arith) in
+unfolding kindMarked Marked
+kind-of {ws} {marks = marks} m low p h same fine n i slot =
+    let q : listIn (getD marks n 0) ≡ placeOf p (ownAnswer (p .relations) n) = (let k = m .marked p h n i in omega (arith, low n)) in
     ap (λ (o : Option (List ℕ)). kindAt o slot) (ap (namesAt ws) q ∙ ap (λ (v : List ℕ). namesAt v (placeOf p (ownAnswer (p .relations) n))) (sym same) ∙ place-holds p fine n)
 
 module _ {ws names records : List ℕ} (slots : List ℕ) {marks : List ℕ} {steps : ℕ} (noted : Noted ws names records) (slotted : (p : Pack) → read ws ≡ yes p → (m : ℕ) → getD slots m 0 ≡ slotsOf p m) (m : KindsMarked ws steps names marks)
-    (p : Pack) (h : read ws ≡ yes p) where
+    (low : Marked marks) (p : Pack) (h : read ws ≡ yes p) where
   abbrev kind : ℕ → ℕ → Option ℕ
   kind = kindMarked ws marks
 
@@ -241,30 +244,38 @@ module _ {ws names records : List ℕ} (slots : List ℕ) {marks : List ℕ} {st
     is-after : t ≡ afterAll kind (p .relations) t₀
     is-after = q ∙ ap (λ (l : List ℕ). takenIn ws slots marks l t₀) (noted .named p h) ∙ all-take (p .relations) (all-found p fine) t₀
 
-    entity-known : (e : ℕ) → e < 4096 → getD t e 0 ≡ known (any (λ r. namesEntity e (r .derivation)) (p .relations)) (taken (p .relations) e)
+    entity-known : (e : ℕ) → getD t e 0 ≡ known (any (λ r. namesEntity e (r .derivation)) (p .relations)) (taken (p .relations) e)
     unfolding taken
-    entity-known e small = go (ltb e (length t₀)) refl
+    entity-known e = go (ltb e (length t₀)) refl
       where
         go : (b : Bool) → ltb e (length t₀) ≡ b → getD t e 0 ≡ known (any (λ r. namesEntity e (r .derivation)) (p .relations)) (taken (p .relations) e)
         go true y =
             ap (λ (u : List ℕ). getD u e 0) is-after
-            ∙ relations-known kind (marked-fits ws marks) e small (p .relations) t₀ false [] (ltb-true e (length t₀) y) (lent .clear e)
-            ∙ ap (known (any (λ (r : Relation). namesEntity e (r .derivation)) (p .relations))) (taken-alike kind (p .relations) e (p .relations) (kind-of m p h same fine))
+            ∙ relations-known kind (marked-fits ws marks) e (omega (arith, lent .short, ltb-true e (length t₀) y)) (p .relations) t₀ false [] (ltb-true e (length t₀) y) (lent .clear e)
+            ∙ ap (known (any (λ (r : Relation). namesEntity e (r .derivation)) (p .relations))) (taken-alike kind (p .relations) e (p .relations) (kind-of m low p h same fine))
         go false y =
             let past : length t₀ ≤ e = ltb-false e (length t₀) y in
             let beyond : p .names ≤ e = omega (arith, lent .long) in
             List·getD-eq-default t 0 (omega (arith, ap length is-after, all-long kind (p .relations) t₀))
             ∙ sym (rw (nobody-names p fine e beyond, takes-nothing p fine e beyond) refl)
 
-module _ {ws : List ℕ} {l : Layout} {dir marks : List ℕ} {steps : ℕ} (d : IsDirectory ws l dir) (m : KindsMarked ws steps (namesIn dir (l .relations)) marks) where
+module _ {ws : List ℕ} {l : Layout} {dir marks : List ℕ} {steps : ℕ} (d : IsDirectory ws l dir) (m : KindsMarked ws steps (namesIn dir (l .relations)) marks) (low : Marked marks) where
   pub takeable : {most : ℕ} → l .names ≤ most → NamesLow most (namesIn dir (l .relations))
   unfolding NamesLow
   takeable h j = omega (arith, its-low d j)
 
-  pub filled : {t t₀ : List ℕ} → Lent (l .names) t₀ → t ≡ takenIn ws (slotsIn dir) marks (namesIn dir (l .relations)) t₀ → Filled ws (namesIn dir (l .relations)) (startsIn dir) marks t steps
-  filled {t₀ = t₀} lent q =
+  pub filled : {acts t t₀ : List ℕ} → l .names ≤ length marks → Lent (l .names) t₀ → RelationsRead ws (startsIn dir) (slotsIn dir) (namesIn dir (l .relations)) marks t₀ acts t → Filled ws (namesIn dir (l .relations)) (startsIn dir) acts t steps
+  filled {acts} {t₀ = t₀} long lent q =
+      let names : List ℕ = namesIn dir (l .relations) in
+      let few : (j : ℕ) → getD names j 0 < length marks = λ j. omega (arith, its-low d j) in
+      let same : (f : ℕ → ℕ) (n : ℕ) → f (getD acts n 0) ≡ f (getD (actsFrom ws (startsIn dir) (slotsIn dir) names marks) n 0) = λ f n. ap (λ (u : List ℕ). f (getD u n 0)) (q .tells) in
       record {
         noted = d .noted;
-        marked = m;
-        knows = record { holds = λ p h. entity-known (slotsIn dir) (d .noted) (d .slotted) m p h (subst (λ (n : ℕ). Lent n t₀) (d .named .names p h) lent) q };
+        counts = m .counts;
+        says =
+            record {
+              parts = λ p h n. same partIn n ∙ part-is (slotsIn dir) (d .noted) (d .slotted) m low few p h n;
+              lists = λ p h n i. same listIn n ∙ list-is (slotsIn dir) (d .noted) (d .slotted) m low few p h n i;
+            };
+        knows = record { holds = λ p h. entity-known (slotsIn dir) (d .noted) (d .slotted) m low p h (subst (λ (n : ℕ). Lent n t₀) (d .named .names p h) lent) (q .takes) };
       }

@@ -1,21 +1,25 @@
 -- Laws of taking kinds: what one relation does, and all relations in record order.
-use Prim.Native.Nat.{ℕ, suc, _+_, _-_, _<_, _≤_, min}
+use Prim.Native.Nat.{ℕ, suc, _+_, _-_, _*_, _%_, _<_, _≤_, min}
 use native.Mathlib.Omega.{arith}
 use native.Mathlib.Numerals.{add-one}
 use mathlib.Core.Path.{_≡_, refl, ap, sym, _∙_}
 use mathlib.Core.List.{List, map}
+use mathlib.Core.Bool.{Bool, true, false}
 use mathlib.Core.Option.{Option, none, some}
-use lib.ListN.{length, getD, take, drop, set, length-map, length-take, length-drop, List·getD-map, drop-of-length-le}
-use lib.Seq.{getD-take, getD-drop, drop-cons}
-use lib.Dec.{ltb}
-use borrow.Author.Tests.{eq-eqb, ne-eqb, lt-ltb, le-ltb}
+use lib.ListN.{length, getD, take, drop, set, length-map, length-take, length-drop, length-set, List·getD-map, List·getD-eq-default, drop-of-length-le}
+use lib.Seq.{getD-take, getD-drop, getD-set-same, getD-set-other, drop-cons}
+use lib.Dec.{eqb, ltb}
+use borrow.Author.Tests.{eq-eqb, ne-eqb, eqb-true, eqb-false, lt-ltb, le-ltb, ltb-true, ltb-false}
 use Rattle.pack.specs.Table.{pick, valueOf}
 use Rattle.filtered.specs.declared.taking.Kind.{Kind}
 use Rattle.filtered.specs.declared.taking.Kind.the-variants.{Is, Unknown}
 use Rattle.filtered.specs.Filtered.{kindAt}
 use Rattle.chains.specs.Places.{namesAt}
-use Rattle.chains.specs.Record.{valueAt}
-use Rattle.filtered.specs.Taking.{kindIn, Small, KindFound, several, namedAfter, takenAfter, takeAt, takenBy, kindMarked, takenIn, NamesLow}
+use Rattle.chains.specs.Record.{valueAt, kindCount}
+use Rattle.chains.specs.Entry.{namesIn}
+use Rattle.chains.proofs.EntryLaws.{name-here}
+use Rattle.filtered.specs.Acts.{listIn, partFor, actFor, actsFrom}
+use Rattle.filtered.specs.Taking.{kindIn, Small, KindFound, several, namedAfter, takenAfter, takeAt, takenBy, kindMarked, takenIn, RelationRead, RelationsRead, NamesLow}
 
 -- ---- the kind at a slot
 
@@ -95,36 +99,93 @@ an-entity t e kind h n k = sym (rw (lt-ltb e (length t) h, ← n, ← k) refl)
 
 -- ---- one relation
 
-module _ (ws marks t : List ℕ) (name at : ℕ) where
-  pub none-takes : at ≡ 0 → t ≡ takenBy ws marks t name at
-  unfolding takenBy
-  none-takes z = sym (rw (eq-eqb at 0 z) refl)
+module _ (ws : List ℕ) (start : ℕ) {count : ℕ} (e : count ≡ kindCount ws start) where
+  pub two-kinds : count ≡ 2 → (_≡_ {A = ℕ} 1 (pick (eqb (kindCount ws start) 2) 1 0)) × (1 ≤ 1)
+  two-kinds z = (sym (rw (← e, z) refl), omega arith)
 
-  pub one-takes : (at ≡ 0 → ⊥) → {place slot entity : ℕ} {kind : Kind} {t′ : List ℕ} → place ≡ getD marks name 0 - 2 → slot ≡ valueAt ws at → KindFound ws place slot kind
-      → entity ≡ valueAt ws (at + 2) → t′ ≡ takeAt t entity (kindIn kind) → t′ ≡ takenBy ws marks t name at
-  unfolding takenBy kindMarked
-  one-takes z {place} {slot} {entity} q s k e h =
-      h ∙ ap (takeAt t entity) (k .is ∙ ap (λ (n : ℕ). kindAt (namesAt ws n) slot) q) ∙ sym (rw (ne-eqb at 0 z, ← e, ← s) refl)
+  pub other-kinds : (count ≡ 2 → ⊥) → (_≡_ {A = ℕ} 0 (pick (eqb (kindCount ws start) 2) 1 0)) × (0 ≤ 1)
+  other-kinds z = (sym (rw (← e, ne-eqb count 2 z) refl), omega arith)
+
+module _ (ws starts slots acts t : List ℕ) (name : ℕ) {at x : ℕ} (s : at ≡ getD slots name 0) (m : x ≡ getD acts name 0 % 131072) where
+  part-none : at ≡ 0 → partFor ws (getD starts name 0) (getD slots name 0) ≡ pick (eqb (kindCount ws (getD starts name 0)) 2) 1 0
+  unfolding partFor
+  part-none z = rw (← s, eq-eqb at 0 z) refl
+
+  part-some : (at ≡ 0 → ⊥) → partFor ws (getD starts name 0) (getD slots name 0) ≡ at
+  unfolding partFor
+  part-some z = rw (← s, ne-eqb at 0 z) refl
+
+  -- without a derivation nothing is taken
+  pub plain-read : at ≡ 0 → {start k y : ℕ} → start ≡ getD starts name 0 → k ≡ pick (eqb (kindCount ws start) 2) 1 0 → y ≡ x + 131072 * k → RelationRead ws starts slots acts t name (set acts name y) t
+  unfolding actFor takenBy
+  plain-read z {start} {k} {y} b e q =
+      let is : y ≡ actFor ws starts slots name (getD acts name 0) = q ∙ rw (part-none z, ← b, ← e, ← m) refl in
+      record { tells = ap (set acts name) is; takes = sym (rw (← s, eq-eqb at 0 z) refl) }
+
+  pub derived-read : (at ≡ 0 → ⊥) → {list slot entity y : ℕ} {kind : Kind} {t′ : List ℕ} → list ≡ x % 131072 - 2 → slot ≡ valueAt ws at → KindFound ws list slot kind
+      → entity ≡ valueAt ws (at + 2) → t′ ≡ takeAt t entity (kindIn kind) → y ≡ x + 131072 * at → RelationRead ws starts slots acts t name (set acts name y) t′
+  unfolding actFor takenBy kindMarked
+  derived-read z {list} {slot} {entity} {y} q o k e h w =
+      let l : list ≡ listIn (getD acts name 0) = omega arith in
+      let is : y ≡ actFor ws starts slots name (getD acts name 0) = w ∙ rw (part-some z, ← m) refl in
+      record {
+        tells = ap (set acts name) is;
+        takes = h ∙ ap (takeAt t entity) (k .is ∙ ap (λ (n : ℕ). kindAt (namesAt ws n) slot) l) ∙ sym (rw (← s, ne-eqb at 0 z, ← e, ← o) refl);
+      }
 
 -- ---- all relations
 
-module _ (ws slots marks names t₀ : List ℕ) where
-  -- what is left to take gives what the whole gives
-  pub record Taken (t : List ℕ) (j : ℕ) : Type 0 where
-    pub todo : takenIn ws slots marks names t₀ ≡ takenIn ws slots marks (drop j names) t
+module _ (ws starts slots names acts₀ t₀ : List ℕ) where
+  -- what is left to read gives what the whole gives, and the lists are those of before
+  pub record Reading (acts t : List ℕ) (j : ℕ) : Type 0 where
+    pub acting : actsFrom ws starts slots names acts₀ ≡ actsFrom ws starts slots (drop j names) acts
+    pub taking : takenIn ws slots acts₀ names t₀ ≡ takenIn ws slots acts₀ (drop j names) t
+    pub lists : (m : ℕ) → listIn (getD acts m 0) ≡ listIn (getD acts₀ m 0)
+    pub long : length acts ≡ length acts₀
 
-  pub begin : Taken t₀ 0
-  begin = record { todo = refl }
+  pub begin : Reading acts₀ t₀ 0
+  begin = record { acting = refl; taking = refl; lists = λ m. refl; long = refl }
 
-  module _ {t : List ℕ} {j : ℕ} (s : Taken t j) where
-    pub taken-all : length names ≤ j → t ≡ takenIn ws slots marks names t₀
-    unfolding takenIn
-    taken-all h = sym (s .todo ∙ rw (drop-of-length-le names h) refl)
+  module _ {acts t : List ℕ} {j : ℕ} (s : Reading acts t j) where
+    pub read-all : length names ≤ j → RelationsRead ws starts slots names acts₀ t₀ acts t
+    unfolding takenIn actsFrom
+    read-all h =
+        record {
+          tells = sym (s .acting ∙ rw (drop-of-length-le names h) refl);
+          takes = sym (s .taking ∙ rw (drop-of-length-le names h) refl);
+        }
 
-    pub taken-next : j < length names → {t′ : List ℕ} → t′ ≡ takenBy ws marks t (getD names j 0) (getD slots (getD names j 0) 0) → Taken t′ (j + 1)
-    unfolding takenIn
-    taken-next h e = record { todo = s .todo ∙ rw (drop-cons names j 0 h, add-one j, e) refl }
+    taken-same : (name at : ℕ) → takenBy ws acts t name at ≡ takenBy ws acts₀ t name at
+    unfolding takenBy kindMarked
+    taken-same name at = rw (s .lists name) refl
 
-pub name-low : (most : ℕ) (names : List ℕ) → NamesLow most names → (j : ℕ) → getD names j 0 < most
+    list-kept : (name y : ℕ) → listIn y ≡ listIn (getD acts name 0) → (m : ℕ) → listIn (getD (set acts name y) m 0) ≡ listIn (getD acts m 0)
+    list-kept name y e m = go (eqb m name) refl
+      where
+        go : (b : Bool) → eqb m name ≡ b → listIn (getD (set acts name y) m 0) ≡ listIn (getD acts m 0)
+        go false q = ap listIn (getD-set-other acts name m y 0 (eqb-false m name q))
+        go true q = rw (eqb-true m name q) (within (ltb name (length acts)) refl)
+          where
+            within : (b : Bool) → ltb name (length acts) ≡ b → listIn (getD (set acts name y) name 0) ≡ listIn (getD acts name 0)
+            within true l = ap listIn (getD-set-same acts name y 0 (ltb-true name (length acts) l)) ∙ e
+            within false l =
+                let past : length acts ≤ name = ltb-false name (length acts) l in
+                ap listIn (List·getD-eq-default (set acts name y) 0 (omega (arith, length-set acts name y)) ∙ sym (List·getD-eq-default acts 0 past))
+
+    pub read-next : j < length names → {acts′ t′ : List ℕ} → RelationRead ws starts slots acts t (getD names j 0) acts′ t′ → Reading acts′ t′ (j + 1)
+    unfolding takenIn actsFrom actFor
+    read-next h r =
+        let n : ℕ = getD names j 0 in
+        let y : ℕ = actFor ws starts slots n (getD acts n 0) in
+        let same : listIn y ≡ listIn (getD acts n 0) = omega arith in
+        record {
+          acting = s .acting ∙ rw (drop-cons names j 0 h, add-one j, r .tells) refl;
+          taking = s .taking ∙ rw (drop-cons names j 0 h, add-one j, r .takes, taken-same n (getD slots n 0)) refl;
+          lists = λ m. ap (λ (l : List ℕ). listIn (getD l m 0)) (r .tells) ∙ list-kept n y same m ∙ s .lists m;
+          long = ap length (r .tells) ∙ length-set acts n y ∙ s .long;
+        }
+
+-- the name of the j-th relation
+pub name-low : (most : ℕ) (dir : List ℕ) (count j : ℕ) {n : ℕ} → NamesLow most (namesIn dir count) → j < count → n ≡ getD dir j 0 → n < most
 unfolding NamesLow
-name-low most names h j = h j
+name-low most dir count j h i e = omega (arith, h j, name-here dir count j i)

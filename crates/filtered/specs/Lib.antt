@@ -1,4 +1,5 @@
 pub mod Filtered
 pub mod FilteredTables
+pub mod Acts
 pub mod Taking
 pub mod Said

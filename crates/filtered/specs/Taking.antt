@@ -14,7 +14,9 @@ use Rattle.chains.specs.Reach.{any}
 use Rattle.filtered.specs.Filtered.{kindAt, taken, namesEntity}
 use Rattle.chains.specs.Places.{namesAt}
 use Rattle.chains.specs.Record.{valueAt}
-use Rattle.chains.specs.AllKinds.{Noted, KindsMarked}
+use Rattle.chains.specs.Kinds.{allKinds}
+use Rattle.chains.specs.AllKinds.{Noted}
+use Rattle.filtered.specs.Acts.{listIn, actFor, actsFrom, ActsOf}
 
 -- the code's kind as an option
 abbrev pub kindIn : Kind → Option ℕ
@@ -50,18 +52,30 @@ takenAfter x (some k) = pick (ltb x 2) (2 + k) (pick (eqb x (2 + k)) x several)
 unfoldable pub takeAt : List ℕ → ℕ → Option ℕ → List ℕ
 takeAt t e kind = pick (ltb e (length t)) (set t e (takenAfter (namedAfter (getD t e 0)) kind)) t
 
--- the kind at a slot of a name, from the marks of all names
+-- the kind at a slot of a name, from what is known of all names
 unfoldable pub kindMarked : List ℕ → List ℕ → ℕ → ℕ → Option ℕ
-kindMarked ws marks name slot = kindAt (namesAt ws (getD marks name 0 - 2)) slot
+kindMarked ws acts name slot = kindAt (namesAt ws (listIn (getD acts name 0))) slot
 
 -- after the relation of a name, whose slots stand at a place, 0 without a derivation: its entity (19) takes the kind at its current slot (17)
 unfoldable pub takenBy : List ℕ → List ℕ → List ℕ → ℕ → ℕ → List ℕ
-takenBy ws marks t name at = pick (eqb at 0) t (takeAt t (valueAt ws (at + 2)) (kindMarked ws marks name (valueAt ws at)))
+takenBy ws acts t name at = pick (eqb at 0) t (takeAt t (valueAt ws (at + 2)) (kindMarked ws acts name (valueAt ws at)))
 
 -- after the relations of some names
 unfoldable pub takenIn : List ℕ → List ℕ → List ℕ → List ℕ → List ℕ → List ℕ
-takenIn ws slots marks [] t = t
-takenIn ws slots marks (n ∷ ns) t = takenIn ws slots marks ns (takenBy ws marks t n (getD slots n 0))
+takenIn ws slots acts [] t = t
+takenIn ws slots acts (n ∷ ns) t = takenIn ws slots acts ns (takenBy ws acts t n (getD slots n 0))
+
+-- ---- the relations, one after the other
+
+-- what one leaves in both tables
+pub record RelationRead (ws starts slots acts taken : List ℕ) (n : ℕ) (acts′ taken′ : List ℕ) : Type 0 where
+  pub tells : acts′ ≡ set acts n (actFor ws starts slots n (getD acts n 0))
+  pub takes : taken′ ≡ takenBy ws acts taken n (getD slots n 0)
+
+-- and all of them
+pub record RelationsRead (ws starts slots names acts taken acts′ taken′ : List ℕ) : Type 0 where
+  pub tells : acts′ ≡ actsFrom ws starts slots names acts
+  pub takes : taken′ ≡ takenIn ws slots acts names taken
 
 -- they are so many names at most
 unfoldable pub NamesLow : ℕ → List ℕ → Type 0
@@ -69,10 +83,11 @@ NamesLow most names = (j : ℕ) → getD names j 0 < most
 
 -- what is known of every entity of a checked pack
 pub record Known (ws t : List ℕ) : Type 0 where
-  pub holds : (p : Pack) → read ws ≡ yes p → (e : ℕ) → e < 4096 → getD t e 0 ≡ known (any (λ r. namesEntity e (r .derivation)) (p .relations)) (taken (p .relations) e)
+  pub holds : (p : Pack) → read ws ≡ yes p → (e : ℕ) → getD t e 0 ≡ known (any (λ r. namesEntity e (r .derivation)) (p .relations)) (taken (p .relations) e)
 
--- the tables of a checked pack: the relations' names in record order, the places where their records start, the marks of their kinds, and what is known of entities
-pub record Filled (ws names records marks taken : List ℕ) (steps : ℕ) : Type 0 where
+-- the tables of a checked pack: the relations' names in record order, the places where their records start, what aggregates over them do, and what is known of entities
+pub record Filled (ws names records acts taken : List ℕ) (steps : ℕ) : Type 0 where
   pub noted : Noted ws names records
-  pub marked : KindsMarked ws steps names marks
+  pub counts : (p : Pack) → read ws ≡ yes p → steps ≡ allKinds (p .relations) .steps
+  pub says : ActsOf ws acts
   pub knows : Known ws taken

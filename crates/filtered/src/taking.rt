@@ -1,18 +1,24 @@
 // The kinds that entities take from the derivations that name them, by name.
+use crate::act::Act;
+use crate::act::list;
 use chains::entry::name_at;
 use chains::entry::slots;
+use chains::entry::start;
+use chains::record::kind_count;
 use chains::record::value_at;
 use chains::settle::ByName;
-use chains::settle::Mark;
 use chains::settle::settle_all;
 use pack::kinds::Pack;
 use records::directory::Layout;
 ghost use mathlib.Core.Path.{_≡_};
-ghost use Prim.Native.Nat.{_-_, _<_, _≤_};
-ghost use lib.ListN.{length, getD};
+ghost use Prim.Native.Nat.{_+_, _<_, _≤_};
+ghost use lib.ListN.{length};
+ghost use lib.Dec.{eqb};
+ghost use Rattle.pack.specs.Table.{pick};
+ghost use Rattle.chains.specs.Record.{kindCount};
 ghost use Rattle.chains.specs.Entry.{Reaches, startsIn, slotsIn, namesIn};
 ghost use Rattle.chains.specs.AllKinds.{Lent, IsDirectory};
-ghost use Rattle.filtered.specs.Taking.{kindIn, Small, KindFound, namedAfter, takenAfter, takeAt, takenBy, takenIn, NamesLow, Known, Filled};
+ghost use Rattle.filtered.specs.Taking.{kindIn, Small, KindFound, namedAfter, takenAfter, takeAt, RelationRead, RelationsRead, NamesLow, Known, Filled};
 
 // A relation's kind at a slot, where it is known.
 pub enum Kind {
@@ -55,18 +61,6 @@ pub fn kind_at(pack: &[u32], place: u32, slot: u32) -> Kind
     Kind::Is(pack[at + 1 + slot as usize] % Pack::VALUES)
 }
 
-// The place of the list that settles a name, 0 for none.
-pub fn place_of(marks: &[u32], name: usize) -> u32
-    requires { ⌜ name < length (now marks) ⌝ }
-    ensures { λ r. ⌜ r ≡ getD (now (marks .entry)) name 0 - 2 ⌝ }
-{
-    let m = marks[name];
-    if m < Mark::SETTLED {
-        return 0;
-    }
-    m - Mark::SETTLED
-}
-
 // An entity that one more derivation names.
 fn named_after(x: u32) -> u32
     ensures { λ r. ⌜ r ≡ namedAfter x ⌝ }
@@ -104,45 +98,60 @@ pub fn take_at(table: &mut [u32], entity: u32, kind: Kind)
     table[e] = taken_after(x, kind);
 }
 
-// The relation of a name, whose slots stand at a place: its entity takes the kind at its current slot. At 0 there are none.
-fn take_slots(pack: &[u32], marks: &[u32], table: &mut [u32], name: usize, at: usize)
-    requires { ⌜ (name < length (now marks)) × (at ≤ 65536) ⌝ }
-    ensures { λ r. ⌜ now (table .exit) ≡ takenBy (now (pack .entry)) (now (marks .entry)) (now (table .entry)) name at ⌝ }
+// The part of a relation without derivation, whose record starts at a place: it is typed with two slot kinds.
+fn typed(pack: &[u32], start: usize) -> u32
+    requires { ⌜ start ≤ 65536 ⌝ }
+    ensures { λ r. ⌜ (r ≡ pick (eqb (kindCount (now (pack .entry)) start) 2) 1 0) × (r ≤ 1) ⌝ }
 {
-    if at == 0 {
-        return;
+    if kind_count(pack, start) == 2 {
+        return Act::TYPED;
     }
-    let kind = kind_at(pack, place_of(marks, name), value_at(pack, at));
-    take_at(table, value_at(pack, at + 2), kind);
+    Act::NEITHER
 }
 
-// What every derivation's entity takes, from the directory of so many relations and their marks.
-fn take_all(pack: &[u32], dir: &[u32], count: u32, marks: &[u32], table: &mut [u32])
-    requires { ⌜ (count ≤ 512) × NamesLow (length (now marks)) (namesIn (now dir) count) × Reaches (now dir) (length (now marks)) ⌝ }
-    ensures { λ r. ⌜ now (table .exit) ≡ takenIn (now (pack .entry)) (slotsIn (now (dir .entry))) (now (marks .entry)) (namesIn (now (dir .entry)) count) (now (table .entry)) ⌝ }
+// The relation of a name: what an aggregate over it does; and with a derivation its entity takes the kind at its current slot.
+fn read_relation(pack: &[u32], dir: &[u32], acts: &mut [u32], taken: &mut [u32], name: usize)
+    requires { ⌜ (name < length (now acts)) × Reaches (now dir) (name + 1) ⌝ }
+    ensures { λ r. ⌜ RelationRead (now (pack .entry)) (startsIn (now (dir .entry))) (slotsIn (now (dir .entry))) (now (acts .entry)) (now (taken .entry)) name (now (acts .exit)) (now (taken .exit)) ⌝ }
+{
+    let at = slots(dir, name);
+    let x = acts[name] % Act::MARKS;
+    if at == 0 {
+        acts[name] = x + Act::MARKS * typed(pack, start(dir, name));
+        return;
+    }
+    let kind = kind_at(pack, list(x), value_at(pack, at));
+    take_at(taken, value_at(pack, at + 2), kind);
+    acts[name] = x + Act::MARKS * at as u32;
+}
+
+// So many relations in record order.
+fn read_relations(pack: &[u32], dir: &[u32], count: u32, acts: &mut [u32], taken: &mut [u32])
+    requires { ⌜ (count ≤ 512) × NamesLow (length (now acts)) (namesIn (now dir) count) × Reaches (now dir) (length (now acts)) ⌝ }
+    ensures { λ r. ⌜ RelationsRead (now (pack .entry)) (startsIn (now (dir .entry))) (slotsIn (now (dir .entry))) (namesIn (now (dir .entry)) count) (now (acts .entry)) (now (taken .entry)) (now (acts .exit)) (now (taken .exit)) ⌝ }
 {
     let mut j: u32 = 0;
     while j < count {
-        let name = name_at(dir, j as usize);
-        take_slots(pack, marks, table, name, slots(dir, name));
+        read_relation(pack, dir, acts, taken, name_at(dir, j as usize));
         j += 1;
     }
 }
 
-// The tables of a checked pack, which hold zeros before; the answer is the number of declarations read.
+// The tables of a checked pack, which hold zeros before: the marks of the chain walk become what aggregates do. The answer is the
+// number of declarations read.
 pub fn read_tables(
     pack: &[u32],
     l: Layout,
     dir: &[u32],
-    marks: &mut [u32],
+    acts: &mut [u32],
     taken: &mut [u32],
 ) -> u32
-    requires { ⌜ IsDirectory (now pack) l (now dir) × Lent (l .names) (now marks) × Reaches (now dir) (length (now marks)) × Lent (l .names) (now taken) ⌝ }
-    ensures { λ r. ⌜ Filled (now (pack .entry)) (namesIn (now (dir .entry)) (l .relations)) (startsIn (now (dir .entry))) (now (marks .exit)) (now (taken .exit)) r ⌝ }
+    requires { ⌜ IsDirectory (now pack) l (now dir) × Lent (l .names) (now acts) × Reaches (now dir) (length (now acts)) × Lent (l .names) (now taken) ⌝ }
+    ensures { λ r. ⌜ Filled (now (pack .entry)) (namesIn (now (dir .entry)) (l .relations)) (startsIn (now (dir .entry))) (now (acts .exit)) (now (taken .exit)) r ⌝ }
 {
     let count = l.relations;
-    let steps = settle_all(dir, marks, count);
-    take_all(pack, dir, count, marks, taken);
+    let steps = settle_all(dir, acts, count);
+    read_relations(pack, dir, count, acts, taken);
     steps
 }
 

@@ -11,8 +11,12 @@ use Rattle.filtered.proofs.taking.read_tables.Tie as tie
 settle-all-requires : tie.Need-settle-all-requires
 settle-all-requires c κs = let d = (c .before .before .before .before .before .pre .0) in (few-relations d, settleable d (c .before .before .before .before .before .pre .1), c .before .before .before .before .before .pre .2)
 
-take-all-requires : tie.Need-take-all-requires
-take-all-requires c κs = let d = (c .before .before .before .before .before .before .before .before .before .before .pre .0) in (few-relations d, takeable d (kinds-marked d (c .before .before .before .before .before .before .before .before .before .before .pre .1) (c .before .before .before .before .settle-all .ensures)) (omega (arith, c .before .before .before .before .before .before .before .before .before .before .pre .1 .long, c .before .before .before .before .settle-all .ensures .long)), subst (Reaches (c .before .before .before .before .before .before .before .before .before .before .args .dir .now)) (sym (c .before .before .before .before .settle-all .ensures .long)) (c .before .before .before .before .before .before .before .before .before .before .pre .2))
+read-relations-requires : tie.Need-read-relations-requires
+read-relations-requires c κs =
+    let at = c .before .before .before .before .before .before .before .before .before .before in
+    let d = at .pre .0 in
+    let s = c .before .before .before .before .settle-all .ensures in
+    (few-relations d, takeable d (kinds-marked d (at .pre .1) s) (s .marked) (omega (arith, at .pre .1 .long, s .long)), subst (Reaches (at .args .dir .now)) (sym (s .long)) (at .pre .2))
 
 same-length : tie.Need-same-length
 same-length c = search needs
@@ -21,8 +25,11 @@ same-length-2 : tie.Need-same-length-2
 same-length-2 c = search needs
 
 returns : tie.Need-returns
-returns c = let d = (c .before .before .before .before .before .before .before .before .before .before .before .before .before .pre .0) in filled d (kinds-marked d (c .before .before .before .before .before .before .before .before .before .before .before .before .before .pre .1) (c .before .before .before .before .before .before .before .settle-all .ensures)) (c .before .before .before .before .before .before .before .before .before .before .before .before .before .pre .3) (c .before .before .take-all .ensures)
+returns c =
+    let at = c .before .before .before .before .before .before .before .before .before .before .before .before .before .before .before in
+    let s = c .before .before .before .before .before .before .before .before .before .settle-all .ensures in
+    filled (at .pre .0) (kinds-marked (at .pre .0) (at .pre .1) s) (s .marked) (omega (arith, at .pre .1 .long, s .long)) (at .pre .3) (c .before .before .before .before .read-relations .ensures)
 
 pub read-tables-spec : {M : Type 1} → statement M
 read-tables-spec =
-    tie.close (tie.spec settle-all-requires take-all-requires same-length same-length-2 returns)
+    tie.close (tie.spec settle-all-requires read-relations-requires same-length same-length-2 returns)
