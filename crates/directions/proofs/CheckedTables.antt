@@ -1,58 +1,55 @@
 -- Of a checked pack, the tables that the code reads are those that resolving uses.
-use Prim.Native.Nat.{ℕ, _-_, _≤_}
+use Prim.Native.Nat.{ℕ, _+_, _*_, _<_, _≤_}
 use native.Mathlib.Omega.{arith}
 use mathlib.Core.Path.{_≡_, refl, ap, sym, _∙_, subst, fun-ext}
 use mathlib.Core.List.{List, [], _∷_}
-use mathlib.Core.Bool.{Bool, true, false, _||_}
+use mathlib.Core.Bool.{Bool, true, false}
 use mathlib.Core.Option.{Option, none, some}
-use lib.ListN.{getD}
+use lib.ListN.{length, getD}
 use lib.Dec.{eqb, ltb}
-use borrow.Author.Tests.{ne-eqb, eqb-true, ltb-true, ltb-false}
-use Rattle.pack.specs.Table.{pick, table, entryOf}
-use Rattle.pack.specs.Table as table
-use Rattle.pack.specs.Form.{among, allowedHere, items, Fine}
-use Rattle.pack.specs.Pack.{Derivation, Relation, Pack, WellFormed, yes, read, words, derivation, member, optionalDerivation, relationTail}
+use borrow.Author.Tests.{ne-eqb, lt-ltb, le-ltb}
+use Rattle.pack.specs.Table.{pick}
+use Rattle.pack.specs.Pack.{Derivation, Relation, Pack, WellFormed, yes, read, words}
 use Rattle.pack.proofs.PackLaws.{words-read}
-use Rattle.chains.specs.Kinds.{find, declared, kindsOf, ownAnswer}
+use Rattle.chains.specs.Chain.{Step, end, own, walk}
+use Rattle.chains.specs.Kinds.{list9, Answer, from, find, kindStep, kindsOf, ownAnswer}
+use Rattle.chains.specs.Places.{startOf, firstRelation, hops, placeOf, namesAt}
+use Rattle.chains.specs.AllKinds.{slotsOf}
+use Rattle.filtered.specs.Acts.{actPart, actList, partOf, ActsOf}
 use Rattle.filtered.specs.Filtered.{direct}
-use Rattle.chains.specs.Places.{startOf, firstRelation, placeOf, namesAt}
-use Rattle.chains.specs.AllKinds.{Noted, KindsMarked}
 use Rattle.filtered.specs.Taking.{Known}
 use Rattle.filtered.specs.Said.{directIn}
-use Rattle.chains.proofs.PackIndex.{parts}
-use Rattle.chains.proofs.ListAt.{InWords, place-holds}
-use Rattle.chains.proofs.DeclarationLaws.{no-record, a-record, standing}
-use Rattle.filtered.proofs.EntityBounds.{no-direct}
+use Rattle.chains.proofs.PackIndex.{parts, find-name}
+use Rattle.chains.proofs.ListAt.{InWords, in-pack, place-holds}
+use Rattle.filtered.proofs.ActLaws.{found-among}
 use Rattle.filtered.proofs.SaysLaws.{direct-in}
-use Rattle.directions.specs.Tables.{derivedAt, typedAt, Tables, tables}
-use Rattle.directions.specs.Words.{directBy, typedIn, derivedIn, tablesIn}
+use Rattle.directions.specs.Tables.{derivedBy, derivedAt, typedBy, typedAt, Tables, tables}
+use Rattle.directions.specs.Words.{typedIn, derivedIn, tablesIn}
 use Rattle.directions.specs.Records.{KindsReady, Tabled}
-use Rattle.directions.proofs.TablesLaws.{typed-read, derived-read}
+use Rattle.directions.proofs.TablesLaws.{two-kinds, derived-there}
 
--- ---- the names of records
+one-or-none : (b : Bool) → pick b 1 0 < 2
+one-or-none true = omega arith
+one-or-none false = omega arith
 
-pub found-among : (m : ℕ) (rs : List Relation) (r : Relation) → find m rs ≡ some r → among m (declared rs) ≡ true
-unfolding find
-found-among m [] r e = let z : _≡_ {A = ℕ} 0 1 = cc in absurd (omega arith)
-found-among m (s ∷ rs) r e = go (eqb m (s .name)) e (found-among m rs r)
-  where
-    go : (b : Bool) → pick b (some s) (find m rs) ≡ some r → (find m rs ≡ some r → among m (declared rs) ≡ true) → (b || among m (declared rs)) ≡ true
-    go true e ih = refl
-    go false e ih = ih e
+-- a relation without derivation and with kinds is settled by its list 9
+module _ (p : Pack) (m : ℕ) (r : Relation) (e : find m (p .relations) ≡ some r) (plain : r .derivation ≡ none) (k : ℕ) (ks : List ℕ) (has : r .slotKinds ≡ k ∷ ks) where
+  abbrev its : Answer
+  its = some (record { owner = r .name; which = list9 })
 
-pub not-among : (m : ℕ) (rs : List Relation) → find m rs ≡ none → among m (declared rs) ≡ false
-unfolding find
-not-among m [] e = refl
-not-among m (s ∷ rs) e = go (eqb m (s .name)) e (not-among m rs)
-  where
-    go : (b : Bool) → pick b (some s) (find m rs) ≡ none → (find m rs ≡ none → among m (declared rs) ≡ false) → (b || among m (declared rs)) ≡ false
-    go true e ih = let z : _≡_ {A = ℕ} 0 1 = cc in absurd (omega arith)
-    go false e ih = ih e
+  step-is : kindStep (p .relations) m ≡ from (r .name) list9
+  unfolding kindStep
+  step-is = rw (e, plain, has) refl
 
--- ---- the tables
+  own-is : ownAnswer (p .relations) m ≡ its
+  unfolding own walk
+  own-is = rw (step-is, own, walk) refl
 
-module _ (ws records marks taken₀ names : List ℕ) (steps : ℕ) (p : Pack) (h : read ws ≡ yes p) (noted : Noted ws names records) (marked : KindsMarked ws steps names marks)
-    (knows : Known ws taken₀) where
+  pub own-list : placeOf p (ownAnswer (p .relations) m) ≡ startOf (p .names) m (firstRelation p) (p .relations) + 3
+  unfolding placeOf
+  own-list = ap (placeOf p) own-is ∙ rw (← find-name (p .relations) m r e, e) refl
+
+module _ (ws acts taken₀ : List ℕ) (p : Pack) (h : read ws ≡ yes p) (says : ActsOf ws acts) (knows : Known ws taken₀) where
   abbrev rs : List Relation
   rs = p .relations
 
@@ -65,68 +62,98 @@ module _ (ws records marks taken₀ names : List ℕ) (steps : ℕ) (p : Pack) (
   same : words p ≡ ws
   same = words-read ws p h .same
 
-  undeclared-at : (m : ℕ) → find m rs ≡ none → getD records m 0 ≡ 0
-  undeclared-at = no-record p w records (noted .placed p h)
-
-  pub declared-at : (m : ℕ) (r : Relation) → find m rs ≡ some r → getD records m 0 ≡ startOf n m (firstRelation p) rs
-  declared-at = a-record p w records (noted .placed p h)
-
-  -- the relation of a name stands where its record starts
-  module _ (m : ℕ) (r : Relation) (e : find m rs ≡ some r) where
-    record-some : getD records m 0 ≡ 0 → ⊥
-    record-some z = omega (arith, standing p w records (noted .placed p h) m r e .later)
-
-    stands : InWords ws (getD records m 0) n r
-    stands = subst (λ (v : List ℕ). InWords v (getD records m 0) n r) same (standing p w records (noted .placed p h) m r e .stands)
-
   abbrev T : Tables
-  T = tablesIn ws records marks taken₀
+  T = tablesIn ws acts taken₀
 
   abbrev U : Tables
   U = tables rs
 
-  typed-alike : (m : ℕ) → T .typed m ≡ U .typed m
-  unfolding tablesIn tables
-  typed-alike m = go (find m rs) refl
-    where
-      go : (o : Option Relation) → find m rs ≡ o → pick (eqb (getD records m 0) 0) none (typedIn ws (getD records m 0)) ≡ typedAt o
-      go none e = rw (undeclared-at m e) refl
-      go (some r) e = rw (ne-eqb (getD records m 0) 0 (record-some m r e)) (typed-read ws (getD records m 0) n r (stands m r e) (parts p w .most))
+  module _ (m : ℕ) where
+    abbrev x : ℕ
+    x = getD acts m 0
 
-  pub derived-alike : (m : ℕ) → T .derived m ≡ U .derived m
-  unfolding tablesIn tables
-  derived-alike m = go (find m rs) refl
-    where
-      go : (o : Option Relation) → find m rs ≡ o → pick (eqb (getD records m 0) 0) none (derivedIn ws (getD marks m 0 - 2) (getD records m 0)) ≡ derivedAt (kindsOf rs m) o
-      go none e = rw (undeclared-at m e) refl
-      go (some r) e =
-          let place : ℕ = getD marks m 0 - 2 in
-          let at : place ≡ placeOf p (ownAnswer rs m) = (let k = marked .marked p h m (found-among m rs r e) in omega arith) in
-          let kinds : namesAt ws place ≡ kindsOf rs m = ap (namesAt ws) at ∙ ap (λ (v : List ℕ). namesAt v (placeOf p (ownAnswer rs m))) (sym same) ∙ place-holds p w m in
-          rw (ne-eqb (getD records m 0) 0 (record-some m r e))
-          (derived-read ws (getD records m 0) n r (stands m r e) (parts p w .most) place ∙ ap (λ k. derivedAt k (some r)) kinds)
+    abbrev start : ℕ
+    start = startOf n m (firstRelation p) rs
 
-  direct-alike : (e : ℕ) → directBy taken₀ e ≡ direct rs e
-  direct-alike e = go (ltb e 4096) refl
-    where
-      go : (b : Bool) → ltb e 4096 ≡ b → pick b (directIn taken₀ e) none ≡ direct rs e
-      go true y = direct-in p h knows e (ltb-true e 4096 y)
-      go false y = let v = ltb-false e 4096 y in let t = parts p w .most in sym (no-direct p w e (omega arith))
+    part-is : actPart x ≡ partOf p m
+    part-is = says .parts p h m
 
-  pub tables-are : tablesIn ws records marks taken₀ ≡ tables rs
+    no-part : find m rs ≡ none → actPart x ≡ 0
+    unfolding partOf slotsOf
+    no-part e = part-is ∙ rw e refl
+
+    module _ (r : Relation) (e : find m rs ≡ some r) where
+      stands : InWords ws start n r
+      stands =
+          let q : m ≡ r .name = find-name rs m r e in
+          let f : find (r .name) rs ≡ some r = ap (λ (v : ℕ). find v rs) (sym q) ∙ e in
+          subst (λ (v : ℕ). InWords ws (startOf n v (firstRelation p) rs) n r) (sym q) (subst (λ (v : List ℕ). InWords v (startOf n (r .name) (firstRelation p) rs) n r) same (in-pack p w r f))
+
+      plain-part : r .derivation ≡ none → actPart x ≡ pick (eqb (length (r .slotKinds)) 2) 1 0
+      unfolding partOf slotsOf
+      plain-part d = part-is ∙ rw (e, d) refl
+
+      slots-part : (d : Derivation) → r .derivation ≡ some d → actPart x ≡ start + 7 + length (r .slotKinds) + 3 * hops (d .path)
+      unfolding partOf slotsOf
+      slots-part d q = part-is ∙ rw (e, q, ne-eqb (start + 7 + length (r .slotKinds) + 3 * hops (d .path)) 0 (λ z. omega arith)) refl
+
+      kinds-are : namesAt ws (actList x) ≡ kindsOf rs m
+      kinds-are = ap (namesAt ws) (says .lists p h m (found-among m rs r e)) ∙ ap (λ (v : List ℕ). namesAt v (placeOf p (ownAnswer rs m))) (sym same) ∙ place-holds p w m
+
+      typed-plain : r .derivation ≡ none → (ks : List ℕ) → r .slotKinds ≡ ks → typedIn ws x ≡ typedBy ks none
+      unfolding typedIn
+      typed-plain d [] k = rw (plain-part d, k) refl
+      typed-plain d (a ∷ []) k = rw (plain-part d, k) refl
+      typed-plain d (a ∷ b ∷ []) k =
+          let two = two-kinds ws start n r stands (parts p w .most) a b k in
+          let list : actList x ≡ start + 3 = says .lists p h m (found-among m rs r e) ∙ own-list p m r e d a (b ∷ []) k in
+          let one : start + 3 + 1 ≡ start + 4 = omega arith in
+          let next : start + 3 + 2 ≡ start + 5 = omega arith in
+          rw (plain-part d, k, list, one, next, two .0, two .1) refl
+      typed-plain d (a ∷ b ∷ c ∷ ks) k = rw (plain-part d, k, ne-eqb (length (a ∷ b ∷ c ∷ ks)) 2 (λ z. omega arith)) refl
+
+      typed-some : (o : Option Derivation) → r .derivation ≡ o → typedIn ws x ≡ typedBy (r .slotKinds) o
+      unfolding typedIn
+      typed-some none d = typed-plain d (r .slotKinds) refl
+      typed-some (some d) q = rw (slots-part d q, ne-eqb (start + 7 + length (r .slotKinds) + 3 * hops (d .path)) 1 (λ z. omega arith)) refl
+
+      derived-some : (o : Option Derivation) → r .derivation ≡ o → derivedIn ws x ≡ derivedBy (kindsOf rs m) o
+      unfolding derivedIn
+      derived-some none d = rw (lt-ltb (actPart x) 2 (rw (plain-part d) (one-or-none (eqb (length (r .slotKinds)) 2)))) refl
+      derived-some (some d) q =
+          let there = derived-there ws start n r stands (parts p w .most) d q (slots-part d q) in
+          let far : 2 ≤ actPart x = omega (arith, slots-part d q) in
+          rw (le-ltb (actPart x) 2 far, there .0, there .1, kinds-are) refl
+
+    typed-alike : T .typed m ≡ U .typed m
+    unfolding tablesIn tables typedIn
+    typed-alike = go (find m rs) refl
+      where
+        go : (o : Option Relation) → find m rs ≡ o → typedIn ws x ≡ typedAt o
+        go none e = rw (no-part e) refl
+        go (some r) e = typed-some r e (r .derivation) refl
+
+    pub derived-alike : T .derived m ≡ U .derived m
+    unfolding tablesIn tables derivedIn
+    derived-alike = go (find m rs) refl
+      where
+        go : (o : Option Relation) → find m rs ≡ o → derivedIn ws x ≡ derivedAt (kindsOf rs m) o
+        go none e = rw (no-part e) refl
+        go (some r) e = derived-some r e (r .derivation) refl
+
+  pub tables-are : tablesIn ws acts taken₀ ≡ tables rs
   unfolding tablesIn tables
   tables-are =
       let typed : T .typed ≡ U .typed = fun-ext typed-alike in
       let derived : T .derived ≡ U .derived = fun-ext derived-alike in
-      let directs : T .direct ≡ U .direct = fun-ext direct-alike in
+      let directs : T .direct ≡ U .direct = fun-ext (λ e. direct-in p h knows e) in
       λ i. record { typed = typed i; derived = derived i; direct = directs i }
 
--- the marks of kinds lead to the kinds of each declared name
-pub settled : {ws records marks taken : List ℕ} {steps : ℕ} → Tabled ws records marks taken steps → KindsReady ws marks
-settled {ws} {marks = marks} a =
+-- the lists lead to the kinds of each declared name
+pub settled : {ws records acts taken : List ℕ} {steps : ℕ} → Tabled ws records acts taken steps → KindsReady ws acts
+settled {ws} {acts = acts} a =
     record {
       kinds = λ q e m i.
           let v = words-read ws q e in
-          let at : getD marks m 0 - 2 ≡ placeOf q (ownAnswer (q .relations) m) = (let k = a .marked .marked q e m i in omega arith) in
-          ap (namesAt ws) at ∙ ap (λ (x : List ℕ). namesAt x (placeOf q (ownAnswer (q .relations) m))) (sym (v .same)) ∙ place-holds q (v .fine) m;
+          ap (namesAt ws) (a .filled .says .lists q e m i) ∙ ap (λ (x : List ℕ). namesAt x (placeOf q (ownAnswer (q .relations) m))) (sym (v .same)) ∙ place-holds q (v .fine) m;
     }

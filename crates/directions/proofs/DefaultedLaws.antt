@@ -7,16 +7,15 @@ use mathlib.Core.Bool.{Bool, true, false}
 use mathlib.Core.Option.{Option, none, some}
 use lib.ListN.{length, getD, length-append}
 use lib.Seq.{getD-at}
-use borrow.Author.Tests.{ltb-true}
-use Rattle.pack.specs.Table.{pick, valueOf, wordOf, entryOf, table}
+use Rattle.pack.specs.Table.{pick, valueOf, wordOf}
 use Rattle.pack.specs.Table as tables
-use Rattle.pack.specs.Form.{Fine, FineAll, wordsAll, wordsBy, allowedHere}
+use Rattle.pack.specs.Form.{Fine, FineAll, wordsAll, wordsBy}
 use Rattle.pack.specs.Pack.{Pack, yes, read, total, defaultedName, above}
 use Rattle.pack.proofs.PackLaws.{words-read}
 use Rattle.chains.proofs.PackIndex.{Parts, parts, split, relationsPart}
 use Rattle.directions.specs.Tables.{Tables}
 use Rattle.directions.specs.Resolving.{equalKinds, defaultedEqual}
-use Rattle.directions.specs.Words.{derivedBy, equalIn, firstEqual, DefaultedFit}
+use Rattle.directions.specs.Words.{derivedIn, equalIn, firstEqual}
 use Rattle.chains.specs.Record.{valueAt}
 use Rattle.chains.specs.ByName.{tableFrom}
 
@@ -24,10 +23,6 @@ use Rattle.chains.specs.ByName.{tableFrom}
 abbrev pub orNone : Option ℕ → ℕ
 orNone none = tables.none
 orNone (some n) = n
-
-below-names : (n v : ℕ) → allowedHere n 4 v ≡ true → v < n
-unfolding allowedHere entryOf table
-below-names n v e = ltb-true v n e
 
 module _ (ws : List ℕ) (n : ℕ) (most : n ≤ 4096) where
   abbrev NamesFine : ℕ → List ℕ → Type 0
@@ -46,18 +41,6 @@ module _ (ws : List ℕ) (n : ℕ) (most : n ≤ 4096) where
   front-length : (front : List ℕ) (w at : ℕ) → at ≡ length front → at + 1 ≡ length (front ++ (w ∷ []))
   front-length front w at e = let l = length-append front (w ∷ []) in omega arith
 
-  names-fit : (ns : List ℕ) (low : ℕ) (front rest : List ℕ) (at : ℕ) → at ≡ length front → NamesFine low ns → ws ≡ front ++ (nameWords low ns ++ rest)
-      → (i : ℕ) → i < length ns → valueAt ws (at + i) < n
-  unfolding defaultedName Fine wordsBy
-  names-fit [] low front rest at e f s i h = absurd (omega arith)
-  names-fit (v ∷ ns) low front rest at e f s zero h =
-      let q = name-at front (nameWords (above low v) ns ++ rest) v (at + 0) (f .0 .0 .0) (omega arith) s in
-      rw q (omega (arith, below-names n v (f .0 .0 .1)))
-  names-fit (v ∷ ns) low front rest at e f s (suc i) h =
-      let q = names-fit ns (above low v) (front ++ (wordOf 4 v ∷ [])) rest (at + 1) (front-length front (wordOf 4 v) at e) (f .1) (after front (nameWords (above low v) ns ++ rest) (wordOf 4 v) s) i (omega arith) in
-      let p : at + suc i ≡ at + 1 + i = omega arith in
-      rw p q
-
   names-are : (ns : List ℕ) (low : ℕ) (front rest : List ℕ) (at : ℕ) → at ≡ length front → NamesFine low ns → ws ≡ front ++ (nameWords low ns ++ rest)
       → tableFrom (valueAt ws) at (length ns) ≡ ns
   unfolding defaultedName Fine wordsBy
@@ -67,8 +50,8 @@ module _ (ws : List ℕ) (n : ℕ) (most : n ≤ 4096) where
       let r = names-are ns (above low v) (front ++ (wordOf 4 v ∷ [])) rest (suc at) (omega (arith, front-length front (wordOf 4 v) at e)) (f .1) (after front (nameWords (above low v) ns ++ rest) (wordOf 4 v) s) in
       rw (q, r) refl
 
-  module _ (records marks : List ℕ) (T : Tables) (same : (m : ℕ) → derivedBy ws records marks m ≡ T .derived m) where
-    equal-is : (m : ℕ) → equalIn ws records marks m ≡ equalKinds (T .derived m)
+  module _ (acts : List ℕ) (T : Tables) (same : (m : ℕ) → derivedIn ws (getD acts m 0) ≡ T .derived m) where
+    equal-is : (m : ℕ) → equalIn ws acts m ≡ equalKinds (T .derived m)
     unfolding equalIn
     equal-is m = ap equalKinds (same m)
 
@@ -77,7 +60,7 @@ module _ (ws : List ℕ) (n : ℕ) (most : n ≤ 4096) where
     pick-is false v o = refl
 
     first-is : (ns : List ℕ) (low : ℕ) (front rest : List ℕ) (at : ℕ) → at ≡ length front → NamesFine low ns → ws ≡ front ++ (nameWords low ns ++ rest)
-        → firstEqual ws records marks at (length ns) ≡ orNone (defaultedEqual T ns)
+        → firstEqual ws acts at (length ns) ≡ orNone (defaultedEqual T ns)
     unfolding defaultedName Fine wordsBy firstEqual defaultedEqual
     first-is [] low front rest at e f s = refl
     first-is (v ∷ ns) low front rest at e f s =
@@ -108,13 +91,7 @@ module _ (ws : List ℕ) (p : Pack) (h : read ws ≡ yes p) where
   pub defaulted-are : tableFrom (valueAt ws) 3 (valueAt ws 2) ≡ p .defaulted
   defaulted-are = ap (tableFrom (valueAt ws) 3) count-is ∙ names-are ws (p .names) (its .most) (p .defaulted) 0 front rest 3 refl (its .defaulted-fine) stands
 
-  pub defaulted-below : (i : ℕ) → i < valueAt ws 2 → valueAt ws (3 + i) < p .names
-  defaulted-below i g = names-fit ws (p .names) (its .most) (p .defaulted) 0 front rest 3 refl (its .defaulted-fine) stands i (rw count-is at g)
-
-  pub defaulted-fit : DefaultedFit ws
-  defaulted-fit = record { each = λ i g. omega (arith, defaulted-below i g, its .most) }
-
-  pub first-equal-is : (records marks : List ℕ) (T : Tables) → ((m : ℕ) → derivedBy ws records marks m ≡ T .derived m)
-      → firstEqual ws records marks 3 (valueAt ws 2) ≡ orNone (defaultedEqual T (p .defaulted))
-  first-equal-is records marks T same =
-      ap (firstEqual ws records marks 3) count-is ∙ first-is ws (p .names) (its .most) records marks T same (p .defaulted) 0 front rest 3 refl (its .defaulted-fine) stands
+  pub first-equal-is : (acts : List ℕ) (T : Tables) → ((m : ℕ) → derivedIn ws (getD acts m 0) ≡ T .derived m)
+      → firstEqual ws acts 3 (valueAt ws 2) ≡ orNone (defaultedEqual T (p .defaulted))
+  first-equal-is acts T same =
+      ap (firstEqual ws acts 3) count-is ∙ first-is ws (p .names) (its .most) acts T same (p .defaulted) 0 front rest 3 refl (its .defaulted-fine) stands

@@ -1,24 +1,20 @@
 -- What the code reads of a checked pack's relations are the tables that resolving uses.
-use Prim.Native.Nat.{ℕ, _+_, _≤_}
+use Prim.Native.Nat.{ℕ, _+_, _*_, _≤_}
 use native.Mathlib.Omega.{arith}
-use mathlib.Core.Path.{_≡_, refl, ap, sym, _∙_, subst}
+use mathlib.Core.Path.{_≡_, ap, sym, _∙_, subst}
 use mathlib.Core.List.{List, [], _∷_, _++_, append-assoc}
-use mathlib.Core.Option.{Option, none, some}
+use mathlib.Core.Option.{some}
 use lib.ListN.{length, length-append}
-use lib.Dec.{eqb}
-use borrow.Author.Tests.{ne-eqb}
-use Rattle.pack.specs.Table.{pick, wordOf}
+use Rattle.pack.specs.Table.{wordOf}
 use Rattle.pack.specs.Form.{wordsBy}
 use Rattle.pack.specs.Pack.{Derivation, Relation, optionalDerivation}
-use Rattle.chains.specs.Places.{namesAt}
+use Rattle.chains.specs.Places.{hops}
 use Rattle.chains.specs.Kinds.{list9}
-use Rattle.chains.specs.Record.{valueAt, kindCount, flagAt, slotsPlace}
+use Rattle.chains.specs.Record.{valueAt, slotsPlace}
 use Rattle.filtered.proofs.KindBounds.{Below, tail-below}
 use Rattle.chains.proofs.RelationScan.{kept}
 use Rattle.chains.proofs.ListAt.{nameWords, InWords}
-use Rattle.chains.proofs.RecordLaws.{value-there, counted, no-flag, a-flag, current-there, related-there, after-nine, nine-words, nine-length}
-use Rattle.directions.specs.Tables.{derivedBy, pair, typedBy}
-use Rattle.directions.specs.Words.{typedIn, derivedIn}
+use Rattle.chains.proofs.RecordLaws.{value-there, slots-at, current-there, related-there, after-nine, nine-words, nine-length}
 
 module _ (ws : List ℕ) (start n : ℕ) (r : Relation) (i : InWords ws start n r) (most : n ≤ 4096) where
   abbrev ks : List ℕ
@@ -33,7 +29,7 @@ module _ (ws : List ℕ) (start n : ℕ) (r : Relation) (i : InWords ws start n 
   kinds-below : Below n ks
   kinds-below = tail-below n r (kept n (i .used) r (i .fine) .tail) list9
 
-  two-kinds : (a b : ℕ) → ks ≡ a ∷ b ∷ [] → (valueAt ws (start + 4) ≡ a) × (valueAt ws (start + 5) ≡ b)
+  pub two-kinds : (a b : ℕ) → ks ≡ a ∷ b ∷ [] → (valueAt ws (start + 4) ≡ a) × (valueAt ws (start + 5) ≡ b)
   two-kinds a b e =
       let w : ws ≡ after ++ (nameWords (a ∷ b ∷ []) ++ later) = nine-words ws start n r i most ∙ ap (λ (l : List ℕ). after ++ (nameWords l ++ later)) e in
       let f : Below n (a ∷ b ∷ []) = subst (Below n) e kinds-below in
@@ -43,25 +39,8 @@ module _ (ws : List ℕ) (start n : ℕ) (r : Relation) (i : InWords ws start n 
             (omega (arith, f .1 .0)),
       )
 
-  pub read-pair : (l : List ℕ) → ks ≡ l → pick (eqb (kindCount ws start) 2) (some (valueAt ws (start + 4) ∷ valueAt ws (start + 5) ∷ [])) none ≡ pair l
-  read-pair [] e = rw (counted ws start n r i most ∙ ap length e) refl
-  read-pair (a ∷ []) e = rw (counted ws start n r i most ∙ ap length e) refl
-  read-pair (a ∷ b ∷ []) e = let t = two-kinds a b e in rw (counted ws start n r i most ∙ ap length e, t .0, t .1) refl
-  read-pair (a ∷ b ∷ c ∷ l) e = rw (counted ws start n r i most ∙ ap length e, ne-eqb (length (a ∷ b ∷ c ∷ l)) 2 (λ z. omega arith)) refl
-
-  pub typed-read : typedIn ws start ≡ typedBy ks (r .derivation)
-  unfolding typedIn
-  typed-read = go (r .derivation) refl
-    where
-      go : (o : Option Derivation) → r .derivation ≡ o → pick (eqb (flagAt ws start) 1) none (pick (eqb (kindCount ws start) 2) (some (valueAt ws (start + 4) ∷ valueAt ws (start + 5) ∷ [])) none) ≡ typedBy ks o
-      go none e = rw (no-flag ws start n r i most e) (read-pair ks refl)
-      go (some d) e = rw (a-flag ws start n r i most d e) refl
-
-  pub derived-read : (place : ℕ) → derivedIn ws place start ≡ derivedBy (namesAt ws place) (r .derivation)
-  unfolding derivedIn
-  derived-read place = go (r .derivation) refl
-    where
-      go : (o : Option Derivation) → r .derivation ≡ o
-          → pick (eqb (flagAt ws start) 1) (some (record { current = valueAt ws (slotsPlace ws start); related = valueAt ws (slotsPlace ws start + 1); kinds = namesAt ws place })) none ≡ derivedBy (namesAt ws place) o
-      go none e = rw (no-flag ws start n r i most e) refl
-      go (some d) e = rw (a-flag ws start n r i most d e, current-there ws start n r i most d e, related-there ws start n r i most d e) refl
+  -- a derived relation, by the place of its slots
+  pub derived-there : (d : Derivation) → r .derivation ≡ some d → {part : ℕ} → part ≡ start + 7 + length ks + 3 * hops (d .path) → (valueAt ws part ≡ d .current) × (valueAt ws (part + 1) ≡ d .related)
+  derived-there d e q =
+      let at : _ ≡ slotsPlace ws start = q ∙ sym (slots-at ws start n r i most d e) in
+      (ap (valueAt ws) at ∙ current-there ws start n r i most d e, ap (λ (x : ℕ). valueAt ws (x + 1)) at ∙ related-there ws start n r i most d e)

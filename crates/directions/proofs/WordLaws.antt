@@ -5,7 +5,7 @@ use mathlib.Core.Path.{_≡_, refl, ap, sym, subst, _∙_}
 use mathlib.Core.List.{List, [], _∷_}
 use mathlib.Core.Bool.{Bool, true, false}
 use mathlib.Core.Option.{Option, none, some}
-use lib.ListN.{getD}
+use lib.ListN.{length, getD, List·getD-eq-default}
 use lib.Dec.{eqb}
 use borrow.Author.Tests.{eq-eqb, ne-eqb, eqb-true, eqb-false, lt-ltb, le-ltb}
 use Rattle.pack.specs.Table.{pick}
@@ -14,6 +14,7 @@ use Rattle.filtered.specs.declared.taking.Kind.the-variants as kind
 use Rattle.filtered.specs.Filtered.{kindAt}
 use Rattle.chains.specs.Places.{namesAt}
 use Rattle.filtered.specs.Taking.{kindIn, KindFound}
+use Rattle.filtered.specs.Acts.{actPart, actList}
 use Rattle.filtered.specs.Said.{directOf, directIn}
 use Rattle.directions.specs.declared.direction.Direction.{Direction}
 use Rattle.directions.specs.declared.direction.Direction.the-variants.{Turned, Open}
@@ -21,8 +22,8 @@ use Rattle.directions.specs.declared.direction.Membership as direction
 use Rattle.directions.specs.declared.direction.Membership.the-variants.{Kinds, Unknown}
 use Rattle.directions.specs.Direction.{bearing, orElse, kindOrZero, matched, towards, turn, Membership, eachOnce, between, tested, member}
 use Rattle.directions.specs.Tables.{Derived, Tables}
-use Rattle.directions.specs.Words.{directBy, typedIn, derivedIn, tablesIn, membershipOf, membershipIn, MembershipFits, MemberTurned}
-use Rattle.chains.specs.Record.{valueAt, kindCount, flagAt, slotsPlace}
+use Rattle.directions.specs.Words.{typedIn, derivedIn, tablesIn, membershipOf, membershipIn, MembershipFits, MemberTurned}
+use Rattle.chains.specs.Record.{valueAt}
 
 -- ---- a kind or 0
 
@@ -69,27 +70,56 @@ module _ (a b k e c r : ℕ) where
 -- ---- an aggregate
 
 module _ (taken : List ℕ) (e : ℕ) where
-  pub matches-beyond : 4096 ≤ e → e ≡ orElse (directBy taken e) e
-  matches-beyond h = sym (rw (le-ltb e 4096 h) refl)
+  pub matches-beyond : length taken ≤ e → e ≡ orElse (directIn taken e) e
+  unfolding directIn directOf
+  matches-beyond h = sym (rw (List·getD-eq-default taken 0 h) refl)
 
-  module _ (h : e < 4096) {d : ℕ} (k : d ≡ directOf (getD taken e 0)) where
-    pub matches-itself : d ≡ 16777215 → e ≡ orElse (directBy taken e) e
+  module _ {d : ℕ} (k : d ≡ directOf (getD taken e 0)) where
+    pub matches-itself : d ≡ 16777215 → e ≡ orElse (directIn taken e) e
     unfolding directIn
-    matches-itself z = sym (rw (lt-ltb e 4096 h, ← k, eq-eqb d 16777215 z) refl)
+    matches-itself z = sym (rw (← k, eq-eqb d 16777215 z) refl)
 
-    pub matches-kind : (d ≡ 16777215 → ⊥) → d ≡ orElse (directBy taken e) e
+    pub matches-kind : (d ≡ 16777215 → ⊥) → d ≡ orElse (directIn taken e) e
     unfolding directIn
-    matches-kind z = sym (rw (lt-ltb e 4096 h, ← k, ne-eqb d 16777215 z) refl)
+    matches-kind z = sym (rw (← k, ne-eqb d 16777215 z) refl)
 
-module _ (ws taken : List ℕ) (start e c r : ℕ) (flag : flagAt ws start ≡ 1 → ⊥) {count : ℕ} (k : count ≡ kindCount ws start) where
-  pub untyped : (count ≡ 2 → ⊥) → Turned c r 0 ≡ towards (directBy taken) (typedIn ws start) e c r
+-- a typed relation, whose list stands at a place
+module _ (ws : List ℕ) (x : ℕ) (p : actPart x ≡ 1) {at a b : ℕ} (l : at ≡ actList x) (u : a ≡ valueAt ws (at + 1)) (v : b ≡ valueAt ws (at + 2)) where
+  pub typed-there : typedIn ws x ≡ some (a ∷ b ∷ [])
   unfolding typedIn
-  untyped z = sym (rw (ne-eqb (flagAt ws start) 1 flag, ← k, ne-eqb count 2 z) refl)
+  typed-there = rw (p, ← l, ← u, ← v) refl
 
-  pub typed : count ≡ 2 → {a b m : ℕ} {d : Direction} → a ≡ valueAt ws (start + 4) → b ≡ valueAt ws (start + 5) → m ≡ orElse (directBy taken e) e
-      → d ≡ matched (a ∷ b ∷ []) e c r (bearing m 0 (a ∷ b ∷ [])) → d ≡ towards (directBy taken) (typedIn ws start) e c r
-  unfolding typedIn
-  typed z {a} {b} {m} x y n q = q ∙ sym (rw (ne-eqb (flagAt ws start) 1 flag, ← k, eq-eqb count 2 z, ← x, ← y, ← n) refl)
+  pub typed : (taken : List ℕ) (e c r : ℕ) {m : ℕ} {d : Direction} → m ≡ orElse (directIn taken e) e → d ≡ matched (a ∷ b ∷ []) e c r (bearing m 0 (a ∷ b ∷ [])) → d ≡ towards (directIn taken) (typedIn ws x) e c r
+  typed taken e c r n q = q ∙ sym (rw (typed-there, ← n) refl)
+
+  pub is-tested : (y z : ℕ) {o : Membership} {m : direction.Membership} {c r : ℕ} {d : Direction} → membershipOf m ≡ o → m ≡ Kinds c r → d ≡ between (a ∷ b ∷ []) (c, r) y z → d ≡ tested (typedIn ws x) o y z
+  is-tested y z s e q = q ∙ sym (rw (← s, e, typed-there) refl)
+
+pub no-membership : (ws : List ℕ) (x y z : ℕ) {o : Membership} {m : direction.Membership} → membershipOf m ≡ o → m ≡ Unknown → Turned y z 0 ≡ tested (typedIn ws x) o y z
+no-membership ws x y z q e = rw (← q, e) (go (typedIn ws x))
+  where
+    go : (o : Option (List ℕ)) → Turned y z 0 ≡ tested o none y z
+    go none = refl
+    go (some ks) = refl
+
+-- what the number of a name says, by its part
+module _ (ws acts : List ℕ) (relation : ℕ) {x part : ℕ} (is : x ≡ getD acts relation 0) (p : part ≡ actPart x) where
+  plain-here : part < 2 → (taken : List ℕ) → tablesIn ws acts taken .derived relation ≡ none
+  unfolding tablesIn derivedIn
+  plain-here h taken = rw (← is, ← p, lt-ltb part 2 h) refl
+
+  neither-here : part ≡ 0 → (taken : List ℕ) → tablesIn ws acts taken .typed relation ≡ none
+  unfolding tablesIn typedIn
+  neither-here h taken = rw (← is, ← p, h) refl
+
+  typed-here : (taken : List ℕ) → tablesIn ws acts taken .typed relation ≡ typedIn ws x
+  unfolding tablesIn
+  typed-here taken = ap (typedIn ws) (sym is)
+
+  derived-here : 2 ≤ part → {c r list : ℕ} → c ≡ valueAt ws part → r ≡ valueAt ws (part + 1) → list ≡ actList x
+      → (taken : List ℕ) → tablesIn ws acts taken .derived relation ≡ some (record { current = c; related = r; kinds = namesAt ws list })
+  unfolding tablesIn derivedIn
+  derived-here h u v l taken = rw (← is, ← p, le-ltb part 2 h, ← u, ← v, ← l) refl
 
 turn-plain : (T : Tables) (n e c r : ℕ) → T .derived n ≡ none → turn T n e c r ≡ towards (T .direct) (T .typed n) e c r
 unfolding turn
@@ -99,34 +129,22 @@ turn-derived : (T : Tables) (n e c r : ℕ) (d : Derived) → T .derived n ≡ s
 unfolding turn
 turn-derived T n e c r d h = rw (h, turn) refl
 
-module _ (ws records marks taken : List ℕ) (relation e c r : ℕ) where
+module _ (ws acts taken : List ℕ) (relation e c r : ℕ) {x part : ℕ} (is : x ≡ getD acts relation 0) (p : part ≡ actPart x) where
   abbrev T : Tables
-  T = tablesIn ws records marks taken
+  T = tablesIn ws acts taken
 
-  pub undeclared : getD records relation 0 ≡ 0 → Turned c r 0 ≡ turn T relation e c r
+  pub neither : part ≡ 0 → Turned c r 0 ≡ turn T relation e c r
+  neither z =
+      sym (turn-plain T relation e c r (plain-here ws acts relation is p (omega arith) taken) ∙ ap (λ o. towards (T .direct) o e c r) (neither-here ws acts relation is p z taken))
+
+  pub is-typed : part ≡ 1 → {d : Direction} → d ≡ towards (directIn taken) (typedIn ws x) e c r → d ≡ turn T relation e c r
   unfolding tablesIn
-  undeclared z =
-      let d : T .derived relation ≡ none = rw (eq-eqb (getD records relation 0) 0 z) refl in
-      let t : T .typed relation ≡ none = rw (eq-eqb (getD records relation 0) 0 z) refl in
-      sym (turn-plain T relation e c r d ∙ ap (λ o. towards (directBy taken) o e c r) t)
+  is-typed z q =
+      q ∙ sym (turn-plain T relation e c r (plain-here ws acts relation is p (omega arith) taken) ∙ ap (λ o. towards (directIn taken) o e c r) (typed-here ws acts relation is p taken))
 
-  module _ (h : getD records relation 0 ≡ 0 → ⊥) where
-    abbrev start : ℕ
-    start = getD records relation 0
-
-    pub not-derived : {flag : ℕ} {x : Direction} → flag ≡ flagAt ws start → (flag ≡ 1 → ⊥) → x ≡ towards (directBy taken) (typedIn ws start) e c r → x ≡ turn T relation e c r
-    unfolding tablesIn derivedIn
-    not-derived {flag} f z q =
-        let d : T .derived relation ≡ none = rw (ne-eqb start 0 h, ← f, ne-eqb flag 1 z) refl in
-        let t : T .typed relation ≡ typedIn ws start = rw (ne-eqb start 0 h) refl in
-        q ∙ sym (turn-plain T relation e c r d ∙ ap (λ o. towards (directBy taken) o e c r) t)
-
-    pub is-derived : {flag at x y place k : ℕ} → flag ≡ flagAt ws start → flag ≡ 1 → at ≡ slotsPlace ws start → x ≡ valueAt ws at → y ≡ valueAt ws (at + 1) → place ≡ getD marks relation 0 - 2
-        → k ≡ kindOrZero (namesAt ws place) y → Turned x y k ≡ turn T relation e c r
-    unfolding tablesIn derivedIn
-    is-derived {flag} {at} {x} {y} {place} {k} f z s u v p q =
-        let d : T .derived relation ≡ some (record { current = x; related = y; kinds = namesAt ws place }) = rw (ne-eqb start 0 h, ← f, eq-eqb flag 1 z, ← s, ← u, ← v, ← p) refl in
-        rw q (sym (turn-derived T relation e c r (record { current = x; related = y; kinds = namesAt ws place }) d))
+  pub is-derived : (part ≡ 0 → ⊥) → (part ≡ 1 → ⊥) → {u v list k : ℕ} → u ≡ valueAt ws part → v ≡ valueAt ws (part + 1) → list ≡ actList x → k ≡ kindOrZero (namesAt ws list) v → Turned u v k ≡ turn T relation e c r
+  is-derived z y {u} {v} {list} {k} s t l q =
+      rw q (sym (turn-derived T relation e c r (record { current = u; related = v; kinds = namesAt ws list }) (derived-here ws acts relation is p (omega arith) s t l taken)))
 
 -- ---- a membership in one number
 
@@ -197,24 +215,6 @@ module _ (a b c r x y : ℕ) where
             let u : eqb b r ≡ false = ne-eqb b r (λ z. unlike (sym s ∙ z)) in
             sym (rw (ne-eqb c r unlike, ne-eqb a c p, ne-eqb a r q, e, u) refl)
 
-module _ (ws : List ℕ) (start x y : ℕ) (flag : flagAt ws start ≡ 1 → ⊥) where
-  pub no-membership : {o : Membership} {m : direction.Membership} → membershipOf m ≡ o → m ≡ Unknown → Turned x y 0 ≡ tested (typedIn ws start) o x y
-  no-membership q e = rw (← q, e) (go (typedIn ws start))
-    where
-      go : (o : Option (List ℕ)) → Turned x y 0 ≡ tested o none x y
-      go none = refl
-      go (some ks) = refl
-
-  module _ {count : ℕ} (k : count ≡ kindCount ws start) where
-    pub untested : (m : Membership) → (count ≡ 2 → ⊥) → Turned x y 0 ≡ tested (typedIn ws start) m x y
-    unfolding typedIn
-    untested m z = sym (rw (ne-eqb (flagAt ws start) 1 flag, ← k, ne-eqb count 2 z) refl)
-
-    pub is-tested : count ≡ 2 → {o : Membership} {m : direction.Membership} {a b c r : ℕ} {d : Direction} → membershipOf m ≡ o → m ≡ Kinds c r → a ≡ valueAt ws (start + 4) → b ≡ valueAt ws (start + 5) → d ≡ between (a ∷ b ∷ []) (c, r) x y
-        → d ≡ tested (typedIn ws start) o x y
-    unfolding typedIn
-    is-tested z s e u v q = q ∙ sym (rw (← s, e, ne-eqb (flagAt ws start) 1 flag, ← k, eq-eqb count 2 z, ← u, ← v) refl)
-
 member-plain : (T : Tables) (n : ℕ) (m : Membership) (x y : ℕ) → T .derived n ≡ none → member T n m x y ≡ tested (T .typed n) m x y
 unfolding member
 member-plain T n m x y h = rw (h, member) refl
@@ -223,38 +223,24 @@ member-derived : (T : Tables) (n : ℕ) (m : Membership) (x y : ℕ) (d : Derive
 unfolding member
 member-derived T n m x y d h = rw (h, member) refl
 
-module _ (ws records : List ℕ) (relation : ℕ) (m : Membership) (x y : ℕ) where
-  pub member-undeclared : getD records relation 0 ≡ 0 → MemberTurned ws records relation m x y (Turned x y 0)
-  unfolding tablesIn
-  member-undeclared z =
+module _ (ws acts : List ℕ) (relation : ℕ) (m : Membership) (y z : ℕ) {x part : ℕ} (is : x ≡ getD acts relation 0) (p : part ≡ actPart x) where
+  pub member-neither : part ≡ 0 → MemberTurned ws acts relation m y z (Turned y z 0)
+  member-neither h =
       record {
-        each = λ marks taken.
-            (let T : Tables = tablesIn ws records marks taken in
-            let d : T .derived relation ≡ none = rw (eq-eqb (getD records relation 0) 0 z) refl in
-            let t : T .typed relation ≡ none = rw (eq-eqb (getD records relation 0) 0 z) refl in
-            sym (member-plain T relation m x y d ∙ ap (λ o. tested o m x y) t));
+        each = λ taken.
+            sym (member-plain (tablesIn ws acts taken) relation m y z (plain-here ws acts relation is p (omega arith) taken) ∙ ap (λ o. tested o m y z) (neither-here ws acts relation is p h taken));
       }
 
-  module _ (h : getD records relation 0 ≡ 0 → ⊥) where
-    pub member-typed : {flag : ℕ} {q : Direction} → flag ≡ flagAt ws (getD records relation 0) → (flag ≡ 1 → ⊥) → q ≡ tested (typedIn ws (getD records relation 0)) m x y → MemberTurned ws records relation m x y q
-    unfolding tablesIn derivedIn
-    member-typed {flag} f z q =
-        record {
-          each = λ marks taken.
-              (let T : Tables = tablesIn ws records marks taken in
-              let d : T .derived relation ≡ none = rw (ne-eqb (getD records relation 0) 0 h, ← f, ne-eqb flag 1 z) refl in
-              let t : T .typed relation ≡ typedIn ws (getD records relation 0) = rw (ne-eqb (getD records relation 0) 0 h) refl in
-              q ∙ sym (member-plain T relation m x y d ∙ ap (λ o. tested o m x y) t));
-        }
+  pub member-typed : part ≡ 1 → {d : Direction} → d ≡ tested (typedIn ws x) m y z → MemberTurned ws acts relation m y z d
+  member-typed h q =
+      record {
+        each = λ taken.
+            q ∙ sym (member-plain (tablesIn ws acts taken) relation m y z (plain-here ws acts relation is p (omega arith) taken) ∙ ap (λ o. tested o m y z) (typed-here ws acts relation is p taken));
+      }
 
-    pub member-slots : {flag at u v : ℕ} → flag ≡ flagAt ws (getD records relation 0) → flag ≡ 1 → at ≡ slotsPlace ws (getD records relation 0) → u ≡ valueAt ws at → v ≡ valueAt ws (at + 1)
-        → MemberTurned ws records relation m x y (Turned u v 0)
-    unfolding tablesIn derivedIn
-    member-slots {flag} {at} {u} {v} f z s p q =
-        record {
-          each = λ marks taken.
-              (let T : Tables = tablesIn ws records marks taken in
-              let e : Derived = record { current = u; related = v; kinds = namesAt ws (getD marks relation 0 - 2) } in
-              let d : T .derived relation ≡ some e = rw (ne-eqb (getD records relation 0) 0 h, ← f, eq-eqb flag 1 z, ← s, ← p, ← q) refl in
-              sym (member-derived T relation m x y e d));
-        }
+  pub member-slots : (part ≡ 0 → ⊥) → (part ≡ 1 → ⊥) → {u v : ℕ} → u ≡ valueAt ws part → v ≡ valueAt ws (part + 1) → MemberTurned ws acts relation m y z (Turned u v 0)
+  member-slots f g {u} {v} s t =
+      record {
+        each = λ taken.
+            sym (member-derived (tablesIn ws acts taken) relation m y z (record { current = u; related = v; kinds = namesAt ws (actList x) }) (derived-here ws acts relation is p (omega arith) s t refl taken));
+      }

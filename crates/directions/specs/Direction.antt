@@ -8,7 +8,7 @@ use Rattle.pack.specs.Table.{pick}
 use Rattle.filtered.specs.Filtered.{kindAt}
 use Rattle.directions.specs.declared.direction.Direction.{Direction}
 use Rattle.directions.specs.declared.direction.Direction.the-variants.{Turned, Open}
-use Rattle.directions.specs.Tables.{Tables}
+use Rattle.directions.specs.Tables.{Derived, Tables}
 
 -- the slots that bear a kind, from a slot on
 abbrev pub bearing : ℕ → ℕ → List ℕ → List ℕ
@@ -50,6 +50,15 @@ abbrev pub membership : Option ℕ → Option ℕ → Membership
 membership none r = none
 membership (some c) none = none
 membership (some c) (some r) = some (c, r)
+
+-- of a derived relation: "entity = related kind or 0, membership = (current kind, related kind)"
+abbrev pub relatedKind : Option Derived → ℕ
+relatedKind none = 0
+relatedKind (some d) = kindOrZero (d .kinds) (d .related)
+
+abbrev pub memberKinds : Option Derived → Membership
+memberKinds none = none
+memberKinds (some d) = membership (kindAt (d .kinds) (d .current)) (kindAt (d .kinds) (d .related))
 
 abbrev pub all : ℕ → List ℕ → Bool
 all k [] = true

@@ -1,5 +1,5 @@
 -- Records one after the other, and what resolving their trees comes to.
-use Prim.Native.Nat.{ℕ, _+_, _-_}
+use Prim.Native.Nat.{ℕ, _+_}
 use mathlib.Core.Path.{_≡_}
 use mathlib.Core.List.{List, [], _∷_, _++_}
 use mathlib.Core.Bool.{Bool, true}
@@ -9,8 +9,9 @@ use Rattle.pack.specs.Form.{among, Fine}
 use Rattle.pack.specs.Pack.{Relation, Body, Rule, Pack, yes, read, relation}
 use Rattle.chains.specs.Kinds.{declared, kindsOf}
 use Rattle.chains.specs.Places.{relationWords, firstRelation, namesAt}
-use Rattle.chains.specs.AllKinds.{IsPack, Noted, KindsMarked}
-use Rattle.filtered.specs.Taking.{Known}
+use Rattle.chains.specs.AllKinds.{IsPack}
+use Rattle.filtered.specs.Acts.{actList}
+use Rattle.filtered.specs.Taking.{Filled}
 use Rattle.directions.specs.Turning.{Outcome, done, andThen, mapDone, treeWords}
 use Rattle.directions.specs.Resolving.{resolveRules, resolveRelations, firstRule}
 
@@ -49,9 +50,9 @@ pub record RelationKeeps (p : Pack) (r : Relation) : Type 0 where
   pub fine : Fine (relation (p .names) used) r
   pub known : among (r .name) (declared (p .relations)) ≡ true
 
--- the marks of the names that the pack declares lead to their kinds
-pub record KindsReady (ws marks : List ℕ) : Type 0 where
-  pub kinds : (p : Pack) → read ws ≡ yes p → (m : ℕ) → among m (declared (p .relations)) ≡ true → namesAt ws (getD marks m 0 - 2) ≡ kindsOf (p .relations) m
+-- the lists of the names that the pack declares are their kinds
+pub record KindsReady (ws acts : List ℕ) : Type 0 where
+  pub kinds : (p : Pack) → read ws ≡ yes p → (m : ℕ) → among m (declared (p .relations)) ≡ true → namesAt ws (actList (getD acts m 0)) ≡ kindsOf (p .relations) m
 
 -- ---- all trees of a pack
 
@@ -66,10 +67,8 @@ turned p = andThen (resolveRules p (firstRule p) (p .rules)) (λ rules. mapDone 
 abbrev pub placesIn : Pack → List ℕ
 placesIn p = placesFrom (p .names) (firstRelation p) (p .relations)
 
--- the tables of a checked pack: where the records of relations start, the marks of their names, and what entities take
-pub record Tabled (ws records marks taken : List ℕ) (steps : ℕ) : Type 0 where
+-- the tables of a checked pack: where the records of relations start, what aggregates over them do, and what entities take
+pub record Tabled (ws records acts taken : List ℕ) (steps : ℕ) : Type 0 where
   pub checked : IsPack ws
   pub declares : List ℕ
-  pub noted : Noted ws declares records
-  pub marked : KindsMarked ws steps declares marks
-  pub knows : Known ws taken
+  pub filled : Filled ws declares records acts taken steps

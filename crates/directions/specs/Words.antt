@@ -1,5 +1,5 @@
 -- What the code reads of a relation from the words of a pack.
-use Prim.Native.Nat.{ℕ, zero, suc, _+_, _-_, _/_, _%_, _<_}
+use Prim.Native.Nat.{ℕ, zero, suc, _+_, _/_, _%_, _<_}
 use mathlib.Core.Path.{_≡_}
 use mathlib.Core.List.{List, [], _∷_}
 use mathlib.Core.Option.{Option, none, some}
@@ -9,42 +9,27 @@ use lib.Dec.{eqb, ltb}
 use Rattle.pack.specs.Table.{pick}
 use Rattle.pack.specs.Table as table
 use Rattle.chains.specs.Places.{namesAt}
-use Rattle.chains.specs.Record.{valueAt, kindCount, flagAt, slotsPlace}
-use Rattle.filtered.specs.Filtered.{kindAt}
+use Rattle.chains.specs.Record.{valueAt}
+use Rattle.filtered.specs.Acts.{actPart, actList}
 use Rattle.filtered.specs.Said.{directIn}
 use Rattle.directions.specs.declared.direction.Direction.{Direction}
 use Rattle.directions.specs.declared.direction.Direction.the-variants.{Turned, Open}
 use Rattle.directions.specs.declared.direction.Membership as direction
 use Rattle.directions.specs.declared.direction.Membership.the-variants.{Kinds, Unknown}
 use Rattle.directions.specs.Tables.{Derived, Tables}
-use Rattle.directions.specs.Direction.{Membership, membership, member}
+use Rattle.directions.specs.Direction.{Membership, member}
 use Rattle.directions.specs.Resolving.{equalKinds}
 
--- the relation whose record starts at a place as a typed one, and as a derived one whose kinds stand at a place
+-- what its number says of a relation: as a typed one by the two names of its list, and as a derived one whose slots stand at a place
 unfoldable pub typedIn : List ℕ → ℕ → Option (List ℕ)
-typedIn ws start = pick (eqb (flagAt ws start) 1) none (pick (eqb (kindCount ws start) 2) (some (valueAt ws (start + 4) ∷ valueAt ws (start + 5) ∷ [])) none)
+typedIn ws x = pick (eqb (actPart x) 1) (some (valueAt ws (actList x + 1) ∷ valueAt ws (actList x + 2) ∷ [])) none
 
-unfoldable pub derivedIn : List ℕ → ℕ → ℕ → Option Derived
-derivedIn ws place start =
-    pick (eqb (flagAt ws start) 1)
-    (some (record { current = valueAt ws (slotsPlace ws start); related = valueAt ws (slotsPlace ws start + 1); kinds = namesAt ws place }))
-    none
+unfoldable pub derivedIn : List ℕ → ℕ → Option Derived
+derivedIn ws x = pick (ltb (actPart x) 2) none (some (record { current = valueAt ws (actPart x); related = valueAt ws (actPart x + 1); kinds = namesAt ws (actList x) }))
 
-abbrev pub derivedBy : List ℕ → List ℕ → List ℕ → ℕ → Option Derived
-derivedBy ws records marks n = pick (eqb (getD records n 0) 0) none (derivedIn ws (getD marks n 0 - 2) (getD records n 0))
-
--- the kind that an entity takes; beyond the names there is none
-abbrev pub directBy : List ℕ → ℕ → Option ℕ
-directBy taken e = pick (ltb e 4096) (directIn taken e) none
-
--- the tables, from the words, the places of records, the marks of relations and what is known of entities
-unfoldable pub tablesIn : List ℕ → List ℕ → List ℕ → List ℕ → Tables
-tablesIn ws records marks taken =
-    record {
-      typed = λ n. pick (eqb (getD records n 0) 0) none (typedIn ws (getD records n 0));
-      derived = derivedBy ws records marks;
-      direct = directBy taken;
-    }
+-- the tables, from the words, what aggregates do by name, and what is known of entities
+unfoldable pub tablesIn : List ℕ → List ℕ → List ℕ → Tables
+tablesIn ws acts taken = record { typed = λ n. typedIn ws (getD acts n 0); derived = λ n. derivedIn ws (getD acts n 0); direct = directIn taken }
 
 -- the code's membership
 abbrev pub membershipOf : direction.Membership → Membership
@@ -66,23 +51,15 @@ abbrev pub SlotsFit : Direction → Type 0
 SlotsFit (Turned c r kind) = (c < 16777216) × (r < 16777216)
 SlotsFit (Open other) = Unit {0}
 
--- a test of membership comes out as the tables say, whatever they say of marks and entities
-pub record MemberTurned (ws records : List ℕ) (relation : ℕ) (m : Membership) (current related : ℕ) (d : Direction) : Type 0 where
-  pub each : (marks taken : List ℕ) → d ≡ member (tablesIn ws records marks taken) relation m current related
+-- a test of membership comes out as the tables say, whatever they say of entities
+pub record MemberTurned (ws acts : List ℕ) (relation : ℕ) (m : Membership) (current related : ℕ) (d : Direction) : Type 0 where
+  pub each : (taken : List ℕ) → d ≡ member (tablesIn ws acts taken) relation m current related
 
--- the kinds in the slots of a derived relation, by the place of its list, and of its record in the words that hold it
-abbrev pub slotKindsIn : List ℕ → List ℕ → ℕ → ℕ → Membership
-slotKindsIn ws work place start = membership (kindAt (namesAt ws place) (valueAt work (slotsPlace work start))) (kindAt (namesAt ws place) (valueAt work (slotsPlace work start + 1)))
-
--- whether a name is that of a derived relation with equal kinds there
-unfoldable pub equalIn : List ℕ → List ℕ → List ℕ → ℕ → Bool
-equalIn ws records marks n = equalKinds (derivedBy ws records marks n)
+-- whether a name is that of a derived relation with equal kinds in its slots
+unfoldable pub equalIn : List ℕ → List ℕ → ℕ → Bool
+equalIn ws acts n = equalKinds (derivedIn ws (getD acts n 0))
 
 -- the first of so many names from a place on with equal kinds, or none
-unfoldable pub firstEqual : List ℕ → List ℕ → List ℕ → ℕ → ℕ → ℕ
-firstEqual ws records marks at zero = table.none
-firstEqual ws records marks at (suc k) = pick (equalIn ws records marks (valueAt ws at)) (valueAt ws at) (firstEqual ws records marks (at + 1) k)
-
--- the defaulted names of a pack are names: their count is the third word
-pub record DefaultedFit (ws : List ℕ) : Type 0 where
-  pub each : (i : ℕ) → i < valueAt ws 2 → valueAt ws (3 + i) < 4096
+unfoldable pub firstEqual : List ℕ → List ℕ → ℕ → ℕ → ℕ
+firstEqual ws acts at zero = table.none
+firstEqual ws acts at (suc k) = pick (equalIn ws acts (valueAt ws at)) (valueAt ws at) (firstEqual ws acts (at + 1) k)

@@ -1,24 +1,20 @@
 // The direction of one node, from what the pack says of its relation.
-use chains::entry::start;
-use chains::record::flag_at;
-use chains::record::kind_count;
-use chains::record::slots_place;
 use chains::record::value_at;
-use chains::settle::ByName;
+use filtered::act::Act;
+use filtered::act::act_of;
+use filtered::act::list;
+use filtered::act::part;
 use filtered::filtered::direct_of;
 use filtered::taking::Kind;
 use filtered::taking::kind_at;
-use filtered::taking::place_of;
 use pack::kinds::Pack;
-use records::directory::Words;
 ghost use mathlib.Core.Path.{_≡_};
 ghost use mathlib.Core.List.{[], _∷_};
-ghost use Prim.Native.Nat.{_<_, _≤_};
 ghost use Rattle.chains.specs.Places.{namesAt};
+ghost use Rattle.filtered.specs.Acts.{actPart};
+ghost use Rattle.filtered.specs.Said.{directIn};
 ghost use Rattle.directions.specs.Direction.{bearing, orElse, kindOrZero, matched, towards, turn, between, tested};
-ghost use Rattle.directions.specs.Words.{typedIn, directBy, tablesIn, membershipOf, membershipIn, MembershipFits, MemberTurned};
-ghost use Rattle.chains.specs.Record.{flagAt};
-ghost use Rattle.chains.specs.Entry.{startsIn};
+ghost use Rattle.directions.specs.Words.{typedIn, tablesIn, membershipOf, membershipIn, MembershipFits, MemberTurned};
 
 // How a node comes out: its slots and the kind that results; or its direction is open, between slots of this kind or entity.
 pub enum Direction {
@@ -122,102 +118,98 @@ pub fn between(a: u32, b: u32, c: u32, r: u32, current: u32, related: u32) -> Di
 }
 
 // The kind by which an entity is matched: the one that it takes, or itself.
-fn matching_kind(taken: &ByName, entity: u32) -> u32
-    ensures { λ r. ⌜ r ≡ orElse (directBy (now (taken .entry)) entity) entity ⌝ }
+fn matching_kind(taken: &[u32], entity: u32) -> u32
+    ensures { λ r. ⌜ r ≡ orElse (directIn (now (taken .entry)) entity) entity ⌝ }
 {
-    if Pack::MOST_NAMES <= entity {
+    let e = entity as usize;
+    if taken.len() <= e {
         return entity;
     }
-    let d = direct_of(taken[entity as usize]);
+    let d = direct_of(taken[e]);
     if d == Pack::NONE {
         return entity;
     }
     d
 }
 
-// An aggregate over a relation without derivation, whose record starts at a place.
+// An aggregate over a typed relation, by its number.
 fn towards(
     pack: &[u32],
-    taken: &ByName,
-    start: usize,
+    taken: &[u32],
+    x: u32,
     entity: u32,
     current: u32,
     related: u32,
 ) -> Direction
-    requires { ⌜ (start ≤ 65536) × (flagAt (now pack) start ≡ 1 → ⊥) ⌝ }
-    ensures { λ r. ⌜ r ≡ towards (directBy (now (taken .entry))) (typedIn (now (pack .entry)) start) entity current related ⌝ }
+    requires { ⌜ actPart x ≡ 1 ⌝ }
+    ensures { λ r. ⌜ r ≡ towards (directIn (now (taken .entry))) (typedIn (now (pack .entry)) x) entity current related ⌝ }
 {
-    if kind_count(pack, start) != 2 {
-        return Direction::Turned(current, related, 0);
-    }
-    let a = value_at(pack, start + 4);
-    let b = value_at(pack, start + 5);
+    let at = list(x) as usize;
+    let a = value_at(pack, at + 1);
+    let b = value_at(pack, at + 2);
     matched(a, b, matching_kind(taken, entity), entity, current, related)
 }
 
 // An aggregate over a relation.
 pub fn turn(
     pack: &[u32],
-    dir: &Words,
-    marks: &ByName,
-    taken: &ByName,
+    acts: &[u32],
+    taken: &[u32],
     relation: usize,
     entity: u32,
     current: u32,
     related: u32,
 ) -> Direction
-    requires { ⌜ relation < 4096 ⌝ }
-    ensures { λ r. ⌜ r ≡ turn (tablesIn (now (pack .entry)) (startsIn (now (dir .entry))) (now (marks .entry)) (now (taken .entry))) relation entity current related ⌝ }
+    ensures { λ r. ⌜ r ≡ turn (tablesIn (now (pack .entry)) (now (acts .entry)) (now (taken .entry))) relation entity current related ⌝ }
 {
-    let start = start(dir, relation);
-    if start == 0 {
+    let x = act_of(acts, relation);
+    let part = part(x);
+    if part == Act::NEITHER {
         return Direction::Turned(current, related, 0);
     }
-    if flag_at(pack, start) != 1 {
-        return towards(pack, taken, start, entity, current, related);
+    if part == Act::TYPED {
+        return towards(pack, taken, x, entity, current, related);
     }
-    let at = slots_place(pack, start);
+    let at = part as usize;
     let c = value_at(pack, at);
     let r = value_at(pack, at + 1);
-    Direction::Turned(c, r, kind_or_zero(pack, place_of(marks, relation), r))
+    Direction::Turned(c, r, kind_or_zero(pack, list(x), r))
 }
 
-// A test of membership over a relation without derivation, whose record starts at a place.
-fn tested(pack: &[u32], start: usize, m: u64, current: u32, related: u32) -> Direction
-    requires { ⌜ (start ≤ 65536) × (flagAt (now pack) start ≡ 1 → ⊥) ⌝ }
-    ensures { λ r. ⌜ r ≡ tested (typedIn (now (pack .entry)) start) (membershipIn m) current related ⌝ }
+// A test of membership over a typed relation, by its number.
+fn tested(pack: &[u32], x: u32, m: u64, current: u32, related: u32) -> Direction
+    requires { ⌜ actPart x ≡ 1 ⌝ }
+    ensures { λ r. ⌜ r ≡ tested (typedIn (now (pack .entry)) x) (membershipIn m) current related ⌝ }
 {
     let Membership::Kinds(c, r) = membership_of(m) else {
         return Direction::Turned(current, related, 0);
     };
-    if kind_count(pack, start) != 2 {
-        return Direction::Turned(current, related, 0);
-    }
-    let a = value_at(pack, start + 4);
-    let b = value_at(pack, start + 5);
+    let at = list(x) as usize;
+    let a = value_at(pack, at + 1);
+    let b = value_at(pack, at + 2);
     between(a, b, c, r, current, related)
 }
 
 // A test of membership in a relation.
 pub fn member(
     pack: &[u32],
-    dir: &Words,
+    acts: &[u32],
     relation: usize,
     m: u64,
     current: u32,
     related: u32,
 ) -> Direction
-    requires { ⌜ relation < 4096 ⌝ }
-    ensures { λ r. ⌜ MemberTurned (now (pack .entry)) (startsIn (now (dir .entry))) relation (membershipIn m) current related r ⌝ }
+    ensures { λ r. ⌜ MemberTurned (now (pack .entry)) (now (acts .entry)) relation (membershipIn m) current related r ⌝ }
 {
-    let start = start(dir, relation);
-    if start == 0 {
+    let x = act_of(acts, relation);
+    let part = part(x);
+    if part == Act::NEITHER {
         return Direction::Turned(current, related, 0);
     }
-    if flag_at(pack, start) != 1 {
-        return tested(pack, start, m, current, related);
+    if part == Act::TYPED {
+        return tested(pack, x, m, current, related);
     }
-    let at = slots_place(pack, start);
+    let at = part as usize;
     let c = value_at(pack, at);
     let r = value_at(pack, at + 1);
     Direction::Turned(c, r, 0)

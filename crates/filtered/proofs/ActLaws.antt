@@ -22,7 +22,7 @@ use Rattle.chains.proofs.PackIndex.{parts}
 use Rattle.chains.proofs.ListAt.{InWords}
 use Rattle.chains.proofs.RecordLaws.{counted}
 use Rattle.chains.proofs.DeclarationLaws.{standing}
-use Rattle.filtered.specs.Acts.{partIn, listIn, partFor, actFor, actsFrom, typedPart, partOf, ActsOf}
+use Rattle.filtered.specs.Acts.{actPart, actList, partFor, actFor, actsFrom, typedPart, partOf, ActsOf}
 
 -- ---- the names of records
 
@@ -91,18 +91,18 @@ module _ {ws names starts : List ℕ} (slots : List ℕ) {marks : List ℕ} {ste
       let i : InWords ws (getD starts m 0) (p .names) r = subst (λ (v : List ℕ). InWords v (getD starts m 0) (p .names) r) same (standing p w starts (noted .placed p h) m r e .stands) in
       counted ws (getD starts m 0) (p .names) r i (parts p w .most)
 
-  pub part-is : partIn (getD acts m 0) ≡ partOf p m
+  pub part-is : actPart (getD acts m 0) ≡ partOf p m
   unfolding partOf slotsOf actFor partFor
   part-is = go (find m rs) refl
     where
-      go : (o : Option Relation) → find m rs ≡ o → partIn (getD acts m 0) ≡ partOf p m
+      go : (o : Option Relation) → find m rs ≡ o → actPart (getD acts m 0) ≡ partOf p m
       go none e = rw (here, not-among m rs e, e) (omega (arith, small))
       go (some r) e =
           rw (here, found-among m rs r e)
           (let part : partFor ws (getD starts m 0) (getD slots m 0) ≡ partOf p m = rw (slotted p h m, e, kinds-counted r e) refl in
           omega arith)
 
-  pub list-is : among m (declared rs) ≡ true → listIn (getD acts m 0) ≡ placeOf p (ownAnswer rs m)
+  pub list-is : among m (declared rs) ≡ true → actList (getD acts m 0) ≡ placeOf p (ownAnswer rs m)
   unfolding actFor
   list-is i =
       let k = marked .marked p h m i in

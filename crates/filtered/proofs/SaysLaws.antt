@@ -107,7 +107,7 @@ module _ {ws t : List ℕ} (p : Pack) (h : read ws ≡ yes p) (k : Known ws t) w
       go [] b = tt
       go (j ∷ ks) b = omega (arith, b .0, most)
 
-  module _ (e : ℕ) (i : e < 4096) where
+  module _ (e : ℕ) where
     abbrev named : Bool
     named = any (λ (r : Relation). namesEntity e (r .derivation)) rs
 
@@ -118,9 +118,9 @@ module _ {ws t : List ℕ} (p : Pack) (h : read ws ≡ yes p) (k : Known ws t) w
     unfolding direct
     directly = ap directOf it ∙ direct-known named (taken rs e) (first e)
 
-    is-alias : aliasOf (getD t e 0) e ≡ yesNo (alias rs e)
+    is-alias : e < 4096 → aliasOf (getD t e 0) e ≡ yesNo (alias rs e)
     unfolding alias
-    is-alias = ap (λ (x : ℕ). aliasOf x e) it ∙ alias-known named (taken rs e) e i
+    is-alias i = ap (λ (x : ℕ). aliasOf x e) it ∙ alias-known named (taken rs e) e i
 
     is-unresolved : unresolvedOf (getD t e 0) ≡ yesNo (unresolved rs e)
     unfolding unresolved
@@ -146,13 +146,13 @@ module _ {ws t : List ℕ} (p : Pack) (h : read ws ≡ yes p) (k : Known ws t) w
 
   directed : Directed t
   unfolding Directed
-  directed e i z = direct-name e i z
+  directed e i z = direct-name e z
 
   inner-steps : innerStep (p .names) (directIn t) ≡ innerStep (p .names) (direct rs)
   inner-steps = fun-ext (λ n. go n (ltb n (p .names)) refl)
     where
       go : (n : ℕ) (b : Bool) → ltb n (p .names) ≡ b → pick b (innerAt n (directIn t n)) (end none) ≡ pick b (innerAt n (direct rs n)) (end none)
-      go n true e = ap (innerAt n) (direct-in n (omega (arith, ltb-true n (p .names) e, most)))
+      go n true e = ap (innerAt n) (direct-in n)
       go n false e = refl
 
   -- the innermost kind, by the mark of the own walk
@@ -173,18 +173,18 @@ module _ {ws t : List ℕ} (p : Pack) (h : read ws ≡ yes p) (k : Known ws t) w
       go : (o : Option ℕ) → direct rs e ≡ o
           → pick (eqb (directOf (getD t e 0)) table.none) table.none (pick (leb (getD marks e 0) 2) table.none (getD marks e 0 - 3))
           ≡ orNone (elim o [ none ↦ none | some j ↦ walked ])
-      go none q = rw (directly e (omega (arith, most)) ∙ ap orNone q) refl
+      go none q = rw (directly e ∙ ap orNone q) refl
       go (some j) q =
           let l = direct-below p fine e j q in
-          rw (directly e (omega (arith, most)) ∙ ap orNone q, ne-eqb j table.none (λ z. omega (arith, most)), mark) (answer walked)
+          rw (directly e ∙ ap orNone q, ne-eqb j table.none (λ z. omega (arith, most)), mark) (answer walked)
 
   -- every table
   says-said : (f : Filter) (marks : List ℕ) → InnerFor f t (p .names) marks → (e : ℕ) → e < p .names → saidIn f t marks e ≡ says f p e
   unfolding saidIn
-  says-said Direct marks m e i = directly e (omega (arith, most))
+  says-said Direct marks m e i = directly e
   says-said Innermost marks m e i = innermost-said marks m e i
   says-said Alias marks m e i = is-alias e (omega (arith, most))
-  says-said Unresolved marks m e i = is-unresolved e (omega (arith, most))
+  says-said Unresolved marks m e i = is-unresolved e
 
   table-alike : (f g : ℕ → ℕ) (n j : ℕ) → ((e : ℕ) → n ≤ e → e < n + j → f e ≡ g e) → tableFrom f n j ≡ tableFrom g n j
   table-alike f g n zero q = refl

@@ -23,7 +23,7 @@ use Rattle.records.specs.declared.directory.Layout.{Layout}
 use Rattle.chains.specs.Entry.{startsIn, slotsIn, namesIn}
 use Rattle.chains.specs.AllKinds.{slotsOf, Noted, Lent, IsDirectory, KindsMarked}
 use Rattle.chains.specs.Settle.{Marked}
-use Rattle.filtered.specs.Acts.{partIn, listIn, actsFrom}
+use Rattle.filtered.specs.Acts.{actPart, actList, actsFrom}
 use Rattle.filtered.specs.Taking.{several, known, namedAfter, takenAfter, takeAt, takenBy, kindMarked, takenIn, RelationsRead, NamesLow, Filled}
 use Rattle.filtered.proofs.ActLaws.{part-is, list-is}
 use Rattle.pack.proofs.PackLaws.{words-read}
@@ -179,10 +179,10 @@ value-fits l slot = rw (List·getD-map valueOf l slot 0) (omega arith)
 
 marked-fits : (ws marks : List ℕ) (n slot : ℕ) → Fits (kindMarked ws marks n slot)
 unfolding kindMarked namesAt
-marked-fits ws marks n slot = go (eqb (listIn (getD marks n 0)) 0)
+marked-fits ws marks n slot = go (eqb (actList (getD marks n 0)) 0)
   where
     l : List ℕ
-    l = take (valueOf (getD ws (listIn (getD marks n 0)) 0)) (drop (suc (listIn (getD marks n 0))) ws)
+    l = take (valueOf (getD ws (actList (getD marks n 0)) 0)) (drop (suc (actList (getD marks n 0))) ws)
 
     at : (c : Bool) → Fits (pick c (some (getD (map valueOf l) slot 0)) none)
     at true = value-fits l slot
@@ -196,7 +196,7 @@ pub kind-of : {ws names marks : List ℕ} {steps : ℕ} → KindsMarked ws steps
     → (n : ℕ) → among n (declared (p .relations)) ≡ true → (slot : ℕ) → kindMarked ws marks n slot ≡ kindAt (kindsOf (p .relations) n) slot
 unfolding kindMarked Marked
 kind-of {ws} {marks = marks} m low p h same fine n i slot =
-    let q : listIn (getD marks n 0) ≡ placeOf p (ownAnswer (p .relations) n) = (let k = m .marked p h n i in omega (arith, low n)) in
+    let q : actList (getD marks n 0) ≡ placeOf p (ownAnswer (p .relations) n) = (let k = m .marked p h n i in omega (arith, low n)) in
     ap (λ (o : Option (List ℕ)). kindAt o slot) (ap (namesAt ws) q ∙ ap (λ (v : List ℕ). namesAt v (placeOf p (ownAnswer (p .relations) n))) (sym same) ∙ place-holds p fine n)
 
 module _ {ws names records : List ℕ} (slots : List ℕ) {marks : List ℕ} {steps : ℕ} (noted : Noted ws names records) (slotted : (p : Pack) → read ws ≡ yes p → (m : ℕ) → getD slots m 0 ≡ slotsOf p m) (m : KindsMarked ws steps names marks)
@@ -274,8 +274,8 @@ module _ {ws : List ℕ} {l : Layout} {dir marks : List ℕ} {steps : ℕ} (d : 
         counts = m .counts;
         says =
             record {
-              parts = λ p h n. same partIn n ∙ part-is (slotsIn dir) (d .noted) (d .slotted) m low few p h n;
-              lists = λ p h n i. same listIn n ∙ list-is (slotsIn dir) (d .noted) (d .slotted) m low few p h n i;
+              parts = λ p h n. same actPart n ∙ part-is (slotsIn dir) (d .noted) (d .slotted) m low few p h n;
+              lists = λ p h n i. same actList n ∙ list-is (slotsIn dir) (d .noted) (d .slotted) m low few p h n i;
             };
         knows = record { holds = λ p h. entity-known (slotsIn dir) (d .noted) (d .slotted) m low p h (subst (λ (n : ℕ). Lent n t₀) (d .named .names p h) lent) (q .takes) };
       }

@@ -18,7 +18,7 @@ use Rattle.chains.specs.Places.{namesAt}
 use Rattle.chains.specs.Record.{valueAt, kindCount}
 use Rattle.chains.specs.Entry.{namesIn}
 use Rattle.chains.proofs.EntryLaws.{name-here}
-use Rattle.filtered.specs.Acts.{listIn, partFor, actFor, actsFrom}
+use Rattle.filtered.specs.Acts.{actList, partFor, actFor, actsFrom}
 use Rattle.filtered.specs.Taking.{kindIn, Small, KindFound, several, namedAfter, takenAfter, takeAt, takenBy, kindMarked, takenIn, RelationRead, RelationsRead, NamesLow}
 
 -- ---- the kind at a slot
@@ -126,7 +126,7 @@ module _ (ws starts slots acts t : List ℕ) (name : ℕ) {at x : ℕ} (s : at �
       → entity ≡ valueAt ws (at + 2) → t′ ≡ takeAt t entity (kindIn kind) → y ≡ x + 131072 * at → RelationRead ws starts slots acts t name (set acts name y) t′
   unfolding actFor takenBy kindMarked
   derived-read z {list} {slot} {entity} {y} q o k e h w =
-      let l : list ≡ listIn (getD acts name 0) = omega arith in
+      let l : list ≡ actList (getD acts name 0) = omega arith in
       let is : y ≡ actFor ws starts slots name (getD acts name 0) = w ∙ rw (part-some z, ← m) refl in
       record {
         tells = ap (set acts name) is;
@@ -140,7 +140,7 @@ module _ (ws starts slots names acts₀ t₀ : List ℕ) where
   pub record Reading (acts t : List ℕ) (j : ℕ) : Type 0 where
     pub acting : actsFrom ws starts slots names acts₀ ≡ actsFrom ws starts slots (drop j names) acts
     pub taking : takenIn ws slots acts₀ names t₀ ≡ takenIn ws slots acts₀ (drop j names) t
-    pub lists : (m : ℕ) → listIn (getD acts m 0) ≡ listIn (getD acts₀ m 0)
+    pub lists : (m : ℕ) → actList (getD acts m 0) ≡ actList (getD acts₀ m 0)
     pub long : length acts ≡ length acts₀
 
   pub begin : Reading acts₀ t₀ 0
@@ -159,29 +159,29 @@ module _ (ws starts slots names acts₀ t₀ : List ℕ) where
     unfolding takenBy kindMarked
     taken-same name at = rw (s .lists name) refl
 
-    list-kept : (name y : ℕ) → listIn y ≡ listIn (getD acts name 0) → (m : ℕ) → listIn (getD (set acts name y) m 0) ≡ listIn (getD acts m 0)
+    list-kept : (name y : ℕ) → actList y ≡ actList (getD acts name 0) → (m : ℕ) → actList (getD (set acts name y) m 0) ≡ actList (getD acts m 0)
     list-kept name y e m = go (eqb m name) refl
       where
-        go : (b : Bool) → eqb m name ≡ b → listIn (getD (set acts name y) m 0) ≡ listIn (getD acts m 0)
-        go false q = ap listIn (getD-set-other acts name m y 0 (eqb-false m name q))
+        go : (b : Bool) → eqb m name ≡ b → actList (getD (set acts name y) m 0) ≡ actList (getD acts m 0)
+        go false q = ap actList (getD-set-other acts name m y 0 (eqb-false m name q))
         go true q = rw (eqb-true m name q) (within (ltb name (length acts)) refl)
           where
-            within : (b : Bool) → ltb name (length acts) ≡ b → listIn (getD (set acts name y) name 0) ≡ listIn (getD acts name 0)
-            within true l = ap listIn (getD-set-same acts name y 0 (ltb-true name (length acts) l)) ∙ e
+            within : (b : Bool) → ltb name (length acts) ≡ b → actList (getD (set acts name y) name 0) ≡ actList (getD acts name 0)
+            within true l = ap actList (getD-set-same acts name y 0 (ltb-true name (length acts) l)) ∙ e
             within false l =
                 let past : length acts ≤ name = ltb-false name (length acts) l in
-                ap listIn (List·getD-eq-default (set acts name y) 0 (omega (arith, length-set acts name y)) ∙ sym (List·getD-eq-default acts 0 past))
+                ap actList (List·getD-eq-default (set acts name y) 0 (omega (arith, length-set acts name y)) ∙ sym (List·getD-eq-default acts 0 past))
 
     pub read-next : j < length names → {acts′ t′ : List ℕ} → RelationRead ws starts slots acts t (getD names j 0) acts′ t′ → Reading acts′ t′ (j + 1)
     unfolding takenIn actsFrom actFor
     read-next h r =
         let n : ℕ = getD names j 0 in
         let y : ℕ = actFor ws starts slots n (getD acts n 0) in
-        let same : listIn y ≡ listIn (getD acts n 0) = omega arith in
+        let same : actList y ≡ actList (getD acts n 0) = omega arith in
         record {
           acting = s .acting ∙ rw (drop-cons names j 0 h, add-one j, r .tells) refl;
           taking = s .taking ∙ rw (drop-cons names j 0 h, add-one j, r .takes, taken-same n (getD slots n 0)) refl;
-          lists = λ m. ap (λ (l : List ℕ). listIn (getD l m 0)) (r .tells) ∙ list-kept n y same m ∙ s .lists m;
+          lists = λ m. ap (λ (l : List ℕ). actList (getD l m 0)) (r .tells) ∙ list-kept n y same m ∙ s .lists m;
           long = ap length (r .tells) ∙ length-set acts n y ∙ s .long;
         }
 

@@ -15,12 +15,12 @@ use Rattle.chains.specs.Record.{kindCount}
 use Rattle.chains.specs.AllKinds.{slotsOf}
 
 -- 0 if it is neither typed nor derived, 1 if it is typed by the two names of its list, else the place of its slots
-abbrev pub partIn : ℕ → ℕ
-partIn x = x / 131072
+abbrev pub actPart : ℕ → ℕ
+actPart x = x / 131072
 
 -- the place of the list, 0 for none
-abbrev pub listIn : ℕ → ℕ
-listIn x = x % 131072 - 2
+abbrev pub actList : ℕ → ℕ
+actList x = x % 131072 - 2
 
 -- ---- in the words
 
@@ -48,5 +48,5 @@ unfoldable pub partOf : Pack → ℕ → ℕ
 partOf p m = pick (eqb (slotsOf p m) 0) (typedPart (find m (p .relations))) (slotsOf p m)
 
 pub record ActsOf (ws acts : List ℕ) : Type 0 where
-  pub parts : (p : Pack) → read ws ≡ yes p → (m : ℕ) → partIn (getD acts m 0) ≡ partOf p m
-  pub lists : (p : Pack) → read ws ≡ yes p → (m : ℕ) → among m (declared (p .relations)) ≡ true → listIn (getD acts m 0) ≡ placeOf p (ownAnswer (p .relations) m)
+  pub parts : (p : Pack) → read ws ≡ yes p → (m : ℕ) → actPart (getD acts m 0) ≡ partOf p m
+  pub lists : (p : Pack) → read ws ≡ yes p → (m : ℕ) → among m (declared (p .relations)) ≡ true → actList (getD acts m 0) ≡ placeOf p (ownAnswer (p .relations) m)

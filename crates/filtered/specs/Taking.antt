@@ -16,7 +16,7 @@ use Rattle.chains.specs.Places.{namesAt}
 use Rattle.chains.specs.Record.{valueAt}
 use Rattle.chains.specs.Kinds.{allKinds}
 use Rattle.chains.specs.AllKinds.{Noted}
-use Rattle.filtered.specs.Acts.{listIn, actFor, actsFrom, ActsOf}
+use Rattle.filtered.specs.Acts.{actList, actFor, actsFrom, ActsOf}
 
 -- the code's kind as an option
 abbrev pub kindIn : Kind → Option ℕ
@@ -54,7 +54,7 @@ takeAt t e kind = pick (ltb e (length t)) (set t e (takenAfter (namedAfter (getD
 
 -- the kind at a slot of a name, from what is known of all names
 unfoldable pub kindMarked : List ℕ → List ℕ → ℕ → ℕ → Option ℕ
-kindMarked ws acts name slot = kindAt (namesAt ws (listIn (getD acts name 0))) slot
+kindMarked ws acts name slot = kindAt (namesAt ws (actList (getD acts name 0))) slot
 
 -- after the relation of a name, whose slots stand at a place, 0 without a derivation: its entity (19) takes the kind at its current slot (17)
 unfoldable pub takenBy : List ℕ → List ℕ → List ℕ → ℕ → ℕ → List ℕ

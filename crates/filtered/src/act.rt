@@ -4,7 +4,7 @@ use chains::settle::Mark;
 ghost use mathlib.Core.Path.{_≡_};
 ghost use Prim.Native.Nat.{_<_};
 ghost use lib.ListN.{getD};
-ghost use Rattle.filtered.specs.Acts.{partIn, listIn};
+ghost use Rattle.filtered.specs.Acts.{actPart, actList};
 
 // A part, and the mark of the list that settles the name. At NEITHER the relation is neither typed nor derived, and at TYPED it is
 // typed by the two names of its list; else the part is the place of its slots.
@@ -29,14 +29,14 @@ pub fn act_of(acts: &[u32], name: usize) -> u32
 }
 
 pub fn part(x: u32) -> u32
-    ensures { λ r. ⌜ (r ≡ partIn x) × (r < 32768) ⌝ }
+    ensures { λ r. ⌜ (r ≡ actPart x) × (r < 32768) ⌝ }
 {
     x / Act::MARKS
 }
 
 // The place of the list, 0 for none.
 pub fn list(x: u32) -> u32
-    ensures { λ r. ⌜ (r ≡ listIn x) × (r < 131072) ⌝ }
+    ensures { λ r. ⌜ (r ≡ actList x) × (r < 131072) ⌝ }
 {
     let m = x % Act::MARKS;
     if m < Mark::SETTLED {

@@ -1,5 +1,5 @@
 -- `directions::direction::tested` meets its contract.
-use Rattle.directions.proofs.WordLaws.{no-membership, untested, is-tested}
+use Rattle.directions.proofs.WordLaws.{no-membership, is-tested}
 use borrow.Author.Needs.{needs}
 use Rattle.directions.proofs.direction.tested.Statement.{statement}
 use Rattle.directions.proofs.direction.tested.Tie as tie
@@ -14,13 +14,13 @@ enum-told : tie.Need-enum-told
 enum-told c = search needs
 
 returns : tie.Need-returns
-returns c = no-membership _ _ _ _ ((c .before .before .before .before .pre) .1) ((c .before .before .membership-of) .ensures) ((c .enum-told) .given .1)
+returns c = no-membership _ _ _ _ (c .before .before .membership-of .ensures) (c .enum-told .given .1)
 
-kind-count-requires : tie.Need-kind-count-requires
-kind-count-requires c κs = search needs
+list-requires : tie.Need-list-requires
+list-requires c κs = search needs
 
-returns-2 : tie.Need-returns-2
-returns-2 c = untested _ _ _ _ ((c .before .before .before .before .before .before .before .pre) .1) ((c .before .kind-count) .ensures .0) _ ((c .if1) .taken)
+cast-at : tie.Need-cast-at
+cast-at c = search needs
 
 add-value-at : tie.Need-add-value-at
 add-value-at c = search needs
@@ -37,8 +37,8 @@ value-at-requires-2 c κs = search needs
 between-requires : tie.Need-between-requires
 between-requires c κs = search needs
 
-returns-3 : tie.Need-returns-3
-returns-3 c = is-tested _ _ _ _ ((c .before .before .before .before .before .before .before .before .before .before .pre) .1) ((c .before .before .before .before .kind-count) .ensures .0) ((c .before .before .before .if1) .left) ((c .before .before .before .before .before .before .before .before .membership-of) .ensures) ((c .before .before .before .before .before .before .c) .given .1) ((c .before .before .value-at) .ensures .0) ((c .before .value-at2) .ensures .0) ((c .between) .ensures)
+returns-2 : tie.Need-returns-2
+returns-2 c = is-tested _ _ (c .before .before .before .before .before .before .before .before .before .pre) (c .before .before .before .list .ensures .0) (c .before .before .value-at .ensures .0) (c .before .value-at2 .ensures .0) _ _ (c .before .before .before .before .before .before .before .membership-of .ensures) (c .before .before .before .before .before .c .given .1) (c .between .ensures)
 
 pub tested-spec : {M : Type 1} → statement M
 tested-spec =
@@ -48,11 +48,11 @@ tested-spec =
     enum-known-c
     enum-told
     returns
-    kind-count-requires
-    returns-2
+    list-requires
+    cast-at
     add-value-at
     value-at-requires
     add-value-at-2
     value-at-requires-2
     between-requires
-    returns-3)
+    returns-2)

@@ -1,14 +1,14 @@
 -- `directions::direction::towards` meets its contract.
-use Rattle.directions.proofs.WordLaws.{untyped, typed}
+use Rattle.directions.proofs.WordLaws.{typed}
 use borrow.Author.Needs.{needs}
 use Rattle.directions.proofs.direction.towards.Statement.{statement}
 use Rattle.directions.proofs.direction.towards.Tie as tie
 
-kind-count-requires : tie.Need-kind-count-requires
-kind-count-requires c κs = search needs
+list-requires : tie.Need-list-requires
+list-requires c κs = search needs
 
-returns : tie.Need-returns
-returns c = untyped _ _ _ _ _ _ ((c .before .before .before .pre) .1) ((c .before .kind-count) .ensures .0) ((c .if1) .taken)
+cast-at : tie.Need-cast-at
+cast-at c = search needs
 
 add-value-at : tie.Need-add-value-at
 add-value-at c = search needs
@@ -28,19 +28,19 @@ matching-kind-requires c κs = search needs
 matched-requires : tie.Need-matched-requires
 matched-requires c κs = search needs
 
-returns-2 : tie.Need-returns-2
-returns-2 c = typed _ _ _ _ _ _ ((c .before .before .before .before .before .before .before .pre) .1) ((c .before .before .before .before .before .kind-count) .ensures .0) ((c .before .before .before .before .if1) .left) ((c .before .before .before .value-at) .ensures .0) ((c .before .before .value-at2) .ensures .0) ((c .before .matching-kind) .ensures) ((c .matched) .ensures)
+returns : tie.Need-returns
+returns c = typed _ _ (c .before .before .before .before .before .before .before .pre) (c .before .before .before .before .list .ensures .0) (c .before .before .before .value-at .ensures .0) (c .before .before .value-at2 .ensures .0) _ _ _ _ (c .before .matching-kind .ensures) (c .matched .ensures)
 
 pub towards-spec : {M : Type 1} → statement M
 towards-spec =
     tie.close
     (tie.spec
-    kind-count-requires
-    returns
+    list-requires
+    cast-at
     add-value-at
     value-at-requires
     add-value-at-2
     value-at-requires-2
     matching-kind-requires
     matched-requires
-    returns-2)
+    returns)

@@ -1,11 +1,20 @@
 -- `directions::equal::slot_kinds` meets its contract.
-use Rattle.directions.proofs.EqualLaws.{first-unknown, second-unknown, both-known, both-small}
+use Rattle.directions.proofs.EqualLaws.{not-derived, first-unknown, second-unknown, both-small, both-known}
 use borrow.Author.Needs.{needs}
 use Rattle.directions.proofs.equal.slot_kinds.Statement.{statement}
 use Rattle.directions.proofs.equal.slot_kinds.Tie as tie
 
-slots-place-requires : tie.Need-slots-place-requires
-slots-place-requires c κs = search needs
+part-requires : tie.Need-part-requires
+part-requires c κs = search needs
+
+returns : tie.Need-returns
+returns c = (not-derived _ _ (c .before .part .ensures .0) (c .if1 .taken), tt)
+
+cast-at : tie.Need-cast-at
+cast-at c = search needs
+
+list-requires : tie.Need-list-requires
+list-requires c κs = search needs
 
 value-at-requires : tie.Need-value-at-requires
 value-at-requires c κs = search needs
@@ -19,8 +28,8 @@ enum-known-c c = search needs
 enum-told : tie.Need-enum-told
 enum-told c = search needs
 
-returns : tie.Need-returns
-returns c = (first-unknown _ _ _ _ ((c .before .before .before .before .slots-place) .ensures .0) ((c .before .before .before .value-at) .ensures .0) ((c .before .before .kind-at) .ensures) ((c .enum-told) .given .1), tt)
+returns-2 : tie.Need-returns-2
+returns-2 c = (first-unknown _ _ (c .before .before .before .before .before .before .part .ensures .0) (c .before .before .before .before .before .if1 .left) (c .before .before .before .before .list .ensures .0) (c .before .before .before .value-at .ensures .0) (c .before .before .kind-at .ensures) (c .enum-told .given .1), tt)
 
 add-value-at : tie.Need-add-value-at
 add-value-at c = search needs
@@ -37,29 +46,29 @@ enum-known-r c = search needs
 enum-told-2 : tie.Need-enum-told-2
 enum-told-2 c = search needs
 
-returns-2 : tie.Need-returns-2
-returns-2 c = (second-unknown _ _ _ _ ((c .before .before .before .before .before .before .before .before .before .slots-place) .ensures .0) ((c .before .before .before .before .before .before .before .before .value-at) .ensures .0) ((c .before .before .before .before .before .before .before .kind-at) .ensures) ((c .before .before .before .before .before .c) .given .1) ((c .before .before .before .value-at2) .ensures .0) ((c .before .before .kind-at2) .ensures) ((c .enum-told2) .given .1), tt)
-
 returns-3 : tie.Need-returns-3
-returns-3 c = (
-  both-known _ _ _ _ ((c .before .before .before .before .before .before .before .before .before .before .slots-place) .ensures .0) ((c .before .before .before .before .before .before .before .before .before .value-at) .ensures .0) ((c .before .before .before .before .before .before .before .before .kind-at) .ensures) ((c .before .before .before .before .before .before .c) .given .1) ((c .before .before .before .before .value-at2) .ensures .0) ((c .before .before .before .kind-at2) .ensures) ((c .before .r) .given .1),
-  both-small _ _ _ _ ((c .before .before .before .before .before .before .before .before .before .before .slots-place) .ensures .0) ((c .before .before .before .before .before .before .before .before .before .value-at) .ensures .0) ((c .before .before .before .before .before .before .before .before .kind-at) .ensures) ((c .before .before .before .before .before .before .c) .given .1) ((c .before .before .before .before .value-at2) .ensures .0) ((c .before .before .before .kind-at2) .ensures) ((c .before .r) .given .1),
-)
+returns-3 c = (second-unknown _ _ (c .before .before .before .before .before .before .before .before .before .before .before .part .ensures .0) (c .before .before .before .before .before .before .before .before .before .before .if1 .left) (c .before .before .before .before .before .before .before .before .before .list .ensures .0) (c .before .before .before .before .before .before .before .before .value-at .ensures .0) (c .before .before .before .before .before .before .before .kind-at .ensures) (c .before .before .before .before .before .c .given .1) (c .before .before .before .value-at2 .ensures .0) (c .before .before .kind-at2 .ensures) (c .enum-told2 .given .1), tt)
+
+returns-4 : tie.Need-returns-4
+returns-4 c = (both-known _ _ (c .before .before .before .before .before .before .before .before .before .before .before .before .part .ensures .0) (c .before .before .before .before .before .before .before .before .before .before .before .if1 .left) (c .before .before .before .before .before .before .before .before .before .before .list .ensures .0) (c .before .before .before .before .before .before .before .before .before .value-at .ensures .0) (c .before .before .before .before .before .before .before .before .kind-at .ensures) (c .before .before .before .before .before .before .c .given .1) (c .before .before .before .before .value-at2 .ensures .0) (c .before .before .before .kind-at2 .ensures) (c .before .r .given .1), both-small _ _ (c .before .before .before .before .before .before .before .before .before .before .before .before .part .ensures .0) (c .before .before .before .before .before .before .before .before .before .before .before .if1 .left) (c .before .before .before .before .before .before .before .before .before .before .list .ensures .0) (c .before .before .before .before .before .before .before .before .before .value-at .ensures .0) (c .before .before .before .before .before .before .before .before .kind-at .ensures) (c .before .before .before .before .before .before .c .given .1) (c .before .before .before .before .value-at2 .ensures .0) (c .before .before .before .kind-at2 .ensures) (c .before .r .given .1))
 
 pub slot-kinds-spec : {M : Type 1} → statement M
 slot-kinds-spec =
     tie.close
     (tie.spec
-    slots-place-requires
+    part-requires
+    returns
+    cast-at
+    list-requires
     value-at-requires
     kind-at-requires
     enum-known-c
     enum-told
-    returns
+    returns-2
     add-value-at
     value-at-requires-2
     kind-at-requires-2
     enum-known-r
     enum-told-2
-    returns-2
-    returns-3)
+    returns-3
+    returns-4)
