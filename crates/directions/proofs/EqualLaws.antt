@@ -16,7 +16,7 @@ use Rattle.filtered.specs.Taking.{KindFound, kindIn, Small}
 use Rattle.directions.specs.declared.direction.Membership as direction
 use Rattle.directions.specs.declared.direction.Membership.the-variants.{Kinds, Unknown}
 use Rattle.directions.specs.Tables.{Derived}
-use Rattle.directions.specs.Direction.{membership, memberKinds}
+use Rattle.directions.specs.Direction.{kindOrZero, membership, relatedKind, memberKinds}
 use Rattle.directions.specs.Resolving.{sameKind, equalKinds}
 use Rattle.pack.specs.Table.{pick}
 use Rattle.pack.specs.Table as table
@@ -40,6 +40,14 @@ module _ (ws : List ℕ) (n : ℕ) {part : ℕ} (p : part ≡ actPart n) where
   pub not-derived : part ≤ 1 → none ≡ memberKinds (derivedIn ws n)
   unfolding derivedIn
   not-derived h = rw (← p, lt-ltb part 2 (omega arith)) refl
+
+  pub no-related : part ≤ 1 → 0 ≡ relatedKind (derivedIn ws n)
+  unfolding derivedIn
+  no-related h = rw (← p, lt-ltb part 2 (omega arith)) refl
+
+  pub its-related : 1 < part → {list y k : ℕ} → list ≡ actList n → y ≡ valueAt ws (part + 1) → k ≡ kindOrZero (namesAt ws list) y → k ≡ relatedKind (derivedIn ws n)
+  unfolding derivedIn
+  its-related h l v q = q ∙ rw (← p, le-ltb part 2 (omega arith), ← l, ← v) refl
 
   module _ (d : 1 < part) {list x : ℕ} (l : list ≡ actList n) (u : x ≡ valueAt ws part) where
     kinds-are : memberKinds (derivedIn ws n) ≡ membership (kindAt (namesAt ws list) x) (kindAt (namesAt ws list) (valueAt ws (part + 1)))

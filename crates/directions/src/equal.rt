@@ -1,5 +1,6 @@
-// Derived relations with equal kinds in both slots.
+// The kinds in the slots of derived relations, and those with equal kinds in both.
 use crate::direction::Membership;
+use crate::direction::kind_or_zero;
 use chains::record::value_at;
 use filtered::act::Act;
 use filtered::act::act_of;
@@ -10,7 +11,7 @@ use filtered::taking::kind_at;
 use pack::kinds::Pack;
 ghost use mathlib.Core.Path.{_≡_};
 ghost use Rattle.chains.specs.Record.{valueAt};
-ghost use Rattle.directions.specs.Direction.{memberKinds};
+ghost use Rattle.directions.specs.Direction.{relatedKind, memberKinds};
 ghost use Rattle.directions.specs.Words.{membershipOf, MembershipFits, derivedIn, equalIn, firstEqual};
 
 // The kinds in the slots of a derived relation, by its number.
@@ -30,6 +31,17 @@ pub fn slot_kinds(pack: &[u32], x: u32) -> Membership
         return Membership::Unknown;
     };
     Membership::Kinds(c, r)
+}
+
+// The kind at the related slot of a derived relation, by its number, or 0.
+pub fn related_kind(pack: &[u32], x: u32) -> u32
+    ensures { λ r. ⌜ r ≡ relatedKind (derivedIn (now (pack .entry)) x) ⌝ }
+{
+    let part = part(x);
+    if part <= Act::TYPED {
+        return 0;
+    }
+    kind_or_zero(pack, list(x), value_at(pack, part as usize + 1))
 }
 
 // Whether a name is that of a derived relation with equal kinds there.

@@ -9,7 +9,8 @@ use lib.ListN.{length}
 use lib.Dec.{eqb}
 use borrow.Author.Tests.{eqb-true, eqb-false}
 use Rattle.pack.specs.Pack.{Pack, WellFormed, yes, read, words}
-use Rattle.chains.specs.AllKinds.{Noted, BlocksAt, KindsMarked}
+use Rattle.chains.specs.AllKinds.{BlocksAt}
+use Rattle.filtered.specs.Acts.{ActsOf}
 use Rattle.chains.specs.Record.{valueAt}
 use Rattle.filtered.specs.Taking as taking
 use Rattle.directions.specs.Tables.{tables}
@@ -46,11 +47,10 @@ number-again none h = refl
 number-again (some zero) h = absurd (omega (arith, h .0))
 number-again (some (suc n)) h = refl
 
--- the tables, the marks of kinds and what entities take are what is known of the pack
-pub known-is : (ws records marks taken names : List ℕ) (steps : ℕ) (p : Pack) → read ws ≡ yes p → Noted ws names records → KindsMarked ws steps names marks → taking.Known ws taken
-    → {at : ℕ} → BlocksAt ws at → knownIn ws records marks taken (at + 1) (valueAt ws at) ≡ knownOf p
-known-is ws records marks taken names steps p h noted marked knows {at} e =
-    let t : tablesIn ws records marks taken ≡ tables (p .relations) = tables-are ws records marks taken names steps p h noted marked knows in
+-- the tables and the inputs are what is known of the pack
+pub known-is : (ws acts taken : List ℕ) (p : Pack) → read ws ≡ yes p → ActsOf ws acts → taking.Known ws taken → {at : ℕ} → BlocksAt ws at → knownIn ws acts taken (at + 1) (valueAt ws at) ≡ knownOf p
+known-is ws acts taken p h says knows {at} e =
+    let t : tablesIn ws acts taken ≡ tables (p .relations) = tables-are ws acts taken p h says knows in
     let r = reads-inputs ws p h e in
     let i : (λ (origin owner n : ℕ). orNot (inputIn ws (at + 1) (valueAt ws at) origin owner n)) ≡ input (p .blocks) =
     fun-ext (λ origin. fun-ext (λ owner. fun-ext (λ n. ap orNot (r .inputs origin owner n) ∙ number-again (input (p .blocks) origin owner n) (input-numbered (p .blocks) origin owner n)))) in

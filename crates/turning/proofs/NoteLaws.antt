@@ -10,7 +10,7 @@ use lib.Seq.{sets, length-sets, getD-set-other}
 use lib.Dec.{eqb}
 use borrow.Author.Tests.{eq-eqb, ne-eqb, eqb-true, eqb-false}
 use Rattle.pack.specs.Table.{pick, wordOf, entryOf, fieldsOf}
-use Rattle.directions.specs.Direction.{Membership}
+use Rattle.directions.specs.Direction.{relatedKind, Membership}
 use Rattle.directions.specs.Turning.{Outcome, done, refused, Citing, Fields, currentOf, relatedOf, withSlots, Step, goes, stops, stepBy, fieldWords}
 use Rattle.directions.specs.Words.{membershipIn}
 use Rattle.turning.specs.declared.step.Out.{Out}
@@ -18,7 +18,7 @@ use Rattle.turning.specs.declared.step.Out.the-variants.{Opens, Sets, Pa
 use Rattle.turning.specs.declared.root.Root as code
 use Rattle.turning.specs.declared.turns.Next.the-variants as next
 use Rattle.turning.specs.Notes.{Note, lookOf, noteCode}
-use Rattle.turning.specs.Turns.{insideOf, Known, Root, citing, Work, work, valueIn, kindIn, ruleRoot, relatedKind, relationRoot, held, fieldsAt, stepAt, turnedBy, openRoot, turnNode, turnNote}
+use Rattle.turning.specs.Turns.{insideOf, Known, Root, citing, Work, work, valueIn, kindIn, ruleRoot, relationRoot, held, fieldsAt, stepAt, turnedBy, openRoot, turnNode, turnNote}
 use Rattle.turning.specs.Steps.{knownIn, NodeStands, Stands, outBy, outAt, OutFits, StepTaken, rootIn, RootStands, RootOpened, NextBy, NoteAsked, NoteTurned}
 use Rattle.turning.proofs.FlatLaws.{Leaves, look-leaves}
 use Rattle.turning.proofs.CodeLaws.{code-parts}
@@ -103,26 +103,26 @@ module _ {ws words notes : List ℕ} {blocks count i : ℕ} (a : NoteAsked ws wo
   pub root-stands : insideOf (getD notes i 0) ≡ 0 → RootStands ws (getD notes i 0 % 8192 - 1)
   root-stands h = rw (its-place notes (a .n) (a .is) (a .stands)) (a .stands .root (sym (its-inside notes (a .n) (a .is) (a .stands)) ∙ h))
 
-module _ (ws records marks taken words notes : List ℕ) (blocks count i : ℕ) (r : code.Root) where
+module _ (ws acts taken words notes : List ℕ) (blocks count i : ℕ) (r : code.Root) where
   abbrev K : Known
-  K = knownIn ws records marks taken blocks count
+  K = knownIn ws acts taken blocks count
 
   -- a rule or relation
-  pub opens-root : insideOf (getD notes i 0) ≡ 0 → {x : code.Root} → RootOpened ws records marks (getD notes i 0 % 8192 - 1) x → NoteTurned ws records marks taken blocks count i r words notes (next.On x) words (set notes i (x .entity))
+  pub opens-root : insideOf (getD notes i 0) ≡ 0 → {x : code.Root} → RootOpened ws acts (getD notes i 0 % 8192 - 1) x → NoteTurned ws acts taken blocks count i r words notes (next.On x) words (set notes i (x .entity))
   unfolding turnNote openRoot
   opens-root h {x} o = record { each = each; long = refl; wide = length-set notes i (x .entity); others = λ j q. getD-set-other notes i j (x .entity) 0 q }
     where
       each : (n : Note) → getD notes i 0 ≡ noteCode n → Stands ws i n → NextBy (turnNote K ws i n (work words notes (rootIn r))) (next.On x) words (set notes i (x .entity))
-      each n is st = rw (eq-eqb (n .inside) 0 (sym (its-inside notes n is st) ∙ h)) (go (eqb (kindIn ws (n .place)) 23) refl (subst (λ (y : ℕ). RootOpened ws records marks y x) (its-place notes n is st) o))
+      each n is st = rw (eq-eqb (n .inside) 0 (sym (its-inside notes n is st) ∙ h)) (go (eqb (kindIn ws (n .place)) 23) refl (subst (λ (y : ℕ). RootOpened ws acts y x) (its-place notes n is st) o))
         where
-          go : (b : Bool) → eqb (kindIn ws (n .place)) 23 ≡ b → RootOpened ws records marks (n .place) x
+          go : (b : Bool) → eqb (kindIn ws (n .place)) 23 ≡ b → RootOpened ws acts (n .place) x
               → NextBy (done (pick b (work words (set notes i (valueIn ws (n .place + 2))) (ruleRoot ws (n .place))) (work words (set notes i (relatedKind (K .tables .derived (valueIn ws (n .place))))) (relationRoot K ws (n .place))))) (next.On x) words (set notes i (x .entity))
           go true e p = let q = p .rule (eqb-true (kindIn ws (n .place)) 23 e) in (x, refl, q .1, refl, ap (set notes i) (q .0))
           go false e p = let q = p .relation (eqb-false (kindIn ws (n .place)) 23 e) taken blocks count in (x, refl, q .1, refl, ap (set notes i) (q .0))
 
   -- a node: what came of its step
   module _ (h : insideOf (getD notes i 0) ≡ 0 → ⊥) (μ : ℕ) (keep : (n : Note) → getD notes i 0 ≡ noteCode n → n .place + 1 < 8192 → membershipIn μ ≡ held (n .lost) (membershipIn (r .m))) {o : Out}
-      (t : StepTaken ws records marks taken blocks count (r .origin) (getD notes (getD notes i 0 / 16384) 0) (membershipIn μ) (getD notes i 0 % 8192 - 1) o) where
+      (t : StepTaken ws acts taken blocks count (r .origin) (getD notes (getD notes i 0 / 16384) 0) (membershipIn μ) (getD notes i 0 % 8192 - 1) o) where
     its-outcome : (n : Note) → getD notes i 0 ≡ noteCode n → Stands ws i n → turnNote K ws i n (work words notes (rootIn r)) ≡ applied i (n .place) (work words notes (rootIn r)) o
     unfolding turnNote
     its-outcome n is st =
@@ -134,7 +134,7 @@ module _ (ws records marks taken words notes : List ℕ) (blocks count i : ℕ) 
     abbrev at : ℕ
     at = getD notes i 0 % 8192 - 1
 
-    pub note-opens : {c s k : ℕ} → o ≡ Opens c s k → {left : List ℕ} → left ≡ sets words (at + 1) (slotWords c s) → NoteTurned ws records marks taken blocks count i r words notes (next.On r) left (set notes i k)
+    pub note-opens : {c s k : ℕ} → o ≡ Opens c s k → {left : List ℕ} → left ≡ sets words (at + 1) (slotWords c s) → NoteTurned ws acts taken blocks count i r words notes (next.On r) left (set notes i k)
     note-opens {c} {s} {k} e {left} q =
         record {
           others = λ j z. getD-set-other notes i j k 0 z;
@@ -143,7 +143,7 @@ module _ (ws records marks taken words notes : List ℕ) (blocks count i : ℕ) 
           long = ap length q ∙ length-sets words (at + 1) (slotWords c s);
         }
 
-    pub note-sets : {c s : ℕ} → o ≡ Sets c s → {left : List ℕ} → left ≡ sets words (at + 1) (slotWords c s) → NoteTurned ws records marks taken blocks count i r words notes (next.On r) left notes
+    pub note-sets : {c s : ℕ} → o ≡ Sets c s → {left : List ℕ} → left ≡ sets words (at + 1) (slotWords c s) → NoteTurned ws acts taken blocks count i r words notes (next.On r) left notes
     note-sets {c} {s} e {left} q =
         record {
           others = λ j z. refl;
@@ -152,10 +152,10 @@ module _ (ws records marks taken words notes : List ℕ) (blocks count i : ℕ) 
           long = ap length q ∙ length-sets words (at + 1) (slotWords c s);
         }
 
-    pub note-passes : o ≡ Passes → NoteTurned ws records marks taken blocks count i r words notes (next.On r) words notes
+    pub note-passes : o ≡ Passes → NoteTurned ws acts taken blocks count i r words notes (next.On r) words notes
     note-passes e = record { each = λ n is st. rw (its-outcome n is st, e) (r, refl, refl, refl, refl); long = refl; wide = refl; others = λ j z. refl }
 
-    pub note-stops : {number other : ℕ} → o ≡ Stops number other → NoteTurned ws records marks taken blocks count i r words notes (next.Refused (record { number = number; place = at; name = r .name; other = other })) words notes
+    pub note-stops : {number other : ℕ} → o ≡ Stops number other → NoteTurned ws acts taken blocks count i r words notes (next.Refused (record { number = number; place = at; name = r .name; other = other })) words notes
     note-stops {number} {other} e =
         record {
           each = λ n is st. rw (its-outcome n is st, e) (ap (λ (x : ℕ). next.Refused (record { number = number; place = x; name = r .name; other = other })) (its-place notes n is st));
@@ -179,9 +179,9 @@ sets-slots C entity m ws at {o} e h = go (lookOf (kindIn ws at) .slots) refl e
     go true q e = q
     go false q e = absurd (h e)
 
-module _ {ws records marks taken : List ℕ} {blocks count origin entity : ℕ} {m : Membership} {at : ℕ} {o : Out} (t : StepTaken ws records marks taken blocks count origin entity m at o) where
+module _ {ws acts taken : List ℕ} {blocks count origin entity : ℕ} {m : Membership} {at : ℕ} {o : Out} (t : StepTaken ws acts taken blocks count origin entity m at o) where
   its-slots : (o ≡ Passes → ⊥) → lookOf (kindIn ws at) .slots ≡ true
-  its-slots h = sets-slots (citing (knownIn ws records marks taken blocks count) (record { name = 0; origin = origin; member = none })) entity m ws at (t .each (record { name = 0; origin = origin; member = none }) refl) h
+  its-slots h = sets-slots (citing (knownIn ws acts taken blocks count) (record { name = 0; origin = origin; member = none })) entity m ws at (t .each (record { name = 0; origin = origin; member = none }) refl) h
 
   pub opens-some : {c r k : ℕ} → o ≡ Opens c r k → lookOf (kindIn ws at) .slots ≡ true
   opens-some e = its-slots (λ q. let z : _≡_ {A = ℕ} 0 1 = cc in omega arith)

@@ -91,7 +91,7 @@ held-below : (notes left : List ℕ) (top : ℕ) → ((j : ℕ) → j < top → 
 held-below notes left top same i [] h g = tt
 held-below notes left top same i (n ∷ ns) h g = (same i (omega arith) ∙ g .0, held-below notes left top same (suc i) ns (omega arith) (g .1))
 
-module _ (ws records marks taken words₀ notes₀ : List ℕ) (blocks count relations all : ℕ) (a : PackAsked ws records marks taken words₀ notes₀ blocks count relations all) where
+module _ (ws acts taken words₀ notes₀ : List ℕ) (blocks count relations all : ℕ) (a : PackAsked ws acts taken words₀ notes₀ blocks count relations all) where
   abbrev p : Pack
   p = a .pack
 
@@ -151,10 +151,10 @@ module _ (ws records marks taken words₀ notes₀ : List ℕ) (blocks count rel
   rules-outcome = turnNotes K (words p) (1 + length rels) rls (work words₀ notes₀ nowhere)
 
   -- the code's run of notes is the definition's
-  as-known : (from : ℕ) (ns : List Note) (s : Work) → turnNotes (knownIn ws records marks taken blocks count) ws from ns s ≡ turnNotes K (words p) from ns s
+  as-known : (from : ℕ) (ns : List Note) (s : Work) → turnNotes (knownIn ws acts taken blocks count) ws from ns s ≡ turnNotes K (words p) from ns s
   as-known from ns s = λ j. turnNotes (a .knows j) (same-words j) from ns s
 
-  module _ {o : Ended} {words notes : List ℕ} (t : NotesTurned ws records marks taken blocks count (relations + 1) (all + 1) words₀ notes₀ o words notes) where
+  module _ {o : Ended} {words notes : List ℕ} (t : NotesTurned ws acts taken blocks count (relations + 1) (all + 1) words₀ notes₀ o words notes) where
     rules-ended : EndedBy rules-outcome o words notes
     rules-ended =
         subst (λ (x : Outcome Work). EndedBy x o words notes) (as-known (relations + 1) rls (work words₀ notes₀ nowhere) ∙ ap (λ (x : ℕ). turnNotes K whole x rls (work words₀ notes₀ nowhere)) first-is)
@@ -198,7 +198,7 @@ module _ (ws records marks taken words₀ notes₀ : List ℕ) (blocks count rel
             placed = placed .0;
           }
 
-      module _ {r : Ended} {left kinds : List ℕ} (u : NotesTurned ws records marks taken blocks count 1 (relations + 1) words notes r left kinds) where
+      module _ {r : Ended} {left kinds : List ℕ} (u : NotesTurned ws acts taken blocks count 1 (relations + 1) words notes r left kinds) where
         relations-ended : EndedBy (turnNotes K whole 1 rels (work words notes nowhere)) r left kinds
         relations-ended =
             subst (λ (x : Outcome Work). EndedBy x r left kinds) (as-known 1 rels (work words notes nowhere))

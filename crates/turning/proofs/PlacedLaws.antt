@@ -37,59 +37,11 @@ use Rattle.turning.specs.Steps.{NodeStands, RootStands, Stands, Placed}
 use Rattle.turning.proofs.FlatLaws.{kind-there, value-there}
 use Rattle.turning.proofs.RecordFlat.{value-is, kind-is, its-derivation, name-below}
 
--- ---- kinds with slots: their values are names
-
-and-none : (b : Bool) → (b && false) ≡ false
-and-none true = refl
-and-none false = refl
-
-module _ (k : ℕ) (h : 107 ≤ k) where
-  above : (b : ℕ) → ltb b 107 ≡ true → leb k b ≡ false
-  above b e = lt-leb k b (let x = ltb-true b 107 e in omega arith)
-
-  unused : entryOf k .follows ≡ Nothing
-  unfolding entryOf table
-  unused = simp (above, and-none)
+-- ---- kinds with slots: their first fields are the slots
 
 no : {A : Type 0} → true ≡ false → A
 no e = let z : _≡_ {A = ℕ} 0 1 = cc in absurd (omega arith)
 
-without : (k : ℕ) → 107 ≤ k → lookOf k .slots ≡ false
-unfolding lookBy
-without k h = ap (λ (w : Follows). lookBy w .slots) (unused k h)
-
-low-slots : (k : ℕ) → k < 74 → lookOf k .slots ≡ false
-unfolding lookBy entryOf table
-low-slots k h = in-range (λ (x : ℕ). lookOf x .slots) false 0 74 refl k (omega arith) h
-
-middle-slots : (k : ℕ) → 79 ≤ k → k < 101 → lookOf k .slots ≡ false
-unfolding lookBy entryOf table
-middle-slots k l h = in-range (λ (x : ℕ). lookOf x .slots) false 79 22 refl k l h
-
-last-slots : (k : ℕ) → 102 ≤ k → k < 107 → lookOf k .slots ≡ false
-unfolding lookBy entryOf table
-last-slots k l h = in-range (λ (x : ℕ). lookOf x .slots) false 102 5 refl k l h
-
-low-names : (k : ℕ) → 74 ≤ k → k < 79 → entryOf k .rule ≡ Name
-unfolding entryOf table
-low-names k l h = in-range (λ (x : ℕ). entryOf x .rule) Name 74 5 refl k l h
-
-test-name : (k : ℕ) → k ≡ 101 → entryOf k .rule ≡ Name
-unfolding entryOf table
-test-name k e = rw e refl
-
-slots-name : (k : ℕ) → lookOf k .slots ≡ true → entryOf k .rule ≡ Name
-slots-name k t = go (ltb k 74) refl (ltb k 79) refl (ltb k 101) refl (ltb k 102) refl (ltb k 107) refl
-  where
-    go : (x : Bool) → ltb k 74 ≡ x → (y : Bool) → ltb k 79 ≡ y → (z : Bool) → ltb k 101 ≡ z → (u : Bool) → ltb k 102 ≡ u → (v : Bool) → ltb k 107 ≡ v → entryOf k .rule ≡ Name
-    go true e y f z g u q v p = no (sym t ∙ low-slots k (ltb-true k 74 e))
-    go false e true f z g u q v p = low-names k (ltb-false k 74 e) (ltb-true k 79 f)
-    go false e false f true g u q v p = no (sym t ∙ middle-slots k (ltb-false k 79 f) (ltb-true k 101 g))
-    go false e false f false g true q v p = test-name k (let a = ltb-false k 101 g in let b = ltb-true k 102 q in omega arith)
-    go false e false f false g false q true p = no (sym t ∙ last-slots k (ltb-false k 102 q) (ltb-true k 107 p))
-    go false e false f false g false q false p = no (sym t ∙ without k (ltb-false k 107 p))
-
--- and their first fields are the slots
 abbrev SlotFields : Fields → Type 0
 SlotFields [] = ⊥
 SlotFields (a ∷ []) = ⊥
@@ -169,7 +121,6 @@ module _ (ws : List ℕ) (short : length ws ≤ 8192) (n : ℕ) (most : n ≤ 40
         let many = fields-count n (fieldsOf (entryOf k .follows)) fs fine in
         record {
           fields = rw kind (let i = inside in omega arith);
-          relation = λ e. let e′ : lookOf k .slots ≡ true = sym (ap (λ (x : ℕ). lookOf x .slots) kind) ∙ e in let name : v < n = ltb-true v n (sym (ap (λ (r : Rule). allowed r n v) (slots-name k e′)) ∙ ok) in rw value (omega arith);
           slots = λ e. let e′ : lookOf k .slots ≡ true = sym (ap (λ (x : ℕ). lookOf x .slots) kind) ∙ e in slots-at fs refl (fieldsOf (entryOf k .follows)) fine (slot-fields n (entryOf k .follows) fs e′ fine);
           short = short;
         }
@@ -254,20 +205,14 @@ module _ (ws : List ℕ) (short : length ws ≤ 8192) (n : ℕ) (most : n ≤ 40
   root-placed : (i at : ℕ) → 1 ≤ i → RootStands ws at → Stands ws i (note at 0 false)
   root-placed i at l s = record { within = omega arith; near = let f = s .fields in omega arith; root = λ e. s; node = λ e. absurd (e refl) }
 
-  rule-name : (r : pack.Rule) → Fine (pack.rule n) r → r .citing < n
-  unfolding pack.rule Fine allowedHere entryOf table
-  rule-name r f = ltb-true (r .citing) n (f .0 .1)
-
   rule-placed : (r : pack.Rule) → Fine (pack.rule n) r → PlacedAt 1 (ruleWords n) ruleNotes r
   unfolding ruleNotes
   rule-placed r fine front back i at s e b l =
       let its = rule-parts n r fine in
       let tail : List ℕ = wordsOf bodyWords (bodiesOf r) ++ back in
       let headed : ws ≡ front ++ (head r ++ tail) = s ∙ ap (λ (x : List ℕ). front ++ (x ++ back)) (its .words) ∙ ap (λ (x : List ℕ). front ++ x) (append-assoc (head r) (wordsOf bodyWords (bodiesOf r)) back) in
-      let long = ap length headed ∙ length-append front (head r ++ tail) in
-      let name : valueIn ws at ≡ r .citing = value-is ws front _ 23 (r .citing) at headed e (its .citing) in
-      let below = rule-name r fine in (
-        root-placed i at l (record { fields = let x = length-append (head r) tail in omega arith; name = rw name (omega arith) }),
+      let long = ap length headed ∙ length-append front (head r ++ tail) in (
+        root-placed i at l (record { fields = let x = length-append (head r) tail in omega arith }),
         run-placed (suc i) bodyWords (bodyNotes i) (λ b. Fine (body n) b) (λ b f. body-placed i l b f) (bodiesOf r) (its .bodies) (front ++ head r) back (suc i) (at + 4) (headed ∙ sym (append-assoc front (head r) tail)) (length-append front (head r) ∙ omega arith) b (omega arith),
       )
 
@@ -279,11 +224,8 @@ module _ (ws : List ℕ) (short : length ws ≤ 8192) (n : ℕ) (most : n ≤ 40
         let T : List ℕ = treeWords (d .predicate) ++ back in
         let L : List ℕ = lead (p .names) r d in
         let opened : ws ≡ front ++ (L ++ T) = s ∙ ap (λ (x : List ℕ). front ++ (x ++ back)) (lead-words (p .names) r d e fine) ∙ ap (λ (x : List ℕ). front ++ x) (append-assoc L (treeWords (d .predicate)) back) in
-        let long = ap length opened ∙ length-append front (L ++ T) in
-        let name : valueIn ws at ≡ r .name = value-is ws front _ 6 (r .name) at opened q (name-below p w ws r k) in
-        let below = kept (p .names) (k .used) r (k .fine) .below in
-        let fewer = parts p w .most in (
-          root-placed i at l (record { fields = let x = length-append L T in omega (arith, lead-long (p .names) r d); name = rw name (omega arith) }),
+        let long = ap length opened ∙ length-append front (L ++ T) in (
+          root-placed i at l (record { fields = let x = length-append L T in omega (arith, lead-long (p .names) r d) }),
           tree-placed (d .predicate) 32 judgment (subst (λ (x : ℕ). Fine (tree x 32 judgment) (d .predicate)) names fine) (front ++ L) back (suc i) i (at + predicatePlace r d) false (opened ∙ sym (append-assoc front L T)) (length-append front L ∙ omega (arith, lead-long (p .names) r d)) b (omega arith) l,
         )
 

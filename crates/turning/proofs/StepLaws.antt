@@ -162,38 +162,38 @@ only-fits number word (Turned c r owner) h = go (eqb (kindOf word) 84) (number o
     go false zero = h
     go false (suc n) = tt
 
-module _ {ws records marks taken : List ℕ} {blocks count origin entity at : ℕ} {m : Membership} (s : NodeStands ws at) where
-  pub went-taken : entryOf (kindIn ws at) .follows ≡ Aggregate → {d : Direction} → d ≡ turnAt (tablesIn ws records marks taken) ws at entity → SlotsFit d → {o : Out} → o ≡ wentBy d
-      → StepTaken ws records marks taken blocks count origin entity m at o
+module _ {ws acts taken : List ℕ} {blocks count origin entity at : ℕ} {m : Membership} (s : NodeStands ws at) where
+  pub went-taken : entryOf (kindIn ws at) .follows ≡ Aggregate → {d : Direction} → d ≡ turnAt (tablesIn ws acts taken) ws at entity → SlotsFit d → {o : Out} → o ≡ wentBy d
+      → StepTaken ws acts taken blocks count origin entity m at o
   unfolding outAt stepAt stepBy fieldsOf turnAt lookBy
   went-taken e {d} t fits {o} q =
       record {
         each = λ root same. q ∙ rw (e, two-fields ws at 2 (three-words s (slots-of e aggregate-slots)))
-            (ap wentBy t ∙ went-out (fieldAt ws (at + 1)) (fieldAt ws (at + 2)) (fieldsAt ws (at + 3) 2) (turnAt (tablesIn ws records marks taken) ws at entity));
+            (ap wentBy t ∙ went-out (fieldAt ws (at + 1)) (fieldAt ws (at + 2)) (fieldsAt ws (at + 3) 2) (turnAt (tablesIn ws acts taken) ws at entity));
         fits = rw q (went-fits d fits);
       }
 
-  pub only-taken : entryOf (kindIn ws at) .follows ≡ OnlyRelated → {d : Direction} → d ≡ turnAt (tablesIn ws records marks taken) ws at entity → SlotsFit d → {o : Out} → o ≡ onlyBy (inputIn ws blocks count origin) (getD ws (at + 3) 0) d
-      → StepTaken ws records marks taken blocks count origin entity m at o
+  pub only-taken : entryOf (kindIn ws at) .follows ≡ OnlyRelated → {d : Direction} → d ≡ turnAt (tablesIn ws acts taken) ws at entity → SlotsFit d → {o : Out} → o ≡ onlyBy (inputIn ws blocks count origin) (getD ws (at + 3) 0) d
+      → StepTaken ws acts taken blocks count origin entity m at o
   unfolding outAt stepAt stepBy fieldsOf turnAt lookBy
   only-taken e {d} t fits {o} q =
       record {
         each = λ root same. q ∙ rw (e, same, two-fields ws at 1 (three-words s (slots-of e only-slots)), one-field ws (at + 3) 0 (four-words s e))
-            (ap (onlyBy (inputIn ws blocks count origin) (getD ws (at + 3) 0)) t ∙ only-out (inputIn ws blocks count origin) (fieldAt ws (at + 1)) (fieldAt ws (at + 2)) (getD ws (at + 3) 0) [] (turnAt (tablesIn ws records marks taken) ws at entity));
+            (ap (onlyBy (inputIn ws blocks count origin) (getD ws (at + 3) 0)) t ∙ only-out (inputIn ws blocks count origin) (fieldAt ws (at + 1)) (fieldAt ws (at + 2)) (getD ws (at + 3) 0) [] (turnAt (tablesIn ws acts taken) ws at entity));
         fits = rw q (only-fits (inputIn ws blocks count origin) (getD ws (at + 3) 0) d fits);
       }
 
-  pub test-taken : entryOf (kindIn ws at) .follows ≡ Slots → {d : Direction} → MemberTurned ws records (valueIn ws at) m (valueIn ws (at + 1)) (valueIn ws (at + 2)) d → {o : Out} → o ≡ testedBy d
-      → StepTaken ws records marks taken blocks count origin entity m at o
+  pub test-taken : entryOf (kindIn ws at) .follows ≡ Slots → {d : Direction} → MemberTurned ws acts (valueIn ws at) m (valueIn ws (at + 1)) (valueIn ws (at + 2)) d → {o : Out} → o ≡ testedBy d
+      → StepTaken ws acts taken blocks count origin entity m at o
   unfolding outAt stepAt stepBy fieldsOf lookBy
   test-taken e {d} t {o} q =
       record {
         each = λ root same. q ∙ rw (e, two-fields ws at 0 (three-words s (slots-of e test-slots)))
-            (ap testedBy (t .each marks taken) ∙ test-out (fieldAt ws (at + 1)) (fieldAt ws (at + 2)) [] entity m (direction.member (tablesIn ws records marks taken) (valueIn ws at) m (valueIn ws (at + 1)) (valueIn ws (at + 2))));
-        fits = rw q (test-fits d (member-fits-code ws records (valueIn ws at) m (valueIn ws (at + 1)) (valueIn ws (at + 2)) (omega arith) (omega arith) t));
+            (ap testedBy (t .each taken) ∙ test-out (fieldAt ws (at + 1)) (fieldAt ws (at + 2)) [] entity m (direction.member (tablesIn ws acts taken) (valueIn ws at) m (valueIn ws (at + 1)) (valueIn ws (at + 2))));
+        fits = rw q (test-fits d (member-fits-code ws acts (valueIn ws at) m (valueIn ws (at + 1)) (valueIn ws (at + 2)) (omega arith) (omega arith) t));
       }
 
-  pub none-taken : lookOf (kindIn ws at) .slots ≡ false → StepTaken ws records marks taken blocks count origin entity m at Passes
+  pub none-taken : lookOf (kindIn ws at) .slots ≡ false → StepTaken ws acts taken blocks count origin entity m at Passes
   unfolding outAt
   none-taken e = record { each = λ root same. rw e refl; fits = tt }
 

@@ -29,9 +29,9 @@ on-refused e = let z : _≡_ {A = ℕ} 0 1 = cc in omega arith
 refusal-is : {x y : Refusal} → next.Refused x ≡ next.Refused y → x ≡ y
 refusal-is {x} {y} e = let z : x ≡ y = cc in z
 
-module _ (ws records marks taken : List ℕ) (blocks count from to : ℕ) (words₀ notes₀ : List ℕ) where
+module _ (ws acts taken : List ℕ) (blocks count from to : ℕ) (words₀ notes₀ : List ℕ) where
   abbrev K : Known
-  K = knownIn ws records marks taken blocks count
+  K = knownIn ws acts taken blocks count
 
   -- what is left to do of these notes
   pub record Left (all : List Note) (words notes : List ℕ) (i : ℕ) (r : code.Root) : Type 0 where
@@ -77,7 +77,7 @@ module _ (ws records marks taken : List ℕ) (blocks count from to : ℕ) (words
           let x = next-note (a .ns) (g .each (a .ns) (a .are) (a .many) (a .placed)) in
           record { low = a .low; few = a .few; same = g .same ∙ a .same; inside = let q = a .inside in let l = g .wide in omega arith; n = x .n; is = x .is; stands = x .stands }
 
-      module _ {o : Next} {left kinds : List ℕ} (t : NoteTurned ws records marks taken blocks count i r words notes o left kinds) where
+      module _ {o : Next} {left kinds : List ℕ} (t : NoteTurned ws acts taken blocks count i r words notes o left kinds) where
         -- it goes on
         module _ {x : code.Root} (e : o ≡ next.On x) where
           went : (all : List Note) (y : Next-note all) (p : Outcome Work) → turnNote K ws i (y .n) (work words notes (rootIn r)) ≡ p → NextBy p o left kinds → Left all left kinds (suc i) x
@@ -112,7 +112,7 @@ module _ (ws records marks taken : List ℕ) (blocks count from to : ℕ) (words
           stopped all y (done s) q h = absurd (on-refused (sym (h .1) ∙ e))
           stopped all y (refused z) q h = rw (y .left, q) (ap ended.Refused (refusal-is (sym e ∙ h)))
 
-          pub turns-stop : NotesTurned ws records marks taken blocks count from to words₀ notes₀ (ended.Refused x) left kinds
+          pub turns-stop : NotesTurned ws acts taken blocks count from to words₀ notes₀ (ended.Refused x) left kinds
           turns-stop =
               record {
                 each = λ ns are many placed. let y = next-note ns (g .each ns are many placed) in stopped ns y (turnNote K ws i (y .n) (work words notes (rootIn r))) refl (t .each (y .n) (y .is) (y .stands));
@@ -127,5 +127,5 @@ module _ (ws records marks taken : List ℕ) (blocks count from to : ℕ) (words
     ends-by all [] h many left = rw left (refl, refl, refl)
     ends-by all (n ∷ rest) h many left = absurd (omega arith)
 
-    pub turns-end : to ≤ i → NotesTurned ws records marks taken blocks count from to words₀ notes₀ ended.All words notes
+    pub turns-end : to ≤ i → NotesTurned ws acts taken blocks count from to words₀ notes₀ ended.All words notes
     turns-end h = record { each = λ ns are many placed. let l = g .each ns are many placed in ends-by ns (l .rest) h (l .many) (l .left); long = g .same; wide = g .wide; earlier = g .earlier }

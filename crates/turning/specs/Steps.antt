@@ -11,7 +11,7 @@ use Rattle.inputs.specs.Blocks.{inputIn}
 use Rattle.directions.specs.declared.direction.Direction.{Direction}
 use Rattle.directions.specs.declared.direction.Direction.the-variants.{Turned, Open}
 use Rattle.directions.specs.Tables.{Derived, Tables}
-use Rattle.directions.specs.Direction.{turn, Membership}
+use Rattle.directions.specs.Direction.{turn, Membership, relatedKind, memberKinds}
 use mathlib.Core.Option.{Option, none, some}
 use Rattle.directions.specs.Turning.{Outcome, done, refused, Citing, currentOf, relatedOf, Step, goes, stops}
 use Rattle.directions.specs.Words.{tablesIn, membershipIn}
@@ -25,7 +25,7 @@ use Rattle.turning.specs.declared.turns.Next.the-variants as next
 use Rattle.turning.specs.declared.turns.Ended.{Ended}
 use Rattle.turning.specs.declared.turns.Ended.the-variants as ended
 use Rattle.turning.specs.Notes.{Note, lookOf, noteCode, Held, NotesIn}
-use Rattle.turning.specs.Turns.{Known, knownOf, Root, citing, Work, work, nowhere, valueIn, kindIn, ruleRoot, relatedKind, memberKinds, relationRoot, stepAt, turnNote, turnNotes}
+use Rattle.turning.specs.Turns.{Known, knownOf, Root, citing, Work, work, nowhere, valueIn, kindIn, ruleRoot, relationRoot, stepAt, turnNote, turnNotes}
 
 -- a number, 0 for none
 abbrev pub orNot : ℕ → Option ℕ
@@ -33,22 +33,20 @@ orNot zero = none
 orNot (suc n) = some (suc n)
 
 -- what is known of the pack, as the code has it
-abbrev pub knownIn : List ℕ → List ℕ → List ℕ → List ℕ → ℕ → ℕ → Known
-knownIn ws records marks taken blocks count = record { tables = tablesIn ws records marks taken; input = λ origin owner n. orNot (inputIn ws blocks count origin owner n) }
+abbrev pub knownIn : List ℕ → List ℕ → List ℕ → ℕ → ℕ → Known
+knownIn ws acts taken blocks count = record { tables = tablesIn ws acts taken; input = λ origin owner n. orNot (inputIn ws blocks count origin owner n) }
 
 -- ---- where notes stand
 
--- a noted node: all its fields are there, and if it has slots its relation is a name
+-- a noted node: all its fields are there
 pub record NodeStands (ws : List ℕ) (at : ℕ) : Type 0 where
   pub fields : at + length (fieldsOf (entryOf (kindIn ws at) .follows)) < length ws
-  pub relation : lookOf (kindIn ws at) .slots ≡ true → valueIn ws at < 4096
   pub slots : lookOf (kindIn ws at) .slots ≡ true → (kindIn ws (at + 1) ≡ 80) × (kindIn ws (at + 2) ≡ 81)
   pub short : length ws ≤ 8192
 
--- a rule or relation: its origin and what follows are there, and it has a name
+-- a rule or relation: its origin and what follows are there
 pub record RootStands (ws : List ℕ) (at : ℕ) : Type 0 where
   pub fields : at + 2 < length ws
-  pub name : valueIn ws at < 4096
 
 -- the i-th note, inside an earlier one or none
 pub record Stands (ws : List ℕ) (i : ℕ) (n : Note) : Type 0 where
@@ -97,8 +95,8 @@ OutFits Passes = Unit {0}
 OutFits (Stops number other) = Unit {0}
 
 -- in a rule or relation of any name
-pub record StepTaken (ws records marks taken : List ℕ) (blocks count origin entity : ℕ) (m : Membership) (at : ℕ) (o : Out) : Type 0 where
-  pub each : (root : Root) → root .origin ≡ origin → o ≡ outAt (citing (knownIn ws records marks taken blocks count) root) entity m ws at
+pub record StepTaken (ws acts taken : List ℕ) (blocks count origin entity : ℕ) (m : Membership) (at : ℕ) (o : Out) : Type 0 where
+  pub each : (root : Root) → root .origin ≡ origin → o ≡ outAt (citing (knownIn ws acts taken blocks count) root) entity m ws at
   pub fits : OutFits o
 
 -- ---- a rule or relation
@@ -110,10 +108,10 @@ pub record PairOf (d : Option Derived) (k : Pair) : Type 0 where
 abbrev pub rootIn : code.Root → Root
 rootIn r = record { name = r .name; origin = r .origin; member = membershipIn (r .m) }
 
-pub record RootOpened (ws records marks : List ℕ) (at : ℕ) (r : code.Root) : Type 0 where
+pub record RootOpened (ws acts : List ℕ) (at : ℕ) (r : code.Root) : Type 0 where
   pub rule : kindIn ws at ≡ 23 → (r .entity ≡ valueIn ws (at + 2)) × (rootIn r ≡ ruleRoot ws at)
   pub relation : (kindIn ws at ≡ 23 → ⊥) → (taken : List ℕ) (blocks count : ℕ)
-      → (r .entity ≡ relatedKind (tablesIn ws records marks taken .derived (valueIn ws at))) × (rootIn r ≡ relationRoot (knownIn ws records marks taken blocks count) ws at)
+      → (r .entity ≡ relatedKind (tablesIn ws acts taken .derived (valueIn ws at))) × (rootIn r ≡ relationRoot (knownIn ws acts taken blocks count) ws at)
 
 -- ---- notes
 
@@ -132,8 +130,8 @@ pub record NoteAsked (ws words notes : List ℕ) (blocks count i : ℕ) : Type 0
   pub is : getD notes i 0 ≡ noteCode n
   pub stands : Stands ws i n
 
-pub record NoteTurned (ws records marks taken : List ℕ) (blocks count i : ℕ) (r : code.Root) (words notes : List ℕ) (o : Next) (left kinds : List ℕ) : Type 0 where
-  pub each : (n : Note) → getD notes i 0 ≡ noteCode n → Stands ws i n → NextBy (turnNote (knownIn ws records marks taken blocks count) ws i n (work words notes (rootIn r))) o left kinds
+pub record NoteTurned (ws acts taken : List ℕ) (blocks count i : ℕ) (r : code.Root) (words notes : List ℕ) (o : Next) (left kinds : List ℕ) : Type 0 where
+  pub each : (n : Note) → getD notes i 0 ≡ noteCode n → Stands ws i n → NextBy (turnNote (knownIn ws acts taken blocks count) ws i n (work words notes (rootIn r))) o left kinds
   pub long : length left ≡ length words
   pub wide : length kinds ≡ length notes
   pub others : (j : ℕ) → (j ≡ i → ⊥) → getD kinds j 0 ≡ getD notes j 0
@@ -158,9 +156,9 @@ pub record TurnsAsked (ws words notes : List ℕ) (blocks count from to : ℕ) :
   pub placed : Placed ws from ns
 
 -- the notes become results where something stands inside them
-pub record NotesTurned (ws records marks taken : List ℕ) (blocks count from to : ℕ) (words notes : List ℕ) (o : Ended) (left kinds : List ℕ) : Type 0 where
+pub record NotesTurned (ws acts taken : List ℕ) (blocks count from to : ℕ) (words notes : List ℕ) (o : Ended) (left kinds : List ℕ) : Type 0 where
   pub each : (ns : List Note) → Held notes from ns → to ≡ from + length ns → Placed ws from ns
-      → EndedBy (turnNotes (knownIn ws records marks taken blocks count) ws from ns (work words notes nowhere)) o left kinds
+      → EndedBy (turnNotes (knownIn ws acts taken blocks count) ws from ns (work words notes nowhere)) o left kinds
   pub long : length left ≡ length words
   pub wide : length kinds ≡ length notes
   pub earlier : (j : ℕ) → j < from → getD kinds j 0 ≡ getD notes j 0
@@ -168,10 +166,10 @@ pub record NotesTurned (ws records marks taken : List ℕ) (blocks count from to
 -- ---- a pack
 
 -- the tables of a checked pack, its notes, and a copy of its words
-pub record PackAsked (ws records marks taken words notes : List ℕ) (blocks count relations all : ℕ) : Type 0 where
+pub record PackAsked (ws acts taken words notes : List ℕ) (blocks count relations all : ℕ) : Type 0 where
   pub pack : Pack
   pub checked : read ws ≡ yes pack
-  pub knows : knownIn ws records marks taken blocks count ≡ knownOf pack
+  pub knows : knownIn ws acts taken blocks count ≡ knownOf pack
   pub low : blocks ≤ 65536
   pub few : count ≤ 64
   pub copied : words ≡ ws

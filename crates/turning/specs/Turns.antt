@@ -12,7 +12,7 @@ use Rattle.pack.specs.Pack.{Pack, words}
 use Rattle.filtered.specs.Filtered.{kindAt}
 use Rattle.inputs.specs.Inputs.{input}
 use Rattle.directions.specs.Tables.{Derived, Tables, tables}
-use Rattle.directions.specs.Direction.{kindOrZero, Membership, membership}
+use Rattle.directions.specs.Direction.{Membership, relatedKind, memberKinds}
 use Rattle.directions.specs.Turning.{Outcome, done, refused, andThen, Citing, Fields, Step, goes, stops, stepBy, fieldWords}
 use Rattle.turning.specs.Notes.{Note, lookOf}
 
@@ -68,14 +68,6 @@ abbrev pub ruleRoot : List ℕ → ℕ → Root
 ruleRoot ws at = record { name = valueIn ws at; origin = valueIn ws (at + 1); member = none }
 
 -- "entity = related kind or 0, membership = (current kind, related kind), citing = the relation"
-abbrev pub relatedKind : Option Derived → ℕ
-relatedKind none = 0
-relatedKind (some d) = kindOrZero (d .kinds) (d .related)
-
-abbrev pub memberKinds : Option Derived → Membership
-memberKinds none = none
-memberKinds (some d) = membership (kindAt (d .kinds) (d .current)) (kindAt (d .kinds) (d .related))
-
 abbrev pub relationRoot : Known → List ℕ → ℕ → Root
 relationRoot K ws at = record { name = valueIn ws at; origin = valueIn ws (at + 1); member = memberKinds (K .tables .derived (valueIn ws at)) }
 

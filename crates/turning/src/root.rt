@@ -1,23 +1,14 @@
 // A rule or relation in which turning is.
-use chains::entry::start;
-use chains::record::flag_at;
-use chains::record::slots_place;
-use chains::record::value_at;
-use chains::settle::ByName;
 use directions::direction::Code;
-use directions::direction::kind_or_zero;
 use directions::direction::membership_code;
+use directions::equal::related_kind;
 use directions::equal::slot_kinds;
-use filtered::taking::place_of;
+use filtered::act::act_of;
 use pack::answer::Refusal;
 use pack::kinds::Pack;
-use records::directory::Words;
 ghost use mathlib.Core.Path.{_≡_};
-ghost use Prim.Native.Nat.{_<_, _+_, _≤_};
-ghost use lib.ListN.{length};
-ghost use Rattle.chains.specs.Entry.{startsIn};
-ghost use Rattle.directions.specs.Words.{derivedBy, membershipIn};
-ghost use Rattle.turning.specs.Turns.{relatedKind, memberKinds};
+ghost use lib.ListN.{getD};
+ghost use Rattle.directions.specs.Words.{derivedIn};
 ghost use Rattle.turning.specs.Steps.{RootStands, PairOf, RootOpened};
 
 // Its name, its origin and its membership in one number, and the entity of its trees.
@@ -58,34 +49,19 @@ pub struct Pair {
     pub m: u64,
 }
 
-fn kinds(pack: &[u32], dir: &Words, marks: &ByName, name: usize) -> Pair
-    requires { ⌜ (name < 4096) ⌝ }
-    ensures { λ r. ⌜ PairOf (derivedBy (now (pack .entry)) (startsIn (now (dir .entry))) (now (marks .entry)) name) r ⌝ }
+fn kinds(pack: &[u32], acts: &[u32], name: usize) -> Pair
+    ensures { λ r. ⌜ PairOf (derivedIn (now (pack .entry)) (getD (now (acts .entry)) name 0)) r ⌝ }
 {
-    let start = start(dir, name);
-    if start == 0 {
-        return Pair {
-            entity: 0,
-            m: Code::UNKNOWN,
-        };
-    }
-    if flag_at(pack, start) != 1 {
-        return Pair {
-            entity: 0,
-            m: Code::UNKNOWN,
-        };
-    }
-    let list = place_of(marks, name);
-    let related = value_at(pack, slots_place(pack, start) + 1);
-    let entity = kind_or_zero(pack, list, related);
-    let m = membership_code(slot_kinds(pack, pack, list, start));
+    let x = act_of(acts, name);
+    let entity = related_kind(pack, x);
+    let m = membership_code(slot_kinds(pack, x));
     Pair { entity, m }
 }
 
 // The one whose record starts at a place.
-pub fn opened(pack: &[u32], dir: &Words, marks: &ByName, at: usize) -> Root
+pub fn opened(pack: &[u32], acts: &[u32], at: usize) -> Root
     requires { ⌜ RootStands (now pack) at ⌝ }
-    ensures { λ r. ⌜ RootOpened (now (pack .entry)) (startsIn (now (dir .entry))) (now (marks .entry)) at r ⌝ }
+    ensures { λ r. ⌜ RootOpened (now (pack .entry)) (now (acts .entry)) at r ⌝ }
 {
     let word = pack[at];
     let name = word % Pack::VALUES;
@@ -99,7 +75,7 @@ pub fn opened(pack: &[u32], dir: &Words, marks: &ByName, at: usize) -> Root
             m: Code::UNKNOWN,
         };
     }
-    let k = kinds(pack, dir, marks, name as usize);
+    let k = kinds(pack, acts, name as usize);
     Root {
         name,
         origin,

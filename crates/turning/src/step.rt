@@ -1,15 +1,12 @@
 // What comes of one node, read in the words of the pack.
-use chains::settle::ByName;
 use directions::direction::Direction;
 use directions::direction::member;
 use directions::direction::turn;
 use inputs::inputs::input;
 use pack::answer::Number;
 use pack::kinds::Pack;
-use records::directory::Words;
 ghost use mathlib.Core.Path.{_≡_};
 ghost use Prim.Native.Nat.{_<_, _≤_};
-ghost use Rattle.chains.specs.Entry.{startsIn};
 ghost use Rattle.directions.specs.Words.{tablesIn, membershipIn};
 ghost use Rattle.inputs.specs.Blocks.{inputIn};
 ghost use Rattle.directions.specs.Words.{SlotsFit};
@@ -49,19 +46,18 @@ pub struct Node {
 // Its direction as an aggregate.
 fn turned(
     pack: &[u32],
-    dir: &Words,
-    marks: &ByName,
-    taken: &ByName,
+    acts: &[u32],
+    taken: &[u32],
     at: usize,
     entity: u32,
 ) -> Direction
     requires { ⌜ NodeStands (now pack) at × (lookOf (kindIn (now pack) at) .slots ≡ true) ⌝ }
-    ensures { λ r. ⌜ (r ≡ turnAt (tablesIn (now (pack .entry)) (startsIn (now (dir .entry))) (now (marks .entry)) (now (taken .entry))) (now (pack .entry)) at entity) × SlotsFit r ⌝ }
+    ensures { λ r. ⌜ (r ≡ turnAt (tablesIn (now (pack .entry)) (now (acts .entry)) (now (taken .entry))) (now (pack .entry)) at entity) × SlotsFit r ⌝ }
 {
     let relation = (pack[at] % Pack::VALUES) as usize;
     let current = pack[at + 1] % Pack::VALUES;
     let related = pack[at + 2] % Pack::VALUES;
-    turn(pack, dir, marks, taken, relation, entity, current, related)
+    turn(pack, acts, taken, relation, entity, current, related)
 }
 
 // What comes of an aggregate by its direction.
@@ -107,14 +103,13 @@ fn only(pack: &[u32], cited: Cited, d: Direction, word: u32) -> Out
 // By its kind.
 pub fn step(
     pack: &[u32],
-    dir: &Words,
-    marks: &ByName,
-    taken: &ByName,
+    acts: &[u32],
+    taken: &[u32],
     cited: Cited,
     node: Node,
 ) -> Out
     requires { ⌜ NodeStands (now pack) (node .at) × (cited .blocks .at ≤ 65536) × (cited .blocks .count ≤ 64) ⌝ }
-    ensures { λ r. ⌜ StepTaken (now (pack .entry)) (startsIn (now (dir .entry))) (now (marks .entry)) (now (taken .entry)) (cited .blocks .at) (cited .blocks .count) (cited .origin) (node .entity) (membershipIn (node .m)) (node .at) r ⌝ }
+    ensures { λ r. ⌜ StepTaken (now (pack .entry)) (now (acts .entry)) (now (taken .entry)) (cited .blocks .at) (cited .blocks .count) (cited .origin) (node .entity) (membershipIn (node .m)) (node .at) r ⌝ }
 {
     let at = node.at;
     let word = pack[at];
@@ -123,13 +118,13 @@ pub fn step(
             let relation = (word % Pack::VALUES) as usize;
             let current = pack[at + 1] % Pack::VALUES;
             let related = pack[at + 2] % Pack::VALUES;
-            tested(member(pack, dir, relation, node.m, current, related))
+            tested(member(pack, acts, relation, node.m, current, related))
         }
         Pack::ONLY_RELATED => {
-            let d = turned(pack, dir, marks, taken, at, node.entity);
+            let d = turned(pack, acts, taken, at, node.entity);
             only(pack, cited, d, pack[at + 3])
         }
-        Pack::COUNT..=Pack::SINGLE => went(turned(pack, dir, marks, taken, at, node.entity)),
+        Pack::COUNT..=Pack::SINGLE => went(turned(pack, acts, taken, at, node.entity)),
         _ => Out::Passes,
     }
 }

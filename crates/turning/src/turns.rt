@@ -8,18 +8,15 @@ use crate::step::Cited;
 use crate::step::Node;
 use crate::step::Out;
 use crate::step::step;
-use chains::settle::ByName;
 use directions::direction::Code;
 use pack::answer::Refusal;
 use pack::kinds::Pack;
-use records::directory::Words;
 ghost use mathlib.Core.Path.{_≡_};
 ghost use mathlib.Core.List.{[], _∷_};
 ghost use Prim.Native.Nat.{_+_, _<_, _≤_};
 ghost use lib.ListN.{length, getD};
 ghost use lib.Seq.{sets};
 ghost use Rattle.pack.specs.Table.{wordOf};
-ghost use Rattle.chains.specs.Entry.{startsIn};
 ghost use Rattle.directions.specs.Words.{membershipIn};
 ghost use Rattle.turning.specs.Notes.{Note, noteCode};
 ghost use Rattle.turning.specs.Turns.{held, insideOf};
@@ -88,16 +85,15 @@ fn kept(note: u32, m: u64) -> u64
 // The i-th note, of a node: its own number gives way to the entity of what stands inside it.
 fn turn_node(
     pack: &[u32],
-    dir: &Words,
-    marks: &ByName,
-    taken: &ByName,
+    acts: &[u32],
+    taken: &[u32],
     root: Root,
     work: &mut [u32],
     notes: &mut [u32],
     here: Here,
 ) -> Next
     requires { ⌜ NoteAsked (now pack) (now work) (now notes) (here .blocks .at) (here .blocks .count) (here .i) × (insideOf (getD (now notes) (here .i) 0) ≡ 0 → ⊥) ⌝ }
-    ensures { λ r. ⌜ NoteTurned (now (pack .entry)) (startsIn (now (dir .entry))) (now (marks .entry)) (now (taken .entry)) (here .blocks .at) (here .blocks .count) (here .i) root (now (work .entry)) (now (notes .entry)) r (now (work .exit)) (now (notes .exit)) ⌝ }
+    ensures { λ r. ⌜ NoteTurned (now (pack .entry)) (now (acts .entry)) (now (taken .entry)) (here .blocks .at) (here .blocks .count) (here .i) root (now (work .entry)) (now (notes .entry)) r (now (work .exit)) (now (notes .exit)) ⌝ }
 {
     let i = here.i;
     let note = notes[i];
@@ -107,7 +103,7 @@ fn turn_node(
     let blocks = here.blocks;
     let origin = root.origin;
     let cited = Cited { blocks, origin };
-    match step(pack, dir, marks, taken, cited, Node { at, entity, m }) {
+    match step(pack, acts, taken, cited, Node { at, entity, m }) {
         Out::Opens(current, related, kind) => {
             set_slots(work, at, current, related);
             notes[i] = kind;
@@ -125,23 +121,22 @@ fn turn_node(
 // Of any sort: from the note of a rule or relation on, turning is in it.
 fn turn_note(
     pack: &[u32],
-    dir: &Words,
-    marks: &ByName,
-    taken: &ByName,
+    acts: &[u32],
+    taken: &[u32],
     root: Root,
     work: &mut [u32],
     notes: &mut [u32],
     here: Here,
 ) -> Next
     requires { ⌜ NoteAsked (now pack) (now work) (now notes) (here .blocks .at) (here .blocks .count) (here .i) ⌝ }
-    ensures { λ r. ⌜ NoteTurned (now (pack .entry)) (startsIn (now (dir .entry))) (now (marks .entry)) (now (taken .entry)) (here .blocks .at) (here .blocks .count) (here .i) root (now (work .entry)) (now (notes .entry)) r (now (work .exit)) (now (notes .exit)) ⌝ }
+    ensures { λ r. ⌜ NoteTurned (now (pack .entry)) (now (acts .entry)) (now (taken .entry)) (here .blocks .at) (here .blocks .count) (here .i) root (now (work .entry)) (now (notes .entry)) r (now (work .exit)) (now (notes .exit)) ⌝ }
 {
     let i = here.i;
     let note = notes[i];
     if note / NoteCode::INSIDES != 0 {
-        return turn_node(pack, dir, marks, taken, root, work, notes, here);
+        return turn_node(pack, acts, taken, root, work, notes, here);
     }
-    let r = opened(pack, dir, marks, (note % NoteCode::FIELDS) as usize - 1);
+    let r = opened(pack, acts, (note % NoteCode::FIELDS) as usize - 1);
     notes[i] = r.entity;
     Next::On(r)
 }
@@ -149,15 +144,14 @@ fn turn_note(
 // Notes in a row; where something stands inside one, its entity takes the place of the note.
 pub fn turns(
     pack: &[u32],
-    dir: &Words,
-    marks: &ByName,
-    taken: &ByName,
+    acts: &[u32],
+    taken: &[u32],
     work: &mut [u32],
     notes: &mut [u32],
     span: Span,
 ) -> Ended
     requires { ⌜ TurnsAsked (now pack) (now work) (now notes) (span .blocks .at) (span .blocks .count) (span .from) (span .to) ⌝ }
-    ensures { λ r. ⌜ NotesTurned (now (pack .entry)) (startsIn (now (dir .entry))) (now (marks .entry)) (now (taken .entry)) (span .blocks .at) (span .blocks .count) (span .from) (span .to) (now (work .entry)) (now (notes .entry)) r (now (work .exit)) (now (notes .exit)) ⌝ }
+    ensures { λ r. ⌜ NotesTurned (now (pack .entry)) (now (acts .entry)) (now (taken .entry)) (span .blocks .at) (span .blocks .count) (span .from) (span .to) (now (work .entry)) (now (notes .entry)) r (now (work .exit)) (now (notes .exit)) ⌝ }
 {
     let blocks = span.blocks;
     let to = span.to;
@@ -165,7 +159,7 @@ pub fn turns(
     let mut root = nowhere();
     while i < to {
         let here = Here { i, blocks };
-        let next = turn_note(pack, dir, marks, taken, root, work, notes, here);
+        let next = turn_note(pack, acts, taken, root, work, notes, here);
         match next {
             Next::On(r) => {
                 root = r;
@@ -180,21 +174,20 @@ pub fn turns(
 // All notes of a pack: those of its rules, then those of its relations.
 pub fn turn_pack(
     pack: &[u32],
-    dir: &Words,
-    marks: &ByName,
-    taken: &ByName,
+    acts: &[u32],
+    taken: &[u32],
     work: &mut [u32],
     notes: &mut [u32],
     counts: Counts,
 ) -> Ended
-    requires { ⌜ PackAsked (now pack) (startsIn (now dir)) (now marks) (now taken) (now work) (now notes) (counts .blocks .at) (counts .blocks .count) (counts .noted) (counts .all) ⌝ }
+    requires { ⌜ PackAsked (now pack) (now acts) (now taken) (now work) (now notes) (counts .blocks .at) (counts .blocks .count) (counts .noted) (counts .all) ⌝ }
     ensures { λ r. ⌜ PackTurned (now (pack .entry)) r (now (work .exit)) ⌝ }
 {
     let blocks = counts.blocks;
     let from = counts.noted + 1;
     let to = counts.all + 1;
     let span = Span { from, to, blocks };
-    let rules = turns(pack, dir, marks, taken, work, notes, span);
+    let rules = turns(pack, acts, taken, work, notes, span);
     let Ended::All = rules else {
         return rules;
     };
@@ -203,5 +196,5 @@ pub fn turn_pack(
         to: from,
         blocks,
     };
-    turns(pack, dir, marks, taken, work, notes, first)
+    turns(pack, acts, taken, work, notes, first)
 }

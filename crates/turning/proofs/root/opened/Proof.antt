@@ -30,7 +30,7 @@ shared-slice-read-entity : tie.Need-shared-slice-read-entity
 shared-slice-read-entity c = search needs
 
 returns : tie.Need-returns
-returns c = rule-opened _ _ _ _ refl ((c .before .if1) .taken) refl refl refl
+returns c = rule-opened _ _ _ refl ((c .before .if1) .taken) refl refl refl
 
 cast-kinds : tie.Need-cast-kinds
 cast-kinds c = search needs
@@ -39,7 +39,7 @@ kinds-requires : tie.Need-kinds-requires
 kinds-requires c κs = search needs
 
 returns-2 : tie.Need-returns-2
-returns-2 c = relation-opened _ _ _ _ refl ((c .before .if1) .left) refl refl ((c .kinds) .ensures)
+returns-2 c = relation-opened _ _ _ refl ((c .before .if1) .left) refl refl ((c .kinds) .ensures)
 
 pub opened-spec : {M : Type 1} → statement M
 opened-spec =

@@ -23,7 +23,7 @@ mul-current : tie.Need-mul-current
 mul-current c = search needs
 
 shared-slice-read-current : tie.Need-shared-slice-read-current
-shared-slice-read-current c = omega (arith, three-words ((c .before .before .before .pre) .0) ((c .before .before .before .pre) .1))
+shared-slice-read-current c = omega (arith, three-words ((c .before .before .before .before .before .pre) .0) ((c .before .before .before .before .before .pre) .1))
 
 add-related : tie.Need-add-related
 add-related c = search needs
@@ -32,14 +32,14 @@ mul-related : tie.Need-mul-related
 mul-related c = search needs
 
 shared-slice-read-related : tie.Need-shared-slice-read-related
-shared-slice-read-related c = omega (arith, three-words ((c .before .before .before .before .pre) .0) ((c .before .before .before .before .pre) .1))
+shared-slice-read-related c = omega (arith, three-words ((c .before .before .before .before .before .before .pre) .0) ((c .before .before .before .before .before .before .pre) .1))
 
 turn-requires : tie.Need-turn-requires
-turn-requires c κs = (c .before .before .before .before .pre) .0 .relation ((c .before .before .before .before .pre) .1)
+turn-requires c κs = search needs
 
 returns : tie.Need-returns
 unfolding turnAt
-returns c = ((c .turn) .ensures, turned-fits _ _ _ _ _ _ _ _ (omega arith) (omega arith) ((c .turn) .ensures))
+returns c = ((c .turn) .ensures, turned-fits _ _ _ _ _ _ _ (omega arith) (omega arith) ((c .turn) .ensures))
 
 pub turned-spec : {M : Type 1} → statement M
 turned-spec =

@@ -27,10 +27,10 @@ cast-opened : tie.Need-cast-opened
 cast-opened c = search needs
 
 sub-opened : tie.Need-sub-opened
-sub-opened c = omega (arith, some-field ((c .before .before .before .before .before .pre)))
+sub-opened c = omega (arith, some-field ((c .before .before .before .before .before .before .before .pre)))
 
 opened-requires : tie.Need-opened-requires
-opened-requires c κs = root-stands ((c .before .before .before .before .before .pre)) ((c .if1) .left)
+opened-requires c κs = root-stands ((c .before .before .before .before .before .before .before .pre)) ((c .if1) .left)
 
 mul-notes : tie.Need-mul-notes
 mul-notes c = search needs
@@ -42,7 +42,7 @@ same-length-3 : tie.Need-same-length-3
 same-length-3 c = search needs
 
 returns-2 : tie.Need-returns-2
-returns-2 c = opens-root _ _ _ _ _ _ _ _ _ _ ((c .before .if1) .left) ((c .opened) .ensures)
+returns-2 c = opens-root _ _ _ _ _ _ _ _ _ ((c .before .if1) .left) ((c .opened) .ensures)
 
 pub turn-note-spec : {M : Type 1} → statement M
 turn-note-spec =
