@@ -1,7 +1,7 @@
--- Resolving keeps what sorts of nodes a tree holds: it sets fields alone.
+-- Resolving keeps what sorts of nodes a tree holds, and where slots stand: it sets fields alone.
 use Prim.Native.Nat.{ℕ, _+_}
 use mathlib.Core.Path.{_≡_, refl, ap, _∙_, subst}
-use mathlib.Core.Bool.{Bool, _||_}
+use mathlib.Core.Bool.{Bool, false, _||_}
 use mathlib.Core.Option.{Option, none, some}
 use lib.ListN.{length}
 use Rattle.pack.specs.Table.{entryOf}
@@ -11,6 +11,7 @@ use Rattle.pack.specs.Pack.{Derivation, Relation, Pack}
 use Rattle.directions.specs.Direction.{Membership}
 use Rattle.directions.specs.Turning.{done, mapDone, Citing, Step, goes, stops, stepBy, size, atNode, resolveTree, resolveForest}
 use Rattle.directions.specs.Resolving.{holds, held, inDerivation, withPredicate, predicateBy, resolvePredicate, resolveDerivation, resolveRelation}
+use Rattle.filtered.specs.Acts.{partAt}
 use Rattle.directions.proofs.KeepsForm.{Good, map-good, then-good}
 
 module _ (is : ℕ → ℕ → Bool) where
@@ -44,3 +45,17 @@ module _ (is : ℕ → ℕ → Bool) where
   relation-held p at r s e =
       subst (Good (λ x. inDerivation is (x .derivation) ≡ inDerivation is (r .derivation))) e
       (map-good (λ o. inDerivation is o ≡ inDerivation is (r .derivation)) _ (λ o. record { name = r .name; origin = r .origin; arity = r .arity; slotKinds = r .slotKinds; derivation = o }) (resolveDerivation p at r (r .derivation)) (derivation-held p at r (r .derivation)) (λ o q. q))
+
+-- nor do its slots move
+pub part-kept : (p : Pack) (at start : ℕ) (r s : Relation) → resolveRelation p at r ≡ done s → partAt start (some s) ≡ partAt start (some r)
+unfolding resolveRelation predicateBy
+part-kept p at start r s e =
+    subst (Good (λ x. partAt start (some x) ≡ partAt start (some r))) e
+    (map-good (λ o. partAt start (some (with-derivation o)) ≡ partAt start (some r)) _ with-derivation (resolveDerivation p at r (r .derivation)) (go (r .derivation)) (λ o q. q))
+  where
+    with-derivation : Option Derivation → Relation
+    with-derivation o = record { name = r .name; origin = r .origin; arity = r .arity; slotKinds = r .slotKinds; derivation = o }
+
+    go : (o : Option Derivation) → Good (λ o′. partAt start (some (with-derivation o′)) ≡ partAt start (some (with-derivation o))) (resolveDerivation p at r o)
+    go none = refl
+    go (some d) = map-good (λ t. holds (λ k v. false) t ≡ holds (λ k v. false) (d .predicate)) _ (λ t. some (withPredicate d t)) (resolvePredicate p at r d) (holds-kept (λ k v. false) _ (d .predicate) _ _ _) (λ t e. refl)

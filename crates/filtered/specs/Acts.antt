@@ -10,9 +10,9 @@ use Rattle.pack.specs.Table.{pick}
 use Rattle.pack.specs.Form.{among}
 use Rattle.pack.specs.Pack.{Relation, Pack, yes, read}
 use Rattle.chains.specs.Kinds.{find, declared, ownAnswer}
-use Rattle.chains.specs.Places.{placeOf}
+use Rattle.chains.specs.Places.{startOf, firstRelation, placeOf}
 use Rattle.chains.specs.Record.{kindCount}
-use Rattle.chains.specs.AllKinds.{slotsOf}
+use Rattle.chains.specs.AllKinds.{slotsFor}
 
 -- 0 if it is neither typed nor derived, 1 if it is typed by the two names of its list, else the place of its slots
 abbrev pub actPart : ℕ → ℕ
@@ -44,8 +44,12 @@ abbrev pub typedPart : Option Relation → ℕ
 typedPart none = 0
 typedPart (some r) = pick (eqb (length (r .slotKinds)) 2) 1 0
 
+-- the part of a relation that starts at a place
+abbrev pub partAt : ℕ → Option Relation → ℕ
+partAt start o = pick (eqb (slotsFor start o) 0) (typedPart o) (slotsFor start o)
+
 unfoldable pub partOf : Pack → ℕ → ℕ
-partOf p m = pick (eqb (slotsOf p m) 0) (typedPart (find m (p .relations))) (slotsOf p m)
+partOf p m = partAt (startOf (p .names) m (firstRelation p) (p .relations)) (find m (p .relations))
 
 pub record ActsOf (ws acts : List ℕ) : Type 0 where
   pub parts : (p : Pack) → read ws ≡ yes p → (m : ℕ) → actPart (getD acts m 0) ≡ partOf p m

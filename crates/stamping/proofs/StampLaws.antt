@@ -1,13 +1,13 @@
 -- The list that the code finds for a relation is the one that stamping puts there.
-use Prim.Native.Nat.{ℕ, zero, suc, _-_, _%_, _<_, _≤_}
+use Prim.Native.Nat.{ℕ, zero, suc, _+_, _*_, _<_, _≤_}
 use native.Mathlib.Omega.{arith}
-use mathlib.Core.Path.{_≡_, refl, ap, _∙_}
+use mathlib.Core.Path.{_≡_, refl, sym, _∙_}
 use mathlib.Core.List.{List, [], _∷_}
 use mathlib.Core.Bool.{Bool, true, false, _||_, _&&_}
 use mathlib.Core.Option.{Option, none, some}
 use lib.ListN.{length, getD}
 use lib.Dec.{eqb}
-use borrow.Author.Tests.{ne-eqb}
+use borrow.Author.Tests.{ne-eqb, lt-ltb, le-ltb}
 use Rattle.pack.specs.Table.{pick}
 use Rattle.pack.specs.Form.{wordsBy}
 use Rattle.pack.specs.Pack.{Derivation, Relation, Pack, newName, relation, derivation}
@@ -17,8 +17,11 @@ use Rattle.chains.specs.Places.{namesAt}
 use Rattle.chains.proofs.RelationScan.{kept}
 use Rattle.chains.proofs.ListAt.{InWords}
 use Rattle.directions.specs.Resolving.{holds, roleJudgment, inDerivation, atomNames, empty, unlike, stampedWith, stampBy, stampDerived, stamp}
-use Rattle.stamping.specs.Stamping.{StampedBy, as-it-is, with-kinds, unstamped, passedIn, unlikeIn, nameAt, listFor}
-use Rattle.chains.proofs.RecordLaws.{value-there, counted, no-flag, a-flag, current-there, related-there, entities-there}
+use Rattle.stamping.specs.Stamping.{StampedBy, as-it-is, with-kinds, unstamped, passedIn, unlikeIn, listBy, listFor}
+use Rattle.chains.specs.Places.{hops}
+use Rattle.chains.specs.Record.{valueAt, slotsPlace, entityCount}
+use Rattle.filtered.specs.Acts.{actPart, actList, partAt}
+use Rattle.chains.proofs.RecordLaws.{value-there, counted, slots-at, current-there, related-there, entities-there}
 
 -- ---- the list
 
@@ -75,39 +78,61 @@ module _ (ws : List ℕ) (list : ℕ) (r : Relation) (d : Derivation) (e : r .de
   decided false false spoken (some ks) q z = as-it-is refl
 
 -- a relation of the words in which trees may have been resolved comes out as stamping says, from the list that the code finds for it
-module _ (ws work marks asked : List ℕ) (p : Pack) (start : ℕ) (r : Relation) (i : InWords work start (p .names) r) (most : p .names ≤ 4096)
-    (kinds : namesAt ws (getD marks (r .name) 0 - 2) ≡ kindsOf (p .relations) (r .name)) (named : getD asked (r .name) 0 ≡ pick (atomNames p (r .name) || inDerivation roleJudgment (r .derivation)) 1 0) where
-  abbrev list : ℕ
-  list = getD marks (r .name) 0 - 2
+module _ (ws work acts asked : List ℕ) (p : Pack) (start : ℕ) (r : Relation) (i : InWords work start (p .names) r) (most : p .names ≤ 4096) (part : actPart (getD acts (r .name) 0) ≡ partAt start (some r))
+    (kinds : namesAt ws (actList (getD acts (r .name) 0)) ≡ kindsOf (p .relations) (r .name)) (named : getD asked (r .name) 0 ≡ pick (atomNames p (r .name) || inDerivation roleJudgment (r .derivation)) 1 0) where
+  abbrev x : ℕ
+  x = getD acts (r .name) 0
 
   abbrev K : Option (List ℕ)
   K = kindsOf (p .relations) (r .name)
 
-  named-there : nameAt work start ≡ r .name
-  unfolding nameAt relation newName wordsBy
+  named-there : valueAt work start ≡ r .name
+  unfolding relation newName wordsBy
   named-there =
       let b = kept (p .names) (i .used) r (i .fine) .below in
-      ap (λ (v : ℕ). v % 4096) (value-there work (i .before) _ 6 (r .name) start (i .same-words) (i .long) (omega arith)) ∙ omega arith
+      value-there work (i .before) _ 6 (r .name) start (i .same-words) (i .long) (omega arith)
 
-  not-derived : r .derivation ≡ none → listFor ws work marks asked start ≡ 0
-  unfolding listFor unstamped
-  not-derived e = rw (no-flag work start (p .names) r i most e) refl
+  by-name : listFor ws work acts asked start ≡ listBy ws work asked (r .name) start x
+  unfolding listFor
+  by-name = rw named-there refl
 
-  list-read : (d : Derivation) → r .derivation ≡ some d
-      → listFor ws work marks asked start
-      ≡ pick (empty (d .slotEntities)) (pick (unlike (kindAt K (d .current)) (kindAt K (d .related))) (pick (empty (r .slotKinds) && (atomNames p (r .name) || holds roleJudgment (d .predicate))) 0 list) 0) 0
-  unfolding listFor unstamped passedIn unlikeIn
-  list-read d e =
-      rw (named-there, a-flag work start (p .names) r i most d e, entities-there work start (p .names) r i most d e, counted work start (p .names) r i most)
-      (rw (current-there work start (p .names) r i most d e, related-there work start (p .names) r i most d e, kinds, named, e)
-      (rw (one-if (atomNames p (r .name) || holds roleJudgment (d .predicate)), no-names (d .slotEntities), no-names (r .slotKinds)) refl))
+  one-or-none : (b : Bool) → pick b 1 0 < 2
+  one-or-none true = omega arith
+  one-or-none false = omega arith
 
-  pub stamped-by : StampedBy ws (listFor ws work marks asked start) r (stamp p r)
+  not-derived : r .derivation ≡ none → listFor ws work acts asked start ≡ 0
+  unfolding listBy unstamped
+  not-derived e =
+      let low : actPart x < 2 = rw (part, e) (one-or-none (eqb (length (r .slotKinds)) 2)) in
+      by-name ∙ rw (lt-ltb (actPart x) 2 low) refl
+
+  module _ (d : Derivation) (e : r .derivation ≡ some d) where
+    slots : actPart x ≡ slotsPlace work start
+    slots =
+        let far : start + 7 + length (r .slotKinds) + 3 * hops (d .path) ≡ 0 → ⊥ = λ z. omega arith in
+        part ∙ rw (e, ne-eqb (start + 7 + length (r .slotKinds) + 3 * hops (d .path)) 0 far) refl ∙ sym (slots-at work start (p .names) r i most d e)
+
+    none-21 : unstamped work (actPart x) ≡ empty (d .slotEntities)
+    unfolding unstamped entityCount
+    none-21 =
+        let far : 2 ≤ slotsPlace work start = omega (arith, slots-at work start (p .names) r i most d e) in
+        rw (slots, le-ltb (slotsPlace work start) 2 far, entities-there work start (p .names) r i most d e) (no-names (d .slotEntities))
+
+    list-read : listFor ws work acts asked start
+        ≡ pick (empty (d .slotEntities)) (pick (unlike (kindAt K (d .current)) (kindAt K (d .related))) (pick (empty (r .slotKinds) && (atomNames p (r .name) || holds roleJudgment (d .predicate))) 0 (actList x)) 0) 0
+    unfolding listBy passedIn unlikeIn
+    list-read =
+        by-name
+        ∙ rw (none-21, slots, counted work start (p .names) r i most)
+        (rw (current-there work start (p .names) r i most d e, related-there work start (p .names) r i most d e, kinds, named, e)
+        (rw (one-if (atomNames p (r .name) || holds roleJudgment (d .predicate)), no-names (r .slotKinds)) refl))
+
+  pub stamped-by : StampedBy ws (listFor ws work acts asked start) r (stamp p r)
   unfolding stamp
   stamped-by = go (r .derivation) refl
     where
-      go : (o : Option Derivation) → r .derivation ≡ o → StampedBy ws (listFor ws work marks asked start) r (stampDerived p r o)
+      go : (o : Option Derivation) → r .derivation ≡ o → StampedBy ws (listFor ws work acts asked start) r (stampDerived p r o)
       go none e = as-it-is (not-derived e)
       go (some d) e =
           let spoken : Bool = atomNames p (r .name) || holds roleJudgment (d .predicate) in
-          rw (list-read d e, ← by-kinds ws list r d e K) (decided ws list r d e (empty (r .slotKinds)) (empty (d .slotEntities)) spoken K kinds (is-empty (d .slotEntities)))
+          rw (list-read d e, ← by-kinds ws (actList x) r d e K) (decided ws (actList x) r d e (empty (r .slotKinds)) (empty (d .slotEntities)) spoken K kinds (is-empty (d .slotEntities)))

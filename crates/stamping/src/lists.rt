@@ -1,37 +1,34 @@
 // Which list of kinds is stamped on each relation, by the place of the list.
-use chains::record::flag_at;
 use chains::record::kind_count;
-use chains::record::slots_place;
 use chains::record::value_at;
-use chains::settle::ByName;
+use filtered::act::Act;
+use filtered::act::act_of;
+use filtered::act::list;
+use filtered::act::part;
 use filtered::taking::Kind;
 use filtered::taking::kind_at;
-use filtered::taking::place_of;
 use pack::kinds::Pack;
-use turning::asked::Asked;
 ghost use mathlib.Core.Path.{_≡_};
 ghost use Prim.Native.Nat.{_<_, _≤_};
 ghost use lib.ListN.{length};
 ghost use Rattle.chains.specs.Record.{Recorded};
 ghost use Rattle.stamping.specs.Stamping.{unstamped, passedIn, unlikeIn, listFor, Lists, addedFor, Listed};
 
-// Whether it has a derivation without names of its own.
-fn unstamped(work: &[u32], start: usize) -> bool
-    requires { ⌜ start ≤ 65536 ⌝ }
-    ensures { λ r. ⌜ r ≡ unstamped (now (work .entry)) start ⌝ }
+// Whether it has a derivation, whose slots stand at its part, without names of its own.
+fn unstamped(work: &[u32], part: u32) -> bool
+    ensures { λ r. ⌜ r ≡ unstamped (now (work .entry)) part ⌝ }
 {
-    if flag_at(work, start) != 1 {
+    if part <= Act::TYPED {
         return false;
     }
-    value_at(work, slots_place(work, start) + 4) == 0
+    value_at(work, part as usize + 4) == 0
 }
 
 // Whether a list has a kind at its current slot, and not the same at its related slot.
-fn unlike(pack: &[u32], work: &[u32], list: u32, start: usize) -> bool
-    requires { ⌜ start ≤ 65536 ⌝ }
-    ensures { λ r. ⌜ r ≡ unlikeIn (now (pack .entry)) (now (work .entry)) list start ⌝ }
+fn unlike(pack: &[u32], work: &[u32], list: u32, slots: u32) -> bool
+    ensures { λ r. ⌜ r ≡ unlikeIn (now (pack .entry)) (now (work .entry)) list slots ⌝ }
 {
-    let at = slots_place(work, start);
+    let at = slots as usize;
     let Kind::Is(c) = kind_at(pack, list, value_at(work, at)) else {
         return false;
     };
@@ -42,27 +39,32 @@ fn unlike(pack: &[u32], work: &[u32], list: u32, start: usize) -> bool
 }
 
 // Whether it is passed over: without slot kinds, and asked for by an atom or Exists or by a judgment of roles.
-fn passed_over(work: &[u32], asked: &Asked, name: usize, start: usize) -> bool
-    requires { ⌜ (start ≤ 65536) × (name < 4096) ⌝ }
+fn passed_over(work: &[u32], asked: &[u8], name: usize, start: usize) -> bool
+    requires { ⌜ start ≤ 65536 ⌝ }
     ensures { λ r. ⌜ r ≡ passedIn (now (work .entry)) (now (asked .entry)) name start ⌝ }
 {
     if value_at(work, start + 3) != 0 {
+        return false;
+    }
+    if asked.len() <= name {
         return false;
     }
     asked[name] == 1
 }
 
 // The place of the list that is stamped on the relation whose record starts at a place; 0 for none.
-fn list_for(pack: &[u32], work: &[u32], marks: &ByName, asked: &Asked, start: usize) -> u32
+fn list_for(pack: &[u32], work: &[u32], acts: &[u32], asked: &[u8], start: usize) -> u32
     requires { ⌜ start ≤ 65536 ⌝ }
-    ensures { λ r. ⌜ r ≡ listFor (now (pack .entry)) (now (work .entry)) (now (marks .entry)) (now (asked .entry)) start ⌝ }
+    ensures { λ r. ⌜ r ≡ listFor (now (pack .entry)) (now (work .entry)) (now (acts .entry)) (now (asked .entry)) start ⌝ }
 {
-    if !unstamped(work, start) {
+    let name = value_at(work, start) as usize;
+    let x = act_of(acts, name);
+    let slots = part(x);
+    if !unstamped(work, slots) {
         return 0;
     }
-    let name = (value_at(work, start) % Pack::MOST_NAMES) as usize;
-    let list = place_of(marks, name);
-    if !unlike(pack, work, list, start) {
+    let list = list(x);
+    if !unlike(pack, work, list, slots) {
         return 0;
     }
     if !passed_over(work, asked, name, start) {
@@ -106,19 +108,19 @@ fn added(pack: &[u32], work: &[u32], list: u32, start: usize) -> usize
 pub fn lists(
     pack: &[u32],
     work: &[u32],
-    marks: &ByName,
-    asked: &Asked,
+    acts: &[u32],
+    asked: &[u8],
     order: &[u32],
     table: &mut [u32],
 ) -> usize
     requires { ⌜ Recorded (now pack) (now order) × (length (now table) ≡ length (now order)) × (length (now order) ≤ 512) ⌝ }
-    ensures { λ r. ⌜ Listed (now (pack .entry)) (now (work .entry)) (now (marks .entry)) (now (asked .entry)) (now (order .entry)) (now (table .exit)) r ⌝ }
+    ensures { λ r. ⌜ Listed (now (pack .entry)) (now (work .entry)) (now (acts .entry)) (now (asked .entry)) (now (order .entry)) (now (table .exit)) r ⌝ }
 {
     let mut more: usize = 0;
     let mut i: usize = 0;
     while i < order.len() {
         let start = order[i] as usize;
-        let list = list_for(pack, work, marks, asked, start);
+        let list = list_for(pack, work, acts, asked, start);
         table[i] = list;
         more += added(pack, work, list, start);
         i += 1;

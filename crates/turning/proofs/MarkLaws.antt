@@ -14,8 +14,8 @@ use Rattle.turning.specs.Turns.{insideOf, valueIn, kindIn}
 use Rattle.turning.specs.Asked.{relationAfter, atomMarked, roleMarked, markNote, markNotes, InWords, MarkAsked, NoteMarked, MarksAsked, NotesMarked}
 use Rattle.turning.proofs.CodeLaws.{code-parts}
 
-pub beyond-marks : (t : List ℕ) (name : ℕ) → length t ≡ 4096 → 4096 ≤ name → t ≡ set t name 1
-beyond-marks t name e h = sym (set-out t name 1 (omega arith))
+pub beyond-marks : (t : List ℕ) (name : ℕ) → length t ≤ name → t ≡ set t name 1
+beyond-marks t name h = sym (set-out t name 1 (omega arith))
 
 module _ {code : ℕ} (n : Note) (is : code ≡ noteCode n) (near : n .place + 1 < 8192) where
   pub mark-place : code % 8192 - 1 ≡ n .place
@@ -136,7 +136,7 @@ module _ (ws notes : List ℕ) (all : ℕ) (t₀ : List ℕ) where
       next-mark : (ns : List Note) → MarksLeft ns i current t → NextMark ns
       next-mark ns l = next-by ns (l .rest) (l .are) (l .many) (l .there) (l .left)
 
-      pub mark-asked : MarksAsked ws notes all t₀ → MarkAsked ws (getD notes i 0)
+      pub mark-asked : MarksAsked ws notes all → MarkAsked ws (getD notes i 0)
       mark-asked a = let x = next-mark (a .ns) (g .each (a .ns) (a .are) (a .many) (a .there)) in record { n = x .n; is = x .is; near = x .near; there = x .inside }
 
       pub marks-next : {next : ℕ} {left : List ℕ} → NoteMarked ws (getD notes i 0) current t next left → Marking (i + 1) next left

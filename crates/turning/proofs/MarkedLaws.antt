@@ -340,7 +340,7 @@ or-swap false true = refl
 or-swap false false = refl
 
 -- THE LAW of marks: "that some atom or Exists names, or whose predicate holds kinds 102 to 104"
-pub marks-are : (p : Pack) (w : WellFormed p) (r : Relation) → find (r .name) (p .relations) ≡ some r → r .name < 4096 → (t : List ℕ) → length t ≡ 4096 → getD t (r .name) 0 ≡ 0
+pub marks-are : (p : Pack) (w : WellFormed p) (r : Relation) → find (r .name) (p .relations) ≡ some r → r .name < 4096 → (t : List ℕ) → r .name < length t → getD t (r .name) 0 ≡ 0
     → getD (markNotes (words p) (notesOfPack p) 4096 t) (r .name) 0 ≡ pick (atomNames p (r .name) || inDerivation roleJudgment (r .derivation)) 1 0
 unfolding atomNames
 marks-are p w r found low t wide clear =

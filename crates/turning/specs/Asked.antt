@@ -60,13 +60,12 @@ pub record NoteMarked (ws : List ℕ) (code current : ℕ) (t : List ℕ) (next 
   pub each : (n : Note) → code ≡ noteCode n → n .place + 1 < 8192 → (next ≡ relationAfter ws n current) × (left ≡ markNote ws n current t)
   pub long : length left ≡ length t
 
-pub record MarksAsked (ws notes : List ℕ) (all : ℕ) (t : List ℕ) : Type 0 where
+pub record MarksAsked (ws notes : List ℕ) (all : ℕ) : Type 0 where
   pub ns : List Note
   pub are : Held notes 1 ns
   pub many : all ≡ length ns
   pub room : all < length notes
   pub there : InWords ws ns
-  pub wide : length t ≡ 4096
 
 pub record NotesMarked (ws notes : List ℕ) (all : ℕ) (t left : List ℕ) : Type 0 where
   pub each : (ns : List Note) → Held notes 1 ns → all ≡ length ns → InWords ws ns → left ≡ markNotes ws ns 4096 t

@@ -2,27 +2,23 @@
 use crate::turns::NoteCode;
 use pack::kinds::Pack;
 ghost use mathlib.Core.Path.{_≡_};
-ghost use Prim.Native.Nat.{_<_};
-ghost use lib.ListN.{length, set};
+ghost use lib.ListN.{set};
 ghost use Rattle.turning.specs.Asked.{MarkAsked, NoteMarked, MarksAsked, NotesMarked};
 
-// 1 for each name that is asked for, else 0.
-pub type Asked = [u8; Pack::MOST_NAMES as usize];
-
-// A name; none is MOST_NAMES.
-fn mark(table: &mut Asked, name: u32)
-    requires { ⌜ length (now table) ≡ 4096 ⌝ }
+// A name in a table that has 1 for each name that is asked for, else 0; none, which is MOST_NAMES, is past it.
+fn mark(table: &mut [u8], name: u32)
     ensures { λ r. ⌜ now (table .exit) ≡ set (now (table .entry)) name 1 ⌝ }
 {
-    if name < Pack::MOST_NAMES {
-        table[name as usize] = 1;
+    let i = name as usize;
+    if i < table.len() {
+        table[i] = 1;
     }
 }
 
 // One note: an atom or Exists marks the relation that it names, and a judgment of roles the relation in whose predicate it
 // stands. The answer is the relation in whose predicate the notes after it stand.
-fn ask_note(pack: &[u32], note: u32, current: u32, table: &mut Asked) -> u32
-    requires { ⌜ MarkAsked (now pack) note × (length (now table) ≡ 4096) ⌝ }
+fn ask_note(pack: &[u32], note: u32, current: u32, table: &mut [u8]) -> u32
+    requires { ⌜ MarkAsked (now pack) note ⌝ }
     ensures { λ r. ⌜ NoteMarked (now (pack .entry)) note current (now (table .entry)) r (now (table .exit)) ⌝ }
 {
     let at = (note % NoteCode::FIELDS) as usize - 1;
@@ -50,8 +46,8 @@ fn ask_note(pack: &[u32], note: u32, current: u32, table: &mut Asked) -> u32
 }
 
 // All notes, so many of them.
-pub fn ask_notes(pack: &[u32], notes: &[u32], all: usize, table: &mut Asked)
-    requires { ⌜ MarksAsked (now pack) (now notes) all (now table) ⌝ }
+pub fn ask_notes(pack: &[u32], notes: &[u32], all: usize, table: &mut [u8])
+    requires { ⌜ MarksAsked (now pack) (now notes) all ⌝ }
     ensures { λ r. ⌜ NotesMarked (now (pack .entry)) (now (notes .entry)) all (now (table .entry)) (now (table .exit)) ⌝ }
 {
     let mut current = Pack::MOST_NAMES;

@@ -9,13 +9,13 @@ use Rattle.stamping.proofs.lists.lists.Statement.{statement}
 use Rattle.stamping.proofs.lists.lists.Tie as tie
 
 abbrev Inv-loop : tie.InvT-loop
-Inv-loop pack work marks asked order table₀ more₀ i₀ table more i = Listing pack work marks asked order table more i
+Inv-loop pack work acts asked order table₀ more₀ i₀ table more i = Listing pack work acts asked order table more i
 
 abbrev μ-loop : tie.MeasureT-loop
-μ-loop pack work marks asked order table₀ more₀ i₀ table more i = length order - i
+μ-loop pack work acts asked order table₀ more₀ i₀ table more i = length order - i
 
 loop-holds : tie.Need-loop-holds Inv-loop μ-loop
-loop-holds c = listing-begin _ _ _ _ _ ((c .before .before .before .before .pre) .1)
+loop-holds c = listing-begin _ _ _ _ _ ((c .before .before .before .before .before .before .pre) .1)
 
 mul-start : tie.Need-mul-start Inv-loop μ-loop
 mul-start c = search needs
@@ -24,10 +24,10 @@ shared-slice-read-start : tie.Need-shared-slice-read-start Inv-loop μ-loop
 shared-slice-read-start c = search needs
 
 cast-start : tie.Need-cast-start Inv-loop μ-loop
-cast-start c = omega (arith, recorded _ ((c .before .before .loop) .i) ((c .before .before .before .before .before .before .before .pre) .0))
+cast-start c = omega (arith, recorded _ ((c .before .before .loop) .i) ((c .before .before .before .before .before .before .before .before .before .pre) .0))
 
 list-for-requires : tie.Need-list-for-requires Inv-loop μ-loop
-list-for-requires c κs = recorded _ _ ((c .before .before .before .before .before .before .before .pre) .0)
+list-for-requires c κs = recorded _ _ ((c .before .before .before .before .before .before .before .before .before .pre) .0)
 
 mul-table : tie.Need-mul-table Inv-loop μ-loop
 mul-table c = search needs
@@ -36,10 +36,10 @@ slice-write-table : tie.Need-slice-write-table Inv-loop μ-loop
 slice-write-table c = omega (arith, (c .before .before .before .loop) .inv .long)
 
 added-requires : tie.Need-added-requires Inv-loop μ-loop
-added-requires c κs = recorded _ _ ((c .before .before .before .before .before .before .before .before .pre) .0)
+added-requires c κs = recorded _ _ ((c .before .before .before .before .before .before .before .before .before .before .pre) .0)
 
 add-more : tie.Need-add-more Inv-loop μ-loop
-add-more c = omega (arith, (c .before .before .before .before .loop) .inv .small, (c .before .before .before .before .loop) .inv .within, (c .before .before .before .before .before .before .before .before .before .pre) .2, (c .added) .ensures .1)
+add-more c = omega (arith, (c .before .before .before .before .loop) .inv .small, (c .before .before .before .before .loop) .inv .within, (c .before .before .before .before .before .before .before .before .before .before .before .pre) .2, (c .added) .ensures .1)
 
 add-i : tie.Need-add-i Inv-loop μ-loop
 add-i c = search needs
@@ -51,10 +51,10 @@ loop-again : tie.Need-loop-again Inv-loop μ-loop
 loop-again c = listing-next _ _ _ _ _ ((c .before .before .before .before .loop) .inv) ((c .before .before .before .loop-test) .taken) ((c .before .list-for) .ensures) ((c .added) .ensures .0) ((c .added) .ensures .1)
 
 same-length : tie.Need-same-length Inv-loop μ-loop
-same-length c = (c .before .loop) .inv .long ∙ sym ((c .before .before .before .before .before .before .pre) .1)
+same-length c = (c .before .loop) .inv .long ∙ sym ((c .before .before .before .before .before .before .before .before .pre) .1)
 
 returns : tie.Need-returns Inv-loop μ-loop
-returns c = listing-all _ _ _ _ _ ((c .before .loop) .inv) ((c .loop-test) .left) ((c .before .before .before .before .before .before .pre) .2)
+returns c = listing-all _ _ _ _ _ ((c .before .loop) .inv) ((c .loop-test) .left) ((c .before .before .before .before .before .before .before .before .pre) .2)
 
 pub lists-spec : {M : Type 1} → statement M
 lists-spec =

@@ -1,11 +1,8 @@
--- `stamping::unlike` meets its contract.
+-- `stamping::lists::unlike` meets its contract.
 use Rattle.stamping.proofs.ListForLaws.{out-of-range, related-out, both-there}
 use borrow.Author.Needs.{needs}
 use Rattle.stamping.proofs.lists.unlike.Statement.{statement}
 use Rattle.stamping.proofs.lists.unlike.Tie as tie
-
-slots-place-requires : tie.Need-slots-place-requires
-slots-place-requires c κs = search needs
 
 value-at-requires : tie.Need-value-at-requires
 value-at-requires c κs = search needs
@@ -20,7 +17,7 @@ enum-told : tie.Need-enum-told
 enum-told c = search needs
 
 returns : tie.Need-returns
-returns c = out-of-range _ _ _ _ ((c .before .before .before .before .slots-place) .ensures .0) ((c .before .before .before .value-at) .ensures .0) ((c .before .before .kind-at) .ensures) ((c .enum-told) .given .1)
+returns c = out-of-range _ _ _ _ (c .before .before .before .value-at .ensures .0) (c .before .before .kind-at .ensures) (c .enum-told .given .1)
 
 add-value-at : tie.Need-add-value-at
 add-value-at c = search needs
@@ -38,16 +35,15 @@ enum-told-2 : tie.Need-enum-told-2
 enum-told-2 c = search needs
 
 returns-2 : tie.Need-returns-2
-returns-2 c = related-out _ _ _ _ ((c .before .before .before .before .before .before .before .before .before .slots-place) .ensures .0) ((c .before .before .before .before .before .before .before .before .value-at) .ensures .0) ((c .before .before .before .before .before .before .before .kind-at) .ensures) ((c .before .before .before .before .before .c) .given .1) ((c .before .before .before .value-at2) .ensures .0) ((c .before .before .kind-at2) .ensures) ((c .enum-told2) .given .1)
+returns-2 c = related-out _ _ _ _ (c .before .before .before .before .before .before .before .before .value-at .ensures .0) (c .before .before .before .before .before .before .before .kind-at .ensures) (c .before .before .before .before .before .c .given .1) (c .before .before .before .value-at2 .ensures .0) (c .before .before .kind-at2 .ensures) (c .enum-told2 .given .1)
 
 returns-3 : tie.Need-returns-3
-returns-3 c = both-there _ _ _ _ ((c .before .before .before .before .before .before .before .before .before .before .slots-place) .ensures .0) ((c .before .before .before .before .before .before .before .before .before .value-at) .ensures .0) ((c .before .before .before .before .before .before .before .before .kind-at) .ensures) ((c .before .before .before .before .before .before .c) .given .1) ((c .before .before .before .before .value-at2) .ensures .0) ((c .before .before .before .kind-at2) .ensures) ((c .before .r) .given .1)
+returns-3 c = both-there _ _ _ _ (c .before .before .before .before .before .before .before .before .before .value-at .ensures .0) (c .before .before .before .before .before .before .before .before .kind-at .ensures) (c .before .before .before .before .before .before .c .given .1) (c .before .before .before .before .value-at2 .ensures .0) (c .before .before .before .kind-at2 .ensures) (c .before .r .given .1)
 
 pub unlike-spec : {M : Type 1} → statement M
 unlike-spec =
     tie.close
     (tie.spec
-    slots-place-requires
     value-at-requires
     kind-at-requires
     enum-known-c

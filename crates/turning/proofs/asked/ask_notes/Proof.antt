@@ -1,9 +1,8 @@
 -- `turning::asked::ask_notes` meets its contract.
-use Rattle.turning.proofs.MarkLaws.{Marking, marks-begin, mark-asked, marks-next, marks-end}
-use mathlib.Core.Path.{_∙_}
-use native.Mathlib.Omega.{arith}
 use Prim.Native.Nat.{_+_, _-_}
+use native.Mathlib.Omega.{arith}
 use borrow.Author.Needs.{needs}
+use Rattle.turning.proofs.MarkLaws.{Marking, marks-begin, mark-asked, marks-next, marks-end}
 use Rattle.turning.proofs.asked.ask_notes.Statement.{statement}
 use Rattle.turning.proofs.asked.ask_notes.Tie as tie
 
@@ -20,22 +19,25 @@ mul-ask-note : tie.Need-mul-ask-note Inv-loop μ-loop
 mul-ask-note c = search needs
 
 shared-slice-read-ask-note : tie.Need-shared-slice-read-ask-note Inv-loop μ-loop
-shared-slice-read-ask-note c = omega (arith, (c .before .loop-test) .taken, ((c .before .before .before .before .before .pre)) .room)
+shared-slice-read-ask-note c = omega (arith, c .before .loop-test .taken, c .before .before .before .before .before .before .pre .room)
 
 ask-note-requires : tie.Need-ask-note-requires Inv-loop μ-loop
-ask-note-requires c κs = (mark-asked _ _ _ _ ((c .before .before .before .loop) .inv) ((c .before .before .loop-test) .taken) ((c .before .before .before .before .before .before .pre)), (c .before .before .before .loop) .inv .wide ∙ ((c .before .before .before .before .before .before .pre)) .wide)
+ask-note-requires c κs = mark-asked _ _ _ _ (c .before .before .before .loop .inv) (c .before .before .loop-test .taken) (c .before .before .before .before .before .before .before .pre)
 
 add-i : tie.Need-add-i Inv-loop μ-loop
-add-i c = omega (arith, (c .before .before .before .loop-test) .taken, ((c .before .before .before .before .before .before .before .pre)) .room)
+add-i c = omega (arith, c .before .before .before .before .before .loop-test .taken, c .before .before .before .before .before .before .before .before .before .before .pre .room)
 
 loop-less : tie.Need-loop-less Inv-loop μ-loop
-loop-less c = omega (arith, (c .before .before .before .loop-test) .taken)
+loop-less c = omega (arith, c .before .before .before .before .before .loop-test .taken)
 
 loop-again : tie.Need-loop-again Inv-loop μ-loop
-loop-again c = marks-next _ _ _ _ ((c .before .before .before .before .loop) .inv) ((c .before .before .before .loop-test) .taken) ((c .ask-note) .ensures)
+loop-again c = marks-next _ _ _ _ (c .before .before .before .before .before .before .loop .inv) (c .before .before .before .before .before .loop-test .taken) (c .before .before .ask-note .ensures)
+
+same-length : tie.Need-same-length Inv-loop μ-loop
+same-length c = c .before .loop .inv .wide
 
 returns : tie.Need-returns Inv-loop μ-loop
-returns c = marks-end _ _ _ _ ((c .before .loop) .inv) ((c .loop-test) .left)
+returns c = marks-end _ _ _ _ (c .before .loop .inv) (c .loop-test .left)
 
 pub ask-notes-spec : {M : Type 1} → statement M
 ask-notes-spec =
@@ -50,4 +52,5 @@ ask-notes-spec =
     add-i
     loop-less
     loop-again
+    same-length
     returns)
