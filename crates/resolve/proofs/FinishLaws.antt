@@ -22,7 +22,6 @@ use Rattle.chains.proofs.RelationScan.{RelationsFine}
 use Rattle.chains.proofs.PackIndex.{parts, all-found}
 use Rattle.chains.proofs.FillLaws.{table-length}
 use Rattle.chains.specs.Entry.{startsIn, namesIn}
-use Rattle.filtered.specs.Taking.{NamesLow}
 use Rattle.chains.proofs.CheckedLaws.{same-pack}
 use Rattle.directions.specs.Turning.{Outcome, done, refused, andThen, mapDone}
 use Rattle.directions.specs.Resolving.{stamp, ruleWords, resolveRule, resolveRules, resolveRelation, resolveRelations, firstRule}
@@ -31,7 +30,7 @@ use Rattle.stamping.specs.Stamping.{listsFor, addedBy, Listed}
 use Rattle.resolve.specs.Writing.{Stamped, WriteAsked, WriteCame}
 use Rattle.directions.specs.Records.{placesFrom, wordsOf, runBy, RelationKeeps, withRecords, turned, placesIn, Tabled}
 use Rattle.resolve.specs.Operations.{givenOut, writtenOut}
-use Rattle.resolve.specs.Finish.{stampAll, orderIn, AskedOf, FinishAsked, FinishCame}
+use Rattle.resolve.specs.Finish.{stampAll, NamesIn, orderIn, AskedOf, FinishAsked, FinishCame}
 use Rattle.directions.proofs.KeepsForm.{Good}
 use Rattle.directions.proofs.ResolvedFine.{RulesFine, rules-good}
 use Rattle.resolve.proofs.ResolvedPack.{least-words, rules-fine}
@@ -40,7 +39,7 @@ use Rattle.directions.proofs.RuleLaws.{rule-long}
 use Rattle.directions.proofs.RelationLaws.{relation-long, places-many}
 use Rattle.directions.proofs.TurnedPack.{front, front-long, pack-words, rulesOn, again-words, total-same, rules-run, relations-run, rules-keep, relations-keep}
 use Rattle.directions.proofs.CheckedTables.{settled}
-use Rattle.resolve.proofs.StampedPack.{still-fine, all-stamped, same-places}
+use Rattle.resolve.proofs.StampedPack.{still-fine, all-starting, all-stamped, same-places}
 use Rattle.resolve.proofs.WrittenPack.{longer}
 
 -- ---- a pack whose trees are resolved
@@ -105,15 +104,15 @@ module _ (p : Pack) (w : WellFormed p) (rels : List Relation) (rls : List Rule) 
   well : WellFormed q
   well = record { least = least-words q; most = (let m = w .most in omega (arith, total-same p rels rls many rules-many long rules-long)); parts = whole-fine }
 
-  module _ {ws starts marks taken : List ℕ} {steps : ℕ} (a : Tabled ws starts marks taken steps) (h : read ws ≡ yes p) {asked work order lists : List ℕ} {added : ℕ} (asks : AskedOf p asked)
-      (stands : work ≡ words q) (places : order ≡ placesIn p) (listed : Listed ws work marks asked order lists added) where
+  module _ {ws starts acts taken : List ℕ} {steps : ℕ} (a : Tabled ws starts acts taken steps) (h : read ws ≡ yes p) {asked work order lists : List ℕ} {added : ℕ} (asks : AskedOf p asked)
+      (stands : work ≡ words q) (places : order ≡ placesIn p) (listed : Listed ws work acts asked order lists added) where
     pairs : RunPairs (relationWords n) (λ at r. resolveRelation p at r) (RelationKeeps p) (relation-long p w) (firstRelation p) (p .relations) rels
     pairs = run-pairs (relationWords n) (λ at r. resolveRelation p at r) (RelationKeeps p) (relation-long p w) (firstRelation p) (p .relations) rels relations-ran
 
     stamps : Stamped ws lists rels (map (stamp p) rels)
     stamps =
-        subst (λ (l : List ℕ). Stamped ws l rels (map (stamp p) rels)) (ap (listsFor ws work marks asked) (sym places) ∙ sym (listed .each))
-        (all-stamped p w ws marks asked work h (parts p w .most) (settled a) asks (wordOf 22 (length (p .rules)) ∷ (wordsOf (ruleWords n) rls ++ wordsBy (blocks n) (p .blocks))) (firstRelation p) (p .relations) rels (front p) (front-long p) (relations-keep p w .all) (all-found p w) pairs
+        subst (λ (l : List ℕ). Stamped ws l rels (map (stamp p) rels)) (ap (listsFor ws work acts asked) (sym places) ∙ sym (listed .each))
+        (all-stamped p w ws acts asked work h (parts p w .most) (a .filled .says) (settled a) asks (wordOf 22 (length (p .rules)) ∷ (wordsOf (ruleWords n) rls ++ wordsBy (blocks n) (p .blocks))) (firstRelation p) (p .relations) rels (front p) (front-long p) (relations-keep p w .all) (all-found p w) (all-starting p w) pairs
         (stands ∙ again-words p rels rls many rules-many long rules-long))
 
     placed : order ≡ placesIn q
@@ -145,7 +144,7 @@ front-length lent count h = let whole : count - 0 ≡ count = omega arith in rw 
 done-same : {A : Type 0} {a b : A} → _≡_ {A = Outcome A} (done a) (done b) → a ≡ b
 done-same e = cc
 
-module _ {ws dir marks asked work : List ℕ} {relations steps : ℕ} (a : FinishAsked ws dir marks asked work relations steps) where
+module _ {ws dir acts asked work : List ℕ} {relations steps : ℕ} (a : FinishAsked ws dir acts asked work relations steps) where
   abbrev p : Pack
   p = a .tabled .checked .pack
 
@@ -178,7 +177,7 @@ module _ {ws dir marks asked work : List ℕ} {relations steps : ℕ} (a : Finis
   pub room-few : relations ≤ 512
   room-few = few-starts
 
-  pub order-asked : (length {A = ℕ} (midOf 0 (relations - 0) (replicate 512 0)) ≤ 512) × NamesLow (namesIn dir (length {A = ℕ} (midOf 0 (relations - 0) (replicate 512 0))))
+  pub order-asked : (length {A = ℕ} (midOf 0 (relations - 0) (replicate 512 0)) ≤ 512) × NamesIn dir (length {A = ℕ} (midOf 0 (relations - 0) (replicate 512 0)))
   order-asked = rw room-long (few-starts, a .low)
 
   module _ {order : List ℕ} (ordered : order ≡ orderIn dir (length {A = ℕ} (midOf 0 (relations - 0) (replicate 512 0)))) where
@@ -204,7 +203,7 @@ module _ {ws dir marks asked work : List ℕ} {relations steps : ℕ} (a : Finis
     finish-lists = (finish-recorded, room-long ∙ sym order-long, omega (arith, order-long, few-starts))
 
   -- the words written
-  module _ {order : List ℕ} (ordered : order ≡ orderIn dir (length {A = ℕ} (midOf 0 (relations - 0) (replicate 512 0)))) {lists : List ℕ} {added : ℕ} (listed : Listed ws work marks asked order lists added) where
+  module _ {order : List ℕ} (ordered : order ≡ orderIn dir (length {A = ℕ} (midOf 0 (relations - 0) (replicate 512 0)))) {lists : List ℕ} {added : ℕ} (listed : Listed ws work acts asked order lists added) where
     stands-so : work ≡ words (withRecords p (T .rels) (T .rls))
     stands-so = a .stands ∙ ap words (sym (T .same))
 
@@ -256,7 +255,7 @@ module _ {ws dir marks asked work : List ℕ} {relations steps : ℕ} (a : Finis
         pub finish-done : {out : List ℕ} → WriteCame ws order lists work (length (midOf 0 (len - 0) lent)) out → FinishCame ws lent (Given len steps) (putMid 0 (len - 0) lent out)
         finish-done {out} c =
             let whole : len - 0 ≡ len = omega arith in
-            let s : steps ≡ allKinds (p .relations) .steps = a .tabled .marked .counts p h in
+            let s : steps ≡ allKinds (p .relations) .steps = a .tabled .filled .counts p h in
             let e : out ≡ words (stampAll p (a .whole)) =
             its-words p w (T .rels) (T .rls) (T .rules-are) (T .relations-are) (a .tabled) h (a .asks) stands-so (their-places ordered) listed (lent-long ∙ size) (omega (arith, lent-long)) c ∙ ap (λ (q : Pack). words (stampAll p q)) (T .same) in
             of-pack

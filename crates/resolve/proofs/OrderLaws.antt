@@ -12,19 +12,19 @@ use Rattle.pack.specs.Pack.{Relation, Pack, WellFormed, yes, read}
 use Rattle.pack.proofs.PackLaws.{words-read}
 use Rattle.chains.specs.Kinds.{declared}
 use Rattle.chains.specs.Places.{relationWords, startOf, firstRelation}
-use Rattle.chains.specs.Entry.{startsIn, namesIn}
+use Rattle.chains.specs.Entry.{Reaches, startsIn, namesIn}
 use Rattle.chains.proofs.RelationScan.{RelationsFine, kept}
 use Rattle.chains.proofs.PackIndex.{EachFound, all-found, parts}
-use Rattle.chains.proofs.EntryLaws.{name-here}
-use Rattle.filtered.specs.Taking.{NamesLow}
+use Rattle.chains.proofs.EntryLaws.{reaches-one}
+use Rattle.filtered.proofs.TakingLaws.{name-low}
 use Rattle.kinds.proofs.PartLaws.{map-names, table-mapped}
 use Rattle.directions.specs.Records.{placesFrom, placesIn, Tabled}
-use Rattle.directions.proofs.CheckedTables.{declared-at}
-use Rattle.resolve.specs.Finish.{orderIn}
+use Rattle.chains.proofs.DeclarationLaws.{a-record}
+use Rattle.resolve.specs.Finish.{orderIn, NamesIn}
 
 -- ---- relations of which no name comes twice
 
-either-no : (a b : Bool) → (a || b) ≡ false → (a ≡ false) × (b ≡ false)
+pub either-no : (a b : Bool) → (a || b) ≡ false → (a ≡ false) × (b ≡ false)
 either-no true b e = let z : _≡_ {A = ℕ} 0 1 = cc in absurd (omega arith)
 either-no false b e = (refl, e)
 
@@ -39,7 +39,7 @@ starts-run n f used (r ∷ rs) fine at h =
 
 -- ---- of a checked pack
 
-module _ {ws : List ℕ} (dir : List ℕ) {marks taken : List ℕ} {steps : ℕ} (a : Tabled ws (startsIn dir) marks taken steps) where
+module _ {ws : List ℕ} (dir : List ℕ) {acts taken : List ℕ} {steps : ℕ} (a : Tabled ws (startsIn dir) acts taken steps) where
   abbrev p : Pack
   p = a .checked .pack
 
@@ -55,7 +55,7 @@ module _ {ws : List ℕ} (dir : List ℕ) {marks taken : List ℕ} {steps : ℕ}
   each-start : (l : List Relation) → EachFound (p .relations) l → map (λ (r : Relation). getD (startsIn dir) (r .name) 0) l ≡ map (λ (r : Relation). begins (r .name)) l
   each-start [] f = refl
   each-start (r ∷ l) f =
-      ap (λ (x : ℕ). x ∷ map (λ (s : Relation). getD (startsIn dir) (s .name) 0) l) (declared-at ws (startsIn dir) marks taken (a .declares) steps p h (a .noted) (a .marked) (a .knows) (r .name) r (f .0))
+      ap (λ (x : ℕ). x ∷ map (λ (s : Relation). getD (startsIn dir) (s .name) 0) l) (a-record p w (startsIn dir) (a .filled .noted .placed p h) (r .name) r (f .0))
       ∙ ap (λ (x : List ℕ). begins (r .name) ∷ x) (each-start l (f .1))
 
   pub order-is : (count : ℕ) → namesIn dir count ≡ declared (p .relations) → orderIn dir count ≡ placesIn p
@@ -66,6 +66,5 @@ module _ {ws : List ℕ} (dir : List ℕ) {marks taken : List ℕ} {steps : ℕ}
 
 -- ---- for the code
 
-pub its-name : (dir : List ℕ) (count j : ℕ) → NamesLow (namesIn dir count) → j < count → {name : ℕ} → name ≡ getD dir j 0 → name < 4096
-unfolding NamesLow
-its-name dir count j low h e = omega (arith, low j, name-here dir count j h)
+pub its-name : (dir : List ℕ) (count j : ℕ) → NamesIn dir count → j < count → {name : ℕ} → name ≡ getD dir j 0 → Reaches dir (name + 1)
+its-name dir count j n h e = reaches-one (n .reaches) (name-low (n .most) dir count j (n .low) h e)

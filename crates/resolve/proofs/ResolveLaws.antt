@@ -21,30 +21,31 @@ use Rattle.pack.proofs.PackLaws.{words-read, words-length}
 use Rattle.chains.specs.Kinds.{find, kindsOf, allKinds}
 use Rattle.chains.specs.Places.{firstRelation, startOf}
 use Rattle.chains.specs.Answers.{Answered}
-use Rattle.chains.specs.Entry.{startsIn, namesIn}
+use Rattle.chains.specs.Entry.{Reaches, startsIn, namesIn}
 use Rattle.records.specs.declared.directory.Layout.{Layout}
 use Rattle.records.specs.declared.directory.Laid.{Laid}
 use Rattle.records.specs.declared.directory.Laid.the-variants.{Yes}
 use Rattle.records.specs.Directory.{Clear}
 use Rattle.checking.specs.Checked.{namesSaid, CheckedNotes}
-use Rattle.checking.proofs.CheckLaws.{without-notes}
-use Rattle.chains.specs.AllKinds.{IsPack, IsDirectory}
-use Rattle.filtered.specs.Taking.{Filled, NamesLow}
-use Rattle.chains.proofs.CheckedLaws.{same-pack, short-checked}
-use Rattle.chains.proofs.EntryLaws.{directed}
+use Rattle.checking.proofs.CheckLaws.{without-notes, clear-zeros}
+use Rattle.chains.specs.AllKinds.{Lent, IsPack, IsDirectory}
+use Rattle.filtered.specs.Taking.{Filled}
+use Rattle.chains.proofs.CheckedLaws.{said-names, same-pack, short-checked}
+use Rattle.chains.proofs.EntryLaws.{directed, reaches-one}
+use Rattle.chains.proofs.DeclarationLaws.{a-record}
 use Rattle.turning.proofs.LeftLaws.{noted-there}
-use Rattle.filtered.proofs.TakenKnown.{takeable}
+use Rattle.filtered.proofs.TakenKnown.{names-low}
 use Rattle.inputs.proofs.BlocksStand.{reads-inputs}
-use Rattle.chains.proofs.PackIndex.{parts, find-name, find-kept}
+use Rattle.chains.proofs.PackIndex.{parts, zero-at, find-name, find-kept}
 use Rattle.directions.specs.Tables.{Tables, derivedAt, tables}
 use Rattle.directions.specs.Turning.{Outcome, done, refused, andThen, mapDone}
 use Rattle.directions.specs.Resolving.{equalKinds, defaultedEqual, equalRefusal, resolveRules, resolveRelations, stamp, firstRule, resolveRecords, resolved}
 use Rattle.resolve.specs.Operations.{givenOut, writtenOut, resolveAnswer, resolveBuffer}
-use Rattle.directions.specs.Words.{derivedBy, tablesIn, firstEqual, DefaultedFit}
+use Rattle.directions.specs.Words.{derivedIn, tablesIn, firstEqual}
 use Rattle.chains.specs.Record.{valueAt}
 use Rattle.directions.specs.Records.{withRecords, turned, Tabled}
 use Rattle.resolve.specs.declared.finish.Figures.{Figures}
-use Rattle.resolve.specs.Finish.{stampAll, unstamped, orderIn, AskedOf, TreesAsked, TreesCame, ResolveAsked, CheckedAsked, RoomFor, frontOf, Into, FinishAsked, FinishCame}
+use Rattle.resolve.specs.Finish.{stampAll, unstamped, orderIn, AskedOf, NamesIn, TreesAsked, TreesCame, ResolveAsked, TablesFor, CheckedAsked, RoomFor, frontOf, Into, FinishAsked, FinishCame}
 use Rattle.resolve.proofs.OrderLaws.{order-is}
 use Rattle.turning.specs.declared.turns.Ended.{Ended}
 use Rattle.turning.specs.declared.turns.Ended.the-variants as ended
@@ -54,8 +55,8 @@ use Rattle.turning.specs.Steps.{knownIn, TurnedAs, PackTurned}
 use Rattle.turning.specs.Asked.{markNotes, InWords, MarksAsked, NotesMarked}
 use Rattle.turning.proofs.KnownLaws.{notes-inside, known-is}
 use Rattle.turning.proofs.MarkedLaws.{marks-are}
-use Rattle.directions.proofs.CheckedTables.{declared-at, derived-alike}
-use Rattle.directions.proofs.DefaultedLaws.{orNone, defaulted-fit, first-equal-is}
+use Rattle.directions.proofs.CheckedTables.{derived-alike}
+use Rattle.directions.proofs.DefaultedLaws.{orNone, first-equal-is}
 
 ended-either : {r : Refusal} → ended.All ≡ ended.Refused r → ⊥
 ended-either e = let z : _≡_ {A = ℕ} 0 1 = cc in omega arith
@@ -100,7 +101,7 @@ pub declared-of : (k : Option (List ℕ)) (o : Option Relation) → equalKinds (
 declared-of k none e = let z : _≡_ {A = ℕ} 0 1 = cc in absurd (omega arith)
 declared-of k (some r) e = (r, refl)
 
-module _ {ws dir marks taken work notes : List ℕ} {k : Counts} (a : TreesAsked ws dir marks taken work notes k) where
+module _ {ws dir acts taken work notes : List ℕ} {k : Counts} (a : TreesAsked ws dir acts taken work notes k) where
   abbrev starts : List ℕ
   starts = startsIn dir
 
@@ -116,27 +117,27 @@ module _ {ws dir marks taken work notes : List ℕ} {k : Counts} (a : TreesAsked
   abbrev T : Tables
   T = tables (p .relations)
 
-  pub default-fit : DefaultedFit ws
-  default-fit = defaulted-fit ws p h
-
-  module _ {name : ℕ} (first : name ≡ firstEqual ws starts marks 3 (valueAt ws 2)) where
-    derived-is : (m : ℕ) → derivedBy ws starts marks m ≡ T .derived m
+  module _ {name : ℕ} (first : name ≡ firstEqual ws acts 3 (valueAt ws 2)) where
+    derived-is : (m : ℕ) → derivedIn ws (getD acts m 0) ≡ T .derived m
     unfolding tablesIn
-    derived-is m = derived-alike ws starts marks taken (a .tabled .declares) (a .steps) p h (a .tabled .noted) (a .tabled .marked) (a .tabled .knows) m
+    derived-is m = derived-alike ws acts taken p h (a .tabled .filled .says) (a .tabled .filled .knows) m
 
     name-is : name ≡ orNone (defaultedEqual T (p .defaulted))
-    name-is = first ∙ first-equal-is ws p h starts marks T derived-is
+    name-is = first ∙ first-equal-is ws p h acts T derived-is
 
     its-relation : (m : ℕ) → defaultedEqual T (p .defaulted) ≡ some m → (r : Relation) × (find m (p .relations) ≡ some r)
     unfolding tables
     its-relation m e = declared-of (kindsOf (p .relations) m) (find m (p .relations)) (equal-named T (p .defaulted) m e)
 
-    small : (m : ℕ) → defaultedEqual T (p .defaulted) ≡ some m → m < 4096
-    small m e =
+    low : (m : ℕ) → defaultedEqual T (p .defaulted) ≡ some m → m < p .names
+    low m e =
         let r = its-relation m e in
         let k = find-kept (p .names) m [] (p .relations) (r .0) (parts p w .relations-fine) (r .1) .1 in
         let q = find-name (p .relations) m (r .0) (r .1) in
-        omega (arith, k .below, parts p w .most)
+        omega (arith, k .below)
+
+    small : (m : ℕ) → defaultedEqual T (p .defaulted) ≡ some m → m < 4096
+    small m e = omega (arith, low m e, parts p w .most)
 
     -- none of them: all goes by the trees
     none-equal : (o : Option ℕ) → defaultedEqual T (p .defaulted) ≡ o → orNone o ≡ table.none → o ≡ none
@@ -168,11 +169,11 @@ module _ {ws dir marks taken work notes : List ℕ} {k : Counts} (a : TreesAsked
       it-is : defaultedEqual T (p .defaulted) ≡ some name
       it-is = named (defaultedEqual T (p .defaulted)) refl name-is
 
-      pub default-name : name < 4096
-      default-name = small name it-is
+      pub default-name : Reaches dir (name + 1)
+      default-name = reaches-one (a .reaches) (low name it-is)
 
       start-is : getD starts name 0 ≡ startOf (p .names) name (firstRelation p) (p .relations)
-      start-is = let r = its-relation name it-is in declared-at ws starts marks taken (a .tabled .declares) (a .steps) p h (a .tabled .noted) (a .tabled .marked) (a .tabled .knows) name (r .0) (r .1)
+      start-is = let r = its-relation name it-is in a-record p w starts (a .tabled .filled .noted .placed p h) name (r .0) (r .1)
 
       pub trees-equal : (left : List ℕ) → TreesCame ws (ended.Refused (record { number = 9; place = getD starts name 0; name = name; other = 0 })) left
       trees-equal left =
@@ -248,7 +249,7 @@ resolve-refused ws lent e o =
 
 -- ---- for the code
 
-module _ {ws dir marks taken notes : List ℕ} {f : Figures} {work : List ℕ} (a : ResolveAsked ws dir marks taken notes f work) where
+module _ {ws dir acts taken asked₀ notes : List ℕ} {f : Figures} {work : List ℕ} (a : ResolveAsked ws dir acts taken asked₀ notes f work) where
   abbrev its : Pack
   its = a .directory .checked .pack
 
@@ -264,38 +265,39 @@ module _ {ws dir marks taken notes : List ℕ} {f : Figures} {work : List ℕ} (
   abbrev all : ℕ
   all = f .notes .all
 
-  abbrev its-tables : Tabled ws (startsIn dir) marks taken (f .steps)
-  its-tables = record { checked = a .directory .checked; declares = namesIn dir (a .layout .relations); noted = a .filled .noted; marked = a .filled .marked; knows = a .filled .knows }
+  abbrev its-tables : Tabled ws (startsIn dir) acts taken (f .steps)
+  its-tables = record { checked = a .directory .checked; declares = namesIn dir (a .layout .relations); filled = a .filled }
 
   -- what stamping asks of the notes
   there : InWords ws (notesOfPack its)
   there = subst (λ (l : List ℕ). InWords l (notesOfPack its)) (sym same-words) (notes-inside its fine)
 
-  pub marks-asked : MarksAsked ws notes all (replicate 4096 0)
-  marks-asked = record { ns = notesOfPack its; are = a .noted .held; many = a .noted .many; room = a .noted .room; there = there; wide = length-replicate {A = ℕ} 4096 0 }
+  pub marks-asked : MarksAsked ws notes all
+  marks-asked = record { ns = notesOfPack its; are = a .noted .held; many = a .noted .many; room = a .noted .room; there = there }
 
-  module _ {asked : List ℕ} (m : NotesMarked ws notes all (replicate 4096 0) asked) where
-    small-name : (r : Relation) → find (r .name) (its .relations) ≡ some r → r .name < 4096
-    small-name r e = let k = find-kept (its .names) (r .name) [] (its .relations) r (parts its fine .relations-fine) e .1 in omega (arith, k .below, parts its fine .most)
+  module _ {asked : List ℕ} (m : NotesMarked ws notes all asked₀ asked) where
+    its-low : (r : Relation) → find (r .name) (its .relations) ≡ some r → r .name < its .names
+    its-low r e = find-kept (its .names) (r .name) [] (its .relations) r (parts its fine .relations-fine) e .1 .below
 
     asks : AskedOf its asked
     asks =
         record {
           says = λ r e.
-              let low = small-name r e in
-              ap (λ (t : List ℕ). getD t (r .name) 0) (m .each (notesOfPack its) (a .noted .held) (a .noted .many) there ∙ ap (λ (x : List ℕ). markNotes x (notesOfPack its) 4096 (replicate 4096 0)) same-words)
-              ∙ marks-are its fine r e low (replicate 4096 0) (length-replicate {A = ℕ} 4096 0) (getD-replicate 4096 (r .name) 0 0 low);
+              let low = its-low r e in
+              let long : r .name < length asked₀ = omega (arith, a .lent .long, a .directory .named .names its checked) in
+              ap (λ (t : List ℕ). getD t (r .name) 0) (m .each (notesOfPack its) (a .noted .held) (a .noted .many) there ∙ ap (λ (x : List ℕ). markNotes x (notesOfPack its) 4096 asked₀) same-words)
+              ∙ marks-are its fine r e (omega (arith, parts its fine .most)) asked₀ long (a .lent .clear (r .name));
         }
 
     -- the result
     module _ {o : Ended} {left : List ℕ} (t : TreesCame ws o left) (e : o ≡ ended.All) where
-      pub finish-asked : FinishAsked ws dir marks asked left (f .relations) (f .steps)
+      pub finish-asked : FinishAsked ws dir acts asked left (f .relations) (f .steps)
       finish-asked =
           let d = whole-done (a .directory .checked) [] t e in
           record {
             taken = taken;
             tabled = its-tables;
-            low = subst (λ (n : ℕ). NamesLow (namesIn dir n)) (sym (a .counts)) (takeable (a .directory) (a .filled .marked));
+            low = subst (NamesIn dir) (sym (a .counts)) (record { most = a .layout .names; low = names-low (a .directory); reaches = a .directory .reaches });
             places = ap (orderIn dir) (a .counts) ∙ order-is dir its-tables (a .layout .relations) (a .filled .noted .named its checked);
             asks = asks;
             whole = d .whole;
@@ -307,7 +309,7 @@ module _ {ws dir marks taken notes : List ℕ} {f : Figures} {work : List ℕ} (
       resolve-all {lent} g = resolve-done (a .directory .checked) lent (whole-done (a .directory .checked) lent t e) g
 
   -- the trees
-  pub trees-asked : {words : List ℕ} → words ≡ ws → TreesAsked ws dir marks taken words notes (f .notes)
+  pub trees-asked : {words : List ℕ} → words ≡ ws → TreesAsked ws dir acts taken words notes (f .notes)
   trees-asked e =
       let i = reads-inputs ws its checked (a .directory .blocked) in
       let s = short-checked (a .directory .checked) in
@@ -315,10 +317,11 @@ module _ {ws dir marks taken notes : List ℕ} {f : Figures} {work : List ℕ} (
       record {
         steps = f .steps;
         tabled = its-tables;
+        reaches = subst (Reaches dir) (a .directory .named .names its checked) (a .directory .reaches);
         turns = record {
           pack = its;
           checked = checked;
-          knows = (λ j. knownIn ws (startsIn dir) marks taken (a .blocks j) (a .many j)) ∙ known-is ws (startsIn dir) marks taken (namesIn dir (a .layout .relations)) (f .steps) its checked (a .filled .noted) (a .filled .marked) (a .filled .knows) (a .directory .blocked);
+          knows = (λ j. knownIn ws acts taken (a .blocks j) (a .many j)) ∙ known-is ws acts taken its checked (a .filled .says) (a .filled .knows) (a .directory .blocked);
           low = omega (arith, i .near);
           few = omega (arith, i .counts, i .few, a .many);
           copied = e;
@@ -329,10 +332,10 @@ module _ {ws dir marks taken notes : List ℕ} {f : Figures} {work : List ℕ} (
 pub blocks-near : {ws : List ℕ} {l : Layout} {dir : List ℕ} → IsDirectory ws l dir → l .blocks < 8192
 blocks-near {ws} d = let s = short-checked (d .checked) in omega (arith, reads-inputs ws (d .checked .pack) (d .checked .reads) (d .blocked) .near)
 
-pub in-asked : {ws : List ℕ} {l : Layout} {dir out work : List ℕ} {room : ℕ} → CheckedAsked ws l dir out room work
-    → {marks taken : List ℕ} {steps : ℕ} → Filled ws (namesIn dir (l .relations)) (startsIn dir) marks taken steps → {count : ℕ} → count ≡ valueAt ws (l .blocks)
-    → ResolveAsked ws dir marks taken out (record { relations = l .relations; notes = record { noted = l .noted; all = l .all; blocks = record { at = l .blocks + 1; count = count } }; steps = steps; room = room }) work
-in-asked {l = l} a f e = record { layout = l; directory = a .directory; filled = f; counts = refl; blocks = refl; many = e; noted = a .notes-in; room = a .same; fits = a .fits }
+pub in-asked : {ws : List ℕ} {l : Layout} {dir acts₀ taken₀ asked out work : List ℕ} {room : ℕ} → CheckedAsked ws l dir acts₀ taken₀ asked out room work
+    → {acts taken : List ℕ} {steps : ℕ} → Filled ws (namesIn dir (l .relations)) (startsIn dir) acts taken steps → {count : ℕ} → count ≡ valueAt ws (l .blocks)
+    → ResolveAsked ws dir acts taken asked out (record { relations = l .relations; notes = record { noted = l .noted; all = l .all; blocks = record { at = l .blocks + 1; count = count } }; steps = steps; room = room }) work
+in-asked {l = l} a f e = record { layout = l; directory = a .directory; filled = f; lent = a .asked-lent; counts = refl; blocks = refl; many = e; noted = a .notes-in; room = a .same; fits = a .fits }
 
 -- a pack that was checked and noted where there is room for its notes
 module _ {ws d e d′ e′ : List ℕ} {r : Laid} {l : Layout} (clear : Clear (namesSaid ws) d) (c : CheckedNotes ws d e r d′ e′) (o : r ≡ Yes l) where
@@ -342,10 +345,15 @@ module _ {ws d e d′ e′ : List ℕ} {r : Laid} {l : Layout} (clear : Clear (n
   pub its-words : length ws ≤ 8192
   its-words = short-checked (its-directory .checked)
 
-  pub checked-asked : {work : List ℕ} {room : ℕ} → RoomFor ws e room → length e′ ≡ length e → length work ≡ length ws → CheckedAsked ws l d′ e′ room work
-  checked-asked to kept same =
+  pub checked-asked : {acts taken asked work : List ℕ} {room : ℕ} → RoomFor ws e room → TablesFor ws d acts taken asked → length d′ ≡ length d → length e′ ≡ length e → length work ≡ length ws → CheckedAsked ws l d′ acts taken asked e′ room work
+  checked-asked {acts} {taken} {asked} to tables long kept same =
+      let names : namesSaid ws ≡ l .names = said-names ws (its-directory .checked) ∙ sym (its-directory .named .names (its-directory .checked .pack) (its-directory .checked .reads)) in
       record {
         directory = its-directory;
+        reaches = record { most = tables .reaches .most; long = omega (arith, tables .reaches .long) };
+        acts-lent = subst (λ (n : ℕ). Lent n acts) names (tables .acts-lent);
+        taken-lent = subst (λ (n : ℕ). Lent n taken) names (tables .taken-lent);
+        asked-lent = subst (λ (n : ℕ). Lent n asked) names (tables .asked-lent);
         notes-in = noted-there c o (to .first) (to .blank) (to .noted its-words) (its-directory .checked .pack) (its-directory .checked .reads);
         same = same;
         fits = omega (arith, to .fits, kept);
@@ -508,3 +516,16 @@ pub room-made : (ws : List ℕ) (many : ℕ) {room : ℕ} → room ≡ min many 
 room-made ws many e =
     let a = length-replicate {A = ℕ} 8193 0 in
     record { first = omega arith; blank = getD-replicate {A = ℕ} 8193 0 0 0 (omega arith); noted = λ m. omega arith; fits = omega arith }
+
+-- cleared tables for so many names
+pub tables-for : (ws : List ℕ) (most : ℕ) → most ≤ 4096 → namesSaid ws ≤ most → TablesFor ws (replicate (512 + most) 0) (replicate most 0) (replicate most 0) (replicate most 0)
+tables-for ws most few h =
+    let long = length-replicate {A = ℕ} most 0 in
+    let lent : Lent (namesSaid ws) (replicate most 0) = record { long = omega arith; short = omega arith; clear = zero-at most } in
+    record {
+      clear = clear-zeros (namesSaid ws) (512 + most) (omega arith);
+      reaches = record { most = omega arith; long = omega (arith, length-replicate {A = ℕ} (512 + most) 0) };
+      acts-lent = lent;
+      taken-lent = lent;
+      asked-lent = lent;
+    }

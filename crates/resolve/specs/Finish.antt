@@ -11,10 +11,12 @@ use Rattle.pack.specs.Table.{pick}
 use Rattle.pack.specs.Pack.{Relation, Pack, yes, read, words}
 use Rattle.chains.specs.Kinds.{find, allKinds}
 use Rattle.records.specs.declared.directory.Layout.{Layout}
-use Rattle.chains.specs.AllKinds.{IsDirectory}
+use Rattle.records.specs.Directory.{Clear}
+use Rattle.checking.specs.Checked.{namesSaid}
+use Rattle.chains.specs.AllKinds.{Lent, IsDirectory}
 use Rattle.chains.specs.ByName.{tableFrom}
 use Rattle.chains.specs.Record.{valueAt}
-use Rattle.chains.specs.Entry.{startsIn, namesIn}
+use Rattle.chains.specs.Entry.{Reaches, startsIn, namesIn}
 use Rattle.filtered.specs.Taking.{NamesLow, Filled}
 use Rattle.directions.specs.Turning.{Outcome, done, refused}
 use Rattle.directions.specs.Tables.{tables}
@@ -39,10 +41,11 @@ pub record TreesCame (ws : List ℕ) (o : Ended) (left : List ℕ) : Type 0 wher
   pub each : (p : Pack) → read ws ≡ yes p → TurnedAs (unstamped p) o left
 
 -- the tables of a checked pack, its notes, and a copy of its words
-pub record TreesAsked (ws dir marks taken work notes : List ℕ) (c : Counts) : Type 0 where
+pub record TreesAsked (ws dir acts taken work notes : List ℕ) (c : Counts) : Type 0 where
   pub steps : ℕ
-  pub tabled : Tabled ws (startsIn dir) marks taken steps
-  pub turns : PackAsked ws (startsIn dir) marks taken work notes (c .blocks .at) (c .blocks .count) (c .noted) (c .all)
+  pub tabled : Tabled ws (startsIn dir) acts taken steps
+  pub reaches : Reaches dir (tabled .checked .pack .names)
+  pub turns : PackAsked ws acts taken work notes (c .blocks .at) (c .blocks .count) (c .noted) (c .all)
 
 -- ---- the result
 
@@ -59,10 +62,16 @@ pub record AskedOf (p : Pack) (asked : List ℕ) : Type 0 where
   pub says : (r : Relation) → find (r .name) (p .relations) ≡ some r → getD asked (r .name) 0 ≡ pick (atomNames p (r .name) || inDerivation roleJudgment (r .derivation)) 1 0
 
 -- the words of a pack whose trees are resolved, with its directory, its tables, and what its notes ask for
-pub record FinishAsked (ws dir marks asked work : List ℕ) (relations steps : ℕ) : Type 0 where
+-- the names of so many relations have words in the directory
+pub record NamesIn (dir : List ℕ) (relations : ℕ) : Type 0 where
+  pub most : ℕ
+  pub low : NamesLow most (namesIn dir relations)
+  pub reaches : Reaches dir most
+
+pub record FinishAsked (ws dir acts asked work : List ℕ) (relations steps : ℕ) : Type 0 where
   pub taken : List ℕ
-  pub tabled : Tabled ws (startsIn dir) marks taken steps
-  pub low : NamesLow (namesIn dir relations)
+  pub tabled : Tabled ws (startsIn dir) acts taken steps
+  pub low : NamesIn dir relations
   pub places : orderIn dir relations ≡ placesIn (tabled .checked .pack)
   pub asks : AskedOf (tabled .checked .pack) asked
   pub whole : Pack
@@ -75,10 +84,11 @@ pub record FinishCame (ws lent : List ℕ) (answer : Answer) (left : List ℕ) :
   pub leaves : (p q : Pack) → read ws ≡ yes p → turned p ≡ done q → left ≡ writtenOut lent (done (stampAll p q))
 
 -- a checked pack with its directory, its tables and its notes, and a slice for as many words
-pub record ResolveAsked (ws dir marks taken notes : List ℕ) (f : Figures) (work : List ℕ) : Type 0 where
+pub record ResolveAsked (ws dir acts taken asked notes : List ℕ) (f : Figures) (work : List ℕ) : Type 0 where
   pub layout : Layout
   pub directory : IsDirectory ws layout dir
-  pub filled : Filled ws (namesIn dir (layout .relations)) (startsIn dir) marks taken (f .steps)
+  pub filled : Filled ws (namesIn dir (layout .relations)) (startsIn dir) acts taken (f .steps)
+  pub lent : Lent (layout .names) asked
   pub counts : f .relations ≡ layout .relations
   pub blocks : f .notes .blocks .at ≡ layout .blocks + 1
   pub many : f .notes .blocks .count ≡ valueAt ws (layout .blocks)
@@ -86,8 +96,20 @@ pub record ResolveAsked (ws dir marks taken notes : List ℕ) (f : Figures) (wor
   pub room : length work ≡ length ws
   pub fits : f .room ≤ length notes
 
-pub record CheckedAsked (ws : List ℕ) (l : Layout) (dir out : List ℕ) (room : ℕ) (work : List ℕ) : Type 0 where
+-- tables with a word for each name that the words say, all 0, and a directory that has one for each of them
+pub record TablesFor (ws dir acts taken asked : List ℕ) : Type 0 where
+  pub clear : Clear (namesSaid ws) dir
+  pub reaches : Reaches dir (length acts)
+  pub acts-lent : Lent (namesSaid ws) acts
+  pub taken-lent : Lent (namesSaid ws) taken
+  pub asked-lent : Lent (namesSaid ws) asked
+
+pub record CheckedAsked (ws : List ℕ) (l : Layout) (dir acts taken asked out : List ℕ) (room : ℕ) (work : List ℕ) : Type 0 where
   pub directory : IsDirectory ws l dir
+  pub reaches : Reaches dir (length acts)
+  pub acts-lent : Lent (l .names) acts
+  pub taken-lent : Lent (l .names) taken
+  pub asked-lent : Lent (l .names) asked
   pub notes-in : NotesIn (directory .checked .pack) out (l .noted) (l .all)
   pub same : length work ≡ length ws
   pub fits : room ≤ length out

@@ -1,14 +1,11 @@
 // The result: relations stamped, and the whole pack written out if there is room for it.
 use crate::order::order;
 use crate::write::write;
-use chains::settle::ByName;
 use checking::check::refuse;
 use pack::answer::Answer;
 use pack::answer::Number;
 use pack::kinds::Pack;
-use records::directory::Words;
 use stamping::lists::lists;
-use turning::asked::Asked;
 use turning::turns::Counts;
 ghost use Rattle.resolve.specs.Finish.{FinishAsked, FinishCame};
 
@@ -24,14 +21,14 @@ pub struct Figures {
 // From the words of a pack whose trees are resolved.
 pub fn finish(
     pack: &[u32],
-    dir: &Words,
-    marks: &ByName,
-    asked: &Asked,
+    dir: &[u32],
+    acts: &[u32],
+    asked: &[u8],
     work: &[u32],
     figures: Figures,
     out: &mut [u32],
 ) -> Answer
-    requires { ⌜ FinishAsked (now pack) (now dir) (now marks) (now asked) (now work) (figures .relations) (figures .steps) ⌝ }
+    requires { ⌜ FinishAsked (now pack) (now dir) (now acts) (now asked) (now work) (figures .relations) (figures .steps) ⌝ }
     ensures { λ r. ⌜ FinishCame (now (pack .entry)) (now (out .entry)) r (now (out .exit)) ⌝ }
 {
     let count = figures.relations;
@@ -40,7 +37,7 @@ pub fn finish(
     order(dir, places);
     let mut found = [0u32; Pack::MOST_RELATIONS as usize];
     let stamped = &mut found[0..count];
-    let len = work.len() + lists(pack, work, marks, asked, places, stamped);
+    let len = work.len() + lists(pack, work, acts, asked, places, stamped);
     if Pack::MOST_WORDS < len {
         return refuse(Number::NO_ROOM, 0);
     }

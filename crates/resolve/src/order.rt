@@ -1,17 +1,14 @@
 // Where the relations of a pack start, in record order.
 use chains::entry::name_at;
 use chains::entry::start;
-use records::directory::Words;
 ghost use mathlib.Core.Path.{_≡_};
 ghost use Prim.Native.Nat.{_≤_};
 ghost use lib.ListN.{length};
-ghost use Rattle.chains.specs.Entry.{namesIn};
-ghost use Rattle.filtered.specs.Taking.{NamesLow};
-ghost use Rattle.resolve.specs.Finish.{orderIn};
+ghost use Rattle.resolve.specs.Finish.{orderIn, NamesIn};
 
 // As the directory says; one word for each relation.
-pub fn order(dir: &Words, places: &mut [u32])
-    requires { ⌜ (length (now places) ≤ 512) × NamesLow (namesIn (now dir) (length (now places))) ⌝ }
+pub fn order(dir: &[u32], places: &mut [u32])
+    requires { ⌜ (length (now places) ≤ 512) × NamesIn (now dir) (length (now places)) ⌝ }
     ensures { λ r. ⌜ now (places .exit) ≡ orderIn (now (dir .entry)) (length (now (places .entry))) ⌝ }
 {
     let mut i: usize = 0;

@@ -4,9 +4,9 @@ use crate::finish::finish;
 use crate::write::copy;
 use chains::entry::start;
 use chains::record::value_at;
-use chains::settle::ByName;
 use checking::check::answer;
 use checking::check::check_notes;
+use checking::check::names_said;
 use checking::rewrite::written;
 use directions::equal::first_equal;
 use filtered::taking::read_tables;
@@ -17,8 +17,6 @@ use pack::kinds::Pack;
 use records::directory::Directory;
 use records::directory::Laid;
 use records::directory::Layout;
-use records::directory::Words;
-use turning::asked::Asked;
 use turning::asked::ask_notes;
 use turning::step::Blocks;
 use turning::turns::Counts;
@@ -29,24 +27,31 @@ ghost use Rattle.resolve.specs.Operations.{resolveAnswer, resolveBuffer}
 ghost use mathlib.Core.Path.{_≡_};
 ghost use Prim.Native.Nat.{_≤_, min};
 ghost use lib.ListN.{length};
-ghost use Rattle.resolve.specs.Finish.{TreesAsked, TreesCame, ResolveAsked, CheckedAsked, RoomFor, Into};
+ghost use Rattle.checking.specs.Checked.{namesSaid};
+ghost use Rattle.resolve.specs.Finish.{TreesAsked, TreesCame, ResolveAsked, CheckedAsked, TablesFor, RoomFor, Into};
+
+// A checked pack's layout, and how many words there is room for.
+pub struct Wanted {
+    pub layout: Layout,
+    pub room: usize,
+}
 
 // Defaulted names with equal kinds are refused; then all trees are resolved, in a copy of the words.
 fn resolve_trees(
     pack: &[u32],
-    dir: &Words,
-    marks: &ByName,
-    taken: &ByName,
+    dir: &[u32],
+    acts: &[u32],
+    taken: &[u32],
     work: &mut [u32],
     notes: &mut [u32],
     counts: Counts,
 ) -> Ended
-    requires { ⌜ TreesAsked (now pack) (now dir) (now marks) (now taken) (now work) (now notes) counts ⌝ }
+    requires { ⌜ TreesAsked (now pack) (now dir) (now acts) (now taken) (now work) (now notes) counts ⌝ }
     ensures { λ r. ⌜ TreesCame (now (pack .entry)) r (now (work .exit)) ⌝ }
 {
-    let name = first_equal(pack, dir, marks);
+    let name = first_equal(pack, acts);
     if name == Pack::NONE {
-        return turn_pack(pack, dir, marks, taken, work, notes, counts);
+        return turn_pack(pack, acts, taken, work, notes, counts);
     }
     Ended::Refused(Refusal {
         number: Number::EQUAL_KINDS,
@@ -60,44 +65,45 @@ fn resolve_trees(
 // before they are turned; after that the result takes their place, if there is room for it.
 fn resolve_in(
     pack: &[u32],
-    dir: &Words,
-    marks: &ByName,
-    taken: &ByName,
+    dir: &[u32],
+    acts: &[u32],
+    taken: &[u32],
+    asked: &mut [u8],
     out: &mut [u32],
     figures: Figures,
     work: &mut [u32],
 ) -> Answer
-    requires { ⌜ ResolveAsked (now pack) (now dir) (now marks) (now taken) (now out) figures (now work) ⌝ }
+    requires { ⌜ ResolveAsked (now pack) (now dir) (now acts) (now taken) (now asked) (now out) figures (now work) ⌝ }
     ensures { λ r. ⌜ Into (now (pack .entry)) (figures .room) r (now (out .exit)) ⌝ }
 {
     let counts = figures.notes;
-    let mut asked: Asked = [0u8; Pack::MOST_NAMES as usize];
-    ask_notes(pack, out, counts.all, &mut asked);
+    ask_notes(pack, out, counts.all, asked);
     copy(pack, work);
-    match resolve_trees(pack, dir, marks, taken, work, out, counts) {
+    match resolve_trees(pack, dir, acts, taken, work, out, counts) {
         Ended::All => {
             let room = figures.room;
-            finish(pack, dir, marks, &asked, work, figures, &mut out[..room])
+            finish(pack, dir, acts, asked, work, figures, &mut out[..room])
         }
         Ended::Refused(x) => Answer::Refused(x),
     }
 }
 
-// A checked pack with its directory, and its notes where the result is to stand.
+// A checked pack with its directory, its notes where the result is to stand, and cleared tables for its names.
 fn resolve_checked(
     pack: &[u32],
-    l: Layout,
-    dir: &Words,
+    wanted: Wanted,
+    dir: &[u32],
+    acts: &mut [u32],
+    taken: &mut [u32],
+    asked: &mut [u8],
     out: &mut [u32],
-    room: usize,
     work: &mut [u32],
 ) -> Answer
-    requires { ⌜ CheckedAsked (now pack) l (now dir) (now out) room (now work) ⌝ }
-    ensures { λ r. ⌜ Into (now (pack .entry)) room r (now (out .exit)) ⌝ }
+    requires { ⌜ CheckedAsked (now pack) (wanted .layout) (now dir) (now acts) (now taken) (now asked) (now out) (wanted .room) (now work) ⌝ }
+    ensures { λ r. ⌜ Into (now (pack .entry)) (wanted .room) r (now (out .exit)) ⌝ }
 {
-    let mut marks: ByName = [0u32; Pack::MOST_NAMES as usize];
-    let mut taken: ByName = [0u32; Pack::MOST_NAMES as usize];
-    let steps = read_tables(pack, l, dir, &mut marks, &mut taken);
+    let l = wanted.layout;
+    let steps = read_tables(pack, l, dir, acts, taken);
     let at = l.blocks + 1;
     let count = value_at(pack, l.blocks) as usize;
     let blocks = Blocks { at, count };
@@ -109,9 +115,81 @@ fn resolve_checked(
         relations,
         notes: counts,
         steps,
-        room,
+        room: wanted.room,
     };
-    resolve_in(pack, dir, &marks, &taken, out, figures, work)
+    resolve_in(pack, dir, acts, taken, asked, out, figures, work)
+}
+
+// With a directory and tables for the names that the words say, and a slice for a copy of the words.
+fn resolve_by(
+    pack: &[u32],
+    dir: &mut [u32],
+    acts: &mut [u32],
+    taken: &mut [u32],
+    asked: &mut [u8],
+    out: &mut [u32],
+    room: usize,
+    words: &mut [u32],
+) -> Answer
+    requires { ⌜ RoomFor (now pack) (now out) room × TablesFor (now pack) (now dir) (now acts) (now taken) (now asked) × (length (now pack) ≤ 8192 → length (now pack) ≤ length (now words)) ⌝ }
+    ensures { λ r. ⌜ Into (now (pack .entry)) room r (now (out .exit)) ⌝ }
+{
+    let r = check_notes(pack, dir, out);
+    let Laid::Yes(l) = r else {
+        return answer(r);
+    };
+    let len = pack.len();
+    let wanted = Wanted { layout: l, room };
+    resolve_checked(
+        pack,
+        wanted,
+        dir,
+        acts,
+        taken,
+        asked,
+        out,
+        &mut words[0..len],
+    )
+}
+
+// The tables for few names, for some, and for all: clearing large ones would take longer than the work.
+fn resolve_few(pack: &[u32], out: &mut [u32], room: usize, words: &mut [u32]) -> Answer
+    requires { ⌜ RoomFor (now pack) (now out) room × (namesSaid (now pack) ≤ 128) × (length (now pack) ≤ 8192 → length (now pack) ≤ length (now words)) ⌝ }
+    ensures { λ r. ⌜ Into (now (pack .entry)) room r (now (out .exit)) ⌝ }
+{
+    let mut dir = [0u32; Directory::NAMES + Directory::FEW];
+    let mut acts = [0u32; Directory::FEW];
+    let mut taken = [0u32; Directory::FEW];
+    let mut asked = [0u8; Directory::FEW];
+    resolve_by(
+        pack, &mut dir, &mut acts, &mut taken, &mut asked, out, room, words,
+    )
+}
+
+fn resolve_some(pack: &[u32], out: &mut [u32], room: usize, words: &mut [u32]) -> Answer
+    requires { ⌜ RoomFor (now pack) (now out) room × (namesSaid (now pack) ≤ 1024) × (length (now pack) ≤ 8192 → length (now pack) ≤ length (now words)) ⌝ }
+    ensures { λ r. ⌜ Into (now (pack .entry)) room r (now (out .exit)) ⌝ }
+{
+    let mut dir = [0u32; Directory::NAMES + Directory::SOME];
+    let mut acts = [0u32; Directory::SOME];
+    let mut taken = [0u32; Directory::SOME];
+    let mut asked = [0u8; Directory::SOME];
+    resolve_by(
+        pack, &mut dir, &mut acts, &mut taken, &mut asked, out, room, words,
+    )
+}
+
+fn resolve_all(pack: &[u32], out: &mut [u32], room: usize, words: &mut [u32]) -> Answer
+    requires { ⌜ RoomFor (now pack) (now out) room × (length (now pack) ≤ 8192 → length (now pack) ≤ length (now words)) ⌝ }
+    ensures { λ r. ⌜ Into (now (pack .entry)) room r (now (out .exit)) ⌝ }
+{
+    let mut dir = [0u32; Directory::WORDS];
+    let mut acts = [0u32; Pack::MOST_NAMES as usize];
+    let mut taken = [0u32; Pack::MOST_NAMES as usize];
+    let mut asked = [0u8; Pack::MOST_NAMES as usize];
+    resolve_by(
+        pack, &mut dir, &mut acts, &mut taken, &mut asked, out, room, words,
+    )
 }
 
 // With a slice for a copy of the words.
@@ -119,13 +197,14 @@ fn resolve_with(pack: &[u32], out: &mut [u32], room: usize, words: &mut [u32]) -
     requires { ⌜ RoomFor (now pack) (now out) room × (length (now pack) ≤ 8192 → length (now pack) ≤ length (now words)) ⌝ }
     ensures { λ r. ⌜ Into (now (pack .entry)) room r (now (out .exit)) ⌝ }
 {
-    let mut dir: Words = [0u32; Directory::WORDS];
-    let r = check_notes(pack, &mut dir, out);
-    let Laid::Yes(l) = r else {
-        return answer(r);
-    };
-    let len = pack.len();
-    resolve_checked(pack, l, &dir, out, room, &mut words[0..len])
+    let n = names_said(pack);
+    if n <= Directory::FEW {
+        return resolve_few(pack, out, room, words);
+    }
+    if n <= Directory::SOME {
+        return resolve_some(pack, out, room, words);
+    }
+    resolve_all(pack, out, room, words)
 }
 
 // Resolve for an output of so many words, into a slice that holds notes before the result, and anything after a refusal. A

@@ -21,10 +21,10 @@ loop-holds : tie.Need-loop-holds Inv-loop μ-loop
 loop-holds c = begin _ _
 
 name-at-requires : tie.Need-name-at-requires Inv-loop μ-loop
-name-at-requires c κs = omega (arith, c .before .loop .inv .long, c .before .before .before .pre .0)
+name-at-requires c κs = omega (arith, c .before .loop .inv .long, c .before .before .before .before .pre .0)
 
 start-requires : tie.Need-start-requires Inv-loop μ-loop
-start-requires c κs = its-name _ _ _ (c .before .before .before .before .pre .1) (omega (arith, c .before .before .loop .inv .long)) (c .name-at .ensures)
+start-requires c κs = its-name _ _ _ (c .before .before .before .before .before .pre .1) (omega (arith, c .before .before .loop .inv .long)) (c .name-at .ensures)
 
 cast-places : tie.Need-cast-places Inv-loop μ-loop
 cast-places c = search needs

@@ -1,16 +1,15 @@
 -- `resolve::resolve::resolve_checked` meets its contract.
 use native.Mathlib.Omega.{arith}
-use mathlib.Core.Path.{refl}
 use Rattle.resolve.proofs.ResolveLaws.{blocks-near, in-asked}
 use borrow.Author.Needs.{needs}
 use Rattle.resolve.proofs.resolve.resolve_checked.Statement.{statement}
 use Rattle.resolve.proofs.resolve.resolve_checked.Tie as tie
 
 read-tables-requires : tie.Need-read-tables-requires
-read-tables-requires c κs = (c .before .before .before .before .before .pre .directory, refl, refl)
+read-tables-requires c κs = let a = c .before .before .before .before .before .before .before .before .before .before .pre in (a .directory, a .acts-lent, a .reaches, a .taken-lent)
 
 add-at : tie.Need-add-at
-add-at c = omega (arith, blocks-near (c .before .before .before .before .before .before .before .pre .directory))
+add-at c = omega (arith, blocks-near (c .before .before .before .before .before .before .before .before .before .before .before .before .before .before .before .before .pre .directory))
 
 value-at-requires : tie.Need-value-at-requires
 value-at-requires c κs = search needs
@@ -28,7 +27,7 @@ cast-relations : tie.Need-cast-relations
 cast-relations c = search needs
 
 resolve-in-requires : tie.Need-resolve-in-requires
-resolve-in-requires c κs = in-asked (c .before .before .before .before .before .before .before .before .before .before .before .before .before .before .before .pre) (c .before .before .before .before .before .before .before .before .before .read-tables .ensures) (c .before .before .before .before .before .before .before .value-at .ensures .0)
+resolve-in-requires c κs = in-asked (c .before .before .before .before .before .before .before .before .before .before .before .before .before .before .before .before .before .before .before .before .before .before .before .before .before .pre) (c .before .before .before .before .before .before .before .before .before .before .before .before .before .before .read-tables .ensures) (c .before .before .before .before .before .before .before .before .value-at .ensures .0)
 
 same-length : tie.Need-same-length
 same-length c = search needs
@@ -36,8 +35,33 @@ same-length c = search needs
 same-length-2 : tie.Need-same-length-2
 same-length-2 c = search needs
 
+same-length-3 : tie.Need-same-length-3
+same-length-3 c = search needs
+
+same-length-4 : tie.Need-same-length-4
+same-length-4 c = search needs
+
+same-length-5 : tie.Need-same-length-5
+same-length-5 c = search needs
+
 returns : tie.Need-returns
-returns c = c .before .before .before .before .resolve-in .ensures
+returns c = c .before .before .before .before .before .before .resolve-in .ensures
 
 pub resolve-checked-spec : {M : Type 1} → statement M
-resolve-checked-spec = tie.close (tie.spec read-tables-requires add-at value-at-requires cast-count cast-noted cast-all cast-relations resolve-in-requires same-length same-length-2 returns)
+resolve-checked-spec =
+    tie.close
+    (tie.spec
+    read-tables-requires
+    add-at
+    value-at-requires
+    cast-count
+    cast-noted
+    cast-all
+    cast-relations
+    resolve-in-requires
+    same-length
+    same-length-2
+    same-length-3
+    same-length-4
+    same-length-5
+    returns)

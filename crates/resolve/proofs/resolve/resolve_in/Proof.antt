@@ -8,25 +8,25 @@ use Rattle.resolve.proofs.resolve.resolve_in.Statement.{statement}
 use Rattle.resolve.proofs.resolve.resolve_in.Tie as tie
 
 ask-notes-requires : tie.Need-ask-notes-requires
-ask-notes-requires c κs = marks-asked (c .before .before .before .before .before .before .pre)
+ask-notes-requires c κs = marks-asked (c .before .before .before .before .before .before .before .before .before .before .pre)
 
 copy-requires : tie.Need-copy-requires
-copy-requires c κs = c .before .before .before .before .before .before .before .before .pre .room
+copy-requires c κs = c .before .before .before .before .before .before .before .before .before .before .before .before .before .before .pre .room
 
 resolve-trees-requires : tie.Need-resolve-trees-requires
-resolve-trees-requires c κs = trees-asked (c .before .before .before .before .before .before .before .before .before .before .before .before .before .pre) (c .before .before .before .before .copy .ensures)
+resolve-trees-requires c κs = trees-asked (c .before .before .before .before .before .before .before .before .before .before .before .before .before .before .before .before .before .before .before .pre) (c .before .before .before .before .copy .ensures)
 
 enum-told : tie.Need-enum-told
 enum-told c = search needs
 
 slice-relend-prefix-finish : tie.Need-slice-relend-prefix-finish
-slice-relend-prefix-finish c = omega (arith, (c .before .before .before .before .before .before .before .before .before .before .before .before .before .before .before .before .before .before .before .before .before .before .pre) .fits)
+slice-relend-prefix-finish c = omega (arith, c .before .before .before .before .before .before .before .before .before .before .before .before .before .before .before .before .before .before .before .before .before .before .before .before .before .before .before .before .pre .fits)
 
 slice-aggregate-finish : tie.Need-slice-aggregate-finish
 slice-aggregate-finish c = sym (length-take-le _ _ (slice-relend-prefix-finish (c .before)))
 
 finish-requires : tie.Need-finish-requires
-finish-requires c κs = finish-asked (c .before .before .before .before .before .before .before .before .before .before .before .before .before .before .before .before .before .before .before .before .before .before .before .pre) (c .before .before .before .before .before .before .before .before .before .before .before .before .before .before .before .before .ask-notes .ensures) (c .before .before .before .before .before .before .before .before .before .resolve-trees .ensures) (c .before .before .before .enum-told .given .1)
+finish-requires c κs = finish-asked (c .before .before .before .before .before .before .before .before .before .before .before .before .before .before .before .before .before .before .before .before .before .before .before .before .before .before .before .before .before .pre) (c .before .before .before .before .before .before .before .before .before .before .before .before .before .before .before .before .before .before .ask-notes .ensures) (c .before .before .before .before .before .before .before .before .before .resolve-trees .ensures) (c .before .before .before .enum-told .given .1)
 
 enum-known-x : tie.Need-enum-known-x
 enum-known-x c = search needs
@@ -37,17 +37,41 @@ same-length c = search needs
 same-length-2 : tie.Need-same-length-2
 same-length-2 c = search needs
 
-returns : tie.Need-returns
-returns c = into-part _ _ _ (length-take-le _ _ (slice-relend-prefix-finish (c .before .before .before .before))) (resolve-all (c .before .before .before .before .before .before .before .before .before .before .before .before .before .before .before .before .before .before .before .before .before .before .before .before .before .before .pre) (c .before .before .before .before .before .before .before .before .before .before .before .before .before .before .before .before .before .before .before .ask-notes .ensures) (c .before .before .before .before .before .before .before .before .before .before .before .before .resolve-trees .ensures) (c .before .before .before .before .before .before .enum-told .given .1) (c .before .before .finish .ensures)) (c .before .before .finish .kept .1 .1 .1 .1 .1 .1 .0 ∙ length-take-le _ _ (slice-relend-prefix-finish (c .before .before .before .before))) refl
-
 same-length-3 : tie.Need-same-length-3
 same-length-3 c = search needs
+
+returns : tie.Need-returns
+returns c = into-part _ _ _ (length-take-le _ _ (slice-relend-prefix-finish (c .before .before .before .before))) (resolve-all (c .before .before .before .before .before .before .before .before .before .before .before .before .before .before .before .before .before .before .before .before .before .before .before .before .before .before .before .before .before .before .before .before .pre) (c .before .before .before .before .before .before .before .before .before .before .before .before .before .before .before .before .before .before .before .before .before .ask-notes .ensures) (c .before .before .before .before .before .before .before .before .before .before .before .before .resolve-trees .ensures) (c .before .before .before .before .before .before .enum-told .given .1) (c .before .before .finish .ensures)) (c .before .before .finish .kept .1 .1 .1 .1 .1 .1 .0 ∙ length-take-le _ _ (slice-relend-prefix-finish (c .before .before .before .before))) refl
 
 same-length-4 : tie.Need-same-length-4
 same-length-4 c = search needs
 
+same-length-5 : tie.Need-same-length-5
+same-length-5 c = search needs
+
+same-length-6 : tie.Need-same-length-6
+same-length-6 c = search needs
+
 returns-2 : tie.Need-returns-2
-returns-2 c = into-refused _ _ refl (λ lent. resolve-stopped (c .before .before .before .before .before .before .before .before .before .before .before .before .before .before .before .before .before .before .before .before .before .pre .directory .checked) lent (c .before .before .before .before .before .before .before .resolve-trees .ensures) (c .before .x .given .1) .answers)
+returns-2 c = into-refused _ _ refl (λ lent. resolve-stopped (c .before .before .before .before .before .before .before .before .before .before .before .before .before .before .before .before .before .before .before .before .before .before .before .before .before .before .before .pre .directory .checked) lent (c .before .before .before .before .before .before .before .resolve-trees .ensures) (c .before .x .given .1) .answers)
 
 pub resolve-in-spec : {M : Type 1} → statement M
-resolve-in-spec = tie.close (tie.spec ask-notes-requires copy-requires resolve-trees-requires enum-told slice-relend-prefix-finish slice-aggregate-finish finish-requires enum-known-x same-length same-length-2 returns same-length-3 same-length-4 returns-2)
+resolve-in-spec =
+    tie.close
+    (tie.spec
+    ask-notes-requires
+    copy-requires
+    resolve-trees-requires
+    enum-told
+    slice-relend-prefix-finish
+    slice-aggregate-finish
+    finish-requires
+    enum-known-x
+    same-length
+    same-length-2
+    same-length-3
+    returns
+    same-length-4
+    same-length-5
+    same-length-6
+    returns-2)
