@@ -101,7 +101,7 @@ pub fn answer(r: Laid) -> Answer
 }
 
 // N as the words say it, 0 where that can't be N.
-fn names_said(pack: &[u32]) -> usize
+pub fn names_said(pack: &[u32]) -> usize
     ensures { λ r. ⌜ r ≡ namesSaid (now (pack .entry)) ⌝ }
 {
     if pack.len() < 2 {
