@@ -396,10 +396,6 @@ module _ {ws d : List ℕ} (clear : Clear (namesSaid ws) d) {r : Laid} {d′ : L
 pub clear-all : (ws : List ℕ) → Clear (namesSaid ws) (replicate 4608 0)
 clear-all ws = clear-zeros (namesSaid ws) 4608 (omega (arith, said-most ws))
 
--- and it reaches all names still
-pub reaches-all : {dir : List ℕ} → length dir ≡ length (replicate {A = ℕ} 4608 0) → Reaches dir 4096
-reaches-all e = record { most = omega arith; long = omega (arith, length-replicate {A = ℕ} 4608 0) }
-
 -- ---- tables as long as the words ask
 
 pub room-for : {ws : List ℕ} {n : ℕ} (k : ℕ) → n ≡ namesSaid ws → n ≤ k → k ≤ 4096 → Room ws (replicate (512 + k) 0) (replicate k 0)
