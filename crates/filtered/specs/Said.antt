@@ -64,14 +64,14 @@ unseen e = 0
 unfoldable pub directIn : List ℕ → ℕ → Option ℕ
 directIn taken e = pick (eqb (directOf (getD taken e 0)) table.none) none (some (directOf (getD taken e 0)))
 
--- what the walks along them ask for: one of so many names or more, and each leads to one of them
+-- what the walks along those of n names ask for: each is one of the names
 pub record InnerAsked (taken : List ℕ) (n : ℕ) : Type 0 where
   pub least : 1 ≤ n
   pub most : n ≤ 4096
   pub long : n ≤ length taken
   pub leads : (e : ℕ) → e < n → (directOf (getD taken e 0) ≡ table.none → ⊥) → directOf (getD taken e 0) < n
 
--- the walks from all names of a table, with as much fuel as there are names and one
+-- what the walks from all names of a table ask for, and what they leave
 pub record InnerSettleable (table marks : List ℕ) : Type 0 where
   pub most : length table ≤ 4096
   pub alike : length marks ≡ length table
