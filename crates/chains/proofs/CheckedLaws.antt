@@ -6,7 +6,7 @@ use native.Mathlib.Numerals.{add-one}
 use mathlib.Core.Path.{_≡_, refl, ap, sym, _∙_, subst}
 use mathlib.Core.List.{List, [], _∷_, _++_}
 use mathlib.Core.Bool.{true}
-use lib.ListN.{length, getD, take, length-append, length-map, length-replicate}
+use lib.ListN.{length, getD, take, length-append, length-map}
 use lib.Seq.{getD-at}
 use lib.Dec.{eqb}
 use borrow.Author.Tests.{eq-eqb, le-leb}
@@ -22,7 +22,7 @@ use Rattle.records.specs.declared.directory.Layout.{Layout}
 use Rattle.checking.specs.Checked.{namesSaid}
 use Rattle.chains.specs.AllKinds.{IsPack, Counted, Named, IsDirectory, KindsMarked, Lent}
 use Rattle.chains.proofs.RelationScan.{RelationsFine, kept}
-use Rattle.chains.proofs.PackIndex.{zeros, zero-at, parts, split, opening, opening-length, relationsPart}
+use Rattle.chains.proofs.PackIndex.{parts, split, opening, opening-length, relationsPart}
 use Rattle.chains.proofs.Names.{or-left, or-right}
 use Rattle.chains.proofs.PlaceBounds.{Indexes, indexes}
 use Rattle.chains.proofs.AllKindsLaws.{KindsFound, kinds-found}
@@ -131,10 +131,6 @@ module _ {ws : List ℕ} {l : Layout} {dir : List ℕ} (d : IsDirectory ws l dir
 
   pub settleable : {marks : List ℕ} → Lent (l .names) marks → Settleable table marks names 0 (l .relations + 1)
   settleable lent = rw (its-fuel, its-names) (settleable-pack p fine table its-index (its-most lent))
-
-  -- an array of zeros has room for all names
-  pub lent-all : Lent (l .names) zeros
-  lent-all = record { long = omega (arith, below-most (d .checked) (d .named), length-replicate {A = ℕ} 4096 0); short = omega (arith, length-replicate {A = ℕ} 4096 0); clear = zero-at 4096 }
 
   -- the names of the relations are among N
   pub its-low : (j : ℕ) → getD names j 0 < l .names

@@ -27,12 +27,12 @@ use Rattle.chains.specs.Declaration.{coded, placed, declarationAt}
 use Rattle.chains.specs.ByName.{tableFrom}
 use Rattle.chains.specs.Settle.{ReadOne}
 use Rattle.chains.specs.Entry.{Reaches, wordIn, startBy, slotsBy, declaredBy, startIn, slotIn, declaredIn, startsIn, slotsIn, declarationsIn, namesIn}
-use Rattle.chains.specs.AllKinds.{placeIn, recordOf, slotsFor, slotsOf, IsPack, IsDirectory}
+use Rattle.chains.specs.AllKinds.{placeIn, recordOf, slotsFor, slotsOf, IsPack, Lent, Room, IsDirectory}
 use Rattle.pack.proofs.PackLaws.{words-read}
 use Rattle.checking.proofs.CheckLaws.{clear-zeros, said-most}
 use Rattle.chains.proofs.FillLaws.{whole-at, whole-past, table-length}
 use Rattle.chains.proofs.RelationScan.{RelationsFine, relationsWords, kept}
-use Rattle.chains.proofs.PackIndex.{parts, opening-length, mapped-alike, find-name, find-kept, not-again, start-within, relations-room}
+use Rattle.chains.proofs.PackIndex.{zero-at, parts, opening-length, mapped-alike, find-name, find-kept, not-again, start-within, relations-room}
 use Rattle.chains.proofs.PlaceBounds.{found-small}
 use Rattle.chains.proofs.CheckedLaws.{same-pack, said-names}
 use Rattle.chains.proofs.AnswerLaws.{checked}
@@ -396,6 +396,22 @@ module _ {ws d : List ℕ} (clear : Clear (namesSaid ws) d) {r : Laid} {d′ : L
 pub clear-all : (ws : List ℕ) → Clear (namesSaid ws) (replicate 4608 0)
 clear-all ws = clear-zeros (namesSaid ws) 4608 (omega (arith, said-most ws))
 
--- and it reaches all names still
-pub reaches-all : {dir : List ℕ} → length dir ≡ length (replicate {A = ℕ} 4608 0) → Reaches dir 4096
-reaches-all e = record { most = omega arith; long = omega (arith, length-replicate {A = ℕ} 4608 0) }
+-- ---- tables as long as the words ask
+
+pub room-for : {ws : List ℕ} {n : ℕ} (k : ℕ) → n ≡ namesSaid ws → n ≤ k → k ≤ 4096 → Room ws (replicate (512 + k) 0) (replicate k 0)
+room-for {ws} k e h m =
+    record {
+      clear = clear-zeros (namesSaid ws) (512 + k) (omega arith);
+      lent = record { long = omega (arith, length-replicate {A = ℕ} k 0); short = omega (arith, length-replicate {A = ℕ} k 0); clear = zero-at k };
+      reaches = record { most = omega (arith, length-replicate {A = ℕ} k 0); long = omega (arith, length-replicate {A = ℕ} k 0, length-replicate {A = ℕ} (512 + k) 0) };
+    }
+
+pub room-all : (ws : List ℕ) → Room ws (replicate 4608 0) (replicate 4096 0)
+room-all ws = room-for {n = namesSaid ws} 4096 refl (said-most ws) (omega arith)
+
+-- of a checked pack they are as long as N asks
+pub lent-said : {ws dir t : List ℕ} {l : Layout} → IsDirectory ws l dir → Lent (namesSaid ws) t → Lent (l .names) t
+lent-said {ws} {t = t} d lent = subst (λ (n : ℕ). Lent n t) (said-names ws (d .checked) ∙ sym (d .named .names (d .checked .pack) (d .checked .reads))) lent
+
+pub reaches-kept : {d d′ : List ℕ} {n : ℕ} → length d′ ≡ length d → Reaches d n → Reaches d′ n
+reaches-kept e r = record { most = r .most; long = omega (arith, r .long) }

@@ -1,12 +1,12 @@
 -- Words that are filled in one after another, each from its place.
 use Prim.Native.Nat.{ℕ, zero, suc, _+_, _-_, _<_, _≤_}
 use native.Mathlib.Omega.{arith}
-use native.Mathlib.Nat.{zero-add}
+use native.Mathlib.Nat.{zero-add, add-zero}
 use native.Mathlib.Numerals.{add-one}
 use mathlib.Core.Path.{_≡_, refl, ap, sym, _∙_}
 use mathlib.Core.List.{List, [], _∷_, _++_, append-nil, append-assoc}
 use lib.ListN.{length, getD, drop, set, length-set, drop-of-length-le}
-use lib.Seq.{drop-cons, set-at}
+use lib.Seq.{drop-cons, getD-drop, set-at}
 use Rattle.chains.specs.ByName.{tableFrom}
 
 module _ (f : ℕ → ℕ) where
@@ -59,10 +59,13 @@ module _ (f : ℕ → ℕ) where
             long = length-set out j v ∙ s .long;
           }
 
+      -- what is next is as it was
+      pub left-there : getD out j 0 ≡ getD out₀ j 0
+      left-there =
+          let z : j - j ≡ 0 = omega arith in
+          ap (λ (l : List ℕ). getD l j 0) (s .holds) ∙ table-past 0 j j (drop j out₀) (omega arith) ∙ ap (λ (i : ℕ). getD (drop j out₀) i 0) z ∙ getD-drop j out₀ 0 0 ∙ ap (λ (i : ℕ). getD out₀ i 0) (add-zero j)
+
       pub done : length out₀ ≤ j → out ≡ tableFrom f 0 (length out₀)
       done h =
           let e : j ≡ length out₀ = omega (arith, s .within) in
           s .holds ∙ rw (drop-of-length-le out₀ h) (append-nil (tableFrom f 0 j) ∙ rw e refl)
-
-      pub done-part : {k : ℕ} → k ≤ j → j ≤ k → out ≡ tableFrom f 0 k ++ drop k out₀
-      done-part {k} h l = let e : j ≡ k = omega arith in s .holds ∙ rw e refl

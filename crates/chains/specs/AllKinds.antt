@@ -8,7 +8,8 @@ use lib.ListN.{length, getD}
 use Rattle.pack.specs.Form.{among}
 use Rattle.pack.specs.Pack.{Relation, Pack, yes, read, toRow}
 use Rattle.records.specs.declared.directory.Layout.{Layout}
-use Rattle.records.specs.Directory.{blocksAt}
+use Rattle.records.specs.Directory.{blocksAt, Clear}
+use Rattle.checking.specs.Checked.{namesSaid}
 use Rattle.chains.specs.Chain.{mapped}
 use Rattle.chains.specs.Kinds.{find, declared, kindStep, allKinds, ownAnswer}
 use Rattle.chains.specs.Places.{startOf, firstRelation, relationsEnd, hops, placeOf}
@@ -62,6 +63,12 @@ pub record Lent (names : ℕ) (t : List ℕ) : Type 0 where
   pub long : names ≤ length t
   pub short : length t ≤ 4096
   pub clear : (m : ℕ) → getD t m 0 ≡ 0
+
+-- a clear directory and a clear table by name, as long as the words ask, and the table no longer than the directory's names
+pub record Room (ws dir t : List ℕ) : Type 0 where
+  pub clear : Clear (namesSaid ws) dir
+  pub lent : Lent (namesSaid ws) t
+  pub reaches : Reaches dir (length t)
 
 -- the layout and the directory of a pack: what they say of its records
 pub record IsDirectory (ws : List ℕ) (l : Layout) (dir : List ℕ) : Type 0 where

@@ -4,7 +4,7 @@ use mathlib.Core.Path.{_≡_, refl, sym, _∙_}
 use mathlib.Core.List.{List}
 use mathlib.Core.Logic.{_⊎_}
 use lib.ListN.{length}
-use borrow.Rule.Slice.PartMut.{midOf, putMid}
+use borrow.Rule.Slice.PartMut.{putMid}
 use Rattle.pack.specs.declared.answer.Refusal.{Refusal}
 use Rattle.pack.specs.declared.answer.Answer.{Answer}
 use Rattle.pack.specs.declared.answer.Answer.the-variants.{Given, Refused}
@@ -15,16 +15,13 @@ use Rattle.filtered.specs.declared.filtered.Filter.{Filter}
 use Rattle.chains.specs.Answers.{writeAnswer, Answered}
 use Rattle.filtered.specs.FilteredTables.{says, filterWords, filterAnswer, filterBuffer}
 use Rattle.chains.specs.AllKinds.{IsPack, Named}
-use Rattle.filtered.specs.Said.{FilterAsked, FilterLeft}
+use Rattle.filtered.specs.Said.{FilterLeft}
 use Rattle.chains.proofs.FillLaws.{table-length}
-use Rattle.chains.proofs.AnswerLaws.{made-refused, made-room, made-done, front-length}
+use Rattle.chains.proofs.AnswerLaws.{made-refused, made-room, made-done}
 use Rattle.chains.proofs.RefusalNumbers.{refuses, NoRoom, writing-refuses}
 
 abbrev noSteps : Pack → ℕ
 noSteps p = 0
-
-pub filter-asked : (ws lent : List ℕ) → IsPack ws → {n : ℕ} → Named ws n → n ≤ length lent → FilterAsked ws (midOf 0 (n - 0) lent)
-filter-asked ws lent c {n} k h = record { checked = c; fits = rw (front-length lent n h) k }
 
 module _ (f : Filter) (ws lent : List ℕ) where
   pub filter-refused : {a : Answer} {r : Refusal} → a ≡ checkAnswer ws → a ≡ Refused r → Answered (filterAnswer f) (filterBuffer f) ws lent a lent

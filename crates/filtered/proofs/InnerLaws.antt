@@ -1,13 +1,12 @@
 -- The walks along direct kinds: the marks that they leave are those of each name's own walk.
-use Prim.Native.Nat.{ℕ, zero, suc, _+_, _-_, _<_, _≤_}
+use Prim.Native.Nat.{ℕ, zero, suc, _+_, _-_, _<_}
 use native.Mathlib.Omega.{arith}
 use native.Mathlib.Numerals.{add-one}
-use mathlib.Core.Path.{_≡_, refl, ap, sym, _∙_}
-use mathlib.Core.List.{List, [], _++_, append-nil}
+use mathlib.Core.Path.{_≡_, refl, ap, sym, _∙_, subst}
+use mathlib.Core.List.{List}
 use mathlib.Core.Bool.{Bool, true, false}
 use mathlib.Core.Option.{Option, none, some, Option·map}
-use lib.ListN.{length, getD, drop, length-replicate}
-use lib.Seq.{getD-drop}
+use lib.ListN.{length, getD}
 use lib.Dec.{eqb, ltb}
 use borrow.Author.Tests.{eq-eqb, eqb-false, lt-ltb, le-ltb, ltb-true, ltb-false}
 use Rattle.pack.specs.Table.{pick}
@@ -16,15 +15,16 @@ use Rattle.pack.specs.Form.{among}
 use Rattle.chains.specs.Chain.{end, next, mapped, Settled, nothing, All, walkAll, own, same}
 use Rattle.filtered.specs.Filtered.{innerAt, upTo, innerStep}
 use Rattle.chains.specs.ByName.{tableFrom}
-use Rattle.chains.specs.Settle.{stepAt, Leading, settledIn, walksIn, Settleable, SettledAll}
-use Rattle.filtered.specs.Said.{directOf, innerEntry, entriesIn, plainly, directIn, Directed, answered, InnerMarked}
+use Rattle.chains.specs.Settle.{stepAt, Leading, settledIn, walksIn, Walkable, WalkedHere, SettledAll}
+use Rattle.chains.specs.AllKinds.{Lent}
+use Rattle.filtered.specs.Said.{directOf, innerEntry, entriesIn, plainly, unseen, directIn, InnerAsked, InnerSettleable, InnerSettled, answered, InnerMarked}
 use Rattle.chains.proofs.Names.{or-left, or-right}
 use Rattle.chains.proofs.MappedLaws.{AnswersMapped, answers-mapped}
 use Rattle.filtered.proofs.FilteredLaws.{inner-own}
-use Rattle.chains.proofs.PackIndex.{zeros, zero-at}
 use Rattle.chains.proofs.AllKindsLaws.{clear-nothing, settled-mark}
 use Rattle.chains.proofs.CheckedLaws.{settleable-clear}
-use Rattle.chains.proofs.FillLaws.{table-length, table-at, table-past}
+use Rattle.chains.proofs.SettleLaws.{Settling, walkable, walk-on}
+use Rattle.chains.proofs.FillLaws.{table-length, whole-at, whole-past}
 
 up-to-length : (n : ℕ) → length (upTo n) ≡ n
 up-to-length zero = refl
@@ -37,30 +37,23 @@ among-counted n (suc k) (suc i) h =
     let e : suc n + i ≡ n + suc i = omega arith in
     or-right (eqb (n + suc i) n) (ap (λ (m : ℕ). among m (tableFrom plainly (suc n) k)) (sym e) ∙ among-counted (suc n) k i (omega arith))
 
-module _ (taken : List ℕ) (n : ℕ) (most : n ≤ 4096) (directed : Directed taken) where
+module _ (taken : List ℕ) (n : ℕ) (asked : InnerAsked taken n) where
   abbrev names : List ℕ
   names = tableFrom plainly 0 n
 
   abbrev index : List ℕ
-  index = tableFrom (entriesIn taken) 0 n ++ drop n zeros
-
-  entry-in : (m : ℕ) → m < n → getD index m 0 ≡ innerEntry (getD taken m 0) m
-  unfolding entriesIn
-  entry-in m h = let e : 0 + m ≡ m = omega arith in table-at (entriesIn taken) 0 n m (drop n zeros) h ∙ ap (λ (i : ℕ). innerEntry (getD taken i 0) i) e
-
-  entry-past : (m : ℕ) → n ≤ m → getD index m 0 ≡ 0
-  entry-past m h = table-past (entriesIn taken) 0 n m (drop n zeros) h ∙ getD-drop n zeros (m - n) 0 ∙ zero-at 4096 (n + (m - n))
+  index = tableFrom (entriesIn taken) 0 n
 
   -- what a name's entry says
   record Says (m x : ℕ) : Type 0 where
     step : pick (ltb x 65536) (end x) (next (x - 65536)) ≡ mapped answered (innerStep n (directIn taken) m)
-    small : x < 65536 + 4096
+    small : x < 65536 + n
 
   ends : (m x : ℕ) (a : Option ℕ) → innerStep n (directIn taken) m ≡ end a → x ≡ answered a → x < 65536 → Says m x
   ends m x a e q l = record { step = rw (lt-ltb x 65536 l, e, q) refl; small = omega arith }
 
   entry-says : (m : ℕ) → m < n → Says m (innerEntry (getD taken m 0) m)
-  unfolding innerEntry directIn Directed
+  unfolding innerEntry directIn
   entry-says m h = go (eqb (directOf (getD taken m 0)) table.none) refl
     where
       d : ℕ
@@ -72,7 +65,7 @@ module _ (taken : List ℕ) (n : ℕ) (most : n ≤ 4096) (directed : Directed t
       leads : eqb d table.none ≡ false → (c : Bool) → eqb d m ≡ c → Says m (pick c (m + 1) (65536 + d))
       leads z true q = ends m (m + 1) (some m) (here ∙ rw (z, q) refl) refl (omega arith)
       leads z false q =
-          let b : d < 4096 = directed m (omega arith) (eqb-false d table.none z) in
+          let b : d < n = asked .leads m h (eqb-false d table.none z) in
           let k : 65536 + d - 65536 ≡ d = omega arith in
           let on : innerStep n (directIn taken) m ≡ next d = here ∙ rw (z, q) refl in
           record { step = rw (le-ltb (65536 + d) 65536 (omega arith), k, on) refl; small = omega arith }
@@ -82,13 +75,14 @@ module _ (taken : List ℕ) (n : ℕ) (most : n ≤ 4096) (directed : Directed t
       go false z = leads z (eqb d m) refl
 
   all-says : (m : ℕ) → Says m (getD index m 0)
+  unfolding entriesIn
   all-says m = go (ltb m n) refl
     where
       go : (c : Bool) → ltb m n ≡ c → Says m (getD index m 0)
-      go true e = let h = ltb-true m n e in rw (entry-in m h) (entry-says m h)
-      go false e = let h = ltb-false m n e in rw (entry-past m h) (ends m 0 none (rw e refl) refl (omega arith))
+      go true e = let h = ltb-true m n e in rw (whole-at (entriesIn taken) n m h) (entry-says m h)
+      go false e = let h = ltb-false m n e in rw (whole-past (entriesIn taken) n m h) (ends m 0 none (rw e refl) refl (omega arith))
 
-  leading : Leading 4096 index
+  leading : Leading n index
   unfolding Leading
   leading m = all-says m .small
 
@@ -96,30 +90,28 @@ module _ (taken : List ℕ) (n : ℕ) (most : n ≤ 4096) (directed : Directed t
   unfolding stepAt
   steps-are m = sym (all-says m .step)
 
-  name-below : (j : ℕ) → getD names j 0 < 4096
+  name-below : (j : ℕ) → getD names j 0 < n
   name-below j = go (ltb j n) refl
     where
-      go : (c : Bool) → ltb j n ≡ c → getD names j 0 < 4096
-      go true e =
-          let h = ltb-true j n e in
-          let q : getD names j 0 ≡ 0 + j = ap (λ (l : List ℕ). getD l j 0) (sym (append-nil names)) ∙ table-at plainly 0 n j [] h in
-          omega arith
-      go false e =
-          let h = ltb-false j n e in
-          let q : getD names j 0 ≡ 0 = ap (λ (l : List ℕ). getD l j 0) (sym (append-nil names)) ∙ table-past plainly 0 n j [] h in
-          omega arith
+      go : (c : Bool) → ltb j n ≡ c → getD names j 0 < n
+      go true e = let h = ltb-true j n e in rw (whole-at plainly n j h) h
+      go false e = omega (arith, whole-past plainly n j (ltb-false j n e), asked .least)
 
-  settleable-inner : Settleable index zeros names 0 (n + 1)
-  settleable-inner = settleable-clear index names (n + 1) (record { long = omega (arith, length-replicate {A = ℕ} 4096 0); short = omega (arith, length-replicate {A = ℕ} 4096 0); clear = zero-at 4096 }) name-below leading (omega (arith, table-length plainly 0 n)) (omega arith)
+  lent-unseen : Lent n (tableFrom unseen 0 n)
+  lent-unseen = record { long = omega (arith, table-length unseen 0 n); short = omega (arith, table-length unseen 0 n, asked .most); clear = λ m. go m (ltb m n) refl }
+    where
+      go : (m : ℕ) (c : Bool) → ltb m n ≡ c → getD (tableFrom unseen 0 n) m 0 ≡ 0
+      go m true e = whole-at unseen n m (ltb-true m n e)
+      go m false e = whole-past unseen n m (ltb-false m n e)
 
   over-index : AnswersMapped answered none same (innerStep n (directIn taken)) 0 same (stepAt index) (upTo n) names
   over-index = answers-mapped answered none 0 refl same same (λ r. refl) (innerStep n (directIn taken)) (stepAt index) steps-are (upTo n) names
 
-  inner-marked : {marks : List ℕ} {steps : ℕ} → SettledAll index zeros names 0 (n + 1) marks steps → InnerMarked taken n marks
-  inner-marked {marks} s =
+  inner-marked : {marks₀ marks : List ℕ} {steps : ℕ} → Lent n marks₀ → SettledAll index marks₀ names 0 (n + 1) marks steps → InnerMarked taken n marks
+  inner-marked {marks₀} {marks} lent s =
       let f : n + 1 ≡ suc (length (upTo n)) = add-one n ∙ ap suc (sym (up-to-length n)) in
-      let over : walksIn index (n + 1) names (settledIn zeros) 0 ≡ walkAll 0 same (stepAt index) (upTo n) names nothing 0 =
-      ap (λ (k : ℕ). walksIn index k names (settledIn zeros) 0) f ∙ ap (λ (t : Settled ℕ). walkAll 0 same (stepAt index) (upTo n) names t 0) (clear-nothing zeros (zero-at 4096)) in
+      let over : walksIn index (n + 1) names (settledIn marks₀) 0 ≡ walkAll 0 same (stepAt index) (upTo n) names nothing 0 =
+      ap (λ (k : ℕ). walksIn index k names (settledIn marks₀) 0) f ∙ ap (λ (t : Settled ℕ). walkAll 0 same (stepAt index) (upTo n) names t 0) (clear-nothing marks₀ (lent .clear)) in
       record {
         marked = λ e h.
             let o : 0 + e ≡ e = omega arith in
@@ -129,12 +121,36 @@ module _ (taken : List ℕ) (n : ℕ) (most : n ≤ 4096) (directed : Directed t
       }
 
   -- the same of the code's values
-  module _ {t ns marks : List ℕ} (filled : t ≡ index) (counted : ns ≡ names) (blank : marks ≡ zeros) where
-    as-many : length ns ≡ n
-    as-many = ap length counted ∙ table-length plainly 0 n
+  module _ {t marks : List ℕ} {k : ℕ} (filled : t ≡ index) (cleared : marks ≡ tableFrom unseen 0 k) (alike : k ≡ n) where
+    as-many : length t ≡ n
+    as-many = ap length filled ∙ table-length (entriesIn taken) 0 n
 
-    pub walks-asked : Settleable t marks ns 0 (length ns + 1)
-    walks-asked = rw (as-many, filled, counted, blank) settleable-inner
+    blank : marks ≡ tableFrom unseen 0 n
+    blank = cleared ∙ ap (tableFrom unseen 0) alike
 
-    pub walks-left : {marks′ : List ℕ} {steps : ℕ} → SettledAll t marks ns 0 (length ns + 1) marks′ steps → InnerMarked taken n marks′
-    walks-left s = inner-marked (rw (as-many, filled, counted, blank) at s)
+    pub walks-asked : InnerSettleable t marks
+    walks-asked =
+        record {
+          most = omega (arith, as-many, asked .most);
+          alike = ap length blank ∙ table-length unseen 0 n ∙ sym as-many;
+          settleable = rw (as-many, filled, blank)
+              (settleable-clear index names (n + 1) lent-unseen name-below leading (omega (arith, table-length plainly 0 n, asked .most)) (omega (arith, asked .most)));
+        }
+
+    pub walks-left : {marks′ : List ℕ} {steps : ℕ} → InnerSettled t marks marks′ steps → InnerMarked taken n marks′
+    walks-left s = inner-marked lent-unseen (rw (as-many, filled, blank) at s)
+
+-- ---- the walks from all names of a table in order
+
+module _ {table marks₀ : List ℕ} (asked : InnerSettleable table marks₀) {marks : List ℕ} {steps j : ℕ} (s : Settling table marks₀ (tableFrom plainly 0 (length table)) 0 (length table + 1) marks steps j) (h : j < length table) where
+  here : getD (tableFrom plainly 0 (length table)) j 0 ≡ j
+  here = whole-at plainly (length table) j h
+
+  within : j < length (tableFrom plainly 0 (length table))
+  within = omega (arith, table-length plainly 0 (length table))
+
+  pub name-walkable : Walkable table marks steps j (length table + 1)
+  name-walkable = subst (λ (n : ℕ). Walkable table marks steps n (length table + 1)) here (walkable _ _ _ _ _ (asked .settleable) s within)
+
+  pub name-walked : {r : ℕ} {marks′ : List ℕ} {steps′ : ℕ} → WalkedHere table marks steps j (length table + 1) r marks′ steps′ → Settling table marks₀ (tableFrom plainly 0 (length table)) 0 (length table + 1) marks′ steps′ (j + 1)
+  name-walked {r} {marks′} {steps′} w = walk-on _ _ _ _ _ (asked .settleable) s within (subst (λ (n : ℕ). WalkedHere table marks steps n (length table + 1) r marks′ steps′) (sym here) w)

@@ -17,13 +17,13 @@ use Rattle.filtered.specs.declared.filtered.Filter.the-variants.{Direct,
 use Rattle.chains.specs.Chain.{Step, end, own, same}
 use Rattle.chains.specs.Reach.{any}
 use Rattle.filtered.specs.Filtered.{taken, single, direct, alias, namesEntity, isNil, unresolved, innerAt, upTo, innerStep, innermost}
+use Rattle.chains.specs.AllKinds.{IsPack, Named}
 use Rattle.chains.specs.Answers.{yesNo}
 use Rattle.chains.specs.ByName.{tableFrom}
 use Rattle.filtered.specs.FilteredTables.{orNone, says, filterWords}
 use Rattle.filtered.specs.Taking.{several, known, Known}
-use Rattle.filtered.specs.Said.{directOf, aliasOf, unresolvedOf, innerOf, saidIn, directIn, Directed, answered, InnerMarked, InnerFor, FilterAsked, FilterLeft}
+use Rattle.filtered.specs.Said.{directOf, aliasOf, unresolvedOf, innerOf, saidIn, directIn, InnerAsked, answered, InnerMarked, InnerFor, FilterLeft}
 use Rattle.chains.proofs.PackIndex.{parts}
-use Rattle.chains.proofs.CheckedLaws.{below-most}
 use Rattle.filtered.proofs.KindBounds.{Below, taken-below, direct-below}
 
 -- ---- from what is known
@@ -127,12 +127,12 @@ module _ {ws t : List ℕ} (p : Pack) (h : read ws ≡ yes p) (k : Known ws t) w
     is-unresolved = ap unresolvedOf it ∙ unresolved-known named (taken rs e)
 
     -- a direct kind is a name
-    direct-name : (directOf (getD t e 0) ≡ table.none → ⊥) → directOf (getD t e 0) < 4096
+    direct-name : (directOf (getD t e 0) ≡ table.none → ⊥) → directOf (getD t e 0) < p .names
     direct-name z = go (direct rs e) refl
       where
-        go : (o : Option ℕ) → direct rs e ≡ o → directOf (getD t e 0) < 4096
+        go : (o : Option ℕ) → direct rs e ≡ o → directOf (getD t e 0) < p .names
         go none q = absurd (z (directly ∙ ap orNone q))
-        go (some j) q = let d : directOf (getD t e 0) ≡ j = directly ∙ ap orNone q in omega (arith, direct-below p fine e j q, most)
+        go (some j) q = let d : directOf (getD t e 0) ≡ j = directly ∙ ap orNone q in omega (arith, direct-below p fine e j q)
 
     pub direct-in : directIn t e ≡ direct rs e
     unfolding directIn
@@ -144,9 +144,8 @@ module _ {ws t : List ℕ} (p : Pack) (h : read ws ≡ yes p) (k : Known ws t) w
             let l = direct-below p fine e j q in
             rw (directly ∙ ap orNone q, ne-eqb j table.none (λ z. omega (arith, most))) refl
 
-  directed : Directed t
-  unfolding Directed
-  directed e i z = direct-name e z
+  asked : p .names ≤ length t → InnerAsked t (p .names)
+  asked long = record { least = parts p fine .least; most = most; long = long; leads = λ e i z. direct-name e z }
 
   inner-steps : innerStep (p .names) (directIn t) ≡ innerStep (p .names) (direct rs)
   inner-steps = fun-ext (λ n. go n (ltb n (p .names)) refl)
@@ -193,17 +192,16 @@ module _ {ws t : List ℕ} (p : Pack) (h : read ws ≡ yes p) (k : Known ws t) w
   table-said : (f : Filter) (marks : List ℕ) → InnerFor f t (p .names) marks → tableFrom (saidIn f t marks) 0 (p .names) ≡ filterWords f p
   table-said f marks m = table-alike (saidIn f t marks) (says f p) 0 (p .names) (λ e l u. says-said f marks m e (omega arith))
 
-module _ {ws out t : List ℕ} (asked : FilterAsked ws out) (k : Known ws t) where
-  pub few-names : length out ≤ 4096
-  few-names = below-most (asked .checked) (asked .fits)
+module _ {ws t : List ℕ} (c : IsPack ws) (k : Known ws t) {n : ℕ} (named : Named ws n) where
+  pub inner-asked : n ≤ length t → InnerAsked t n
+  inner-asked long =
+      let q = named .names (c .pack) (c .reads) in
+      subst (InnerAsked t) (sym q) (asked (c .pack) (c .reads) k (omega arith))
 
-  pub is-directed : Directed t
-  is-directed = directed (asked .checked .pack) (asked .checked .reads) k
-
-  pub filter-left : (f : Filter) (marks : List ℕ) {n : ℕ} {left : List ℕ} → InnerFor f t (length out) marks → left ≡ tableFrom (saidIn f t marks) 0 n → n ≡ length out → FilterLeft f ws left
-  filter-left f marks {n} m e s =
+  pub filter-left : (f : Filter) (marks : List ℕ) {m : ℕ} {left : List ℕ} → InnerFor f t m marks → m ≡ n → left ≡ tableFrom (saidIn f t marks) 0 (length marks) → length marks ≡ n → FilterLeft f ws left
+  filter-left f marks i q e s =
       record {
         holds = λ p h.
-            let q : length out ≡ p .names = asked .fits .names p h in
-            e ∙ ap (tableFrom (saidIn f t marks) 0) (s ∙ q) ∙ table-said p h k f marks (subst (λ (i : ℕ). InnerFor f t i marks) q m);
+            let r : n ≡ p .names = named .names p h in
+            e ∙ ap (tableFrom (saidIn f t marks) 0) (s ∙ r) ∙ table-said p h k f marks (subst (λ (m : ℕ). InnerFor f t m marks) (q ∙ r) i);
       }

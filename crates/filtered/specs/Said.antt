@@ -1,5 +1,5 @@
 -- What the filtered tables say of a name, from the numbers that the code holds of it.
-use Prim.Native.Nat.{ℕ, _+_, _-_, _<_}
+use Prim.Native.Nat.{ℕ, _+_, _-_, _<_, _≤_}
 use mathlib.Core.Path.{_≡_}
 use mathlib.Core.List.{List}
 use mathlib.Core.Option.{Option, none, some}
@@ -13,7 +13,8 @@ use Rattle.filtered.specs.declared.filtered.Filter.the-variants.{Direct,
 use Rattle.chains.specs.Chain.{own, same}
 use Rattle.filtered.specs.Filtered.{upTo, innerStep}
 use Rattle.filtered.specs.FilteredTables.{filterWords}
-use Rattle.chains.specs.AllKinds.{IsPack, Named}
+use Rattle.chains.specs.ByName.{tableFrom}
+use Rattle.chains.specs.Settle.{Settleable, SettledAll}
 use Rattle.filtered.specs.Taking.{several}
 
 -- from what is known of an entity: the one kind that it takes, or none
@@ -55,13 +56,29 @@ pub record KnownName (x e : ℕ) : Type 0 where
 abbrev pub plainly : ℕ → ℕ
 plainly e = e
 
+-- the mark of each before the walks
+abbrev pub unseen : ℕ → ℕ
+unseen e = 0
+
 -- the direct kinds of a table
 unfoldable pub directIn : List ℕ → ℕ → Option ℕ
 directIn taken e = pick (eqb (directOf (getD taken e 0)) table.none) none (some (directOf (getD taken e 0)))
 
--- they are names below 4,096
-unfoldable pub Directed : List ℕ → Type 0
-Directed taken = (e : ℕ) → e < 4096 → (directOf (getD taken e 0) ≡ table.none → ⊥) → directOf (getD taken e 0) < 4096
+-- what the walks along those of n names ask for: each is one of the names
+pub record InnerAsked (taken : List ℕ) (n : ℕ) : Type 0 where
+  pub least : 1 ≤ n
+  pub most : n ≤ 4096
+  pub long : n ≤ length taken
+  pub leads : (e : ℕ) → e < n → (directOf (getD taken e 0) ≡ table.none → ⊥) → directOf (getD taken e 0) < n
+
+-- what the walks from all names of a table ask for, and what they leave
+pub record InnerSettleable (table marks : List ℕ) : Type 0 where
+  pub most : length table ≤ 4096
+  pub alike : length marks ≡ length table
+  pub settleable : Settleable table marks (tableFrom plainly 0 (length table)) 0 (length table + 1)
+
+abbrev pub InnerSettled : List ℕ → List ℕ → List ℕ → ℕ → Type 0
+InnerSettled table marks marks′ steps = SettledAll table marks (tableFrom plainly 0 (length table)) 0 (length table + 1) marks′ steps
 
 -- an innermost kind as a walk's answer
 abbrev pub answered : Option ℕ → ℕ
@@ -78,11 +95,6 @@ InnerFor Direct taken n marks = Unit {0}
 InnerFor Innermost taken n marks = InnerMarked taken n marks
 InnerFor Alias taken n marks = Unit {0}
 InnerFor Unresolved taken n marks = Unit {0}
-
--- a slice with one word for each name
-pub record FilterAsked (ws out : List ℕ) : Type 0 where
-  pub checked : IsPack ws
-  pub fits : Named ws (length out)
 
 -- the words of a filtered table
 pub record FilterLeft (f : Filter) (ws out : List ℕ) : Type 0 where

@@ -3,10 +3,10 @@ use crate::inner::settle_all;
 use crate::taking::Taken;
 use crate::taking::take_kinds;
 use chains::entry::Declaration;
-use chains::settle::ByName;
 use chains::settle::Mark;
 use checking::check::answer;
 use checking::check::check_directory;
+use checking::check::names_said;
 use checking::check::refuse;
 use pack::answer::Answer;
 use pack::answer::Number;
@@ -14,17 +14,16 @@ use pack::kinds::Pack;
 use records::directory::Directory;
 use records::directory::Laid;
 use records::directory::Layout;
-use records::directory::Words;
 ghost use mathlib.Core.Path.{_≡_};
-ghost use mathlib.Core.List.{_++_};
 ghost use Prim.Native.Nat.{_<_, _≤_};
-ghost use lib.ListN.{length, drop, replicate};
+ghost use lib.ListN.{length};
 ghost use Rattle.chains.specs.ByName.{tableFrom};
 ghost use Rattle.chains.specs.Entry.{Reaches};
-ghost use Rattle.chains.specs.AllKinds.{IsDirectory};
+ghost use Rattle.chains.specs.AllKinds.{Lent, Room, IsDirectory};
+ghost use Rattle.checking.specs.Checked.{namesSaid};
 ghost use Rattle.chains.specs.Answers.{Answered};
 ghost use Rattle.filtered.specs.FilteredTables.{filterAnswer, filterBuffer};
-ghost use Rattle.filtered.specs.Said.{directOf, aliasOf, unresolvedOf, innerEntry, innerOf, said, saidIn, entriesIn, plainly, Directed, InnerMarked, InnerFor, FilterAsked, FilterLeft, KnownName};
+ghost use Rattle.filtered.specs.Said.{directOf, aliasOf, unresolvedOf, innerEntry, innerOf, said, saidIn, entriesIn, unseen, InnerAsked, InnerMarked, InnerFor, FilterLeft, KnownName};
 
 pub enum Filter {
     Direct,
@@ -93,14 +92,14 @@ fn say(filter: Filter, x: u32, mark: u32, e: u32) -> u32
     }
 }
 
-// What a table says of each name.
-fn say_all(taken: &ByName, marks: &ByName, filter: Filter, out: &mut [u32])
-    requires { ⌜ length (now out) ≤ 4096 ⌝ }
-    ensures { λ r. ⌜ now (out .exit) ≡ tableFrom (saidIn filter (now (taken .entry)) (now (marks .entry))) 0 (length (now (out .entry))) ⌝ }
+// What a table says of each name, in the place of the mark of its walk.
+fn say_all(taken: &[u32], filter: Filter, out: &mut [u32])
+    requires { ⌜ (length (now out) ≤ length (now taken)) × (length (now out) ≤ 4096) ⌝ }
+    ensures { λ r. ⌜ now (out .exit) ≡ tableFrom (saidIn filter (now (taken .entry)) (now (out .entry))) 0 (length (now (out .entry))) ⌝ }
 {
     let mut j: usize = 0;
     while j < out.len() {
-        out[j] = say(filter, taken[j], marks[j], j as u32);
+        out[j] = say(filter, taken[j], out[j], j as u32);
         j += 1;
     }
 }
@@ -120,73 +119,85 @@ fn inner_entry(x: u32, e: u32) -> u32
     Declaration::LEADS + d
 }
 
-// The direct kinds of the first names as declarations.
-fn inner_entries(taken: &ByName, names: usize, table: &mut ByName)
-    requires { ⌜ Directed (now taken) × (names ≤ 4096) × (length (now table) ≡ 4096) ⌝ }
-    ensures { λ r. ⌜ now (table .exit) ≡ tableFrom (entriesIn (now (taken .entry))) 0 names ++ drop names (now (table .entry)) ⌝ }
+// The direct kinds of names as declarations.
+fn inner_entries(taken: &[u32], table: &mut [u32])
+    requires { ⌜ InnerAsked (now taken) (length (now table)) ⌝ }
+    ensures { λ r. ⌜ now (table .exit) ≡ tableFrom (entriesIn (now (taken .entry))) 0 (length (now (table .entry))) ⌝ }
 {
     let mut j: usize = 0;
-    while j < names {
+    while j < table.len() {
         table[j] = inner_entry(taken[j], j as u32);
         j += 1;
     }
 }
 
-// The names from 0 on.
-fn count_up(out: &mut [u32])
-    requires { ⌜ length (now out) ≤ 4096 ⌝ }
-    ensures { λ r. ⌜ now (out .exit) ≡ tableFrom plainly 0 (length (now (out .entry))) ⌝ }
+// No name is seen.
+fn clear(marks: &mut [u32])
+    ensures { λ r. ⌜ now (marks .exit) ≡ tableFrom unseen 0 (length (now (marks .entry))) ⌝ }
 {
     let mut j: usize = 0;
-    while j < out.len() {
-        out[j] = j as u32;
+    while j < marks.len() {
+        marks[j] = Mark::UNSEEN;
         j += 1;
     }
 }
 
-// The walks along the direct kinds of all names, for which a slice has one word each.
-fn walk_inner(taken: &ByName, names: &mut [u32], marks: &mut ByName)
-    requires { ⌜ Directed (now taken) × (length (now names) ≤ 4096) × (now marks ≡ replicate 4096 0) ⌝ }
-    ensures { λ r. ⌜ InnerMarked (now (taken .entry)) (length (now (names .entry))) (now (marks .exit)) ⌝ }
+// The walks along the direct kinds of all names, for which the table and the marks have one word each.
+fn walk_inner(taken: &[u32], table: &mut [u32], marks: &mut [u32])
+    requires { ⌜ InnerAsked (now taken) (length (now table)) × (length (now marks) ≡ length (now table)) ⌝ }
+    ensures { λ r. ⌜ InnerMarked (now (taken .entry)) (length (now (table .entry))) (now (marks .exit)) ⌝ }
 {
-    let mut table: ByName = [0u32; Pack::MOST_NAMES as usize];
-    let mut steps: u32 = 0;
-    inner_entries(taken, names.len(), &mut table);
-    count_up(names);
-    settle_all(&table, marks, &mut steps, names, names.len() as u32 + 1);
+    inner_entries(taken, table);
+    clear(marks);
+    settle_all(table, marks);
 }
 
-// The walks, where a table needs them.
-fn mark_inner(filter: Filter, taken: &ByName, names: &mut [u32], marks: &mut ByName)
-    requires { ⌜ Directed (now taken) × (length (now names) ≤ 4096) × (now marks ≡ replicate 4096 0) ⌝ }
-    ensures { λ r. ⌜ InnerFor filter (now (taken .entry)) (length (now (names .entry))) (now (marks .exit)) ⌝ }
+// The walks, where a filter needs them.
+fn mark_inner(filter: Filter, taken: &[u32], table: &mut [u32], marks: &mut [u32])
+    requires { ⌜ InnerAsked (now taken) (length (now table)) × (length (now marks) ≡ length (now table)) ⌝ }
+    ensures { λ r. ⌜ InnerFor filter (now (taken .entry)) (length (now (table .entry))) (now (marks .exit)) ⌝ }
 {
     match filter {
         Filter::Direct => {}
-        Filter::Innermost => walk_inner(taken, names, marks),
+        Filter::Innermost => walk_inner(taken, table, marks),
         Filter::Alias => {}
         Filter::Unresolved => {}
     }
 }
 
-// A table of a checked pack into a slice with one word for each name.
-fn fill(pack: &[u32], l: Layout, dir: &[u32], filter: Filter, out: &mut [u32])
-    requires { ⌜ IsDirectory (now pack) l (now dir) × Reaches (now dir) 4096 × FilterAsked (now pack) (now out) ⌝ }
+// A table of a checked pack into a slice with one word for each name. When the kinds are taken the marks are free for the
+// walks along them.
+fn fill(
+    pack: &[u32],
+    l: Layout,
+    dir: &[u32],
+    filter: Filter,
+    marks: &mut [u32],
+    taken: &mut [u32],
+    out: &mut [u32],
+)
+    requires { ⌜ IsDirectory (now pack) l (now dir) × Lent (l .names) (now marks) × Reaches (now dir) (length (now marks)) × Lent (l .names) (now taken) × (length (now out) ≡ l .names) ⌝ }
     ensures { λ r. ⌜ FilterLeft filter (now (pack .entry)) (now (out .exit)) ⌝ }
 {
-    let mut taken: ByName = [0u32; Pack::MOST_NAMES as usize];
-    let mut marks: ByName = [0u32; Pack::MOST_NAMES as usize];
-    take_kinds(pack, l, dir, &mut taken);
-    mark_inner(filter, &taken, out, &mut marks);
-    say_all(&taken, &marks, filter, out);
+    take_kinds(pack, l, dir, marks, taken);
+    let count = out.len();
+    mark_inner(filter, taken, &mut marks[0..count], out);
+    say_all(taken, filter, out);
 }
 
-// A table, one word for each name of the pack.
-pub fn filtered(pack: &[u32], filter: Filter, out: &mut [u32]) -> Answer
+// A table, by a directory and tables that are lent.
+fn filtered_in(
+    pack: &[u32],
+    filter: Filter,
+    dir: &mut [u32],
+    marks: &mut [u32],
+    taken: &mut [u32],
+    out: &mut [u32],
+) -> Answer
+    requires { ⌜ Room (now pack) (now dir) (now marks) × Lent (namesSaid (now pack)) (now taken) ⌝ }
     ensures { λ r. ⌜ Answered (filterAnswer filter) (filterBuffer filter) (now (pack .entry)) (now (out .entry)) r (now (out .exit)) ⌝ }
 {
-    let mut dir: Words = [0u32; Directory::WORDS];
-    let r = check_directory(pack, &mut dir);
+    let r = check_directory(pack, dir);
     let Laid::Yes(l) = r else {
         return answer(r);
     };
@@ -195,6 +206,29 @@ pub fn filtered(pack: &[u32], filter: Filter, out: &mut [u32]) -> Answer
     if out.len() < count {
         return refuse(Number::NO_ROOM, 0);
     }
-    fill(pack, l, &dir, filter, &mut out[0..count]);
+    fill(pack, l, dir, filter, marks, taken, &mut out[0..count]);
     Answer::Given(names, 0)
+}
+
+// A table, one word for each name of the pack.
+pub fn filtered(pack: &[u32], filter: Filter, out: &mut [u32]) -> Answer
+    ensures { λ r. ⌜ Answered (filterAnswer filter) (filterBuffer filter) (now (pack .entry)) (now (out .entry)) r (now (out .exit)) ⌝ }
+{
+    let n = names_said(pack);
+    if n <= Directory::FEW {
+        let mut dir = [0u32; Directory::NAMES + Directory::FEW];
+        let mut marks = [0u32; Directory::FEW];
+        let mut taken = [0u32; Directory::FEW];
+        return filtered_in(pack, filter, &mut dir, &mut marks, &mut taken, out);
+    }
+    if n <= Directory::SOME {
+        let mut dir = [0u32; Directory::NAMES + Directory::SOME];
+        let mut marks = [0u32; Directory::SOME];
+        let mut taken = [0u32; Directory::SOME];
+        return filtered_in(pack, filter, &mut dir, &mut marks, &mut taken, out);
+    }
+    let mut dir = [0u32; Directory::WORDS];
+    let mut marks = [0u32; Pack::MOST_NAMES as usize];
+    let mut taken = [0u32; Pack::MOST_NAMES as usize];
+    filtered_in(pack, filter, &mut dir, &mut marks, &mut taken, out)
 }

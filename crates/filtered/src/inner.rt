@@ -1,15 +1,15 @@
 // The chain walk over a table by name, for the innermost kinds: an answer is 1 and the name that a chain ends at, 0 in a ring.
 use chains::entry::Declaration;
-use chains::settle::ByName;
 use chains::settle::Mark;
 ghost use mathlib.Core.Path.{_≡_};
-ghost use Prim.Native.Nat.{_+_, _<_};
+ghost use Prim.Native.Nat.{_<_};
 ghost use lib.ListN.{length};
-ghost use Rattle.chains.specs.Settle.{ReadOne, Walkable, WalkedHere, Settleable, SettledAll};
+ghost use Rattle.chains.specs.Settle.{ReadOne, Walkable, WalkedHere};
+ghost use Rattle.filtered.specs.Said.{InnerSettleable, InnerSettled};
 
 // One entry read at a name.
-fn read_entry(table: &ByName, n: usize, steps: &mut u32) -> u32
-    requires { ⌜ (n < 4096) × (now steps < 4294967295) ⌝ }
+fn read_entry(table: &[u32], n: usize, steps: &mut u32) -> u32
+    requires { ⌜ (n < length (now table)) × (now steps < 4294967295) ⌝ }
     ensures { λ r. ⌜ ReadOne (now (table .entry)) n (now (steps .entry)) r (now (steps .exit)) ⌝ }
 {
     *steps += 1;
@@ -17,14 +17,8 @@ fn read_entry(table: &ByName, n: usize, steps: &mut u32) -> u32
 }
 
 // The walk from a name: its answer. A name on the path is a ring.
-pub fn walk(
-    table: &ByName,
-    marks: &mut ByName,
-    steps: &mut u32,
-    n: usize,
-    fuel: u32,
-) -> u32
-    requires { ⌜ Walkable (now table) (now marks) (now steps) n fuel × (length (now marks) ≡ 4096) ⌝ }
+pub fn walk(table: &[u32], marks: &mut [u32], steps: &mut u32, n: usize, fuel: u32) -> u32
+    requires { ⌜ Walkable (now table) (now marks) (now steps) n fuel × (length (now marks) ≡ length (now table)) ⌝ }
     ensures { λ r. ⌜ WalkedHere (now (table .entry)) (now (marks .entry)) (now (steps .entry)) n fuel r (now (marks .exit)) (now (steps .exit)) ⌝ }
 {
     if fuel == 0 {
@@ -54,20 +48,17 @@ pub fn walk(
     r
 }
 
-// The walks from all starts in order.
-pub fn settle_all(
-    table: &ByName,
-    marks: &mut ByName,
-    steps: &mut u32,
-    starts: &[u32],
-    fuel: u32,
-)
-    requires { ⌜ Settleable (now table) (now marks) (now starts) (now steps) fuel × (length (now marks) ≡ 4096) ⌝ }
-    ensures { λ r. ⌜ SettledAll (now (table .entry)) (now (marks .entry)) (now (starts .entry)) (now (steps .entry)) fuel (now (marks .exit)) (now (steps .exit)) ⌝ }
+// The walks from all names of a table in order: the number of entries read.
+pub fn settle_all(table: &[u32], marks: &mut [u32]) -> u32
+    requires { ⌜ InnerSettleable (now table) (now marks) ⌝ }
+    ensures { λ r. ⌜ InnerSettled (now (table .entry)) (now (marks .entry)) (now (marks .exit)) r ⌝ }
 {
+    let mut steps: u32 = 0;
+    let fuel = table.len() as u32 + 1;
     let mut j: usize = 0;
-    while j < starts.len() {
-        walk(table, marks, steps, starts[j] as usize, fuel);
+    while j < table.len() {
+        walk(table, marks, &mut steps, j, fuel);
         j += 1;
     }
+    steps
 }

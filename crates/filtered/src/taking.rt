@@ -6,7 +6,6 @@ use chains::entry::slots;
 use chains::entry::start;
 use chains::record::kind_count;
 use chains::record::value_at;
-use chains::settle::ByName;
 use chains::settle::settle_all;
 use pack::kinds::Pack;
 use records::directory::Layout;
@@ -155,11 +154,10 @@ pub fn read_tables(
     steps
 }
 
-// What is known of every entity of a checked pack; the table holds zeros before.
-pub fn take_kinds(pack: &[u32], l: Layout, dir: &[u32], table: &mut [u32])
-    requires { ⌜ IsDirectory (now pack) l (now dir) × Reaches (now dir) 4096 × Lent (l .names) (now table) ⌝ }
+// What is known of every entity of a checked pack; the marks and the table hold zeros before.
+pub fn take_kinds(pack: &[u32], l: Layout, dir: &[u32], marks: &mut [u32], table: &mut [u32])
+    requires { ⌜ IsDirectory (now pack) l (now dir) × Lent (l .names) (now marks) × Reaches (now dir) (length (now marks)) × Lent (l .names) (now table) ⌝ }
     ensures { λ r. ⌜ Known (now (pack .entry)) (now (table .exit)) ⌝ }
 {
-    let mut marks: ByName = [0u32; Pack::MOST_NAMES as usize];
-    read_tables(pack, l, dir, &mut marks, table);
+    read_tables(pack, l, dir, marks, table);
 }

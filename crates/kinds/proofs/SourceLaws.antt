@@ -13,7 +13,9 @@ use Rattle.pack.specs.Table as table
 use Rattle.pack.specs.Pack.{Derivation, Relation, Pack, WellFormed, words}
 use Rattle.chains.specs.Kinds.{find}
 use Rattle.chains.specs.Reach.{leadsWithin, sourceOf, sourceAt, sources, leans}
-use Rattle.chains.specs.AllKinds.{IsPack, Counted, recordOf, Noted}
+use Rattle.records.specs.declared.directory.Layout.{Layout}
+use Rattle.chains.specs.Entry.{Reaches, startsIn}
+use Rattle.chains.specs.AllKinds.{IsPack, Counted, recordOf, Noted, IsDirectory}
 use Rattle.kinds.specs.Parts.{Leaning}
 use Rattle.chains.specs.Record.{valueAt, kindCount, flagAt}
 use Rattle.kinds.specs.Sources.{sourceIn, sourcesIn, Sourced}
@@ -23,6 +25,7 @@ use Rattle.chains.proofs.ListAt.{InWords}
 use Rattle.chains.proofs.RecordLaws.{no-flag, a-flag, source-there}
 use Rattle.chains.proofs.DeclarationLaws.{no-record, standing}
 use Rattle.chains.proofs.PlaceBounds.{found-small}
+use Rattle.chains.proofs.EntryLaws.{reaches-one}
 use Rattle.chains.proofs.CheckedLaws.{its-words, is-fine, same-pack}
 
 -- ---- in each way out of the code
@@ -98,40 +101,45 @@ module _ (p : Pack) (w : WellFormed p) (records : List ℕ) (placed : (m : ℕ) 
   unfolding sourcesIn sources
   sources-are = fun-ext (λ m. at-relation (source m) (find m (p .relations)) (source-at m))
 
-  sourced : Sourced (words p) records
-  unfolding Sourced sources
+  sourced : (m : ℕ) → source m ≤ p .names
+  unfolding sources
   sourced m = rw (source-at m) (go (find m (p .relations)) refl)
     where
-      named : (r : Relation) (o : Option Derivation) → r .derivation ≡ o → find m (p .relations) ≡ some r → sourceCode (sourceOf o) ≤ 4096
+      named : (r : Relation) (o : Option Derivation) → r .derivation ≡ o → find m (p .relations) ≡ some r → sourceCode (sourceOf o) ≤ p .names
       named r none q e = omega arith
       named r (some d) q e = below (eqb (d .source) table.none) refl
         where
-          below : (b : Bool) → eqb (d .source) table.none ≡ b → sourceCode (pick b [] (d .source ∷ [])) ≤ 4096
+          below : (b : Bool) → eqb (d .source) table.none ≡ b → sourceCode (pick b [] (d .source ∷ [])) ≤ p .names
           below true z = omega arith
-          below false z = omega (arith, found-small (p .names) m [] (p .relations) r (parts p w .relations-fine) e .leads d q z, parts p w .most)
+          below false z = omega (arith, found-small (p .names) m [] (p .relations) r (parts p w .relations-fine) e .leads d q z)
 
-      go : (o : Option Relation) → find m (p .relations) ≡ o → sourceCode (sourceAt o) ≤ 4096
+      go : (o : Option Relation) → find m (p .relations) ≡ o → sourceCode (sourceAt o) ≤ p .names
       go none e = omega arith
       go (some r) e = named r (r .derivation) refl e
 
 -- ---- the walk along the sources
 
-module _ (ws records : List ℕ) (a b most : ℕ) where
+module _ (ws dir : List ℕ) (a b most : ℕ) where
+  abbrev records : List ℕ
+  records = startsIn dir
+
   abbrev S : ℕ → ℕ
   S n = sourceIn ws (getD records n 0)
 
   -- what is left to follow gives what the whole gives
   pub record Following (n left : ℕ) : Type 0 where
-    pub below : n < 4096
+    pub here : Sourced ws dir n
     pub todo : leadsWithin (sourcesIn ws records) most a b ≡ leadsWithin (sourcesIn ws records) left n b
 
-  pub follow : a < 4096 → Following a most
-  follow h = record { below = h; todo = refl }
+  pub follow : Sourced ws dir a → Following a most
+  follow asked = record { here = asked; todo = refl }
 
   module _ {n left : ℕ} (f : Following n left) where
-    pub source-below : Sourced ws records → {x : ℕ} → x ≡ S n → x ≤ 4096
-    unfolding Sourced
-    source-below o q = let l = o n in omega arith
+    pub reached : Reaches dir (n + 1)
+    reached = reaches-one (f .here .reaches) (f .here .first)
+
+    pub source-below : {x : ℕ} → x ≡ S n → x ≤ 4096
+    source-below q = omega (arith, f .here .low n, f .here .reaches .most)
 
     pub followed : left ≤ 0 → false ≡ leadsWithin (sourcesIn ws records) most a b
     unfolding leadsWithin
@@ -165,16 +173,24 @@ module _ (ws records : List ℕ) (a b most : ℕ) where
         pub arrived : x - 1 ≡ b → true ≡ leadsWithin (sourcesIn ws records) most a b
         arrived e = sym (f .todo ∙ onward ∙ rw (eq-eqb (x - 1) b e) refl)
 
-        pub further : Sourced ws records → (x - 1 ≡ b → ⊥) → Following (x - 1) (left - 1)
-        unfolding Sourced
-        further o e = record { below = (let l = o n in omega arith); todo = f .todo ∙ onward ∙ rw (ne-eqb (x - 1) b e) refl }
+        pub further : (x - 1 ≡ b → ⊥) → Following (x - 1) (left - 1)
+        further e = record { here = record { names = f .here .names; reaches = f .here .reaches; first = omega (arith, f .here .low n); low = f .here .low }; todo = f .todo ∙ onward ∙ rw (ne-eqb (x - 1) b e) refl }
 
 -- ---- a checked pack
 
-module _ {ws names records : List ℕ} (c : IsPack ws) (noted : Noted ws names records) where
-  pub its-sourced : Sourced ws records
-  its-sourced = subst (λ (v : List ℕ). Sourced v records) (its-words c) (sourced (c .pack) (is-fine c) records (noted .placed (c .pack) (c .reads)))
+pub its-sourced : {ws dir : List ℕ} {l : Layout} → IsDirectory ws l dir → {a : ℕ} → a < l .names → Sourced ws dir a
+its-sourced {ws} {dir} {l} d {a} h =
+    let c = d .checked in
+    let low = sourced (c .pack) (is-fine c) (startsIn dir) (d .noted .placed (c .pack) (c .reads)) in
+    record {
+      names = l .names;
+      reaches = d .reaches;
+      first = h;
+      low = subst (λ (k : ℕ). (n : ℕ) → sourceIn ws (getD (startsIn dir) n 0) ≤ k) (sym (d .named .names (c .pack) (c .reads)))
+          (subst (λ (v : List ℕ). (n : ℕ) → sourceIn v (getD (startsIn dir) n 0) ≤ c .pack .names) (its-words c) low);
+    }
 
+module _ {ws names records : List ℕ} (c : IsPack ws) (noted : Noted ws names records) where
   pub its-leaning : {count a b : ℕ} {r : Bool} → Counted ws count → r ≡ leadsWithin (sourcesIn ws records) count a b → Leaning ws a b r
   unfolding leans
   its-leaning {count} {a} {b} k e =

@@ -3,19 +3,21 @@ use crate::sources::leads;
 use chains::unknown::unknown_name;
 use checking::check::answer;
 use checking::check::check_directory;
+use checking::check::names_said;
 use pack::answer::Answer;
 use records::directory::Directory;
 use records::directory::Laid;
-use records::directory::Words;
 ghost use mathlib.Core.Path.{_≡_};
+ghost use Rattle.records.specs.Directory.{Clear};
+ghost use Rattle.checking.specs.Checked.{namesSaid};
 ghost use Rattle.kinds.specs.Operations.{leanAnswer};
 
-// 1 if the first name leans on the second, 0 if not.
-pub fn lean(pack: &[u32], a: u32, b: u32) -> Answer
+// Whether a name leans on another, by a directory that is lent.
+fn lean_in(pack: &[u32], a: u32, b: u32, dir: &mut [u32]) -> Answer
+    requires { ⌜ Clear (namesSaid (now pack)) (now dir) ⌝ }
     ensures { λ r. ⌜ r ≡ leanAnswer (now (pack .entry)) a b ⌝ }
 {
-    let mut dir: Words = [0u32; Directory::WORDS];
-    let r = check_directory(pack, &mut dir);
+    let r = check_directory(pack, dir);
     let Laid::Yes(l) = r else {
         return answer(r);
     };
@@ -26,8 +28,25 @@ pub fn lean(pack: &[u32], a: u32, b: u32) -> Answer
         return unknown_name(b);
     }
     let most = l.relations as usize;
-    if leads(pack, &dir, a as usize, b as usize, most) {
+    if leads(pack, dir, a as usize, b as usize, most) {
         return Answer::Given(1, 0);
     }
     Answer::Given(0, 0)
+}
+
+// 1 if the first name leans on the second, 0 if not.
+pub fn lean(pack: &[u32], a: u32, b: u32) -> Answer
+    ensures { λ r. ⌜ r ≡ leanAnswer (now (pack .entry)) a b ⌝ }
+{
+    let n = names_said(pack);
+    if n <= Directory::FEW {
+        let mut few = [0u32; Directory::NAMES + Directory::FEW];
+        return lean_in(pack, a, b, &mut few);
+    }
+    if n <= Directory::SOME {
+        let mut some = [0u32; Directory::NAMES + Directory::SOME];
+        return lean_in(pack, a, b, &mut some);
+    }
+    let mut all = [0u32; Directory::WORDS];
+    lean_in(pack, a, b, &mut all)
 }

@@ -4,9 +4,8 @@ use chains::record::flag_at;
 use chains::record::kind_count;
 use chains::record::value_at;
 use pack::kinds::Pack;
-use records::directory::Words;
 ghost use mathlib.Core.Path.{_≡_};
-ghost use Prim.Native.Nat.{_<_, _≤_};
+ghost use Prim.Native.Nat.{_≤_};
 ghost use Rattle.chains.specs.Entry.{startsIn};
 ghost use Rattle.kinds.specs.Sources.{sourceIn, sourcesIn, Sourced};
 ghost use Rattle.chains.specs.Reach.{leadsWithin};
@@ -31,8 +30,8 @@ fn source_at(pack: &[u32], start: usize) -> u32
 }
 
 // Whether one or more sources, and no more than so many, lead from a name to another.
-pub fn leads(pack: &[u32], dir: &Words, a: usize, b: usize, most: usize) -> bool
-    requires { ⌜ Sourced (now pack) (startsIn (now dir)) × (a < 4096) ⌝ }
+pub fn leads(pack: &[u32], dir: &[u32], a: usize, b: usize, most: usize) -> bool
+    requires { ⌜ Sourced (now pack) (now dir) a ⌝ }
     ensures { λ r. ⌜ r ≡ leadsWithin (sourcesIn (now (pack .entry)) (startsIn (now (dir .entry)))) most a b ⌝ }
 {
     let mut n = a;

@@ -10,7 +10,7 @@ enum-told-2 : tie.Need-enum-told-2
 enum-told-2 c = search needs
 
 walk-inner-requires : tie.Need-walk-inner-requires
-walk-inner-requires c κs = search needs
+walk-inner-requires c κs = c .before .before .before .before .before .before .before .pre
 
 enum-told-3 : tie.Need-enum-told-3
 enum-told-3 c = search needs
@@ -19,19 +19,22 @@ enum-told-4 : tie.Need-enum-told-4
 enum-told-4 c = search needs
 
 returns : tie.Need-returns
-returns c = rw ((c .enum-told) .given .1) tt
+returns c = rw (c .enum-told .given .1) tt
 
 same-length : tie.Need-same-length
 same-length c = search needs
 
+same-length-2 : tie.Need-same-length-2
+same-length-2 c = search needs
+
 returns-2 : tie.Need-returns-2
-returns-2 c = rw ((c .before .before .before .before .before .enum-told2) .given .1) ((c .before .before .walk-inner) .ensures)
+returns-2 c = rw (c .before .before .before .before .before .before .before .enum-told2 .given .1) (c .before .before .before .before .walk-inner .ensures)
 
 returns-3 : tie.Need-returns-3
-returns-3 c = rw ((c .enum-told3) .given .1) tt
+returns-3 c = rw (c .enum-told3 .given .1) tt
 
 returns-4 : tie.Need-returns-4
-returns-4 c = rw ((c .enum-told4) .given .1) tt
+returns-4 c = rw (c .enum-told4 .given .1) tt
 
 pub mark-inner-spec : {M : Type 1} → statement M
 mark-inner-spec =
@@ -44,6 +47,7 @@ mark-inner-spec =
     enum-told-4
     returns
     same-length
+    same-length-2
     returns-2
     returns-3
     returns-4)

@@ -1,33 +1,34 @@
 -- `filtered::inner::settle_all` meets its contract.
+use Prim.Native.Nat.{_+_, _-_}
 use native.Mathlib.Omega.{arith}
-use Prim.Native.Nat.{_-_}
 use mathlib.Core.Path.{_∙_}
 use lib.ListN.{length}
-use Rattle.chains.proofs.SettleLaws.{Settling, begin, walkable, walk-on, all-settled}
+use Rattle.chains.specs.ByName.{tableFrom}
+use Rattle.filtered.specs.Said.{plainly}
+use Rattle.chains.proofs.FillLaws.{table-length}
+use Rattle.chains.proofs.SettleLaws.{Settling, begin, all-settled}
+use Rattle.filtered.proofs.InnerLaws.{name-walkable, name-walked}
 use borrow.Author.Needs.{needs}
 use Rattle.filtered.proofs.inner.settle_all.Statement.{statement}
 use Rattle.filtered.proofs.inner.settle_all.Tie as tie
 
 abbrev Inv-loop : tie.InvT-loop
-Inv-loop table marks₀ steps₀ starts fuel j₀ marks steps j = Settling table marks₀ starts steps₀ fuel marks steps j
+Inv-loop table marks₀ steps₀ fuel j₀ marks steps j = Settling table marks₀ (tableFrom plainly 0 (length table)) 0 (length table + 1) marks steps j
 
 abbrev μ-loop : tie.MeasureT-loop
-μ-loop table marks₀ steps₀ starts fuel j₀ marks steps j = length starts - j
+μ-loop table marks₀ steps₀ fuel j₀ marks steps j = length table - j
+
+cast-fuel : tie.Need-cast-fuel Inv-loop μ-loop
+cast-fuel c = omega (arith, c .before .before .pre .most)
+
+add-fuel : tie.Need-add-fuel Inv-loop μ-loop
+add-fuel c = omega (arith, c .before .before .pre .most)
 
 loop-holds : tie.Need-loop-holds Inv-loop μ-loop
-loop-holds c = begin _ _ _ _ _ (c .before .pre .0)
-
-mul-walk : tie.Need-mul-walk Inv-loop μ-loop
-mul-walk c = search needs
-
-shared-slice-read-walk : tie.Need-shared-slice-read-walk Inv-loop μ-loop
-shared-slice-read-walk c = search needs
-
-cast-walk : tie.Need-cast-walk Inv-loop μ-loop
-cast-walk c = omega (arith, (c .before .before .before .before .before .before .pre .0 .names) (c .before .before .before .before .loop .j), c .before .before .before .before .before .before .pre .1)
+loop-holds c = begin _ _ _ _ _ (c .before .before .pre .settleable)
 
 walk-requires : tie.Need-walk-requires Inv-loop μ-loop
-walk-requires c κs = (walkable _ _ _ _ _ (c .before .before .before .before .before .before .pre .0) (c .before .before .before .before .loop .inv) (omega arith), (c .before .before .before .before .loop .inv .long) ∙ (c .before .before .before .before .before .before .pre .1))
+walk-requires c κs = (name-walkable (c .before .before .before .before .before .before .pre) (c .before .before .before .loop .inv) (omega arith), (c .before .before .before .loop .inv .long) ∙ (c .before .before .before .before .before .before .pre .alike))
 
 add-j : tie.Need-add-j Inv-loop μ-loop
 add-j c = search needs
@@ -36,10 +37,13 @@ loop-less : tie.Need-loop-less Inv-loop μ-loop
 loop-less c = search needs
 
 loop-again : tie.Need-loop-again Inv-loop μ-loop
-loop-again c = walk-on _ _ _ _ _ (c .before .before .before .before .before .before .before .pre .0) (c .before .before .before .before .before .loop .inv) (omega arith) (c .walk .ensures)
+loop-again c = name-walked (c .before .before .before .before .before .before .before .before .before .pre) (c .before .before .before .before .before .before .loop .inv) (omega arith) (c .before .before .walk .ensures)
+
+same-length : tie.Need-same-length Inv-loop μ-loop
+same-length c = c .before .loop .inv .long
 
 returns : tie.Need-returns Inv-loop μ-loop
-returns c = all-settled _ _ _ _ _ (c .before .before .before .pre .0) (c .before .loop .inv) (omega arith)
+returns c = all-settled _ _ _ _ _ (c .before .before .before .before .pre .settleable) (c .before .loop .inv) (omega (arith, table-length plainly 0 (length (c .before .before .before .before .args .table .now))))
 
 pub settle-all-spec : {M : Type 1} → statement M
 settle-all-spec =
@@ -47,12 +51,12 @@ settle-all-spec =
     (tie.spec
     Inv-loop
     μ-loop
+    cast-fuel
+    add-fuel
     loop-holds
-    mul-walk
-    shared-slice-read-walk
-    cast-walk
     walk-requires
     add-j
     loop-less
     loop-again
+    same-length
     returns)

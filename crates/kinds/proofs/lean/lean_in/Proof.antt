@@ -1,0 +1,87 @@
+-- `kinds::lean::lean_in` meets its contract.
+use native.Mathlib.Omega.{arith}
+use mathlib.Core.Path.{_∙_, ap}
+use Rattle.checking.specs.Checked.{answerIn}
+use Rattle.chains.proofs.EntryLaws.{directed}
+use Rattle.kinds.proofs.SourceLaws.{its-sourced, its-leaning}
+use Rattle.kinds.proofs.OperationLaws.{lean-refused, first-unknown, second-unknown, leans-or-not}
+use borrow.Author.Needs.{needs}
+use Rattle.kinds.proofs.lean.lean_in.Statement.{statement}
+use Rattle.kinds.proofs.lean.lean_in.Tie as tie
+
+check-directory-requires : tie.Need-check-directory-requires
+check-directory-requires c κs = c .before .before .before .pre
+
+enum-known-r : tie.Need-enum-known-r
+enum-known-r c = search needs
+
+enum-told : tie.Need-enum-told
+enum-told c = search needs
+
+answer-requires : tie.Need-answer-requires
+answer-requires c κs = search needs
+
+same-length : tie.Need-same-length
+same-length c = search needs
+
+returns : tie.Need-returns
+returns c = lean-refused _ _ _ ((c .answer .ensures) ∙ (c .before .before .before .before .before .check-directory .ensures .answers)) ((c .answer .ensures) ∙ ap answerIn (c .before .enum-told .given .1))
+
+unknown-name-requires : tie.Need-unknown-name-requires
+unknown-name-requires c κs = search needs
+
+same-length-2 : tie.Need-same-length-2
+same-length-2 c = search needs
+
+returns-2 : tie.Need-returns-2
+returns-2 c = let d = directed (c .before .before .before .before .before .before .before .before .before .before .before .before .pre) (c .before .before .before .before .before .before .before .before .check-directory .ensures) (c .before .before .before .before .r .given .1) in (c .unknown-name .ensures) ∙ first-unknown _ _ _ (d .checked) (d .named) (omega arith)
+
+unknown-name-requires-2 : tie.Need-unknown-name-requires-2
+unknown-name-requires-2 c κs = search needs
+
+same-length-3 : tie.Need-same-length-3
+same-length-3 c = search needs
+
+returns-3 : tie.Need-returns-3
+returns-3 c = let d = directed (c .before .before .before .before .before .before .before .before .before .before .before .before .before .before .pre) (c .before .before .before .before .before .before .before .before .before .before .check-directory .ensures) (c .before .before .before .before .before .before .r .given .1) in (c .unknown-name2 .ensures) ∙ second-unknown _ _ _ (d .checked) (d .named) (omega arith) (omega arith)
+
+cast-most : tie.Need-cast-most
+cast-most c = search needs
+
+leads-requires : tie.Need-leads-requires
+leads-requires c κs = its-sourced (directed (c .before .before .before .before .before .before .before .before .before .before .before .before .before .before .before .pre) (c .before .before .before .before .before .before .before .before .before .before .before .check-directory .ensures) (c .before .before .before .before .before .before .before .r .given .1)) (omega arith)
+
+same-length-4 : tie.Need-same-length-4
+same-length-4 c = search needs
+
+returns-4 : tie.Need-returns-4
+returns-4 c = let d = directed (c .before .before .before .before .before .before .before .before .before .before .before .before .before .before .before .before .before .pre) (c .before .before .before .before .before .before .before .before .before .before .before .before .before .check-directory .ensures) (c .before .before .before .before .before .before .before .before .before .r .given .1) in rw (c .if3 .taken) at (leans-or-not _ _ _ (d .checked) (d .named) (omega arith) (omega arith) (its-leaning (d .checked) (d .noted) (d .counted) (c .before .leads .ensures)))
+
+same-length-5 : tie.Need-same-length-5
+same-length-5 c = search needs
+
+returns-5 : tie.Need-returns-5
+returns-5 c = let d = directed (c .before .before .before .before .before .before .before .before .before .before .before .before .before .before .before .before .before .pre) (c .before .before .before .before .before .before .before .before .before .before .before .before .before .check-directory .ensures) (c .before .before .before .before .before .before .before .before .before .r .given .1) in rw (c .if3 .left) at (leans-or-not _ _ _ (d .checked) (d .named) (omega arith) (omega arith) (its-leaning (d .checked) (d .noted) (d .counted) (c .before .leads .ensures)))
+
+pub lean-in-spec : {M : Type 1} → statement M
+lean-in-spec =
+    tie.close
+    (tie.spec
+    check-directory-requires
+    enum-known-r
+    enum-told
+    answer-requires
+    same-length
+    returns
+    unknown-name-requires
+    same-length-2
+    returns-2
+    unknown-name-requires-2
+    same-length-3
+    returns-3
+    cast-most
+    leads-requires
+    same-length-4
+    returns-4
+    same-length-5
+    returns-5)
