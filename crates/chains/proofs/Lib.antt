@@ -7,6 +7,7 @@ pub mod KindLaws
 pub mod RelationScan
 pub mod PackIndex
 pub mod SettleLaws
+pub mod AheadLaws
 pub mod PlaceBounds
 pub mod AllKindsLaws
 pub mod CheckedLaws

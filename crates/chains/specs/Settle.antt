@@ -1,9 +1,9 @@
 -- The chain walk over a table by name: answers are places, and marks say which names are settled or on the path.
-use Prim.Native.Nat.{ℕ, _+_, _-_, _*_, _<_, _≤_}
+use Prim.Native.Nat.{ℕ, zero, suc, _+_, _-_, _*_, _<_, _≤_}
 use mathlib.Core.Path.{_≡_}
 use mathlib.Core.List.{List, []}
 use mathlib.Core.Option.{none, some}
-use lib.ListN.{length, getD}
+use lib.ListN.{length, getD, set}
 use lib.Dec.{ltb, eqb}
 use Rattle.pack.specs.Table.{pick}
 use Rattle.pack.specs.Form.{among}
@@ -55,6 +55,21 @@ pub record WalkedHere (table marks : List ℕ) (steps n fuel r : ℕ) (marks′ 
   pub marked : Marked marks′
   pub small : r < 65536
   pub fits : steps′ ≤ steps + fuel
+
+-- the name that an entry leads on to
+abbrev pub nextIn : List ℕ → ℕ → ℕ
+nextIn table n = getD table n 0 - 65536
+
+-- so many names along the chain from a name get a mark
+unfoldable pub markedPath : List ℕ → ℕ → ℕ → ℕ → List ℕ → List ℕ
+markedPath table mark zero n marks = marks
+markedPath table mark (suc k) n marks = set (markedPath table mark k (nextIn table n) marks) n mark
+
+-- what a walk leaves before its answer settles its path: as many names as were read are on it
+pub record WentAhead (table marks : List ℕ) (steps n fuel r : ℕ) (marks′ : List ℕ) (steps′ : ℕ) : Type 0 where
+  pub walked : WalkedHere table marks steps n fuel r (markedPath table (2 + r) (steps′ - steps) n marks′) steps′
+  pub more : steps ≤ steps′
+  pub long : length marks′ ≡ length marks
 
 abbrev pub walksIn : List ℕ → ℕ → List ℕ → Settled ℕ → ℕ → All ℕ
 walksIn table fuel starts t k = walksFrom 0 same (stepAt table) fuel starts t k

@@ -3,14 +3,11 @@
 use crate::entry::Declaration;
 use crate::entry::declared;
 use crate::entry::name_at;
-use pack::kinds::Pack;
-ghost use Prim.Native.Nat.{_+_, _<_, _≤_};
+ghost use mathlib.Core.Path.{_≡_};
+ghost use Prim.Native.Nat.{_+_, _-_, _<_, _≤_};
 ghost use lib.ListN.{length};
 ghost use Rattle.chains.specs.Entry.{Reaches, declarationsIn, namesIn};
-ghost use Rattle.chains.specs.Settle.{ReadOne, Walkable, WalkedHere, Settleable, SettledAll};
-
-// Numbers by name.
-pub type ByName = [u32; Pack::MOST_NAMES as usize];
+ghost use Rattle.chains.specs.Settle.{Leading, ReadOne, markedPath, Walkable, WentAhead, WalkedHere, Settleable, SettledAll};
 
 pub struct Mark {}
 
@@ -32,35 +29,65 @@ fn read_name(dir: &[u32], n: usize, steps: &mut u32) -> u32
     declared(dir, n)
 }
 
-// The walk from a name: its answer. A name on the path is a ring.
+// Along the chain from a name, with each name marked as on the path, up to one whose answer is known: that answer. A name on the
+// path is a ring.
+fn ahead(dir: &[u32], marks: &mut [u32], steps: &mut u32, start: usize, fuel: u32) -> u32
+    requires { ⌜ Walkable (declarationsIn (now dir)) (now marks) (now steps) start fuel × Reaches (now dir) (length (now marks)) ⌝ }
+    ensures { λ r. ⌜ WentAhead (declarationsIn (now (dir .entry))) (now (marks .entry)) (now (steps .entry)) start fuel r (now (marks .exit)) (now (steps .exit)) ⌝ }
+{
+    let mut n = start;
+    let mut left = fuel;
+    while 0 < left {
+        let m = marks[n];
+        if Mark::SETTLED <= m {
+            return m - Mark::SETTLED;
+        }
+        if m == Mark::ON_PATH {
+            return Declaration::NO_KINDS;
+        }
+        marks[n] = Mark::ON_PATH;
+        let x = read_name(dir, n, steps);
+        if x < Declaration::LEADS {
+            return x;
+        }
+        n = next_name(x);
+        left -= 1;
+    }
+    Declaration::NO_KINDS
+}
+
+// The name that a declaration leads on to; 0 where it does not.
+fn next_name(x: u32) -> usize
+    ensures { λ r. ⌜ r ≡ x - 65536 ⌝ }
+{
+    if x < Declaration::LEADS {
+        return 0;
+    }
+    (x - Declaration::LEADS) as usize
+}
+
+// So many names along the chain from a name get a mark.
+fn mark_path(dir: &[u32], marks: &mut [u32], start: usize, count: u32, mark: u32)
+    requires { ⌜ (start < length (now marks)) × Leading (length (now marks)) (declarationsIn (now dir)) × Reaches (now dir) (length (now marks)) ⌝ }
+    ensures { λ r. ⌜ now (marks .exit) ≡ markedPath (declarationsIn (now (dir .entry))) mark count start (now (marks .entry)) ⌝ }
+{
+    let mut n = start;
+    let mut left = count;
+    while 0 < left {
+        marks[n] = mark;
+        n = next_name(declared(dir, n));
+        left -= 1;
+    }
+}
+
+// The walk from a name: its answer, which settles each name of its path.
 pub fn walk(dir: &[u32], marks: &mut [u32], steps: &mut u32, n: usize, fuel: u32) -> u32
     requires { ⌜ Walkable (declarationsIn (now dir)) (now marks) (now steps) n fuel × Reaches (now dir) (length (now marks)) ⌝ }
     ensures { λ r. ⌜ WalkedHere (declarationsIn (now (dir .entry))) (now (marks .entry)) (now (steps .entry)) n fuel r (now (marks .exit)) (now (steps .exit)) ⌝ }
 {
-    if fuel == 0 {
-        return 0;
-    }
-    let m = marks[n];
-    if Mark::SETTLED <= m {
-        return m - Mark::SETTLED;
-    }
-    if m == Mark::ON_PATH {
-        return Declaration::NO_KINDS;
-    }
-    marks[n] = Mark::ON_PATH;
-    let x = read_name(dir, n, steps);
-    if x < Declaration::LEADS {
-        marks[n] = Mark::SETTLED + x;
-        return x;
-    }
-    let r = walk(
-        dir,
-        marks,
-        steps,
-        (x - Declaration::LEADS) as usize,
-        fuel - 1,
-    );
-    marks[n] = Mark::SETTLED + r;
+    let before = *steps;
+    let r = ahead(dir, marks, steps, n, fuel);
+    mark_path(dir, marks, n, *steps - before, Mark::SETTLED + r);
     r
 }
 

@@ -1,0 +1,32 @@
+-- `chains::settle::walk` meets its contract.
+use native.Mathlib.Omega.{arith}
+use mathlib.Core.Path.{refl, sym, subst}
+use Rattle.chains.specs.Entry.{Reaches, declarationsIn}
+use Rattle.chains.specs.Settle.{Leading}
+use Rattle.chains.proofs.AheadLaws.{walked}
+use borrow.Author.Needs.{needs}
+use Rattle.chains.proofs.settle.walk.Statement.{statement}
+use Rattle.chains.proofs.settle.walk.Tie as tie
+
+ahead-requires : tie.Need-ahead-requires
+ahead-requires c κs = search needs
+
+sub-mark-path : tie.Need-sub-mark-path
+sub-mark-path c = search needs
+
+add-mark-path : tie.Need-add-mark-path
+add-mark-path c = search needs
+
+mark-path-requires : tie.Need-mark-path-requires
+mark-path-requires c κs = let w = c .before .before .before .before .before .before .before .before .before .pre .0 in let l = c .before .before .before .ahead .ensures .long in (omega (arith, w .name, l), subst (λ n. Leading n (declarationsIn (c .before .before .before .before .before .before .before .before .before .args .dir .now))) (sym l) (w .leading), subst (Reaches (c .before .before .before .before .before .before .before .before .before .args .dir .now)) (sym l) (c .before .before .before .before .before .before .before .before .before .pre .1))
+
+same-length : tie.Need-same-length
+same-length c = search needs
+
+returns : tie.Need-returns
+returns c = walked (c .before .before .before .before .before .before .ahead .ensures) refl (c .before .before .mark-path .ensures)
+
+pub walk-spec : {M : Type 1} → statement M
+walk-spec =
+    tie.close
+    (tie.spec ahead-requires sub-mark-path add-mark-path mark-path-requires same-length returns)
