@@ -178,7 +178,7 @@ module _ {ws dir marks asked work : List ℕ} {relations steps : ℕ} (a : Finis
   pub room-few : relations ≤ 512
   room-few = few-starts
 
-  pub order-asked : (length {A = ℕ} (midOf 0 (relations - 0) (replicate 512 0)) ≤ 512) × NamesLow (namesIn dir (length {A = ℕ} (midOf 0 (relations - 0) (replicate 512 0))))
+  pub order-asked : (length {A = ℕ} (midOf 0 (relations - 0) (replicate 512 0)) ≤ 512) × NamesLow 4096 (namesIn dir (length {A = ℕ} (midOf 0 (relations - 0) (replicate 512 0))))
   order-asked = rw room-long (few-starts, a .low)
 
   module _ {order : List ℕ} (ordered : order ≡ orderIn dir (length {A = ℕ} (midOf 0 (relations - 0) (replicate 512 0)))) where

@@ -66,6 +66,6 @@ module _ {ws : List ℕ} (dir : List ℕ) {marks taken : List ℕ} {steps : ℕ}
 
 -- ---- for the code
 
-pub its-name : (dir : List ℕ) (count j : ℕ) → NamesLow (namesIn dir count) → j < count → {name : ℕ} → name ≡ getD dir j 0 → name < 4096
+pub its-name : (dir : List ℕ) (count j : ℕ) → NamesLow 4096 (namesIn dir count) → j < count → {name : ℕ} → name ≡ getD dir j 0 → name < 4096
 unfolding NamesLow
 its-name dir count j low h e = omega (arith, low j, name-here dir count j h)

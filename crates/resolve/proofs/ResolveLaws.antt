@@ -295,7 +295,7 @@ module _ {ws dir marks taken notes : List ℕ} {f : Figures} {work : List ℕ} (
           record {
             taken = taken;
             tabled = its-tables;
-            low = subst (λ (n : ℕ). NamesLow (namesIn dir n)) (sym (a .counts)) (takeable (a .directory) (a .filled .marked));
+            low = subst (λ (n : ℕ). NamesLow 4096 (namesIn dir n)) (sym (a .counts)) (takeable (a .directory) (a .filled .marked) (a .directory .reaches .most));
             places = ap (orderIn dir) (a .counts) ∙ order-is dir its-tables (a .layout .relations) (a .filled .noted .named its checked);
             asks = asks;
             whole = d .whole;

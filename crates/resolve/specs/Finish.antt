@@ -62,7 +62,7 @@ pub record AskedOf (p : Pack) (asked : List ℕ) : Type 0 where
 pub record FinishAsked (ws dir marks asked work : List ℕ) (relations steps : ℕ) : Type 0 where
   pub taken : List ℕ
   pub tabled : Tabled ws (startsIn dir) marks taken steps
-  pub low : NamesLow (namesIn dir relations)
+  pub low : NamesLow 4096 (namesIn dir relations)
   pub places : orderIn dir relations ≡ placesIn (tabled .checked .pack)
   pub asks : AskedOf (tabled .checked .pack) asked
   pub whole : Pack

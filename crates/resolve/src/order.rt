@@ -11,7 +11,7 @@ ghost use Rattle.resolve.specs.Finish.{orderIn};
 
 // As the directory says; one word for each relation.
 pub fn order(dir: &Words, places: &mut [u32])
-    requires { ⌜ (length (now places) ≤ 512) × NamesLow (namesIn (now dir) (length (now places))) ⌝ }
+    requires { ⌜ (length (now places) ≤ 512) × NamesLow 4096 (namesIn (now dir) (length (now places))) ⌝ }
     ensures { λ r. ⌜ now (places .exit) ≡ orderIn (now (dir .entry)) (length (now (places .entry))) ⌝ }
 {
     let mut i: usize = 0;

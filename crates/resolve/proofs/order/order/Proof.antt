@@ -21,10 +21,10 @@ loop-holds : tie.Need-loop-holds Inv-loop μ-loop
 loop-holds c = begin _ _
 
 name-at-requires : tie.Need-name-at-requires Inv-loop μ-loop
-name-at-requires c κs = omega (arith, c .before .loop .inv .long, c .before .before .before .pre .0)
+name-at-requires c κs = omega (arith, c .before .before .loop .inv .long, c .before .before .before .before .pre .0)
 
 start-requires : tie.Need-start-requires Inv-loop μ-loop
-start-requires c κs = its-name _ _ _ (c .before .before .before .before .pre .1) (omega (arith, c .before .before .loop .inv .long)) (c .name-at .ensures)
+start-requires c κs = let low = its-name _ _ _ (c .before .before .before .before .before .before .pre .1) (omega (arith, c .before .before .before .before .loop .inv .long)) (c .before .name-at .ensures) in search needs
 
 cast-places : tie.Need-cast-places Inv-loop μ-loop
 cast-places c = search needs
@@ -39,10 +39,10 @@ add-i : tie.Need-add-i Inv-loop μ-loop
 add-i c = search needs
 
 loop-less : tie.Need-loop-less Inv-loop μ-loop
-loop-less c = omega (arith, c .before .before .before .loop .inv .long)
+loop-less c = omega (arith, c .before .before .before .before .before .loop .inv .long)
 
 loop-again : tie.Need-loop-again Inv-loop μ-loop
-loop-again c = next _ _ (c .before .before .before .loop .inv) (omega (arith, c .before .before .before .loop .inv .long)) (rw (c .start .ensures .0, c .before .name-at .ensures) refl)
+loop-again c = next _ _ (c .before .before .before .before .before .loop .inv) (omega (arith, c .before .before .before .before .before .loop .inv .long)) (rw (c .start .ensures .0, c .before .before .name-at .ensures) refl)
 
 same-length : tie.Need-same-length Inv-loop μ-loop
 same-length c = c .before .loop .inv .long

@@ -23,10 +23,10 @@ cast-start : tie.Need-cast-start
 cast-start c = search needs
 
 start-requires : tie.Need-start-requires
-start-requires c κs = default-name (c .before .before .before .before .before .pre) (c .before .first-equal .ensures) (c .if1 .left)
+start-requires c κs = let low = default-name (c .before .before .before .before .before .before .pre) (c .before .before .first-equal .ensures) (c .before .if1 .left) in search needs
 
 returns-2 : tie.Need-returns-2
-returns-2 c = rw (c .start .ensures .0) (trees-equal (c .before .before .before .before .before .before .pre) (c .before .before .first-equal .ensures) (c .before .if1 .left) _)
+returns-2 c = rw (c .start .ensures .0) (trees-equal (c .before .before .before .before .before .before .before .pre) (c .before .before .before .first-equal .ensures) (c .before .before .if1 .left) _)
 
 pub resolve-trees-spec : {M : Type 1} → statement M
 resolve-trees-spec =
