@@ -1,14 +1,15 @@
 -- What Resolve answers and leaves, from its steps.
-use Prim.Native.Nat.{ℕ, _+_, _<_, _≤_, min}
+use Prim.Native.Nat.{ℕ, _+_, _-_, _<_, _≤_, min}
 use native.Mathlib.Omega.{arith}
 use mathlib.Core.Path.{_≡_, refl, ap, sym, _∙_, subst}
 use mathlib.Core.List.{List, [], _∷_, _++_, map}
 use mathlib.Core.Bool.{Bool, true, false, _&&_}
 use mathlib.Core.Option.{Option, none, some}
-use lib.ListN.{length, getD, take, drop, replicate, length-replicate, getD-replicate}
+use lib.ListN.{length, getD, take, drop, replicate, length-append, length-replicate, getD-replicate}
 use lib.Seq.{take-append-seam, take-append-le}
 use lib.Dec.{leb}
 use borrow.Author.Tests.{leb-true, leb-false, le-leb, lt-leb}
+use borrow.Rule.Slice.PartMut.{midOf, mid-len}
 use Rattle.pack.specs.declared.answer.Answer.{Answer}
 use Rattle.pack.specs.declared.answer.Answer.the-variants.{Given, Refused}
 use Rattle.pack.specs.declared.answer.Refusal.{Refusal}
@@ -44,8 +45,9 @@ use Rattle.directions.specs.Words.{derivedBy, tablesIn, firstEqual, DefaultedFi
 use Rattle.chains.specs.Record.{valueAt}
 use Rattle.directions.specs.Records.{withRecords, turned, Tabled}
 use Rattle.resolve.specs.declared.finish.Figures.{Figures}
-use Rattle.resolve.specs.Finish.{stampAll, unstamped, orderIn, AskedOf, TreesAsked, TreesCame, ResolveAsked, CheckedAsked, RoomFor, frontOf, Into, FinishAsked, FinishCame}
-use Rattle.resolve.proofs.OrderLaws.{order-is}
+use Rattle.resolve.specs.Writing.{beginnings, piecesOf}
+use Rattle.resolve.specs.Finish.{stampAll, unstamped, placesBy, AskedOf, TreesAsked, TreesCame, ResolveAsked, CheckedAsked, RoomFor, frontOf, Into, FinishAsked, FinishCame}
+use Rattle.resolve.proofs.OrderLaws.{all-begin}
 use Rattle.turning.specs.declared.turns.Ended.{Ended}
 use Rattle.turning.specs.declared.turns.Ended.the-variants as ended
 use Rattle.turning.specs.declared.turns.Counts.{Counts}
@@ -55,6 +57,7 @@ use Rattle.turning.specs.Asked.{markNotes, InWords, MarksAsked, NotesMarked}
 use Rattle.turning.proofs.KnownLaws.{notes-inside, known-is}
 use Rattle.turning.proofs.MarkedLaws.{marks-are}
 use Rattle.directions.proofs.CheckedTables.{declared-at, derived-alike}
+use Rattle.directions.proofs.TurnedPack.{front22, front22-long, pack-words-22, rulesOn}
 use Rattle.directions.proofs.DefaultedLaws.{orNone, defaulted-fit, first-equal-is}
 
 ended-either : {r : Refusal} → ended.All ≡ ended.Refused r → ⊥
@@ -267,6 +270,24 @@ module _ {ws dir marks taken notes : List ℕ} {f : Figures} {work : List ℕ} (
   abbrev its-tables : Tabled ws (startsIn dir) marks taken (f .steps)
   its-tables = record { checked = a .directory .checked; declares = namesIn dir (a .layout .relations); noted = a .filled .noted; marked = a .filled .marked; knows = a .filled .knows }
 
+  -- where its pieces begin
+  low : NamesLow 4096 (namesIn dir (f .relations))
+  low = subst (λ (n : ℕ). NamesLow 4096 (namesIn dir n)) (sym (a .counts)) (takeable (a .directory) (a .filled .marked) (a .directory .reaches .most))
+
+  pub few : f .relations ≤ 512
+  few = omega (arith, a .counts, a .directory .counted .relations its checked, parts its fine .few-relations)
+
+  pub order-asked : {most : ℕ} → f .relations + 2 ≤ most → (f .relations ≤ 512) × NamesLow 4096 (namesIn dir (f .relations)) × (f .rules < 8192) × (length {A = ℕ} (midOf 0 (f .relations + 2 - 0) (replicate most 0)) ≡ f .relations + 2)
+  order-asked {most} fit = (few, low, rules-near, mid-len 0 (f .relations + 2) (replicate {A = ℕ} most 0) (omega (arith, length-replicate {A = ℕ} most 0)) ∙ omega arith)
+    where
+      rules-near : f .rules < 8192
+      rules-near =
+          let m = fine .most in
+          omega (arith, a .ruled, a .directory .ruled .after its checked, ap length (pack-words-22 its), length-append (front22 its) (rulesOn its), front22-long its, words-length its)
+
+  its-places : placesBy dir (f .relations) (f .rules) ≡ beginnings 0 (piecesOf its)
+  its-places = ap (λ (k : ℕ). placesBy dir k (f .rules)) (a .counts) ∙ ap (placesBy dir (a .layout .relations)) (a .ruled) ∙ (all-begin dir its-tables (a .layout .relations) (a .filled .noted .named its checked) (a .directory .ruled))
+
   -- what stamping asks of the notes
   there : InWords ws (notesOfPack its)
   there = subst (λ (l : List ℕ). InWords l (notesOfPack its)) (sym same-words) (notes-inside its fine)
@@ -289,14 +310,15 @@ module _ {ws dir marks taken notes : List ℕ} {f : Figures} {work : List ℕ} (
 
     -- the result
     module _ {o : Ended} {left : List ℕ} (t : TreesCame ws o left) (e : o ≡ ended.All) where
-      pub finish-asked : FinishAsked ws dir marks asked left (f .relations) (f .steps)
-      finish-asked =
+      pub finish-asked : {places : List ℕ} → places ≡ placesBy dir (f .relations) (f .rules) → FinishAsked ws places marks asked left (f .relations) (f .steps)
+      finish-asked b =
           let d = whole-done (a .directory .checked) [] t e in
           record {
             taken = taken;
             tabled = its-tables;
-            low = subst (λ (n : ℕ). NamesLow 4096 (namesIn dir n)) (sym (a .counts)) (takeable (a .directory) (a .filled .marked) (a .directory .reaches .most));
-            places = ap (orderIn dir) (a .counts) ∙ order-is dir its-tables (a .layout .relations) (a .filled .noted .named its checked);
+            records = startsIn dir;
+            counts = a .counts ∙ a .directory .counted .relations its checked;
+            begins = b ∙ its-places;
             asks = asks;
             whole = d .whole;
             resolves = d .resolves;
@@ -331,8 +353,8 @@ blocks-near {ws} d = let s = short-checked (d .checked) in omega (arith, reads-i
 
 pub in-asked : {ws : List ℕ} {l : Layout} {dir out work : List ℕ} {room : ℕ} → CheckedAsked ws l dir out room work
     → {marks taken : List ℕ} {steps : ℕ} → Filled ws (namesIn dir (l .relations)) (startsIn dir) marks taken steps → {count : ℕ} → count ≡ valueAt ws (l .blocks)
-    → ResolveAsked ws dir marks taken out (record { relations = l .relations; notes = record { noted = l .noted; all = l .all; blocks = record { at = l .blocks + 1; count = count } }; steps = steps; room = room }) work
-in-asked {l = l} a f e = record { layout = l; directory = a .directory; filled = f; counts = refl; blocks = refl; many = e; noted = a .notes-in; room = a .same; fits = a .fits }
+    → ResolveAsked ws dir marks taken out (record { relations = l .relations; rules = l .rules; notes = record { noted = l .noted; all = l .all; blocks = record { at = l .blocks + 1; count = count } }; steps = steps; room = room }) work
+in-asked {l = l} a f e = record { layout = l; directory = a .directory; filled = f; counts = refl; ruled = refl; blocks = refl; many = e; noted = a .notes-in; room = a .same; fits = a .fits }
 
 -- a pack that was checked and noted where there is room for its notes
 module _ {ws d e d′ e′ : List ℕ} {r : Laid} {l : Layout} (clear : Clear (namesSaid ws) d) (c : CheckedNotes ws d e r d′ e′) (o : r ≡ Yes l) where

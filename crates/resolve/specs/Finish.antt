@@ -1,7 +1,7 @@
 -- What the parts of Resolve promise each other: the first three steps of Resolving, and the result.
 use Prim.Native.Nat.{ℕ, _+_, _<_, _≤_}
 use mathlib.Core.Path.{_≡_}
-use mathlib.Core.List.{List, map, []}
+use mathlib.Core.List.{List, [], _∷_, _++_, map}
 use mathlib.Core.Bool.{_||_}
 use mathlib.Core.Option.{none, some}
 use lib.ListN.{length, getD, take}
@@ -15,13 +15,13 @@ use Rattle.chains.specs.AllKinds.{IsDirectory}
 use Rattle.chains.specs.ByName.{tableFrom}
 use Rattle.chains.specs.Record.{valueAt}
 use Rattle.chains.specs.Entry.{startsIn, namesIn}
-use Rattle.filtered.specs.Taking.{NamesLow, Filled}
+use Rattle.filtered.specs.Taking.{Filled}
 use Rattle.directions.specs.Turning.{Outcome, done, refused}
 use Rattle.directions.specs.Tables.{tables}
 use Rattle.directions.specs.Resolving.{defaultedEqual, equalRefusal, stamp, atomNames, inDerivation, roleJudgment}
 use Rattle.resolve.specs.Operations.{givenOut, writtenOut, resolveAnswer, resolveBuffer}
-use Rattle.resolve.specs.Writing.{withRelations}
-use Rattle.directions.specs.Records.{turned, placesIn, Tabled}
+use Rattle.resolve.specs.Writing.{beginnings, piecesOf, withRelations}
+use Rattle.directions.specs.Records.{turned, Tabled}
 use Rattle.turning.specs.declared.turns.Ended.{Ended}
 use Rattle.turning.specs.declared.turns.Counts.{Counts}
 use Rattle.turning.specs.Notes.{NotesIn}
@@ -54,16 +54,21 @@ stampAll p q = withRelations q (map (stamp p) (q .relations))
 unfoldable pub orderIn : List ℕ → ℕ → List ℕ
 orderIn dir count = tableFrom (λ i. getD (startsIn dir) (getD dir i 0) 0) 0 count
 
+-- where all pieces begin
+abbrev pub placesBy : List ℕ → ℕ → ℕ → List ℕ
+placesBy dir relations rules = 0 ∷ (orderIn dir relations ++ (rules ∷ []))
+
 -- by name: 1 for a relation "that some atom or Exists names, or whose predicate holds kinds 102 to 104", else 0
 pub record AskedOf (p : Pack) (asked : List ℕ) : Type 0 where
   pub says : (r : Relation) → find (r .name) (p .relations) ≡ some r → getD asked (r .name) 0 ≡ pick (atomNames p (r .name) || inDerivation roleJudgment (r .derivation)) 1 0
 
--- the words of a pack whose trees are resolved, with its directory, its tables, and what its notes ask for
-pub record FinishAsked (ws dir marks asked work : List ℕ) (relations steps : ℕ) : Type 0 where
+-- the words of a pack whose trees are resolved, with the places of its pieces, its tables, and what its notes ask for
+pub record FinishAsked (ws places marks asked work : List ℕ) (relations steps : ℕ) : Type 0 where
+  pub records : List ℕ
   pub taken : List ℕ
-  pub tabled : Tabled ws (startsIn dir) marks taken steps
-  pub low : NamesLow 4096 (namesIn dir relations)
-  pub places : orderIn dir relations ≡ placesIn (tabled .checked .pack)
+  pub tabled : Tabled ws records marks taken steps
+  pub counts : relations ≡ length (tabled .checked .pack .relations)
+  pub begins : places ≡ beginnings 0 (piecesOf (tabled .checked .pack))
   pub asks : AskedOf (tabled .checked .pack) asked
   pub whole : Pack
   pub resolves : turned (tabled .checked .pack) ≡ done whole
@@ -80,6 +85,7 @@ pub record ResolveAsked (ws dir marks taken notes : List ℕ) (f : Figures) (wor
   pub directory : IsDirectory ws layout dir
   pub filled : Filled ws (namesIn dir (layout .relations)) (startsIn dir) marks taken (f .steps)
   pub counts : f .relations ≡ layout .relations
+  pub ruled : f .rules ≡ layout .rules
   pub blocks : f .notes .blocks .at ≡ layout .blocks + 1
   pub many : f .notes .blocks .count ≡ valueAt ws (layout .blocks)
   pub noted : NotesIn (directory .checked .pack) notes (f .notes .noted) (f .notes .all)

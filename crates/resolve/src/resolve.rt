@@ -1,6 +1,8 @@
 // Resolve: a pack with its directions settled, written out whole.
 use crate::finish::Figures;
 use crate::finish::finish;
+use crate::order::Places;
+use crate::order::order;
 use crate::write::copy;
 use chains::entry::start;
 use chains::record::value_at;
@@ -73,11 +75,16 @@ fn resolve_in(
     let counts = figures.notes;
     let mut asked: Asked = [0u8; Pack::MOST_NAMES as usize];
     ask_notes(pack, out, counts.all, &mut asked);
+    let relations = figures.relations;
+    let pieces = relations + 2;
+    let mut table = [0u32; Places::MOST];
+    let places = &mut table[0..pieces];
+    order(dir, relations, figures.rules, places);
     copy(pack, work);
     match resolve_trees(pack, dir, marks, taken, work, out, counts) {
         Ended::All => {
             let room = figures.room;
-            finish(pack, dir, marks, &asked, work, figures, &mut out[..room])
+            finish(pack, marks, &asked, places, work, figures, &mut out[..room])
         }
         Ended::Refused(x) => Answer::Refused(x),
     }
@@ -105,8 +112,10 @@ fn resolve_checked(
     let all = l.all as usize;
     let counts = Counts { noted, all, blocks };
     let relations = l.relations as usize;
+    let rules = l.rules;
     let figures = Figures {
         relations,
+        rules,
         notes: counts,
         steps,
         room,

@@ -1,70 +1,56 @@
 -- `resolve::order::order` meets its contract.
 use native.Mathlib.Omega.{arith}
-use Prim.Native.Nat.{_-_}
-use mathlib.Core.Path.{refl}
-use lib.ListN.{length, getD}
+use lib.ListN.{length-set}
+use Rattle.resolve.proofs.OrderLaws.{part-long, first-long, ordered-long, all-ordered}
 use borrow.Author.Needs.{needs}
-use Rattle.chains.specs.Entry.{startsIn}
-use Rattle.chains.proofs.FillLaws.{Filling, begin, next, done}
-use Rattle.resolve.specs.Finish.{orderIn}
-use Rattle.resolve.proofs.OrderLaws.{its-name}
 use Rattle.resolve.proofs.order.order.Statement.{statement}
 use Rattle.resolve.proofs.order.order.Tie as tie
 
-abbrev Inv-loop : tie.InvT-loop
-Inv-loop dir places₀ i₀ places i = Filling (λ j. getD (startsIn dir) (getD dir j 0) 0) places₀ places i
+add-after : tie.Need-add-after
+add-after c = search needs
 
-abbrev μ-loop : tie.MeasureT-loop
-μ-loop dir places₀ i₀ places i = length places₀ - i
-
-loop-holds : tie.Need-loop-holds Inv-loop μ-loop
-loop-holds c = begin _ _
-
-name-at-requires : tie.Need-name-at-requires Inv-loop μ-loop
-name-at-requires c κs = omega (arith, c .before .before .loop .inv .long, c .before .before .before .before .pre .0)
-
-start-requires : tie.Need-start-requires Inv-loop μ-loop
-start-requires c κs = let low = its-name _ _ _ (c .before .before .before .before .before .before .pre .1) (omega (arith, c .before .before .before .before .loop .inv .long)) (c .before .name-at .ensures) in search needs
-
-cast-places : tie.Need-cast-places Inv-loop μ-loop
-cast-places c = search needs
-
-mul-places : tie.Need-mul-places Inv-loop μ-loop
-mul-places c = search needs
-
-slice-write-places : tie.Need-slice-write-places Inv-loop μ-loop
+slice-write-places : tie.Need-slice-write-places
 slice-write-places c = search needs
 
-add-i : tie.Need-add-i Inv-loop μ-loop
-add-i c = search needs
+sub-order-relations : tie.Need-sub-order-relations
+sub-order-relations c = search needs
 
-loop-less : tie.Need-loop-less Inv-loop μ-loop
-loop-less c = omega (arith, c .before .before .before .before .before .loop .inv .long)
+part-order-relations-start : tie.Need-part-order-relations-start
+part-order-relations-start c = search needs
 
-loop-again : tie.Need-loop-again Inv-loop μ-loop
-loop-again c = next _ _ (c .before .before .before .before .before .loop .inv) (omega (arith, c .before .before .before .before .before .loop .inv .long)) (rw (c .start .ensures .0, c .before .before .name-at .ensures) refl)
+part-order-relations-end : tie.Need-part-order-relations-end
+part-order-relations-end c = omega (arith, length-set ((c .before .args) .places .now) 0 0, (c .before .pre) .3)
 
-same-length : tie.Need-same-length Inv-loop μ-loop
-same-length c = c .before .loop .inv .long
+order-relations-requires : tie.Need-order-relations-requires
+order-relations-requires c κs = rw (part-long ((c .before .before .args) .dir .now) ((c .before .before .args) .relations) ((c .before .before .args) .places .now) ((c .before .before .pre) .3)) ((c .before .before .pre) .0, (c .before .before .pre) .1)
 
-returns : tie.Need-returns Inv-loop μ-loop
-unfolding orderIn
-returns c = done _ _ (c .before .loop .inv) (omega (arith, c .before .loop .inv .long))
+cast-places : tie.Need-cast-places
+cast-places c = search needs
+
+mul-places : tie.Need-mul-places
+mul-places c = search needs
+
+slice-write-places-2 : tie.Need-slice-write-places-2
+slice-write-places-2 c = omega (arith, first-long ((c .before .before .before .before .before .args) .dir .now) ((c .before .before .before .before .before .args) .relations) ((c .before .before .before .before .before .args) .places .now) ((c .before .before .before .before .before .pre) .3) ((c .before .before .order-relations) .ensures), (c .before .before .before .before .before .pre) .3)
+
+same-length : tie.Need-same-length
+same-length c = ordered-long ((c .before .before .before .before .before .args) .dir .now) ((c .before .before .before .before .before .args) .relations) ((c .before .before .before .before .before .args) .places .now) ((c .before .before .before .before .before .pre) .3) ((c .before .before .order-relations) .ensures) ((c .before .before .before .before .before .args) .rules)
+
+returns : tie.Need-returns
+returns c = all-ordered ((c .before .before .before .before .before .args) .dir .now) ((c .before .before .before .before .before .args) .relations) ((c .before .before .before .before .before .args) .places .now) ((c .before .before .before .before .before .pre) .3) ((c .before .before .order-relations) .ensures) ((c .before .before .before .before .before .args) .rules)
 
 pub order-spec : {M : Type 1} → statement M
 order-spec =
     tie.close
     (tie.spec
-    Inv-loop
-    μ-loop
-    loop-holds
-    name-at-requires
-    start-requires
+    add-after
+    slice-write-places
+    sub-order-relations
+    part-order-relations-start
+    part-order-relations-end
+    order-relations-requires
     cast-places
     mul-places
-    slice-write-places
-    add-i
-    loop-less
-    loop-again
+    slice-write-places-2
     same-length
     returns)
