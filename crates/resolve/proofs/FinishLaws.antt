@@ -38,7 +38,7 @@ use Rattle.directions.proofs.RelationLaws.{relation-long, places-many}
 use Rattle.directions.proofs.TurnedPack.{front, front-long, pack-words, rulesOn, again-words, total-same, rules-run, relations-run, rules-keep, relations-keep}
 use Rattle.directions.proofs.CheckedTables.{settled}
 use Rattle.resolve.proofs.StampedPack.{still-fine, all-stamped, same-lengths}
-use Rattle.resolve.proofs.OrderLaws.{sums-many, begin-relations, begin-pieces}
+use Rattle.resolve.proofs.OrderLaws.{sums-many, others-few, begin-relations, begin-pieces}
 use Rattle.resolve.proofs.WrittenPack.{longer}
 
 -- ---- a pack whose trees are resolved
@@ -110,12 +110,14 @@ module _ (p : Pack) (w : WellFormed p) (rels : List Relation) (rls : List Rule) 
   relations-same : lengths (map (relationWords n) (p .relations)) ≡ lengths (map (relationWords n) rels)
   relations-same = same-lengths (relationWords n) (λ at r. resolveRelation p at r) (RelationKeeps p) (relation-long p w) (firstRelation p) (p .relations) rels (relations-keep p w .all) pairs
 
+  rules-same : lengths (map (ruleWords n) (p .rules)) ≡ lengths (map (ruleWords n) rls)
+  rules-same =
+      same-lengths (ruleWords n) (λ at r. resolveRule p at r) (λ r. Fine (rule n) r) (rule-long p w) (firstRule p) (p .rules) rls (rules-keep p w .all)
+      (run-pairs (ruleWords n) (λ at r. resolveRule p at r) (λ r. Fine (rule n) r) (rule-long p w) (firstRule p) (p .rules) rls rules-ran)
+
   others-same : lengths (otherPieces p) ≡ lengths (otherPieces q)
   unfolding otherPieces
-  others-same =
-      let B : List ℕ = wordsBy (blocks n) (p .blocks) in
-      let e : length (wordsOf (ruleWords n) (p .rules) ++ B) ≡ length (wordsOf (ruleWords n) rls ++ B) = omega (arith, rules-long, length-append (wordsOf (ruleWords n) (p .rules)) B, length-append (wordsOf (ruleWords n) rls) B) in
-      ap (λ (x : ℕ). suc x ∷ []) e
+  others-same = rw (map-append, map-append, rules-same) refl
 
   pieces-same : beginnings 0 (piecesOf p) ≡ beginnings 0 (piecesOf q)
   pieces-same =
@@ -222,9 +224,8 @@ module _ {ws places marks asked work : List ℕ} {relations steps : ℕ} (a : Fi
   table-long : length places ≡ relations + 1 + length others
   table-long = ap length (a .begins ∙ begin-pieces p) ∙ omega (arith, length-append (placesIn p) (beginnings (relationsEnd (p .names) (firstRelation p) (p .relations)) others), places-many (p .names) (firstRelation p) (p .relations), a .counts, sums-many (relationsEnd (p .names) (firstRelation p) (p .relations)) (lengths others), length-map others (λ (x : List ℕ). length x))
 
-  pub table-room : (relations + 1 ≤ length places) × (length places ≤ 514)
-  unfolding otherPieces
-  table-room = (omega (arith, table-long), omega (arith, table-long, few-starts))
+  pub table-room : (relations + 1 ≤ length places) × (length places ≤ 1603)
+  table-room = (omega (arith, table-long), omega (arith, table-long, few-starts, others-few p w))
 
   abbrev order : List ℕ
   order = midOf 1 (relations + 1 - 1) places

@@ -1,15 +1,14 @@
 -- What Resolve answers and leaves, from its steps.
-use Prim.Native.Nat.{ℕ, _+_, _-_, _<_, _≤_, min}
+use Prim.Native.Nat.{ℕ, _+_, _<_, _≤_, min}
 use native.Mathlib.Omega.{arith}
 use mathlib.Core.Path.{_≡_, refl, ap, sym, _∙_, subst}
 use mathlib.Core.List.{List, [], _∷_, _++_, map}
 use mathlib.Core.Bool.{Bool, true, false, _&&_}
 use mathlib.Core.Option.{Option, none, some}
-use lib.ListN.{length, getD, take, drop, replicate, length-append, length-replicate, getD-replicate}
+use lib.ListN.{length, getD, take, drop, replicate, length-replicate, getD-replicate}
 use lib.Seq.{take-append-seam, take-append-le}
 use lib.Dec.{leb}
 use borrow.Author.Tests.{leb-true, leb-false, le-leb, lt-leb}
-use borrow.Rule.Slice.PartMut.{midOf, mid-len}
 use Rattle.pack.specs.declared.answer.Answer.{Answer}
 use Rattle.pack.specs.declared.answer.Answer.the-variants.{Given, Refused}
 use Rattle.pack.specs.declared.answer.Refusal.{Refusal}
@@ -46,8 +45,7 @@ use Rattle.chains.specs.Record.{valueAt}
 use Rattle.directions.specs.Records.{withRecords, turned, Tabled}
 use Rattle.resolve.specs.declared.finish.Figures.{Figures}
 use Rattle.resolve.specs.Writing.{beginnings, piecesOf}
-use Rattle.resolve.specs.Finish.{stampAll, unstamped, placesBy, AskedOf, TreesAsked, TreesCame, ResolveAsked, CheckedAsked, RoomFor, frontOf, Into, FinishAsked, FinishCame}
-use Rattle.resolve.proofs.OrderLaws.{all-begin}
+use Rattle.resolve.specs.Finish.{stampAll, unstamped, AskedOf, TreesAsked, TreesCame, ResolveAsked, CheckedAsked, RoomFor, frontOf, Into, FinishAsked, FinishCame}
 use Rattle.turning.specs.declared.turns.Ended.{Ended}
 use Rattle.turning.specs.declared.turns.Ended.the-variants as ended
 use Rattle.turning.specs.declared.turns.Counts.{Counts}
@@ -57,7 +55,6 @@ use Rattle.turning.specs.Asked.{markNotes, InWords, MarksAsked, NotesMarked}
 use Rattle.turning.proofs.KnownLaws.{notes-inside, known-is}
 use Rattle.turning.proofs.MarkedLaws.{marks-are}
 use Rattle.directions.proofs.CheckedTables.{declared-at, derived-alike}
-use Rattle.directions.proofs.TurnedPack.{front22, front22-long, pack-words-22, rulesOn}
 use Rattle.directions.proofs.DefaultedLaws.{orNone, defaulted-fit, first-equal-is}
 
 ended-either : {r : Refusal} → ended.All ≡ ended.Refused r → ⊥
@@ -270,24 +267,6 @@ module _ {ws dir marks taken notes : List ℕ} {f : Figures} {work : List ℕ} (
   abbrev its-tables : Tabled ws (startsIn dir) marks taken (f .steps)
   its-tables = record { checked = a .directory .checked; declares = namesIn dir (a .layout .relations); noted = a .filled .noted; marked = a .filled .marked; knows = a .filled .knows }
 
-  -- where its pieces begin
-  low : NamesLow 4096 (namesIn dir (f .relations))
-  low = subst (λ (n : ℕ). NamesLow 4096 (namesIn dir n)) (sym (a .counts)) (takeable (a .directory) (a .filled .marked) (a .directory .reaches .most))
-
-  pub few : f .relations ≤ 512
-  few = omega (arith, a .counts, a .directory .counted .relations its checked, parts its fine .few-relations)
-
-  pub order-asked : {most : ℕ} → f .relations + 2 ≤ most → (f .relations ≤ 512) × NamesLow 4096 (namesIn dir (f .relations)) × (f .rules < 8192) × (length {A = ℕ} (midOf 0 (f .relations + 2 - 0) (replicate most 0)) ≡ f .relations + 2)
-  order-asked {most} fit = (few, low, rules-near, mid-len 0 (f .relations + 2) (replicate {A = ℕ} most 0) (omega (arith, length-replicate {A = ℕ} most 0)) ∙ omega arith)
-    where
-      rules-near : f .rules < 8192
-      rules-near =
-          let m = fine .most in
-          omega (arith, a .ruled, a .directory .ruled .after its checked, ap length (pack-words-22 its), length-append (front22 its) (rulesOn its), front22-long its, words-length its)
-
-  its-places : placesBy dir (f .relations) (f .rules) ≡ beginnings 0 (piecesOf its)
-  its-places = ap (λ (k : ℕ). placesBy dir k (f .rules)) (a .counts) ∙ ap (placesBy dir (a .layout .relations)) (a .ruled) ∙ (all-begin dir its-tables (a .layout .relations) (a .filled .noted .named its checked) (a .directory .ruled))
-
   -- what stamping asks of the notes
   there : InWords ws (notesOfPack its)
   there = subst (λ (l : List ℕ). InWords l (notesOfPack its)) (sym same-words) (notes-inside its fine)
@@ -310,7 +289,7 @@ module _ {ws dir marks taken notes : List ℕ} {f : Figures} {work : List ℕ} (
 
     -- the result
     module _ {o : Ended} {left : List ℕ} (t : TreesCame ws o left) (e : o ≡ ended.All) where
-      pub finish-asked : {places : List ℕ} → places ≡ placesBy dir (f .relations) (f .rules) → FinishAsked ws places marks asked left (f .relations) (f .steps)
+      pub finish-asked : {places : List ℕ} → places ≡ beginnings 0 (piecesOf its) → FinishAsked ws places marks asked left (f .relations) (f .steps)
       finish-asked b =
           let d = whole-done (a .directory .checked) [] t e in
           record {
@@ -318,7 +297,7 @@ module _ {ws dir marks taken notes : List ℕ} {f : Figures} {work : List ℕ} (
             tabled = its-tables;
             records = startsIn dir;
             counts = a .counts ∙ a .directory .counted .relations its checked;
-            begins = b ∙ its-places;
+            begins = b;
             asks = asks;
             whole = d .whole;
             resolves = d .resolves;

@@ -10,17 +10,17 @@ use lib.Seq.{take-at, drop-at, drop-append-le}
 use lib.Dec.{eqb}
 use borrow.Author.Tests.{ne-eqb}
 use Rattle.pack.specs.Table.{pick, wordOf}
-use Rattle.pack.specs.Form.{among, count, items, wordsBy, Fine}
-use Rattle.pack.specs.Pack.{Derivation, Relation, Pack, newName, nameList, relationTail, relation, defaulted, total, words}
+use Rattle.pack.specs.Form.{among, count, items, wordsAll, wordsBy, Fine}
+use Rattle.pack.specs.Pack.{Derivation, Relation, Block, Pack, newName, nameList, relationTail, relation, defaulted, block, blocks, total, words}
 use Rattle.pack.proofs.PackLaws.{words-length}
 use Rattle.chains.specs.Places.{namesAt, relationWords}
 use Rattle.chains.proofs.ListAt.{nameWords, list-words, early, late, option-words, InWords}
 use Rattle.chains.proofs.RelationScan.{RelationsFine}
 use Rattle.chains.proofs.PackIndex.{parts}
-use Rattle.directions.specs.Resolving.{orKinds, withEntities, stampedWith}
+use Rattle.directions.specs.Resolving.{ruleWords, orKinds, withEntities, stampedWith}
 use Rattle.chains.specs.Record.{kindCount, slotsPlace}
 use Rattle.stamping.specs.Stamping.{StampedBy, as-it-is, with-kinds, namesOr, addedFor, addedBy}
-use Rattle.resolve.specs.Writing.{Stamped, no-more, one-more, withRelations, joined, beginnings, frontPiece, otherPieces, piecesOf, fromTo, listWords, putFor, pieceOut, Stampable, WriteAsked}
+use Rattle.resolve.specs.Writing.{Stamped, no-more, one-more, withRelations, joined, beginnings, frontPiece, blockPiece, otherPieces, piecesOf, fromTo, listWords, putFor, pieceOut, Stampable, WriteAsked}
 use Rattle.directions.specs.Records.{placesFrom, wordsOf}
 use Rattle.chains.proofs.RecordLaws.{counted, before-slots, four, four-length}
 use Rattle.resolve.proofs.WriteLaws.{piece-stays, piece-stamped, Pieces, no-piece, piece, Writing}
@@ -185,9 +185,21 @@ module _ (ws : List ℕ) (n : ℕ) (most : n ≤ 4096) where
   relation-pieces used {rs = r ∷ rs} {rs′ = r′ ∷ rs′} f (one-more s more) rest = relation-piece r r′ (λ v. among v used) (f .0) s (relation-pieces (r .name ∷ used) (f .1) more rest)
 
 -- of a pack
+pub blocks-joined : (n : ℕ) (bs : List Block) → wordOf 28 (length bs) ∷ joined (map (blockPiece n) bs) ≡ wordsBy (blocks n) bs
+unfolding blocks wordsBy count items
+blocks-joined n bs = ap (λ (l : List ℕ). wordOf 28 (length bs) ∷ l) (go bs)
+  where
+    go : (bs : List Block) → joined (map (blockPiece n) bs) ≡ wordsAll {S = Unit {0}} (λ u a. u) (λ u a. wordsBy (block n) a) tt bs
+    go [] = refl
+    go (b ∷ bs) = ap (λ (l : List ℕ). blockPiece n b ++ l) (go bs)
+
 others-joined : (p : Pack) → joined (otherPieces p) ≡ wordOf 22 (length (p .rules)) ∷ rulesOn p
 unfolding otherPieces
-others-joined p = append-nil (wordOf 22 (length (p .rules)) ∷ rulesOn p)
+others-joined p =
+    let n : ℕ = p .names in
+    let B : List ℕ = wordOf 28 (length (p .blocks)) ∷ joined (map (blockPiece n) (p .blocks)) in
+    ap (λ (l : List ℕ). wordOf 22 (length (p .rules)) ∷ l)
+    (joined-append (map (ruleWords n) (p .rules)) _ ∙ ap (λ (l : List ℕ). l ++ B) (joined-map (ruleWords n) (p .rules)) ∙ ap (λ (l : List ℕ). wordsOf (ruleWords n) (p .rules) ++ l) (blocks-joined n (p .blocks)))
 
 pub pieces-joined : (p : Pack) (rs : List Relation) → joined (map (relationWords (p .names)) rs ++ otherPieces p) ≡ wordsOf (relationWords (p .names)) rs ++ (wordOf 22 (length (p .rules)) ∷ rulesOn p)
 pieces-joined p rs =

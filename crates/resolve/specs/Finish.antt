@@ -1,13 +1,15 @@
 -- What the parts of Resolve promise each other: the first three steps of Resolving, and the result.
-use Prim.Native.Nat.{ℕ, _+_, _<_, _≤_}
+use Prim.Native.Nat.{ℕ, zero, suc, _+_, _*_, _<_, _≤_}
 use mathlib.Core.Path.{_≡_}
-use mathlib.Core.List.{List, [], _∷_, _++_, map}
+use mathlib.Core.List.{List, [], _∷_, map}
 use mathlib.Core.Bool.{_||_}
 use mathlib.Core.Option.{none, some}
 use lib.ListN.{length, getD, take}
+use lib.Dec.{eqb}
 use Rattle.pack.specs.declared.answer.Answer.{Answer}
 use Rattle.pack.specs.declared.answer.Answer.the-variants.{Given, Refused}
 use Rattle.pack.specs.Table.{pick}
+use Rattle.pack.specs.Form.{repeats}
 use Rattle.pack.specs.Pack.{Relation, Pack, yes, read, words}
 use Rattle.chains.specs.Kinds.{find, allKinds}
 use Rattle.records.specs.declared.directory.Layout.{Layout}
@@ -24,7 +26,8 @@ use Rattle.resolve.specs.Writing.{beginnings, piecesOf, withRelations}
 use Rattle.directions.specs.Records.{turned, Tabled}
 use Rattle.turning.specs.declared.turns.Ended.{Ended}
 use Rattle.turning.specs.declared.turns.Counts.{Counts}
-use Rattle.turning.specs.Notes.{NotesIn}
+use Rattle.turning.specs.Notes.{Note, Held, NotesIn}
+use Rattle.turning.specs.Asked.{InWords}
 use Rattle.turning.specs.Steps.{TurnedAs, PackAsked}
 use Rattle.resolve.specs.declared.finish.Figures.{Figures}
 
@@ -54,9 +57,29 @@ stampAll p q = withRelations q (map (stamp p) (q .relations))
 unfoldable pub orderIn : List ℕ → ℕ → List ℕ
 orderIn dir count = tableFrom (λ i. getD (startsIn dir) (getD dir i 0) 0) 0 count
 
--- where all pieces begin
-abbrev pub placesBy : List ℕ → ℕ → ℕ → List ℕ
-placesBy dir relations rules = 0 ∷ (orderIn dir relations ++ (rules ∷ []))
+-- where rules start: the places of the notes that stand inside no other
+abbrev pub rootsOf : List Note → List ℕ
+rootsOf [] = []
+rootsOf (n ∷ ns) = pick (eqb (n .inside) 0) (n .place ∷ rootsOf ns) (rootsOf ns)
+
+-- notes in an array from an index up to another, and room for their roots
+pub record RulesAsked (notes : List ℕ) (from all room : ℕ) : Type 0 where
+  pub ws : List ℕ
+  pub ns : List Note
+  pub are : Held notes from ns
+  pub many : all + 1 ≡ from + length ns
+  pub within : all < length notes
+  pub there : InWords ws ns
+  pub size : room ≡ length (rootsOf ns)
+  pub few : room ≤ 8192
+
+pub record RulesCame (notes : List ℕ) (from all room : ℕ) (left : List ℕ) : Type 0 where
+  pub each : (a : RulesAsked notes from all room) → left ≡ rootsOf (a .ns)
+
+-- where so many blocks start, one after the other from a place on
+unfoldable pub blockPlaces : List ℕ → ℕ → ℕ → List ℕ
+blockPlaces ws at zero = []
+blockPlaces ws at (suc k) = at ∷ blockPlaces ws (at + 2 + 3 * repeats (valueAt ws (at + 1))) k
 
 -- by name: 1 for a relation "that some atom or Exists names, or whose predicate holds kinds 102 to 104", else 0
 pub record AskedOf (p : Pack) (asked : List ℕ) : Type 0 where
@@ -91,6 +114,17 @@ pub record ResolveAsked (ws dir marks taken notes : List ℕ) (f : Figures) (wor
   pub noted : NotesIn (directory .checked .pack) notes (f .notes .noted) (f .notes .all)
   pub room : length work ≡ length ws
   pub fits : f .room ≤ length notes
+
+-- room for the places of its pieces, and these places
+pub record OrderAsked (ws dir notes : List ℕ) (f : Figures) (room : ℕ) : Type 0 where
+  pub marks : List ℕ
+  pub taken : List ℕ
+  pub work : List ℕ
+  pub asked : ResolveAsked ws dir marks taken notes f work
+  pub size : room ≡ length (piecesOf (asked .directory .checked .pack))
+
+pub record OrderCame (ws dir notes : List ℕ) (f : Figures) (room : ℕ) (left : List ℕ) : Type 0 where
+  pub each : (a : OrderAsked ws dir notes f room) → left ≡ beginnings 0 (piecesOf (a .asked .directory .checked .pack))
 
 pub record CheckedAsked (ws : List ℕ) (l : Layout) (dir out : List ℕ) (room : ℕ) (work : List ℕ) : Type 0 where
   pub directory : IsDirectory ws l dir

@@ -7,11 +7,10 @@ use lib.ListN.{length, take, drop, replicate}
 use lib.Dec.{eqb}
 use Rattle.pack.specs.Table.{pick, wordOf}
 use Rattle.pack.specs.Form.{wordsBy}
-use Rattle.pack.specs.Pack.{Relation, Pack, WellFormed, defaulted, blocks, total, words}
+use Rattle.pack.specs.Pack.{Relation, Block, Pack, WellFormed, defaulted, block, total, words}
 use Rattle.chains.specs.Places.{namesAt, relationWords}
 use Rattle.chains.specs.Record.{kindCount, slotsPlace}
 use Rattle.directions.specs.Resolving.{ruleWords}
-use Rattle.directions.specs.Records.{wordsOf}
 use Rattle.stamping.specs.Stamping.{StampedBy, namesOr}
 
 -- relations, and in the same order as they come out with their lists stamped
@@ -42,12 +41,16 @@ lengths l = map (λ (w : List ℕ). length w) l
 abbrev pub beginnings : ℕ → List (List ℕ) → List ℕ
 beginnings at l = sums at (lengths l)
 
--- those of a pack: what stands before the relations, each relation, and what stands after them
+-- those of a pack: what stands before the relations, each relation, the count of rules, each rule, the count of blocks, each block
 abbrev pub frontPiece : Pack → List ℕ
 frontPiece p = wordOf 1 (total p) ∷ wordOf 2 (p .names) ∷ (wordsBy (defaulted (p .names)) (p .defaulted) ++ (wordOf 5 (length (p .relations)) ∷ []))
 
+abbrev pub blockPiece : ℕ → Block → List ℕ
+blockPiece n b = wordsBy (block n) b
+
 unfoldable pub otherPieces : Pack → List (List ℕ)
-otherPieces p = (wordOf 22 (length (p .rules)) ∷ (wordsOf (ruleWords (p .names)) (p .rules) ++ wordsBy (blocks (p .names)) (p .blocks))) ∷ []
+otherPieces p =
+    (wordOf 22 (length (p .rules)) ∷ []) ∷ (map (ruleWords (p .names)) (p .rules) ++ ((wordOf 28 (length (p .blocks)) ∷ []) ∷ map (blockPiece (p .names)) (p .blocks)))
 
 abbrev pub piecesOf : Pack → List (List ℕ)
 piecesOf p = frontPiece p ∷ (map (relationWords (p .names)) (p .relations) ++ otherPieces p)

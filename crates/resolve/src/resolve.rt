@@ -3,6 +3,7 @@ use crate::finish::Figures;
 use crate::finish::finish;
 use crate::order::Places;
 use crate::order::order;
+use crate::order::pieces;
 use crate::write::copy;
 use chains::entry::start;
 use chains::record::value_at;
@@ -75,11 +76,10 @@ fn resolve_in(
     let counts = figures.notes;
     let mut asked: Asked = [0u8; Pack::MOST_NAMES as usize];
     ask_notes(pack, out, counts.all, &mut asked);
-    let relations = figures.relations;
-    let pieces = relations + 2;
+    let count = pieces(pack, figures);
     let mut table = [0u32; Places::MOST];
-    let places = &mut table[0..pieces];
-    order(dir, relations, figures.rules, places);
+    let places = &mut table[0..count];
+    order(pack, dir, out, figures, places);
     copy(pack, work);
     match resolve_trees(pack, dir, marks, taken, work, out, counts) {
         Ended::All => {

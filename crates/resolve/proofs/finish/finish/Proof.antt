@@ -28,7 +28,7 @@ part-found-end : tie.Need-part-found-end
 part-found-end c = omega (arith, few-starts (c .before .before .before .before .before .before .pre))
 
 lists-requires : tie.Need-lists-requires
-lists-requires c κs = finish-lists (c .before .before .before .before .before .before .before .pre) {most = 514} (omega (arith, few-starts (c .before .before .before .before .before .before .before .pre)))
+lists-requires c κs = finish-lists (c .before .before .before .before .before .before .before .pre) {most = 1603} (omega (arith, few-starts (c .before .before .before .before .before .before .before .pre)))
 
 add-len : tie.Need-add-len
 add-len c = omega (arith, whole-short (c .before .before .before .before .before .before .before .before .before .pre), (c .before .lists) .ensures .few)
