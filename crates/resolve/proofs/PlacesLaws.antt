@@ -11,7 +11,7 @@ use borrow.Rule.Slice.PartMut.{midOf, putMid, same-len-mid, mid-len}
 use Rattle.pack.specs.Pack.{Pack, WellFormed, yes, read, words}
 use Rattle.pack.specs.Table.{wordOf}
 use Rattle.pack.proofs.PackLaws.{words-read, words-length}
-use Rattle.chains.specs.Places.{relationWords, firstRelation}
+use Rattle.chains.specs.Places.{relationWords}
 use Rattle.chains.specs.Entry.{startsIn, namesIn}
 use Rattle.chains.specs.Record.{valueAt}
 use Rattle.chains.proofs.FillLaws.{table-length}
@@ -22,15 +22,15 @@ use Rattle.filtered.proofs.TakenKnown.{takeable}
 use Rattle.inputs.specs.Blocks.{AfterBlock}
 use Rattle.inputs.proofs.BlocksStand.{ReadsInputs, reads-inputs}
 use Rattle.directions.specs.Records.{wordsOf, Tabled}
-use Rattle.directions.proofs.TurnedPack.{front, front-long, pack-words, front22, front22-long, pack-words-22, rulesOn}
-use Rattle.turning.specs.Notes.{Note, noteCode, Held, relationsNoted, rulesNoted, notesOfPack}
-use Rattle.turning.specs.Asked.{InWords, MarkAsked}
+use Rattle.directions.proofs.TurnedPack.{front, pack-words, front22, front22-long, pack-words-22, rulesOn}
+use Rattle.turning.specs.Notes.{Note, noteCode, Held, relationsNoted, rulesNoted}
+use Rattle.turning.specs.Asked.{InWords}
 use Rattle.turning.proofs.MarkLaws.{mark-place, mark-inside, some-place}
 use Rattle.turning.proofs.KnownLaws.{notes-inside}
 use Rattle.turning.proofs.PackLaws.{held-parts, notes-few}
 use Rattle.resolve.specs.declared.finish.Figures.{Figures}
 use Rattle.resolve.specs.Writing.{beginnings, otherPieces, piecesOf, Put}
-use Rattle.resolve.specs.Finish.{orderIn, rootsOf, blockPlaces, RulesAsked, RulesCame, ResolveAsked, OrderAsked, OrderCame}
+use Rattle.resolve.specs.Finish.{orderIn, rootsOf, blockPlaces, RulesAsked, RulesCame, ResolveAsked, OrderAsked}
 use Rattle.resolve.proofs.WriteLaws.{put-then, words-put, one-put, all-there}
 use Rattle.resolve.proofs.OrderLaws.{others-many, others-few, roots-many, all-begin}
 

@@ -29,11 +29,10 @@ use Rattle.records.specs.Directory.{Clear}
 use Rattle.checking.specs.Checked.{namesSaid, CheckedNotes}
 use Rattle.checking.proofs.CheckLaws.{without-notes}
 use Rattle.chains.specs.AllKinds.{IsPack, IsDirectory}
-use Rattle.filtered.specs.Taking.{Filled, NamesLow}
+use Rattle.filtered.specs.Taking.{Filled}
 use Rattle.chains.proofs.CheckedLaws.{same-pack, short-checked}
 use Rattle.chains.proofs.EntryLaws.{directed}
 use Rattle.turning.proofs.LeftLaws.{noted-there}
-use Rattle.filtered.proofs.TakenKnown.{takeable}
 use Rattle.inputs.proofs.BlocksStand.{reads-inputs}
 use Rattle.chains.proofs.PackIndex.{parts, find-name, find-kept}
 use Rattle.directions.specs.Tables.{Tables, derivedAt, tables}

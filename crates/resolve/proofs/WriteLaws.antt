@@ -3,7 +3,7 @@ use Prim.Native.Nat.{ℕ, zero, suc, _+_, _-_, _<_, _≤_}
 use native.Mathlib.Omega.{arith}
 use mathlib.Core.Path.{_≡_, refl, ap, sym, _∙_, subst}
 use mathlib.Core.List.{List, [], _∷_, _++_, map, append-assoc, append-nil}
-use lib.ListN.{length, getD, take, drop, set, length-append, length-map, length-drop, length-set, drop-of-length-le}
+use lib.ListN.{length, getD, take, drop, set, length-append, length-map, length-set, drop-of-length-le}
 use lib.Seq.{getD-at, getD-drop, drop-cons, drop-drop, drop-at, take-at, take-all, take-suc-set, length-take-le}
 use borrow.Rule.Slice.PartMut.{putMid, postOf, same-len-mid, mid-len}
 use borrow.Author.Tests.{ne-eqb}

@@ -19,12 +19,12 @@ use Rattle.chains.proofs.RelationScan.{RelationsFine}
 use Rattle.chains.proofs.PackIndex.{parts}
 use Rattle.directions.specs.Resolving.{ruleWords, orKinds, withEntities, stampedWith}
 use Rattle.chains.specs.Record.{kindCount, slotsPlace}
-use Rattle.stamping.specs.Stamping.{StampedBy, as-it-is, with-kinds, namesOr, addedFor, addedBy}
-use Rattle.resolve.specs.Writing.{Stamped, no-more, one-more, withRelations, joined, beginnings, frontPiece, blockPiece, otherPieces, piecesOf, fromTo, listWords, putFor, pieceOut, Stampable, WriteAsked}
+use Rattle.stamping.specs.Stamping.{StampedBy, as-it-is, with-kinds, addedFor, addedBy}
+use Rattle.resolve.specs.Writing.{Stamped, no-more, one-more, withRelations, joined, frontPiece, blockPiece, otherPieces, piecesOf, fromTo, listWords, putFor, Stampable, WriteAsked}
 use Rattle.directions.specs.Records.{placesFrom, wordsOf}
 use Rattle.chains.proofs.RecordLaws.{counted, before-slots, four, four-length}
 use Rattle.resolve.proofs.WriteLaws.{piece-stays, piece-stamped, Pieces, no-piece, piece, Writing}
-use Rattle.directions.proofs.TurnedPack.{front, opened, pack-words, rulesOn}
+use Rattle.directions.proofs.TurnedPack.{opened, pack-words, rulesOn}
 
 -- ---- a derived relation: the words up to list 21, by its list 9
 

@@ -1,6 +1,6 @@
 -- `resolve::resolve::resolve_in` meets its contract.
 use native.Mathlib.Omega.{arith}
-use mathlib.Core.Path.{_≡_, refl, sym, _∙_}
+use mathlib.Core.Path.{refl, sym, _∙_}
 use lib.Seq.{length-take-le}
 use Rattle.resolve.proofs.PlacesLaws.{orderOf, pieces-asked, pieces-few, pieces-room}
 use Rattle.resolve.proofs.ResolveLaws.{marks-asked, trees-asked, finish-asked, resolve-all, resolve-stopped, into-part, into-refused}

@@ -1,8 +1,5 @@
 -- `resolve::write::put_lists` meets its contract.
 use native.Mathlib.Omega.{arith}
-use mathlib.Core.Path.{refl}
-use Rattle.chains.specs.Places.{namesAt}
-use Rattle.stamping.specs.Stamping.{namesOr}
 use Rattle.resolve.proofs.WriteLaws.{one-list, both-lists, room-first, room-then, put-then}
 use borrow.Author.Needs.{needs}
 use Rattle.resolve.proofs.write.put_lists.Statement.{statement}

@@ -1,7 +1,7 @@
 -- `resolve::write::put_record` meets its contract.
 use native.Mathlib.Omega.{arith}
 use Prim.Native.Nat.{ℕ, _+_}
-use mathlib.Core.Path.{refl, ap}
+use mathlib.Core.Path.{ap}
 use Rattle.resolve.proofs.WriteLaws.{piece-stays, piece-stamped, list-inside, room-first, room-then, put-then}
 use borrow.Author.Needs.{needs}
 use Rattle.resolve.proofs.write.put_record.Statement.{statement}
