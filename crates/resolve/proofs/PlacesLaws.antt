@@ -241,17 +241,14 @@ module _ {ws dir notes : List ℕ} {f : Figures} {room : ℕ} (o : OrderAsked ws
     abbrev one : List ℕ
     one = set places 0 0
 
-    s1 : Filled places (0 ∷ []) one 1
-    s1 = record { put = one-put 0 0 (omega (arith, table-long)); long = length-set places 0 0 }
+    pub front-in : Filled places (0 ∷ []) one 1
+    front-in = record { put = one-put 0 0 (omega (arith, table-long)); long = length-set places 0 0 }
 
     part-long : length (midOf 1 (rules - 1) one) ≡ f .relations
-    part-long = mid-len 1 rules one (omega (arith, s1 .long, table-long)) ∙ omega arith
+    part-long = mid-len 1 rules one (omega (arith, front-in .long, table-long)) ∙ omega arith
 
     pub relations-asked : (length (midOf 1 (rules - 1) one) ≤ 512) × NamesLow 4096 (namesIn dir (length (midOf 1 (rules - 1) one)))
     relations-asked = rw part-long (numbers .0, subst (λ (n : ℕ). NamesLow 4096 (namesIn dir n)) (sym (a .counts)) (takeable (a .directory) (a .filled .marked) (a .directory .reaches .most)))
-
-    pub one-long : length one ≡ length places
-    one-long = s1 .long
 
     module _ (R : List ℕ) (r : R ≡ orderIn dir (length (midOf 1 (rules - 1) one))) where
       abbrev two : List ℕ
@@ -261,23 +258,17 @@ module _ {ws dir notes : List ℕ} {f : Figures} {room : ℕ} (o : OrderAsked ws
       unfolding orderIn
       order-long = table-length (λ i. getD (startsIn dir) (getD dir i 0) 0) 0 (f .relations)
 
-      s2 : Filled places ((0 ∷ []) ++ orderIn dir (f .relations)) two rules
-      s2 = fill-part places s1 (omega (arith, order-long)) (omega (arith, table-long)) (r ∙ ap (orderIn dir) part-long)
-
-      pub two-long : length two ≡ length places
-      two-long = s2 .long
+      pub relations-in : Filled places ((0 ∷ []) ++ orderIn dir (f .relations)) two rules
+      relations-in = fill-part places front-in (omega (arith, order-long)) (omega (arith, table-long)) (r ∙ ap (orderIn dir) part-long)
 
       abbrev three : List ℕ
       three = set two rules (f .rules)
 
-      s3 : Filled places (((0 ∷ []) ++ orderIn dir (f .relations)) ++ (f .rules ∷ [])) three (rules + 1)
-      s3 = fill-one places rules s2 (omega (arith, table-long)) (f .rules)
-
-      pub three-long : length three ≡ length places
-      three-long = s3 .long
+      pub rule-count-in : Filled places (((0 ∷ []) ++ orderIn dir (f .relations)) ++ (f .rules ∷ [])) three (rules + 1)
+      rule-count-in = fill-one places rules relations-in (omega (arith, table-long)) (f .rules)
 
       rules-long : length (midOf (rules + 1) (last - (rules + 1)) three) ≡ length (rootsOf (rulesNoted p))
-      rules-long = mid-len (rules + 1) last three (omega (arith, s3 .long, table-long)) ∙ omega (arith, roots-many p, rules-many)
+      rules-long = mid-len (rules + 1) last three (omega (arith, rule-count-in .long, table-long)) ∙ omega (arith, roots-many p, rules-many)
 
       pub rules-asked : RulesAsked notes (f .notes .noted + 1) (f .notes .all) (length (midOf (rules + 1) (last - (rules + 1)) three))
       rules-asked =
@@ -297,24 +288,18 @@ module _ {ws dir notes : List ℕ} {f : Figures} {room : ℕ} (o : OrderAsked ws
         abbrev four : List ℕ
         four = putMid (rules + 1) (last - (rules + 1)) three S
 
-        s4 : Filled places ((((0 ∷ []) ++ orderIn dir (f .relations)) ++ (f .rules ∷ [])) ++ rootsOf (rulesNoted p)) four last
+        pub rules-in : Filled places ((((0 ∷ []) ++ orderIn dir (f .relations)) ++ (f .rules ∷ [])) ++ rootsOf (rulesNoted p)) four last
         unfolding rules-asked
-        s4 = fill-part places s3 (omega (arith, roots-many p, rules-many)) (omega (arith, table-long)) (t .each rules-asked)
-
-        pub four-long : length four ≡ length places
-        four-long = s4 .long
+        rules-in = fill-part places rule-count-in (omega (arith, roots-many p, rules-many)) (omega (arith, table-long)) (t .each rules-asked)
 
         abbrev five : List ℕ
         five = set four last (f .notes .blocks .at - 1)
 
-        s5 : Filled places (((((0 ∷ []) ++ orderIn dir (f .relations)) ++ (f .rules ∷ [])) ++ rootsOf (rulesNoted p)) ++ ((f .notes .blocks .at - 1) ∷ [])) five (last + 1)
-        s5 = fill-one places last s4 (omega (arith, table-long)) (f .notes .blocks .at - 1)
-
-        pub five-long : length five ≡ length places
-        five-long = s5 .long
+        pub block-count-in : Filled places (((((0 ∷ []) ++ orderIn dir (f .relations)) ++ (f .rules ∷ [])) ++ rootsOf (rulesNoted p)) ++ ((f .notes .blocks .at - 1) ∷ [])) five (last + 1)
+        block-count-in = fill-one places last rules-in (omega (arith, table-long)) (f .notes .blocks .at - 1)
 
         blocks-long : length (midOf (last + 1) (length five - (last + 1)) five) ≡ length (p .blocks)
-        blocks-long = mid-len (last + 1) (length five) five (omega arith) ∙ omega (arith, s5 .long, table-long, blocks-many)
+        blocks-long = mid-len (last + 1) (length five) five (omega arith) ∙ omega (arith, block-count-in .long, table-long, blocks-many)
 
         pub blocks-asked : (f .notes .blocks .at ≤ 65536) × (length (midOf (last + 1) (length five - (last + 1)) five) ≤ 64)
         blocks-asked = (first-near .1, omega (arith, blocks-long, i .few))
@@ -328,18 +313,15 @@ module _ {ws dir notes : List ℕ} {f : Figures} {room : ℕ} (o : OrderAsked ws
           B-long at zero = refl
           B-long at (suc k) = ap suc (B-long _ k)
 
-          s6 : Filled places ((((((0 ∷ []) ++ orderIn dir (f .relations)) ++ (f .rules ∷ [])) ++ rootsOf (rulesNoted p)) ++ ((f .notes .blocks .at - 1) ∷ [])) ++ blockPlaces ws (f .notes .blocks .at) (length (p .blocks))) six (length five)
-          s6 = fill-part places s5 (omega (arith, B-long (f .notes .blocks .at) (length (p .blocks)), s5 .long, table-long, blocks-many)) (omega (arith, s5 .long)) (u ∙ ap (blockPlaces ws (f .notes .blocks .at)) blocks-long)
-
-          pub all-long : length six ≡ length places
-          all-long = s6 .long
+          pub blocks-in : Filled places ((((((0 ∷ []) ++ orderIn dir (f .relations)) ++ (f .rules ∷ [])) ++ rootsOf (rulesNoted p)) ++ ((f .notes .blocks .at - 1) ∷ [])) ++ blockPlaces ws (f .notes .blocks .at) (length (p .blocks))) six (length five)
+          blocks-in = fill-part places block-count-in (omega (arith, B-long (f .notes .blocks .at) (length (p .blocks)), block-count-in .long, table-long, blocks-many)) (omega (arith, block-count-in .long)) (u ∙ ap (blockPlaces ws (f .notes .blocks .at)) blocks-long)
 
           pub all-ordered : six ≡ beginnings 0 (piecesOf p)
           all-ordered =
               let O : List ℕ = orderIn dir (f .relations) in
               let Q : List ℕ = rootsOf (rulesNoted p) in
               let v : f .notes .blocks .at - 1 ≡ blocks = omega (arith, a .blocks) in
-              all-there (s6 .put) (s5 .long ∙ sym (s6 .long))
+              all-there (blocks-in .put) (block-count-in .long ∙ sym (blocks-in .long))
               ∙ glue (0 ∷ []) O (f .rules ∷ []) Q ((f .notes .blocks .at - 1) ∷ []) (blockPlaces ws (f .notes .blocks .at) (length (p .blocks)))
               ∙ ap (λ (x : ℕ). 0 ∷ (O ++ (f .rules ∷ (Q ++ (x ∷ blockPlaces ws (f .notes .blocks .at) (length (p .blocks))))))) v
               ∙ ap (λ (x : ℕ). 0 ∷ (O ++ (f .rules ∷ (Q ++ (blocks ∷ blockPlaces ws x (length (p .blocks))))))) (a .blocks)

@@ -1,7 +1,7 @@
 -- `resolve::order::order` meets its contract.
 use native.Mathlib.Omega.{arith}
 use mathlib.Core.Path.{refl}
-use Rattle.resolve.proofs.PlacesLaws.{numbers, first-near, noted-near, table-long, one-long, relations-asked, two-long, three-long, rules-asked, four-long, five-long, blocks-asked, all-long, all-ordered}
+use Rattle.resolve.proofs.PlacesLaws.{numbers, first-near, noted-near, table-long, front-in, relations-asked, relations-in, rule-count-in, rules-asked, rules-in, block-count-in, blocks-asked, blocks-in, all-ordered}
 use borrow.Author.Needs.{needs}
 use Rattle.resolve.proofs.order.order.Statement.{statement}
 use Rattle.resolve.proofs.order.order.Tie as tie
@@ -31,7 +31,7 @@ part-order-relations-start : tie.Need-part-order-relations-start
 part-order-relations-start c = search needs
 
 part-order-relations-end : tie.Need-part-order-relations-end
-part-order-relations-end c = omega (arith, one-long (c .before .before .before .before .before .before .before .pre) ((c .value-at) .result) ((c .value-at) .ensures .0) ((c .before .before .before .before .before .before .before .args) .places .now) refl, table-long (c .before .before .before .before .before .before .before .pre) ((c .value-at) .result) ((c .value-at) .ensures .0) ((c .before .before .before .before .before .before .before .args) .places .now) refl)
+part-order-relations-end c = omega (arith, front-in (c .before .before .before .before .before .before .before .pre) ((c .value-at) .result) ((c .value-at) .ensures .0) ((c .before .before .before .before .before .before .before .args) .places .now) refl .long, table-long (c .before .before .before .before .before .before .before .pre) ((c .value-at) .result) ((c .value-at) .ensures .0) ((c .before .before .before .before .before .before .before .args) .places .now) refl)
 
 order-relations-requires : tie.Need-order-relations-requires
 order-relations-requires c κs = relations-asked (c .before .before .before .before .before .before .before .before .pre) ((c .before .value-at) .result) ((c .before .value-at) .ensures .0) ((c .before .before .before .before .before .before .before .before .args) .places .now) refl
@@ -43,7 +43,7 @@ mul-places : tie.Need-mul-places
 mul-places c = omega (arith, numbers (c .before .before .before .before .before .before .before .before .before .before .before .before .pre) .0)
 
 slice-write-places-2 : tie.Need-slice-write-places-2
-slice-write-places-2 c = omega (arith, two-long (c .before .before .before .before .before .before .before .before .before .before .before .before .pre) ((c .before .before .before .before .before .value-at) .result) ((c .before .before .before .before .before .value-at) .ensures .0) ((c .before .before .before .before .before .before .before .before .before .before .before .before .args) .places .now) refl _ ((c .before .before .before .order-relations) .ensures), table-long (c .before .before .before .before .before .before .before .before .before .before .before .before .pre) ((c .before .before .before .before .before .value-at) .result) ((c .before .before .before .before .before .value-at) .ensures .0) ((c .before .before .before .before .before .before .before .before .before .before .before .before .args) .places .now) refl)
+slice-write-places-2 c = omega (arith, relations-in (c .before .before .before .before .before .before .before .before .before .before .before .before .pre) ((c .before .before .before .before .before .value-at) .result) ((c .before .before .before .before .before .value-at) .ensures .0) ((c .before .before .before .before .before .before .before .before .before .before .before .before .args) .places .now) refl _ ((c .before .before .before .order-relations) .ensures) .long, table-long (c .before .before .before .before .before .before .before .before .before .before .before .before .pre) ((c .before .before .before .before .before .value-at) .result) ((c .before .before .before .before .before .value-at) .ensures .0) ((c .before .before .before .before .before .before .before .before .before .before .before .before .args) .places .now) refl)
 
 add-order-rules : tie.Need-add-order-rules
 add-order-rules c = omega (arith, noted-near (c .before .before .before .before .before .before .before .before .before .before .before .before .before .pre))
@@ -61,7 +61,7 @@ part-order-rules-start : tie.Need-part-order-rules-start
 part-order-rules-start c = search needs
 
 part-order-rules-end : tie.Need-part-order-rules-end
-part-order-rules-end c = omega (arith, three-long (c .before .before .before .before .before .before .before .before .before .before .before .before .before .pre) ((c .before .before .before .before .before .before .value-at) .result) ((c .before .before .before .before .before .before .value-at) .ensures .0) ((c .before .before .before .before .before .before .before .before .before .before .before .before .before .args) .places .now) refl _ ((c .before .before .before .before .order-relations) .ensures), table-long (c .before .before .before .before .before .before .before .before .before .before .before .before .before .pre) ((c .before .before .before .before .before .before .value-at) .result) ((c .before .before .before .before .before .before .value-at) .ensures .0) ((c .before .before .before .before .before .before .before .before .before .before .before .before .before .args) .places .now) refl)
+part-order-rules-end c = omega (arith, rule-count-in (c .before .before .before .before .before .before .before .before .before .before .before .before .before .pre) ((c .before .before .before .before .before .before .value-at) .result) ((c .before .before .before .before .before .before .value-at) .ensures .0) ((c .before .before .before .before .before .before .before .before .before .before .before .before .before .args) .places .now) refl _ ((c .before .before .before .before .order-relations) .ensures) .long, table-long (c .before .before .before .before .before .before .before .before .before .before .before .before .before .pre) ((c .before .before .before .before .before .before .value-at) .result) ((c .before .before .before .before .before .before .value-at) .ensures .0) ((c .before .before .before .before .before .before .before .before .before .before .before .before .before .args) .places .now) refl)
 
 order-rules-requires : tie.Need-order-rules-requires
 order-rules-requires c κs = rules-asked (c .before .before .before .before .before .before .before .before .before .before .before .before .before .before .pre) ((c .before .before .before .before .before .before .before .value-at) .result) ((c .before .before .before .before .before .before .before .value-at) .ensures .0) ((c .before .before .before .before .before .before .before .before .before .before .before .before .before .before .args) .places .now) refl _ ((c .before .before .before .before .before .order-relations) .ensures)
@@ -76,7 +76,7 @@ mul-places-2 : tie.Need-mul-places-2
 mul-places-2 c = omega (arith, numbers (c .before .before .before .before .before .before .before .before .before .before .before .before .before .before .before .before .before .pre) .0, (c .before .before .before .before .before .before .before .before .before .before .value-at) .ensures .1)
 
 slice-write-places-3 : tie.Need-slice-write-places-3
-slice-write-places-3 c = omega (arith, four-long (c .before .before .before .before .before .before .before .before .before .before .before .before .before .before .before .before .before .pre) ((c .before .before .before .before .before .before .before .before .before .before .value-at) .result) ((c .before .before .before .before .before .before .before .before .before .before .value-at) .ensures .0) ((c .before .before .before .before .before .before .before .before .before .before .before .before .before .before .before .before .before .args) .places .now) refl _ ((c .before .before .before .before .before .before .before .before .order-relations) .ensures) _ ((c .before .before .order-rules) .ensures), table-long (c .before .before .before .before .before .before .before .before .before .before .before .before .before .before .before .before .before .pre) ((c .before .before .before .before .before .before .before .before .before .before .value-at) .result) ((c .before .before .before .before .before .before .before .before .before .before .value-at) .ensures .0) ((c .before .before .before .before .before .before .before .before .before .before .before .before .before .before .before .before .before .args) .places .now) refl)
+slice-write-places-3 c = omega (arith, rules-in (c .before .before .before .before .before .before .before .before .before .before .before .before .before .before .before .before .before .pre) ((c .before .before .before .before .before .before .before .before .before .before .value-at) .result) ((c .before .before .before .before .before .before .before .before .before .before .value-at) .ensures .0) ((c .before .before .before .before .before .before .before .before .before .before .before .before .before .before .before .before .before .args) .places .now) refl _ ((c .before .before .before .before .before .before .before .before .order-relations) .ensures) _ ((c .before .before .order-rules) .ensures) .long, table-long (c .before .before .before .before .before .before .before .before .before .before .before .before .before .before .before .before .before .pre) ((c .before .before .before .before .before .before .before .before .before .before .value-at) .result) ((c .before .before .before .before .before .before .before .before .before .before .value-at) .ensures .0) ((c .before .before .before .before .before .before .before .before .before .before .before .before .before .before .before .before .before .args) .places .now) refl)
 
 add-order-blocks : tie.Need-add-order-blocks
 add-order-blocks c = omega (arith, numbers (c .before .before .before .before .before .before .before .before .before .before .before .before .before .before .before .before .before .pre) .0, (c .before .before .before .before .before .before .before .before .before .before .value-at) .ensures .1)
@@ -85,10 +85,10 @@ mul-order-blocks : tie.Need-mul-order-blocks
 mul-order-blocks c = omega (arith, numbers (c .before .before .before .before .before .before .before .before .before .before .before .before .before .before .before .before .before .pre) .0, (c .before .before .before .before .before .before .before .before .before .before .value-at) .ensures .1)
 
 sub-order-blocks : tie.Need-sub-order-blocks
-sub-order-blocks c = omega (arith, five-long (c .before .before .before .before .before .before .before .before .before .before .before .before .before .before .before .before .before .pre) ((c .before .before .before .before .before .before .before .before .before .before .value-at) .result) ((c .before .before .before .before .before .before .before .before .before .before .value-at) .ensures .0) ((c .before .before .before .before .before .before .before .before .before .before .before .before .before .before .before .before .before .args) .places .now) refl _ ((c .before .before .before .before .before .before .before .before .order-relations) .ensures) _ ((c .before .before .order-rules) .ensures), table-long (c .before .before .before .before .before .before .before .before .before .before .before .before .before .before .before .before .before .pre) ((c .before .before .before .before .before .before .before .before .before .before .value-at) .result) ((c .before .before .before .before .before .before .before .before .before .before .value-at) .ensures .0) ((c .before .before .before .before .before .before .before .before .before .before .before .before .before .before .before .before .before .args) .places .now) refl)
+sub-order-blocks c = omega (arith, block-count-in (c .before .before .before .before .before .before .before .before .before .before .before .before .before .before .before .before .before .pre) ((c .before .before .before .before .before .before .before .before .before .before .value-at) .result) ((c .before .before .before .before .before .before .before .before .before .before .value-at) .ensures .0) ((c .before .before .before .before .before .before .before .before .before .before .before .before .before .before .before .before .before .args) .places .now) refl _ ((c .before .before .before .before .before .before .before .before .order-relations) .ensures) _ ((c .before .before .order-rules) .ensures) .long, table-long (c .before .before .before .before .before .before .before .before .before .before .before .before .before .before .before .before .before .pre) ((c .before .before .before .before .before .before .before .before .before .before .value-at) .result) ((c .before .before .before .before .before .before .before .before .before .before .value-at) .ensures .0) ((c .before .before .before .before .before .before .before .before .before .before .before .before .before .before .before .before .before .args) .places .now) refl)
 
 part-order-blocks-start : tie.Need-part-order-blocks-start
-part-order-blocks-start c = omega (arith, five-long (c .before .before .before .before .before .before .before .before .before .before .before .before .before .before .before .before .before .pre) ((c .before .before .before .before .before .before .before .before .before .before .value-at) .result) ((c .before .before .before .before .before .before .before .before .before .before .value-at) .ensures .0) ((c .before .before .before .before .before .before .before .before .before .before .before .before .before .before .before .before .before .args) .places .now) refl _ ((c .before .before .before .before .before .before .before .before .order-relations) .ensures) _ ((c .before .before .order-rules) .ensures), table-long (c .before .before .before .before .before .before .before .before .before .before .before .before .before .before .before .before .before .pre) ((c .before .before .before .before .before .before .before .before .before .before .value-at) .result) ((c .before .before .before .before .before .before .before .before .before .before .value-at) .ensures .0) ((c .before .before .before .before .before .before .before .before .before .before .before .before .before .before .before .before .before .args) .places .now) refl)
+part-order-blocks-start c = omega (arith, block-count-in (c .before .before .before .before .before .before .before .before .before .before .before .before .before .before .before .before .before .pre) ((c .before .before .before .before .before .before .before .before .before .before .value-at) .result) ((c .before .before .before .before .before .before .before .before .before .before .value-at) .ensures .0) ((c .before .before .before .before .before .before .before .before .before .before .before .before .before .before .before .before .before .args) .places .now) refl _ ((c .before .before .before .before .before .before .before .before .order-relations) .ensures) _ ((c .before .before .order-rules) .ensures) .long, table-long (c .before .before .before .before .before .before .before .before .before .before .before .before .before .before .before .before .before .pre) ((c .before .before .before .before .before .before .before .before .before .before .value-at) .result) ((c .before .before .before .before .before .before .before .before .before .before .value-at) .ensures .0) ((c .before .before .before .before .before .before .before .before .before .before .before .before .before .before .before .before .before .args) .places .now) refl)
 
 part-order-blocks-end : tie.Need-part-order-blocks-end
 part-order-blocks-end c = search needs
@@ -97,7 +97,7 @@ order-blocks-requires : tie.Need-order-blocks-requires
 order-blocks-requires c κs = blocks-asked (c .before .before .before .before .before .before .before .before .before .before .before .before .before .before .before .before .before .before .pre) ((c .before .before .before .before .before .before .before .before .before .before .before .value-at) .result) ((c .before .before .before .before .before .before .before .before .before .before .before .value-at) .ensures .0) ((c .before .before .before .before .before .before .before .before .before .before .before .before .before .before .before .before .before .before .args) .places .now) refl _ ((c .before .before .before .before .before .before .before .before .before .order-relations) .ensures) _ ((c .before .before .before .order-rules) .ensures)
 
 same-length : tie.Need-same-length
-same-length c = all-long (c .before .before .before .before .before .before .before .before .before .before .before .before .before .before .before .before .before .before .before .before .before .pre) ((c .before .before .before .before .before .before .before .before .before .before .before .before .before .before .value-at) .result) ((c .before .before .before .before .before .before .before .before .before .before .before .before .before .before .value-at) .ensures .0) ((c .before .before .before .before .before .before .before .before .before .before .before .before .before .before .before .before .before .before .before .before .before .args) .places .now) refl _ ((c .before .before .before .before .before .before .before .before .before .before .before .before .order-relations) .ensures) _ ((c .before .before .before .before .before .before .order-rules) .ensures) _ ((c .before .before .order-blocks) .ensures)
+same-length c = blocks-in (c .before .before .before .before .before .before .before .before .before .before .before .before .before .before .before .before .before .before .before .before .before .pre) ((c .before .before .before .before .before .before .before .before .before .before .before .before .before .before .value-at) .result) ((c .before .before .before .before .before .before .before .before .before .before .before .before .before .before .value-at) .ensures .0) ((c .before .before .before .before .before .before .before .before .before .before .before .before .before .before .before .before .before .before .before .before .before .args) .places .now) refl _ ((c .before .before .before .before .before .before .before .before .before .before .before .before .order-relations) .ensures) _ ((c .before .before .before .before .before .before .order-rules) .ensures) _ ((c .before .before .order-blocks) .ensures) .long
 
 returns : tie.Need-returns
 returns c = record { each = λ a. all-ordered a ((c .before .before .before .before .before .before .before .before .before .before .before .before .before .before .value-at) .result) ((c .before .before .before .before .before .before .before .before .before .before .before .before .before .before .value-at) .ensures .0) ((c .before .before .before .before .before .before .before .before .before .before .before .before .before .before .before .before .before .before .before .before .before .args) .places .now) refl _ ((c .before .before .before .before .before .before .before .before .before .before .before .before .order-relations) .ensures) _ ((c .before .before .before .before .before .before .order-rules) .ensures) _ ((c .before .before .order-blocks) .ensures) }
