@@ -28,7 +28,7 @@ module _ (n : ℕ) where
   items-words [] = refl
   items-words (i ∷ l) = ap (λ (x : List ℕ). wordOf 31 (i .name) ∷ wordOf 32 (i .boolean) ∷ wordOf 33 (i .entity) ∷ x) (items-words l)
 
-  block-words : (b : Block) → wordsBy (block n) b ≡ blockWords b
+  pub block-words : (b : Block) → wordsBy (block n) b ≡ blockWords b
   unfolding block blockItems wordsBy items
   block-words b = ap (λ (x : List ℕ). wordOf 29 (b .origin) ∷ wordOf 30 (count listOrNone (b .items)) ∷ x) (go (b .items))
     where
@@ -40,7 +40,7 @@ module _ (n : ℕ) where
   all-words [] = refl
   all-words (b ∷ bs) = ap (λ (x : List ℕ). x ++ wordsAll {S = Unit {0}} (λ u a. u) (λ u a. wordsBy (block n) a) tt bs) (block-words b) ∙ ap (λ (x : List ℕ). blockWords b ++ x) (all-words bs)
 
-  blocks-words : (bs : List Block) → wordsBy (blocks n) bs ≡ wordOf 28 (length bs) ∷ blocksWords bs
+  pub blocks-words : (bs : List Block) → wordsBy (blocks n) bs ≡ wordOf 28 (length bs) ∷ blocksWords bs
   unfolding blocks wordsBy count items
   blocks-words bs = ap (λ (x : List ℕ). wordOf 28 (length bs) ∷ x) (all-words bs)
 

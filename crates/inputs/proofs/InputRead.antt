@@ -88,12 +88,12 @@ module _ (ws : List ℕ) where
           kept : Seen found seen → Seen found (seenAfter seen at false)
           kept h = h
 
-items-again : (o : Option (List Item)) → ((l : List Item) → o ≡ some l → length l < 16777215) → repeats (count listOrNone o) ≡ length (sequence o)
+pub items-again : (o : Option (List Item)) → ((l : List Item) → o ≡ some l → length l < 16777215) → repeats (count listOrNone o) ≡ length (sequence o)
 unfolding count
 items-again none h = refl
 items-again (some l) h = rw (ne-eqb (length l) 16777215 (λ e. omega (arith, h l refl))) refl
 
-items-long : (l : List Item) → length (itemsWords l) ≡ 3 * length l
+pub items-long : (l : List Item) → length (itemsWords l) ≡ 3 * length l
 items-long [] = refl
 items-long (i ∷ l) = omega (arith, items-long l)
 

@@ -60,7 +60,7 @@ fn seen_block(pack: &[u32], at: usize, origin: u32, name: u32, before: usize) ->
 }
 
 // The place after a block.
-fn after_block(pack: &[u32], at: usize) -> usize
+pub fn after_block(pack: &[u32], at: usize) -> usize
     requires { ⌜ at ≤ 4294967296 ⌝ }
     ensures { λ r. ⌜ AfterBlock (now (pack .entry)) at r ⌝ }
 {

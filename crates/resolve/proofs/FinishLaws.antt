@@ -2,13 +2,13 @@
 use Prim.Native.Nat.{ℕ, zero, suc, _+_, _-_, _<_, _≤_}
 use native.Mathlib.Omega.{arith}
 use mathlib.Core.Path.{_≡_, refl, ap, sym, _∙_, subst}
-use mathlib.Core.List.{List, [], _∷_, _++_, map}
+use mathlib.Core.List.{List, [], _∷_, _++_, map, map-append}
 use mathlib.Core.Bool.{Bool, true, false, _&&_}
-use lib.ListN.{length, getD, drop, replicate, length-append, length-replicate}
-use lib.Seq.{length-take-le}
+use lib.ListN.{length, getD, take, drop, replicate, length-append, length-map, length-replicate, replicate-append-replicate}
+use lib.Seq.{length-take-le, take-at, drop-at, take-append-add}
 use lib.Dec.{leb}
 use borrow.Author.Tests.{le-leb, lt-leb}
-use borrow.Rule.Slice.PartMut.{midOf, putMid}
+use borrow.Rule.Slice.PartMut.{midOf, putMid, same-len-mid, mid-len}
 use Rattle.pack.specs.declared.answer.Answer.{Answer}
 use Rattle.pack.specs.declared.answer.Answer.the-variants.{Given}
 use Rattle.pack.specs.Table.{pick, wordOf}
@@ -17,20 +17,18 @@ use Rattle.pack.specs.Pack.{Relation, Rule, Pack, WellFormed, yes, read, words,
 use Rattle.pack.specs.Operations.{noRoom}
 use Rattle.pack.proofs.PackLaws.{words-read, words-length}
 use Rattle.chains.specs.Kinds.{allKinds}
-use Rattle.chains.specs.Places.{relationWords, firstRelation}
+use Rattle.chains.specs.Places.{relationWords, firstRelation, relationsEnd}
 use Rattle.chains.proofs.RelationScan.{RelationsFine}
 use Rattle.chains.proofs.PackIndex.{parts, all-found}
-use Rattle.chains.proofs.FillLaws.{table-length}
-use Rattle.chains.specs.Entry.{startsIn, namesIn}
 use Rattle.chains.proofs.CheckedLaws.{same-pack}
 use Rattle.directions.specs.Turning.{Outcome, done, refused, andThen, mapDone}
 use Rattle.directions.specs.Resolving.{stamp, ruleWords, resolveRule, resolveRules, resolveRelation, resolveRelations, firstRule}
 use Rattle.chains.specs.Record.{Recorded}
 use Rattle.stamping.specs.Stamping.{listsFor, addedBy, Listed}
-use Rattle.resolve.specs.Writing.{Stamped, WriteAsked, WriteCame}
+use Rattle.resolve.specs.Writing.{sums, lengths, beginnings, otherPieces, piecesOf, Stamped, WriteAsked, WriteCame}
 use Rattle.directions.specs.Records.{placesFrom, wordsOf, runBy, RelationKeeps, withRecords, turned, placesIn, Tabled}
 use Rattle.resolve.specs.Operations.{givenOut, writtenOut}
-use Rattle.resolve.specs.Finish.{stampAll, NamesIn, orderIn, AskedOf, FinishAsked, FinishCame}
+use Rattle.resolve.specs.Finish.{stampAll, AskedOf, FinishAsked, FinishCame}
 use Rattle.directions.proofs.KeepsForm.{Good}
 use Rattle.directions.proofs.ResolvedFine.{RulesFine, rules-good}
 use Rattle.resolve.proofs.ResolvedPack.{least-words, rules-fine}
@@ -39,7 +37,8 @@ use Rattle.directions.proofs.RuleLaws.{rule-long}
 use Rattle.directions.proofs.RelationLaws.{relation-long, places-many}
 use Rattle.directions.proofs.TurnedPack.{front, front-long, pack-words, rulesOn, again-words, total-same, rules-run, relations-run, rules-keep, relations-keep}
 use Rattle.directions.proofs.CheckedTables.{settled}
-use Rattle.resolve.proofs.StampedPack.{still-fine, all-starting, all-stamped, same-places}
+use Rattle.resolve.proofs.StampedPack.{still-fine, all-starting, all-stamped, same-lengths}
+use Rattle.resolve.proofs.OrderLaws.{sums-many, others-few, begin-relations, begin-pieces}
 use Rattle.resolve.proofs.WrittenPack.{longer}
 
 -- ---- a pack whose trees are resolved
@@ -104,11 +103,28 @@ module _ (p : Pack) (w : WellFormed p) (rels : List Relation) (rls : List Rule) 
   well : WellFormed q
   well = record { least = least-words q; most = (let m = w .most in omega (arith, total-same p rels rls many rules-many long rules-long)); parts = whole-fine }
 
+  pairs : RunPairs (relationWords n) (λ at r. resolveRelation p at r) (RelationKeeps p) (relation-long p w) (firstRelation p) (p .relations) rels
+  pairs = run-pairs (relationWords n) (λ at r. resolveRelation p at r) (RelationKeeps p) (relation-long p w) (firstRelation p) (p .relations) rels relations-ran
+
+  -- its pieces begin where they began
+  relations-same : lengths (map (relationWords n) (p .relations)) ≡ lengths (map (relationWords n) rels)
+  relations-same = same-lengths (relationWords n) (λ at r. resolveRelation p at r) (RelationKeeps p) (relation-long p w) (firstRelation p) (p .relations) rels (relations-keep p w .all) pairs
+
+  rules-same : lengths (map (ruleWords n) (p .rules)) ≡ lengths (map (ruleWords n) rls)
+  rules-same =
+      same-lengths (ruleWords n) (λ at r. resolveRule p at r) (λ r. Fine (rule n) r) (rule-long p w) (firstRule p) (p .rules) rls (rules-keep p w .all)
+      (run-pairs (ruleWords n) (λ at r. resolveRule p at r) (λ r. Fine (rule n) r) (rule-long p w) (firstRule p) (p .rules) rls rules-ran)
+
+  others-same : lengths (otherPieces p) ≡ lengths (otherPieces q)
+  unfolding otherPieces
+  others-same = rw (map-append, map-append, rules-same) refl
+
+  pieces-same : beginnings 0 (piecesOf p) ≡ beginnings 0 (piecesOf q)
+  pieces-same =
+      ap (sums 0) (rw (map-append, map-append, relations-same, others-same) (ap (λ (x : ℕ). x ∷ (lengths (map (relationWords n) rels) ++ lengths (otherPieces q))) (front-long p ∙ sym (front-long q))))
+
   module _ {ws starts acts taken : List ℕ} {steps : ℕ} (a : Tabled ws starts acts taken steps) (h : read ws ≡ yes p) {asked work order lists : List ℕ} {added : ℕ} (asks : AskedOf p asked)
       (stands : work ≡ words q) (places : order ≡ placesIn p) (listed : Listed ws work acts asked order lists added) where
-    pairs : RunPairs (relationWords n) (λ at r. resolveRelation p at r) (RelationKeeps p) (relation-long p w) (firstRelation p) (p .relations) rels
-    pairs = run-pairs (relationWords n) (λ at r. resolveRelation p at r) (RelationKeeps p) (relation-long p w) (firstRelation p) (p .relations) rels relations-ran
-
     stamps : Stamped ws lists rels (map (stamp p) rels)
     stamps =
         subst (λ (l : List ℕ). Stamped ws l rels (map (stamp p) rels)) (ap (listsFor ws work acts asked) (sym places) ∙ sym (listed .each))
@@ -116,7 +132,7 @@ module _ (p : Pack) (w : WellFormed p) (rels : List Relation) (rls : List Rule) 
         (stands ∙ again-words p rels rls many rules-many long rules-long))
 
     placed : order ≡ placesIn q
-    placed = places ∙ same-places p w (firstRelation p) (p .relations) rels (relations-keep p w .all) pairs
+    placed = places ∙ sym (begin-relations n (firstRelation p) (p .relations)) ∙ ap (sums (firstRelation p)) relations-same ∙ begin-relations n (firstRelation p) rels
 
     its-length : length work + added ≡ length (words (stampAll p q))
     its-length =
@@ -129,12 +145,25 @@ module _ (p : Pack) (w : WellFormed p) (rels : List Relation) (rls : List Rule) 
         ∙ ap (λ (x : ℕ). length R + addedBy ws work (placesFrom n x rels) lists) (front-long q) ∙ ap (λ (x : List ℕ). length R + addedBy ws work x lists) (sym placed) ∙ ap (λ (x : ℕ). length R + x) (sym (listed .adds)) in
         omega (arith, ap length (stands ∙ pack-words q), length-append (front q) (R ++ after), length-append R after, ap length (pack-words q′), length-append (front q′) (R′ ++ after), length-append R′ after, front-long q, front-long q′)
 
-    its-asked : {room : ℕ} → room ≡ length work + added → room ≤ 8192 → WriteAsked ws order lists work room
-    its-asked e f = record { whole = q; fine = well; stands = stands; places = placed; stamped = map (stamp p) rels; stamps = stamps; size = e ∙ its-length; few = f }
+    module _ {table found : List ℕ} (begins : table ≡ beginnings 0 (piecesOf p)) (stamped : found ≡ 0 ∷ (lists ++ replicate (length (otherPieces p)) 0)) {room : ℕ} (e : room ≡ length work + added) (f : room ≤ 8192) where
+      its-asked : WriteAsked ws table found work room
+      its-asked =
+          record {
+            whole = q;
+            fine = well;
+            stands = stands;
+            begins = begins ∙ pieces-same;
+            its = lists;
+            stamped = map (stamp p) rels;
+            stamps = stamps;
+            listed = stamped ∙ ap (λ (x : ℕ). 0 ∷ (lists ++ replicate x 0)) (sym (length-map (otherPieces p) (λ (x : List ℕ). length x)) ∙ ap length others-same ∙ length-map (otherPieces q) (λ (x : List ℕ). length x));
+            size = e ∙ its-length;
+            few = f;
+          }
 
-    its-words : {room : ℕ} → room ≡ length work + added → room ≤ 8192 → {left : List ℕ} → WriteCame ws order lists work room left → left ≡ words (stampAll p q)
-    unfolding its-asked
-    its-words e f c = c .each (its-asked e f)
+      its-words : {left : List ℕ} → WriteCame ws table found work room left → left ≡ words (stampAll p q)
+      unfolding its-asked
+      its-words c = c .each its-asked
 
 -- ---- for the code
 
@@ -144,7 +173,26 @@ front-length lent count h = let whole : count - 0 ≡ count = omega arith in rw 
 done-same : {A : Type 0} {a b : A} → _≡_ {A = Outcome A} (done a) (done b) → a ≡ b
 done-same e = cc
 
-module _ {ws dir acts asked work : List ℕ} {relations steps : ℕ} (a : FinishAsked ws dir acts asked work relations steps) where
+-- lists in a table of zeros
+zeros-after : (k m : ℕ) → k ≤ m → drop {A = ℕ} k (replicate m 0) ≡ replicate (m - k) 0
+zeros-after k m h =
+    let e : k + (m - k) ≡ m = omega arith in
+    ap (λ (x : ℕ). drop k (replicate {A = ℕ} x 0)) (sym e) ∙ ap (drop k) (sym (replicate-append-replicate k (m - k) 0)) ∙ drop-at (replicate k 0) (replicate (m - k) 0) k (length-replicate k 0)
+
+zeros-up-to : (k m : ℕ) → k ≤ m → take {A = ℕ} k (replicate m 0) ≡ replicate k 0
+zeros-up-to k m h =
+    let e : k + (m - k) ≡ m = omega arith in
+    ap (λ (x : ℕ). take k (replicate {A = ℕ} x 0)) (sym e) ∙ ap (take k) (sym (replicate-append-replicate k (m - k) 0)) ∙ take-at (replicate k 0) (replicate (m - k) 0) k (length-replicate k 0)
+
+in-zeros : (most after all more : ℕ) (lists : List ℕ) → length lists + 1 ≡ after → all ≡ after + more → all ≤ most → midOf 0 (all - 0) (putMid 1 (after - 1) (replicate most 0) lists) ≡ 0 ∷ (lists ++ replicate more 0)
+in-zeros zero after all more lists l e h = absurd (omega arith)
+in-zeros (suc m) after all more lists l e h =
+    let k : ℕ = length lists in
+    let a : after - 1 ≡ k = omega arith in
+    let b : all - 0 ≡ suc (k + more) = omega arith in
+    rw (a, b) (ap (λ (x : List ℕ). 0 ∷ x) (ap (λ (x : List ℕ). take (k + more) (lists ++ x)) (zeros-after k m (omega arith)) ∙ take-append-add lists (replicate (m - k) 0) more ∙ ap (λ (x : List ℕ). lists ++ x) (zeros-up-to more (m - k) (omega arith))))
+
+module _ {ws places acts asked work : List ℕ} {relations steps : ℕ} (a : FinishAsked ws places acts asked work relations steps) where
   abbrev p : Pack
   p = a .tabled .checked .pack
 
@@ -166,44 +214,50 @@ module _ {ws dir acts asked work : List ℕ} {relations steps : ℕ} (a : Finish
   places-inside n at (r ∷ l) zero = omega arith
   places-inside n at (r ∷ l) (suc i) = omega (arith, places-inside n (at + length (relationWords n r)) l i, length-append (relationWords n r) (wordsOf (relationWords n) l))
 
-  few-starts : relations ≤ 512
-  unfolding orderIn
-  few-starts = omega (arith, table-length (λ i. getD (startsIn dir) (getD dir i 0) 0) 0 relations, ap length (a .places), places-many (p .names) (firstRelation p) (p .relations), parts p w .few-relations)
+  pub few-starts : relations ≤ 512
+  few-starts = omega (arith, a .counts, parts p w .few-relations)
 
-  -- a word for each relation
-  room-long : length {A = ℕ} (midOf 0 (relations - 0) (replicate 512 0)) ≡ relations
-  room-long = front-length (replicate 512 0) relations (omega (arith, few-starts, length-replicate {A = ℕ} 512 0))
+  -- the pieces, of which those after the first are the relations
+  abbrev others : List (List ℕ)
+  others = otherPieces p
 
-  pub room-few : relations ≤ 512
-  room-few = few-starts
+  table-long : length places ≡ relations + 1 + length others
+  table-long = ap length (a .begins ∙ begin-pieces p) ∙ omega (arith, length-append (placesIn p) (beginnings (relationsEnd (p .names) (firstRelation p) (p .relations)) others), places-many (p .names) (firstRelation p) (p .relations), a .counts, sums-many (relationsEnd (p .names) (firstRelation p) (p .relations)) (lengths others), length-map others (λ (x : List ℕ). length x))
 
-  pub order-asked : (length {A = ℕ} (midOf 0 (relations - 0) (replicate 512 0)) ≤ 512) × NamesIn dir (length {A = ℕ} (midOf 0 (relations - 0) (replicate 512 0)))
-  order-asked = rw room-long (few-starts, a .low)
+  pub table-room : (relations + 1 ≤ length places) × (length places ≤ 1603)
+  table-room = (omega (arith, table-long), omega (arith, table-long, few-starts, others-few p w))
 
-  module _ {order : List ℕ} (ordered : order ≡ orderIn dir (length {A = ℕ} (midOf 0 (relations - 0) (replicate 512 0)))) where
-    their-places : order ≡ placesIn p
-    their-places = ordered ∙ ap (orderIn dir) room-long ∙ a .places
+  abbrev order : List ℕ
+  order = midOf 1 (relations + 1 - 1) places
 
-    place-within : (i : ℕ) → getD order i 0 < length ws
-    place-within i =
-        let R : List ℕ = wordsOf (relationWords (p .names)) (p .relations) in
-        let l = ap length (pack-words p) ∙ length-append (front p) (R ++ (wordOf 22 (length (p .rules)) ∷ rulesOn p)) in
-        let k = length-append R (wordOf 22 (length (p .rules)) ∷ rulesOn p) in
-        let e : getD order i 0 ≡ getD (placesIn p) i 0 = ap (λ (o : List ℕ). getD o i 0) their-places in
-        omega (arith, places-inside (p .names) (firstRelation p) (p .relations) i, front-long p, ap length (words-read ws p h .same))
+  their-places : order ≡ placesIn p
+  their-places =
+      let k : relations + 1 - 1 ≡ relations = omega arith in
+      let P : List ℕ = placesIn p in
+      rw k (ap (λ (x : List ℕ). take relations (drop 1 x)) (a .begins ∙ begin-pieces p) ∙ take-at P (beginnings (relationsEnd (p .names) (firstRelation p) (p .relations)) others) relations (places-many (p .names) (firstRelation p) (p .relations) ∙ sym (a .counts)))
 
-    finish-recorded : Recorded ws order
-    finish-recorded = record { within = place-within; few = (let m = w .most in omega (arith, words-length p, ap length (words-read ws p h .same))) }
+  order-long : length order ≡ relations
+  order-long = ap length their-places ∙ places-many (p .names) (firstRelation p) (p .relations) ∙ sym (a .counts)
 
-    order-long : length order ≡ relations
-    unfolding orderIn
-    order-long = ap length ordered ∙ table-length (λ i. getD (startsIn dir) (getD dir i 0) 0) 0 _ ∙ room-long
+  place-within : (i : ℕ) → getD order i 0 < length ws
+  place-within i =
+      let R : List ℕ = wordsOf (relationWords (p .names)) (p .relations) in
+      let l = ap length (pack-words p) ∙ length-append (front p) (R ++ (wordOf 22 (length (p .rules)) ∷ rulesOn p)) in
+      let k = length-append R (wordOf 22 (length (p .rules)) ∷ rulesOn p) in
+      let e : getD order i 0 ≡ getD (placesIn p) i 0 = ap (λ (o : List ℕ). getD o i 0) their-places in
+      omega (arith, places-inside (p .names) (firstRelation p) (p .relations) i, front-long p, ap length (words-read ws p h .same))
 
-    pub finish-lists : Recorded ws order × (length {A = ℕ} (midOf 0 (relations - 0) (replicate 512 0)) ≡ length order) × (length order ≤ 512)
-    finish-lists = (finish-recorded, room-long ∙ sym order-long, omega (arith, order-long, few-starts))
+  finish-recorded : Recorded ws order
+  finish-recorded = record { within = place-within; few = (let m = w .most in omega (arith, words-length p, ap length (words-read ws p h .same))) }
+
+  pub finish-lists : {most : ℕ} → relations + 1 ≤ most → Recorded ws order × (length {A = ℕ} (midOf 1 (relations + 1 - 1) (replicate most 0)) ≡ length order) × (length order ≤ 512)
+  finish-lists {most} k = (finish-recorded, mid-len 1 (relations + 1) (replicate most 0) (omega (arith, length-replicate {A = ℕ} most 0)) ∙ omega (arith, order-long), omega (arith, order-long, few-starts))
+
+  pub found-room : {most : ℕ} (lists : List ℕ) → length lists ≡ length {A = ℕ} (midOf 1 (relations + 1 - 1) (replicate most 0)) → length places ≤ most → length places ≤ length (putMid 1 (relations + 1 - 1) (replicate most 0) lists)
+  found-room {most} lists kept fit = omega (arith, same-len-mid 1 (relations + 1 - 1) (replicate most 0) lists kept, length-replicate {A = ℕ} most 0)
 
   -- the words written
-  module _ {order : List ℕ} (ordered : order ≡ orderIn dir (length {A = ℕ} (midOf 0 (relations - 0) (replicate 512 0)))) {lists : List ℕ} {added : ℕ} (listed : Listed ws work acts asked order lists added) where
+  module _ {lists : List ℕ} {added : ℕ} (listed : Listed ws work acts asked order lists added) where
     stands-so : work ≡ words (withRecords p (T .rels) (T .rls))
     stands-so = a .stands ∙ ap words (sym (T .same))
 
@@ -211,7 +265,7 @@ module _ {ws dir acts asked work : List ℕ} {relations steps : ℕ} (a : Finish
       total-is : total (stampAll p (a .whole)) ≡ len
       total-is =
           sym (words-length (stampAll p (a .whole))) ∙ sym (ap (λ (q : Pack). length (words (stampAll p q))) (T .same))
-          ∙ sym (its-length p w (T .rels) (T .rls) (T .rules-are) (T .relations-are) (a .tabled) h (a .asks) stands-so (their-places ordered) listed) ∙ sym size
+          ∙ sym (its-length p w (T .rels) (T .rls) (T .rules-are) (T .relations-are) (a .tabled) h (a .asks) stands-so their-places listed) ∙ sym size
 
       -- of whichever pack the words are
       of-pack : {answer : Answer} {left : List ℕ} → answer ≡ givenOut (allKinds (p .relations) .steps) (length lent) (done (stampAll p (a .whole))) → left ≡ writtenOut lent (done (stampAll p (a .whole))) → FinishCame ws lent answer left
@@ -246,19 +300,23 @@ module _ {ws dir acts asked work : List ℕ} {relations steps : ℕ} (a : Finish
         lent-long : length (midOf 0 (len - 0) lent) ≡ len
         lent-long = front-length lent len room
 
-        pub finish-asked : WriteAsked ws order lists work (length (midOf 0 (len - 0) lent))
-        finish-asked = its-asked p w (T .rels) (T .rls) (T .rules-are) (T .relations-are) (a .tabled) h (a .asks) stands-so (their-places ordered) listed (lent-long ∙ size) (omega (arith, lent-long))
-
         fits : (leb len 8192 && leb len (length lent)) ≡ true
         fits = rw (le-leb len 8192 few, le-leb len (length lent) room) refl
 
-        pub finish-done : {out : List ℕ} → WriteCame ws order lists work (length (midOf 0 (len - 0) lent)) out → FinishCame ws lent (Given len steps) (putMid 0 (len - 0) lent out)
-        finish-done {out} c =
-            let whole : len - 0 ≡ len = omega arith in
-            let s : steps ≡ allKinds (p .relations) .steps = a .tabled .filled .counts p h in
-            let e : out ≡ words (stampAll p (a .whole)) =
-            its-words p w (T .rels) (T .rls) (T .rules-are) (T .relations-are) (a .tabled) h (a .asks) stands-so (their-places ordered) listed (lent-long ∙ size) (omega (arith, lent-long)) c ∙ ap (λ (q : Pack). words (stampAll p q)) (T .same) in
-            of-pack
-            (ap (Given len) s ∙ sym (ap (λ (t : ℕ). pick (leb t 8192 && leb t (length lent)) (Given t (allKinds (p .relations) .steps)) noRoom) total-is ∙ ap (λ (b : Bool). pick b (Given len (allKinds (p .relations) .steps)) noRoom) fits))
-            (ap (λ (t : ℕ). putMid 0 t lent out) whole ∙ ap (λ (x : List ℕ). x ++ drop len lent) e
-            ∙ sym (ap (λ (t : ℕ). pick (leb t 8192 && leb t (length lent)) (words (stampAll p (a .whole)) ++ drop t lent) lent) total-is ∙ ap (λ (b : Bool). pick b (words (stampAll p (a .whole)) ++ drop len lent) lent) fits))
+        module _ {most all : ℕ} {found : List ℕ} (of-table : all ≡ length places) (fit : all ≤ most) (kept : length lists ≡ length {A = ℕ} (midOf 1 (relations + 1 - 1) (replicate most 0))) (stamped : found ≡ putMid 1 (relations + 1 - 1) (replicate most 0) lists) where
+          table-stamped : midOf 0 (all - 0) found ≡ 0 ∷ (lists ++ replicate (length others) 0)
+          table-stamped = ap (midOf 0 (all - 0)) stamped ∙ in-zeros most (relations + 1) all (length others) lists (omega (arith, kept, finish-lists {most = most} (omega (arith, table-room .0)) .1, order-long)) (of-table ∙ table-long) fit
+
+          pub finish-asked : WriteAsked ws places (midOf 0 (all - 0) found) work (length (midOf 0 (len - 0) lent))
+          finish-asked = its-asked p w (T .rels) (T .rls) (T .rules-are) (T .relations-are) (a .tabled) h (a .asks) stands-so their-places listed (a .begins) table-stamped (lent-long ∙ size) (omega (arith, lent-long))
+
+          pub finish-done : {out : List ℕ} → WriteCame ws places (midOf 0 (all - 0) found) work (length (midOf 0 (len - 0) lent)) out → FinishCame ws lent (Given len steps) (putMid 0 (len - 0) lent out)
+          finish-done {out} c =
+              let whole : len - 0 ≡ len = omega arith in
+              let s : steps ≡ allKinds (p .relations) .steps = a .tabled .filled .counts p h in
+              let e : out ≡ words (stampAll p (a .whole)) =
+              its-words p w (T .rels) (T .rls) (T .rules-are) (T .relations-are) (a .tabled) h (a .asks) stands-so their-places listed (a .begins) table-stamped (lent-long ∙ size) (omega (arith, lent-long)) c ∙ ap (λ (q : Pack). words (stampAll p q)) (T .same) in
+              of-pack
+              (ap (Given len) s ∙ sym (ap (λ (t : ℕ). pick (leb t 8192 && leb t (length lent)) (Given t (allKinds (p .relations) .steps)) noRoom) total-is ∙ ap (λ (b : Bool). pick b (Given len (allKinds (p .relations) .steps)) noRoom) fits))
+              (ap (λ (t : ℕ). putMid 0 t lent out) whole ∙ ap (λ (x : List ℕ). x ++ drop len lent) e
+              ∙ sym (ap (λ (t : ℕ). pick (leb t 8192 && leb t (length lent)) (words (stampAll p (a .whole)) ++ drop t lent) lent) total-is ∙ ap (λ (b : Bool). pick b (words (stampAll p (a .whole)) ++ drop len lent) lent) fits))

@@ -16,3 +16,4 @@ pub mod Demand3Laws
 pub mod RefusalNames
 pub mod WrongResolves
 pub mod OrderLaws
+pub mod PlacesLaws

@@ -34,7 +34,6 @@ use Rattle.chains.proofs.CheckedLaws.{said-names, same-pack, short-checked}
 use Rattle.chains.proofs.EntryLaws.{directed, reaches-one}
 use Rattle.chains.proofs.DeclarationLaws.{a-record}
 use Rattle.turning.proofs.LeftLaws.{noted-there}
-use Rattle.filtered.proofs.TakenKnown.{names-low}
 use Rattle.inputs.proofs.BlocksStand.{reads-inputs}
 use Rattle.chains.proofs.PackIndex.{parts, zero-at, find-name, find-kept}
 use Rattle.directions.specs.Tables.{Tables, derivedAt, tables}
@@ -45,8 +44,8 @@ use Rattle.directions.specs.Words.{derivedIn, tablesIn, firstEqual}
 use Rattle.chains.specs.Record.{valueAt}
 use Rattle.directions.specs.Records.{withRecords, turned, Tabled}
 use Rattle.resolve.specs.declared.finish.Figures.{Figures}
-use Rattle.resolve.specs.Finish.{stampAll, unstamped, orderIn, AskedOf, NamesIn, TreesAsked, TreesCame, ResolveAsked, TablesFor, CheckedAsked, RoomFor, frontOf, Into, FinishAsked, FinishCame}
-use Rattle.resolve.proofs.OrderLaws.{order-is}
+use Rattle.resolve.specs.Writing.{beginnings, piecesOf}
+use Rattle.resolve.specs.Finish.{stampAll, unstamped, AskedOf, TreesAsked, TreesCame, ResolveAsked, TablesFor, CheckedAsked, RoomFor, frontOf, Into, FinishAsked, FinishCame}
 use Rattle.turning.specs.declared.turns.Ended.{Ended}
 use Rattle.turning.specs.declared.turns.Ended.the-variants as ended
 use Rattle.turning.specs.declared.turns.Counts.{Counts}
@@ -291,14 +290,15 @@ module _ {ws dir acts taken asked₀ notes : List ℕ} {f : Figures} {work : Lis
 
     -- the result
     module _ {o : Ended} {left : List ℕ} (t : TreesCame ws o left) (e : o ≡ ended.All) where
-      pub finish-asked : FinishAsked ws dir acts asked left (f .relations) (f .steps)
-      finish-asked =
+      pub finish-asked : {places : List ℕ} → places ≡ beginnings 0 (piecesOf its) → FinishAsked ws places acts asked left (f .relations) (f .steps)
+      finish-asked b =
           let d = whole-done (a .directory .checked) [] t e in
           record {
             taken = taken;
             tabled = its-tables;
-            low = subst (NamesIn dir) (sym (a .counts)) (record { most = a .layout .names; low = names-low (a .directory); reaches = a .directory .reaches });
-            places = ap (orderIn dir) (a .counts) ∙ order-is dir its-tables (a .layout .relations) (a .filled .noted .named its checked);
+            records = startsIn dir;
+            counts = a .counts ∙ a .directory .counted .relations its checked;
+            begins = b;
             asks = asks;
             whole = d .whole;
             resolves = d .resolves;
@@ -334,8 +334,8 @@ blocks-near {ws} d = let s = short-checked (d .checked) in omega (arith, reads-i
 
 pub in-asked : {ws : List ℕ} {l : Layout} {dir acts₀ taken₀ asked out work : List ℕ} {room : ℕ} → CheckedAsked ws l dir acts₀ taken₀ asked out room work
     → {acts taken : List ℕ} {steps : ℕ} → Filled ws (namesIn dir (l .relations)) (startsIn dir) acts taken steps → {count : ℕ} → count ≡ valueAt ws (l .blocks)
-    → ResolveAsked ws dir acts taken asked out (record { relations = l .relations; notes = record { noted = l .noted; all = l .all; blocks = record { at = l .blocks + 1; count = count } }; steps = steps; room = room }) work
-in-asked {l = l} a f e = record { layout = l; directory = a .directory; filled = f; lent = a .asked-lent; counts = refl; blocks = refl; many = e; noted = a .notes-in; room = a .same; fits = a .fits }
+    → ResolveAsked ws dir acts taken asked out (record { relations = l .relations; rules = l .rules; notes = record { noted = l .noted; all = l .all; blocks = record { at = l .blocks + 1; count = count } }; steps = steps; room = room }) work
+in-asked {l = l} a f e = record { layout = l; directory = a .directory; filled = f; lent = a .asked-lent; counts = refl; ruled = refl; blocks = refl; many = e; noted = a .notes-in; room = a .same; fits = a .fits }
 
 -- a pack that was checked and noted where there is room for its notes
 module _ {ws d e d′ e′ : List ℕ} {r : Laid} {l : Layout} (clear : Clear (namesSaid ws) d) (c : CheckedNotes ws d e r d′ e′) (o : r ≡ Yes l) where

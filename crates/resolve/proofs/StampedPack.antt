@@ -15,10 +15,10 @@ use Rattle.chains.specs.Kinds.{find, declared, kindsOf}
 use Rattle.chains.specs.Places.{relationWords, startOf, firstRelation, namesAt}
 use Rattle.chains.proofs.RelationScan.{RelationsFine, kept}
 use Rattle.chains.proofs.PackIndex.{EachFound, parts}
-use Rattle.directions.specs.Turning.{done}
+use Rattle.directions.specs.Turning.{Outcome, done}
 use Rattle.directions.specs.Resolving.{atomNames, roleJudgment, inDerivation, stamp, resolveRelation}
 use Rattle.stamping.specs.Stamping.{StampedBy, listFor, listsFor}
-use Rattle.resolve.specs.Writing.{Stamped, no-more, one-more}
+use Rattle.resolve.specs.Writing.{lengths, Stamped, no-more, one-more}
 use Rattle.resolve.specs.Finish.{AskedOf}
 use Rattle.directions.specs.Records.{placesFrom, wordsOf, All, RelationKeeps, KindsReady}
 use Rattle.directions.proofs.KeepsForm.{Good}
@@ -97,11 +97,11 @@ module _ (p : Pack) (w : WellFormed p) where
         one-more (one-stamped at r s before tail long (keeps .0) (found .0) (starts .0) (q .0) opened)
         (all-stamped (at + length (relationWords n r)) l m (before ++ relationWords n s) (length-append before (relationWords n s) ∙ omega arith) (keeps .1) (found .1) (starts .1) (q .1) (opened ∙ sym (append-assoc before (relationWords n s) tail)))
 
-  -- resolved relations stand where they stood
-  pub same-places : (at : ℕ) (l m : List Relation) → All (RelationKeeps p) l → RunPairs (relationWords n) (λ at r. resolveRelation p at r) (RelationKeeps p) (relation-long p w) at l m → placesFrom n at l ≡ placesFrom n at m
-  unfolding placesFrom
-  same-places at [] [] keeps q = refl
-  same-places at [] (s ∷ m) keeps q = absurd q
-  same-places at (r ∷ l) [] keeps q = absurd q
-  same-places at (r ∷ l) (s ∷ m) keeps q =
-      ap (λ (x : List ℕ). at ∷ x) (same-places (at + length (relationWords n r)) l m (keeps .1) (q .1) ∙ ap (λ (x : ℕ). placesFrom n (at + x) m) (sym (relation-long p w at r s (keeps .0) (q .0))))
+-- resolved records are as long as they were
+pub same-lengths : {A : Type 0} (W : A → List ℕ) (resolve : ℕ → A → Outcome A) (Keeps : A → Type 0) (long : (at : ℕ) (a b : A) → Keeps a → resolve at a ≡ done b → length (W b) ≡ length (W a))
+    (at : ℕ) (l m : List A) → All Keeps l → RunPairs W resolve Keeps long at l m → lengths (map W l) ≡ lengths (map W m)
+same-lengths W resolve Keeps long at [] [] keeps q = refl
+same-lengths W resolve Keeps long at [] (b ∷ m) keeps q = absurd q
+same-lengths W resolve Keeps long at (a ∷ l) [] keeps q = absurd q
+same-lengths W resolve Keeps long at (a ∷ l) (b ∷ m) keeps q =
+    let here = long at a b (keeps .0) (q .0) in let later = same-lengths W resolve Keeps long (at + length (W a)) l m (keeps .1) (q .1) in cc

@@ -1,19 +1,19 @@
 -- Laws of writing: what is put, and what is left to write.
-use Prim.Native.Nat.{ℕ, zero, suc, _+_, _-_, _≤_}
+use Prim.Native.Nat.{ℕ, zero, suc, _+_, _-_, _<_, _≤_}
 use native.Mathlib.Omega.{arith}
-use mathlib.Core.Path.{_≡_, refl, ap, sym, _∙_}
+use mathlib.Core.Path.{_≡_, refl, ap, sym, _∙_, subst}
 use mathlib.Core.List.{List, [], _∷_, _++_, map, append-assoc, append-nil}
-use lib.ListN.{length, getD, take, drop, set, length-append, length-map, length-drop, length-set, drop-of-length-le}
-use lib.Seq.{getD-at, drop-cons, take-at, take-suc-set, drop-append-le, length-take-le}
-use borrow.Rule.Slice.PartMut.{midOf, putMid, postOf, same-len-mid, mid-len}
+use lib.ListN.{length, getD, take, drop, set, length-append, length-map, length-set, drop-of-length-le}
+use lib.Seq.{getD-at, getD-drop, drop-cons, drop-drop, drop-at, take-at, take-all, take-suc-set, length-take-le}
+use borrow.Rule.Slice.PartMut.{putMid, postOf, same-len-mid, mid-len}
 use borrow.Author.Tests.{ne-eqb}
 use Rattle.pack.specs.Table.{valueOf, wordOf}
 use Rattle.chains.specs.Places.{namesAt}
 use Rattle.chains.specs.ByName.{tableFrom}
 use Rattle.chains.proofs.FillLaws.{Filling, done}
-use Rattle.chains.specs.Record.{valueAt, kindCount}
+use Rattle.chains.specs.Record.{valueAt, kindCount, slotsPlace}
 use Rattle.stamping.specs.Stamping.{namesOr, Lists}
-use Rattle.resolve.specs.Writing.{fromTo, listWords, putFor, Put, Room}
+use Rattle.resolve.specs.Writing.{joined, sums, beginnings, fromTo, listWords, putFor, pieceOut, Stampable, Put, Room}
 use Rattle.stamping.proofs.ListForLaws.{names-there}
 
 -- ---- a copy of words
@@ -81,162 +81,206 @@ put-part a e xs ys h k l =
     let b = length-take-le a xs (omega arith) in
     ap (take e) (sym (append-assoc (take a xs) ys (postOf a (e - a) xs))) ∙ take-at (take a xs ++ ys) (postOf a (e - a) xs) e (length-append (take a xs) ys ∙ omega arith)
 
-put-then : {out left last : List ℕ} {to next end : ℕ} {a b : List ℕ} → Put out to a left next → Put left next b last end → Put out to (a ++ b) last end
+pub put-then : {out left last : List ℕ} {to next end : ℕ} {a b : List ℕ} → Put out to a left next → Put left next b last end → Put out to (a ++ b) last end
 put-then {out} {to = to} {a = a} {b} p q =
     record {
       after = q .after ∙ omega (arith, p .after, length-append a b);
       holds = q .holds ∙ ap (λ (l : List ℕ). l ++ b) (p .holds) ∙ append-assoc (take to out) a b;
     }
 
-module _ (ws : List ℕ) (list kind : ℕ) (work : List ℕ) (from place : ℕ) (out : List ℕ) (to : ℕ) (ordered : from ≤ place) (inside : place ≤ length work) (room : Room out to (fromTo from place work ++ listWords kind (namesOr (namesAt ws list)))) where
+pub room-first : {out : List ℕ} {to : ℕ} (a b : List ℕ) → Room out to (a ++ b) → Room out to a
+room-first a b r = record { fits = omega (arith, r .fits, length-append a b); few = r .few }
+
+pub room-then : {out left : List ℕ} {to next : ℕ} (a b : List ℕ) → Room out to (a ++ b) → Put out to a left next → length left ≡ length out → Room left next b
+room-then a b r p l = record { fits = omega (arith, r .fits, p .after, length-append a b); few = omega (arith, r .few) }
+
+-- words that are copied
+pub words-put : {out words copied : List ℕ} {to next : ℕ} → to + length words ≤ length out → next ≡ to + length words → copied ≡ words → Put out to words (putMid to (next - to) out copied) next
+words-put {out} {words} {copied} {to} {next} h n c =
+    record { after = n; holds = put-part to next out copied (omega arith) (omega arith) (ap length c ∙ omega arith) ∙ ap (λ (v : List ℕ). take to out ++ v) c }
+
+pub one-put : {out : List ℕ} (to v : ℕ) → to < length out → Put out to (v ∷ []) (set out to v) (to + 1)
+one-put {out} to v h = let one : to + 1 ≡ suc to = omega arith in record { after = refl; holds = rw one (take-suc-set out to v h) }
+
+pub all-there : {out more left : List ℕ} {next : ℕ} → Put out 0 more left next → next ≡ length left → left ≡ more
+all-there {left = left} {next} p e = sym (take-all next left (omega arith)) ∙ p .holds
+
+-- then a list
+module _ (ws : List ℕ) (list kind : ℕ) (words : List ℕ) {out : List ℕ} {to : ℕ} (room : Room out to (words ++ listWords kind (namesOr (namesAt ws list))))
+    {left : List ℕ} {at : ℕ} (p : Put out to words left at) (same : length left ≡ length out) {names : ℕ} (l : Lists ws list names) where
   abbrev ks : List ℕ
   ks = namesOr (namesAt ws list)
 
-  part-long : length (fromTo from place work) ≡ place - from
-  part-long = length-take-le (place - from) (drop from work) (omega (arith, length-drop from work))
+  pub list-room : at + 1 + names ≤ length left
+  list-room = omega (arith, room .fits, p .after, l .counts, length-append words (listWords kind ks), length-map ks (wordOf 10))
 
-  pub put-room : to + (place - from) + 1 + length ks ≤ length out
-  put-room = omega (arith, room .fits, length-append (fromTo from place work) (listWords kind ks), part-long, length-map ks (wordOf 10))
+  abbrev counted : List ℕ
+  counted = set left at (wordOf kind names)
 
-  module _ {at names next : ℕ} (at-is : at ≡ to + (place - from)) (l : Lists ws list names) (next-is : next ≡ at + 1 + names) where
-    pub inside-out : next ≤ length out
-    inside-out = omega (arith, put-room, l .counts)
+  module _ {last : List ℕ} (e : last ≡ map (wordOf 10) ks) where
+    abbrev end : ℕ
+    end = at + 1 + names
 
-    copy-long : length (midOf to (at - to) out) ≡ length (midOf from (place - from) work)
-    copy-long = mid-len to at out (omega (arith, inside-out)) ∙ omega (arith, part-long)
+    last-long : length last ≡ end - (at + 1)
+    last-long = ap length e ∙ length-map ks (wordOf 10) ∙ omega (arith, l .counts)
 
-    module _ {copied : List ℕ} (c : copied ≡ midOf from (place - from) work) where
-      abbrev first : List ℕ
-      first = putMid to (at - to) out copied
+    pub list-long : length (putMid (at + 1) (end - (at + 1)) counted last) ≡ length left
+    list-long = same-len-mid (at + 1) (end - (at + 1)) counted last (last-long ∙ sym (mid-len (at + 1) end counted (omega (arith, list-room, length-set left at (wordOf kind names))))) ∙ length-set left at (wordOf kind names)
 
-      pub first-long : length first ≡ length out
-      first-long = same-len-mid to (at - to) out copied (ap length c ∙ sym copy-long)
+    pub list-put : Put out to (words ++ listWords kind ks) (putMid (at + 1) (end - (at + 1)) counted last) end
+    list-put =
+        let one : at + 1 ≡ suc at = omega arith in
+        let b : take (at + 1) counted ≡ take at left ++ (wordOf kind names ∷ []) = rw one (take-suc-set left at (wordOf kind names) (omega (arith, list-room))) in
+        put-then p (record {
+          after = omega (arith, length-map ks (wordOf 10), l .counts);
+          holds = put-part (at + 1) end counted last (omega arith) (omega (arith, list-room, length-set left at (wordOf kind names))) last-long ∙ ap (λ (v : List ℕ). v ++ last) b ∙ append-assoc (take at left) (wordOf kind names ∷ []) last ∙ rw (e, l .counts) refl;
+        })
 
-      abbrev second : List ℕ
-      second = set first at (wordOf kind names)
+-- ---- a record
 
-      pub second-long : length second ≡ length out
-      second-long = length-set first at (wordOf kind names) ∙ first-long
+module _ (ks w : List ℕ) (place : ℕ) {count : ℕ} (e : count ≡ kindCount w 0) where
+  pub one-list : (count ≡ 0 → ⊥) → putFor ks w place ≡ fromTo 0 place w ++ listWords 21 ks
+  one-list z = rw (← e, ne-eqb count 0 z) refl
 
-      last-long : {last : List ℕ} → last ≡ map (wordOf 10) ks → length last ≡ next - (at + 1)
-      last-long e = ap length e ∙ length-map ks (wordOf 10) ∙ omega (arith, l .counts)
+  pub both-lists : count ≡ 0 → putFor ks w place ≡ (fromTo 0 3 w ++ listWords 9 ks) ++ (fromTo 4 place w ++ listWords 21 ks)
+  both-lists z = rw (← e, z) refl
 
-      pub put-long : {last : List ℕ} → last ≡ map (wordOf 10) ks → length (putMid (at + 1) (next - (at + 1)) second last) ≡ length out
-      put-long {last} e = same-len-mid (at + 1) (next - (at + 1)) second last (last-long e ∙ sym (mid-len (at + 1) next second (omega (arith, inside-out, second-long)))) ∙ second-long
+pub piece-stays : (ws : List ℕ) {list : ℕ} (w : List ℕ) → list ≡ 0 → pieceOut ws list w ≡ w
+unfolding pieceOut
+piece-stays ws w z = rw z refl
 
-      pub put-done : {last : List ℕ} → last ≡ map (wordOf 10) ks → Put out to (fromTo from place work ++ listWords kind ks) (putMid (at + 1) (next - (at + 1)) second last) next
-      put-done {last} e =
-          let one : at + 1 ≡ suc at = omega arith in
-          let a : take at first ≡ take to out ++ fromTo from place work = put-part to at out copied (omega arith) (omega (arith, inside-out)) (ap length c ∙ part-long ∙ omega arith) ∙ ap (λ (v : List ℕ). take to out ++ v) c in
-          let b : take (at + 1) second ≡ take at first ++ (wordOf kind names ∷ []) = rw one (take-suc-set first at (wordOf kind names) (omega (arith, first-long, inside-out))) in
+pub piece-stamped : (ws : List ℕ) {list : ℕ} (w : List ℕ) {place : ℕ} → (list ≡ 0 → ⊥) → place ≡ slotsPlace w 0 + 4 → pieceOut ws list w ≡ putFor (namesOr (namesAt ws list)) w place ++ fromTo (place + 1) (length w) w
+unfolding pieceOut
+piece-stamped ws {list} w z e = rw (ne-eqb list 0 z, e) refl
+
+pub list-inside : (list : ℕ) (w : List ℕ) {place : ℕ} → Stampable list w → (list ≡ 0 → ⊥) → place ≡ slotsPlace w 0 + 4 → place < length w
+unfolding Stampable
+list-inside list w s z e = rw e (s z)
+
+-- ---- pieces one after the other
+
+pub data Pieces (ws : List ℕ) : List ℕ → List (List ℕ) → List (List ℕ) → Type 0 where
+  no-piece : Pieces ws [] [] []
+  piece : {list : ℕ} {w w′ : List ℕ} {lists : List ℕ} {l l′ : List (List ℕ)} → Stampable list w → w′ ≡ pieceOut ws list w → Pieces ws lists l l′ → Pieces ws (list ∷ lists) (w ∷ l) (w′ ∷ l′)
+
+pub same-there : (l : List ℕ) (i d e : ℕ) → i < length l → getD l i d ≡ getD l i e
+same-there l i d e h = let x = drop-cons l i d h in let y = drop-cons l i e h in cc
+
+-- the first begins where those before it end, and past the last there is the end
+begins-here : (work B : List ℕ) (l : List (List ℕ)) → work ≡ B ++ joined l → getD (beginnings (length B) l) 0 (length work) ≡ length B
+unfolding sums
+begins-here work B [] e = ap length (e ∙ append-nil B)
+begins-here work B (w ∷ l) e = refl
+
+module _ (ws work places lists whole : List ℕ) where
+  -- so many are written, from `B` up to `to`; `l` are to come and become `l′`
+  pub record Writing (i start to : ℕ) (out : List ℕ) : Type 0 where
+    pub B : List ℕ
+    pub l : List (List ℕ)
+    pub l′ : List (List ℕ)
+    pub its : List ℕ
+    pub stands : work ≡ B ++ joined l
+    pub starts : start ≡ length B
+    pub begins : drop i places ≡ beginnings (length B) l
+    pub listed : drop i lists ≡ its
+    pub comes : Pieces ws its l l′
+    pub size : length out ≡ length whole
+    pub room : to ≤ length out
+    pub todo : take to out ++ joined l′ ≡ whole
+
+  -- the next piece
+  record Facing (i start to : ℕ) (out : List ℕ) : Type 0 where
+    B : List ℕ
+    w : List ℕ
+    l : List (List ℕ)
+    l′ : List (List ℕ)
+    its : List ℕ
+    stands : work ≡ (B ++ w) ++ joined l
+    starts : start ≡ length B
+    begins : drop (i + 1) places ≡ beginnings (length (B ++ w)) l
+    listed : drop (i + 1) lists ≡ its
+    fits : Stampable (getD lists i 0) w
+    comes : Pieces ws its l l′
+    todo : (take to out ++ pieceOut ws (getD lists i 0) w) ++ joined l′ ≡ whole
+
+  tail-of : (i : ℕ) (xs : List ℕ) {x : ℕ} {ys : List ℕ} → drop i xs ≡ x ∷ ys → drop (i + 1) xs ≡ ys
+  tail-of i xs e = sym (drop-drop 1 i xs) ∙ ap (drop 1) e
+
+  face : {i start to : ℕ} {out : List ℕ} → Writing i start to out → i < length lists → Facing i start to out
+  unfolding sums
+  face {i} {start} {to} {out} s h = go (s .comes) (s .stands) (s .begins) (s .listed) (s .todo)
+    where
+      go : {its : List ℕ} {l l′ : List (List ℕ)} → Pieces ws its l l′ → work ≡ s .B ++ joined l → drop i places ≡ beginnings (length (s .B)) l → drop i lists ≡ its → take to out ++ joined l′ ≡ whole → Facing i start to out
+      go no-piece e b q t = let x = drop-cons lists i 0 h in let z : _≡_ {A = ℕ} 0 1 = cc in absurd (omega arith)
+      go (piece {list = list} {w = w} {w′ = w′} {lists = ls} {l = l} {l′ = l′} f o more) e b q t =
+          let x = drop-cons lists i 0 h in
+          let list-is : list ≡ getD lists i 0 = cc in
           record {
-            after = omega (arith, length-append (fromTo from place work) (listWords kind ks), part-long, length-map ks (wordOf 10), l .counts);
-            holds = put-part (at + 1) next second last (omega arith) (omega (arith, second-long, inside-out)) (last-long e) ∙ ap (λ (v : List ℕ). v ++ last) b ∙ ap (λ (v : List ℕ). (v ++ (wordOf kind names ∷ [])) ++ last) a
-                ∙ append-assoc (take to out ++ fromTo from place work) (wordOf kind names ∷ []) last ∙ append-assoc (take to out) (fromTo from place work) (wordOf kind names ∷ last)
-                ∙ rw (e, l .counts) refl;
+            B = s .B;
+            w = w;
+            l = l;
+            l′ = l′;
+            its = ls;
+            stands = e ∙ sym (append-assoc (s .B) w (joined l));
+            starts = s .starts;
+            begins = tail-of i places b ∙ ap (λ (x : ℕ). beginnings x l) (sym (length-append (s .B) w));
+            listed = tail-of i lists q;
+            fits = subst (λ (v : ℕ). Stampable v w) list-is f;
+            comes = more;
+            todo = append-assoc (take to out) (pieceOut ws (getD lists i 0) w) (joined l′) ∙ ap (λ (v : List ℕ). take to out ++ (v ++ joined l′)) (sym (o ∙ ap (λ (v : ℕ). pieceOut ws v w) list-is)) ∙ t;
           }
 
--- ---- both lists of a relation
+  module _ {i start to : ℕ} {out : List ℕ} (s : Writing i start to out) (h : i < length lists) {end : ℕ} (e : end ≡ getD places (i + 1) (length work)) where
+    abbrev F : Facing i start to out
+    F = face s h
 
-room-first : {out : List ℕ} {to : ℕ} (a b : List ℕ) → Room out to (a ++ b) → Room out to a
-room-first a b r = record { fits = omega (arith, r .fits, length-append a b); few = r .few }
+    ends : end ≡ length (F .B ++ F .w)
+    ends =
+        let zero-more : i + 1 + 0 ≡ i + 1 = omega arith in
+        e ∙ ap (λ (x : ℕ). getD places x (length work)) (sym zero-more) ∙ sym (getD-drop (i + 1) places 0 (length work)) ∙ ap (λ (x : List ℕ). getD x 0 (length work)) (F .begins) ∙ begins-here work (F .B ++ F .w) (F .l) (F .stands)
 
-room-then : {out left : List ℕ} {to next : ℕ} (a b : List ℕ) → Room out to (a ++ b) → Put out to a left next → length left ≡ length out → Room left next b
-room-then a b r p l = record { fits = omega (arith, r .fits, p .after, length-append a b); few = omega (arith, r .few) }
+    pub part-within : (start ≤ end) × (end ≤ length work)
+    part-within = (omega (arith, ends, F .starts, length-append (F .B) (F .w)), omega (arith, ends, ap length (F .stands), length-append (F .B ++ F .w) (joined (F .l))))
 
-module _ (ks work : List ℕ) (from start place : ℕ) {count : ℕ} (e : count ≡ kindCount work start) where
-  module _ (z : count ≡ 0 → ⊥) where
-    one-is : putFor ks work from start place ≡ fromTo from place work ++ listWords 21 ks
-    one-is = rw (← e, ne-eqb count 0 z) refl
+    part-is : fromTo start end work ≡ F .w
+    part-is =
+        ap (fromTo start end) (F .stands ∙ append-assoc (F .B) (F .w) (joined (F .l))) ∙ ap (take (end - start)) (drop-at (F .B) (F .w ++ joined (F .l)) start (sym (F .starts)))
+        ∙ take-at (F .w) (joined (F .l)) (end - start) (omega (arith, ends, F .starts, length-append (F .B) (F .w)))
 
-    pub one-room : {out : List ℕ} {to : ℕ} → Room out to (putFor ks work from start place) → Room out to (fromTo from place work ++ listWords 21 ks)
-    one-room r = rw one-is at r
-
-    pub one-put : {out left : List ℕ} {to next : ℕ} → Put out to (fromTo from place work ++ listWords 21 ks) left next → Put out to (putFor ks work from start place) left next
-    one-put p = rw one-is p
-
-  module _ (z : count ≡ 0) where
-    abbrev a : List ℕ
-    a = fromTo from (start + 3) work ++ listWords 9 ks
-
-    abbrev b : List ℕ
-    b = fromTo (start + 4) place work ++ listWords 21 ks
-
-    both-are : putFor ks work from start place ≡ a ++ b
-    both-are = rw (← e, z) (sym (append-assoc (fromTo from (start + 3) work) (listWords 9 ks) b))
-
-    module _ {out : List ℕ} {to : ℕ} (r : Room out to (putFor ks work from start place)) where
-      pub first-room : Room out to a
-      first-room = room-first a b (rw both-are at r)
-
-      pub then-room : {left : List ℕ} {next : ℕ} → Put out to a left next → length left ≡ length out → Room left next b
-      then-room p l = room-then a b (rw both-are at r) p l
-
-    pub both-put : {out left last : List ℕ} {to next end : ℕ} → Put out to a left next → Put left next b last end → Put out to (putFor ks work from start place) last end
-    both-put p q = rw both-are (put-then p q)
-
--- ---- what is left to write
-
-module _ (work whole : List ℕ) where
-  -- `B` of the words are passed, of which those up to `from` are written, up to `to`; `T` are to come and become `T′`
-  pub record At (B T T′ : List ℕ) (from to : ℕ) (out : List ℕ) : Type 0 where
-    pub stands : work ≡ B ++ T
-    pub behind : from ≤ length B
-    pub room : to ≤ length out
-    pub size : length out ≡ length whole
-    pub todo : take to out ++ (drop from B ++ T′) ≡ whole
-
-  module _ (B X T T′ : List ℕ) {from to : ℕ} {out : List ℕ} where
-    -- words that stay
-    pub at-on : At B (X ++ T) (X ++ T′) from to out → At (B ++ X) T T′ from to out
-    at-on s =
-        record {
-          stands = s .stands ∙ sym (append-assoc B X T);
-          behind = omega (arith, s .behind, length-append B X);
-          room = s .room;
-          size = s .size;
-          todo = ap (λ (l : List ℕ). take to out ++ (l ++ T′)) (drop-append-le from B X (s .behind)) ∙ ap (λ (l : List ℕ). take to out ++ l) (append-assoc (drop from B) X T′) ∙ s .todo;
-        }
-
-  -- words in place of others
-  module _ (B X X′ T T′ : List ℕ) {more : List ℕ} {from to : ℕ} {out : List ℕ} (s : At B (X ++ T) (X′ ++ T′) from to out) (e : drop from B ++ X′ ≡ more) where
-    whole-is : (take to out ++ more) ++ T′ ≡ whole
-    whole-is = append-assoc (take to out) more T′ ∙ ap (λ (l : List ℕ). take to out ++ (l ++ T′)) (sym e) ∙ ap (λ (l : List ℕ). take to out ++ l) (append-assoc (drop from B) X′ T′) ∙ s .todo
+    abbrev more : List ℕ
+    more = pieceOut ws (getD lists i 0) (F .w)
 
     fits : to + length more ≤ length out
-    fits = omega (arith, s .size, ap length whole-is, length-append (take to out ++ more) T′, length-append (take to out) more, length-take-le to out (s .room))
+    fits = omega (arith, s .size, s .room, ap length (F .todo), length-append (take to out ++ more) (joined (F .l′)), length-append (take to out) more, length-take-le to out (s .room))
 
-    pub at-room : length whole ≤ 8192 → Room out to more
-    at-room few = record { fits = fits; few = omega (arith, s .size) }
+    pub part-asked : length whole ≤ 8192 → Stampable (getD lists i 0) (fromTo start end work) × Room out to (pieceOut ws (getD lists i 0) (fromTo start end work))
+    part-asked few = rw part-is (F .fits, record { fits = fits; few = omega (arith, s .size) })
 
-    pub at-put : {next after : ℕ} {left : List ℕ} → Put out to more left next → length left ≡ length out → length (B ++ X) ≡ after → At (B ++ X) T T′ after next left
-    at-put {next} {after} {left} p l h =
+    pub part-put : {next : ℕ} {left : List ℕ} → Put out to (pieceOut ws (getD lists i 0) (fromTo start end work)) left next → length left ≡ length out → Writing (i + 1) end next left
+    part-put {next} {left} p same =
+        let q : Put out to more left next = rw part-is at p in
         record {
-          stands = s .stands ∙ sym (append-assoc B X T);
-          behind = omega arith;
-          room = omega (arith, p .after, fits);
-          size = l ∙ s .size;
-          todo = ap (λ (v : List ℕ). take next left ++ (v ++ T′)) (drop-of-length-le (B ++ X) {i = after} (omega arith)) ∙ ap (λ (v : List ℕ). v ++ T′) (p .holds) ∙ whole-is;
+          B = F .B ++ F .w;
+          l = F .l;
+          l′ = F .l′;
+          its = F .its;
+          stands = F .stands;
+          starts = ends;
+          begins = F .begins;
+          listed = F .listed;
+          comes = F .comes;
+          size = same ∙ s .size;
+          room = omega (arith, q .after, fits);
+          todo = ap (λ (v : List ℕ). v ++ joined (F .l′)) (q .holds) ∙ F .todo;
         }
 
-  -- the rest in one go
-  module _ {B T : List ℕ} {from to : ℕ} {out : List ℕ} (s : At B T T from to out) where
-    rest-is : drop from work ≡ drop from B ++ T
-    rest-is = ap (drop from) (s .stands) ∙ drop-append-le from B T (s .behind)
-
-    pub at-rest : length out - to ≡ length work - from
-    at-rest = omega (arith, s .size, ap length (s .todo), length-append (take to out) (drop from B ++ T), length-take-le to out (s .room), ap length rest-is, length-drop from work)
-
-    pub at-within : from ≤ length work
-    at-within = omega (arith, s .behind, ap length (s .stands), length-append B T)
-
-    rest-all : midOf from (length work - from) work ≡ drop from work
-    rest-all = let e = length-drop from work in sym (append-nil (midOf from (length work - from) work)) ∙ go (drop from work) (length work - from) e
-      where
-        go : (l : List ℕ) (k : ℕ) → length l ≡ k → take k l ++ [] ≡ l
-        go l k e = ap (λ (v : List ℕ). take k v ++ []) (sym (append-nil l)) ∙ ap (λ (v : List ℕ). v ++ []) (take-at l [] k e) ∙ append-nil l
-
-    pub at-end : {copied : List ℕ} → copied ≡ midOf from (length work - from) work → putMid to (length out - to) out copied ≡ whole
-    at-end {copied} c =
-        let none-left : postOf to (length out - to) out ≡ [] = drop-of-length-le (drop to out) {i = length out - to} (omega (arith, length-drop to out)) in
-        ap (λ (l : List ℕ). take to out ++ (copied ++ l)) none-left ∙ ap (λ (l : List ℕ). take to out ++ l) (append-nil copied ∙ c ∙ rest-all ∙ rest-is) ∙ s .todo
+  -- no piece is left
+  pub all-put : {i start to : ℕ} {out : List ℕ} → Writing i start to out → length lists ≤ i → out ≡ whole
+  all-put {i} {to = to} {out} s h = go (s .comes) (sym (drop-of-length-le lists h) ∙ s .listed) (s .todo)
+    where
+      go : {its : List ℕ} {l l′ : List (List ℕ)} → Pieces ws its l l′ → [] ≡ its → take to out ++ joined l′ ≡ whole → out ≡ whole
+      go no-piece q t =
+          let r : take to out ≡ whole = sym (append-nil (take to out)) ∙ t in
+          let n : length (take to out) ≡ to = length-take-le to out (s .room) in
+          sym (take-all to out (omega (arith, s .size, ap length r))) ∙ r
+      go (piece f o more) q t = let z : _≡_ {A = ℕ} 0 1 = cc in absurd (omega arith)

@@ -1,32 +1,30 @@
 -- What is written of a pack's words are the words of the pack with its relations stamped.
 use Prim.Native.Nat.{ℕ, suc, _+_, _-_, _*_, _<_, _≤_}
 use native.Mathlib.Omega.{arith}
-use native.Mathlib.Numerals.{add-one}
 use mathlib.Core.Path.{_≡_, refl, ap, sym, _∙_, subst}
-use mathlib.Core.List.{List, [], _∷_, _++_, append-assoc}
+use mathlib.Core.List.{List, [], _∷_, _++_, map, append-assoc, append-nil}
 use mathlib.Core.Bool.{Bool}
 use mathlib.Core.Option.{some}
-use lib.ListN.{length, getD, take, drop, set, length-append, length-map, length-drop, length-set, drop-of-length-le}
-use lib.Seq.{drop-cons, take-at, drop-at, drop-append-le, take-suc-set}
+use lib.ListN.{length, take, drop, set, replicate, length-append, length-map, length-drop, length-set}
+use lib.Seq.{take-at, drop-at, drop-append-le}
 use lib.Dec.{eqb}
 use borrow.Author.Tests.{ne-eqb}
-use borrow.Rule.Slice.PartMut.{midOf, putMid}
 use Rattle.pack.specs.Table.{pick, wordOf}
-use Rattle.pack.specs.Form.{among, count, items, wordsBy, Fine}
-use Rattle.pack.specs.Pack.{Derivation, Relation, Pack, newName, nameList, relationTail, relation, defaulted, total, words}
+use Rattle.pack.specs.Form.{among, count, items, wordsAll, wordsBy, Fine}
+use Rattle.pack.specs.Pack.{Derivation, Relation, Block, Pack, newName, nameList, relationTail, relation, defaulted, block, blocks, total, words}
 use Rattle.pack.proofs.PackLaws.{words-length}
 use Rattle.chains.specs.Places.{namesAt, relationWords}
 use Rattle.chains.proofs.ListAt.{nameWords, list-words, early, late, option-words, InWords}
 use Rattle.chains.proofs.RelationScan.{RelationsFine}
 use Rattle.chains.proofs.PackIndex.{parts}
-use Rattle.directions.specs.Resolving.{orKinds, withEntities, stampedWith}
+use Rattle.directions.specs.Resolving.{ruleWords, orKinds, withEntities, stampedWith}
 use Rattle.chains.specs.Record.{kindCount, slotsPlace}
-use Rattle.stamping.specs.Stamping.{StampedBy, as-it-is, with-kinds, namesOr, addedFor, addedBy}
-use Rattle.resolve.specs.Writing.{Stamped, no-more, one-more, withRelations, fromTo, listWords, putFor, Put, Room, WriteAsked}
+use Rattle.stamping.specs.Stamping.{StampedBy, as-it-is, with-kinds, addedFor, addedBy}
+use Rattle.resolve.specs.Writing.{Stamped, no-more, one-more, withRelations, joined, frontPiece, blockPiece, otherPieces, piecesOf, fromTo, listWords, putFor, Stampable, WriteAsked}
 use Rattle.directions.specs.Records.{placesFrom, wordsOf}
 use Rattle.chains.proofs.RecordLaws.{counted, before-slots, four, four-length}
-use Rattle.resolve.proofs.WriteLaws.{At, at-on, at-room, at-put, at-rest, at-within, at-end}
-use Rattle.directions.proofs.TurnedPack.{front, front-long, pack-words, opened, rulesOn}
+use Rattle.resolve.proofs.WriteLaws.{piece-stays, piece-stamped, Pieces, no-piece, piece, Writing}
+use Rattle.directions.proofs.TurnedPack.{opened, pack-words, rulesOn}
 
 -- ---- a derived relation: the words up to list 21, by its list 9
 
@@ -46,112 +44,90 @@ derived-words n r d e = rw (list-words n (r .slotKinds), option-words n (r .deri
 up-to : (work P Q : List ℕ) (from to : ℕ) → work ≡ P ++ Q → length P ≡ to → from ≤ to → fromTo from to work ≡ drop from P
 up-to work P Q from to e l h = ap (fromTo from to) e ∙ ap (take (to - from)) (drop-append-le from P Q (omega arith)) ∙ take-at (drop from P) Q (to - from) (length-drop from P ∙ omega arith)
 
-glue : (a b c d e : List ℕ) → a ++ ((b ++ (c ++ d)) ++ e) ≡ (a ++ b) ++ (c ++ (d ++ e))
+glue : (a b c d e : List ℕ) → (a ++ (b ++ c)) ++ (d ++ e) ≡ ((a ++ b) ++ (c ++ d)) ++ e
 glue a b c d e = simp append-assoc
 
-module _ (work : List ℕ) (n : ℕ) (r : Relation) (B T : List ℕ) (stands : work ≡ B ++ (relationWords n r ++ T)) (used : ℕ → Bool) (fine : Fine (relation n used) r) (most : n ≤ 4096)
-    (d : Derivation) (e : r .derivation ≡ some d) (z : d .slotEntities ≡ []) (ks : List ℕ) where
-  i : InWords work (length B) n r
-  i = record { before = B; after = T; long = refl; same-words = stands; used = used; fine = fine }
+module _ (n : ℕ) (r : Relation) (used : ℕ → Bool) (fine : Fine (relation n used) r) (most : n ≤ 4096) (d : Derivation) (e : r .derivation ≡ some d) (z : d .slotEntities ≡ []) (ks : List ℕ) where
+  W : List ℕ
+  W = relationWords n r
+
+  i : InWords W 0 n r
+  unfolding W
+  i = record { before = []; after = []; long = refl; same-words = sym (append-nil W); used = used; fine = fine }
 
   abbrev L : List ℕ
   L = lead n r d (r .slotKinds)
 
-  abbrev M : List ℕ
-  M = wordOf 21 0 ∷ late n d
-
-  its-words : relationWords n r ≡ L ++ M
+  its-words : W ≡ L ++ (wordOf 21 0 ∷ late n d)
+  unfolding W
   its-words = derived-words n r d e ∙ ap (λ (l : List ℕ). L ++ (listWords 21 l ++ late n d)) z
 
   its-stamped : relationWords n (stampedWith r d ks) ≡ lead n r d (orKinds (r .slotKinds) ks) ++ (listWords 21 ks ++ late n d)
   its-stamped = derived-words n (stampedWith r d ks) (withEntities d ks) refl
 
-  lead-there : length (B ++ L) ≡ slotsPlace work (length B) + 4
+  abbrev place : ℕ
+  place = slotsPlace W 0 + 4
+
+  place-is : length L ≡ place
   unfolding i
-  lead-there = ap length same ∙ four-length work (length B) n r i most d e
+  place-is = ap length same ∙ four-length W 0 n r i most d e
     where
-      same : B ++ L ≡ before-slots work (length B) n r i most d e ++ four work (length B) n r i most d e
+      same : L ≡ before-slots W 0 n r i most d e ++ four W 0 n r i most d e
       same = sym (simp append-assoc)
 
-  lead-stands : work ≡ (B ++ L) ++ (M ++ T)
-  lead-stands = stands ∙ ap (λ (l : List ℕ). B ++ (l ++ T)) its-words ∙ ap (λ (l : List ℕ). B ++ l) (append-assoc L M T) ∙ sym (append-assoc B L (M ++ T))
+  long : length W ≡ place + 1 + length (late n d)
+  long = ap length its-words ∙ length-append L (wordOf 21 0 ∷ late n d) ∙ omega (arith, place-is)
 
-  module _ {from place : ℕ} (h : from ≤ length B) (p : place ≡ slotsPlace work (length B) + 4) where
-    put-whole : fromTo from place work ≡ drop from B ++ L
-    put-whole = up-to work (B ++ L) (M ++ T) from place lead-stands (omega (arith, lead-there)) (omega (arith, lead-there, length-append B L)) ∙ drop-append-le from B L h
+  up-to-place : (from : ℕ) → from ≤ place → fromTo from place W ≡ drop from L
+  up-to-place from h = up-to W L (wordOf 21 0 ∷ late n d) from place its-words place-is h
 
-    kinds-are : kindCount work (length B) ≡ length (r .slotKinds)
-    kinds-are = counted work (length B) n r i most
+  from-place : fromTo (place + 1) (length W) W ≡ late n d
+  from-place =
+      let one : List ℕ = wordOf 21 0 ∷ [] in
+      up-to W W [] (place + 1) (length W) (sym (append-nil W)) refl (omega (arith, long)) ∙ ap (drop (place + 1)) (its-words ∙ sym (append-assoc L one (late n d)))
+      ∙ drop-at (L ++ one) (late n d) (place + 1) (length-append L one ∙ omega (arith, place-is))
 
-    put-both : r .slotKinds ≡ [] → drop from B ++ (lead n r d (orKinds (r .slotKinds) ks) ++ listWords 21 ks) ≡ putFor ks work from (length B) place
-    put-both k =
-        let nine : List ℕ = wordOf 9 0 ∷ [] in
-        let Y : List ℕ = wordOf 11 1 ∷ early n d in
-        let L-is : L ≡ three r ++ (nine ++ Y) = ap (lead n r d) k in
-        let count-is : kindCount work (length B) ≡ 0 = kinds-are ∙ ap length k in
-        let all : work ≡ (B ++ (three r ++ (nine ++ Y))) ++ (M ++ T) = lead-stands ∙ ap (λ (l : List ℕ). (B ++ l) ++ (M ++ T)) L-is in
-        let long : length (B ++ (three r ++ (nine ++ Y))) ≡ place = ap (λ (l : List ℕ). length (B ++ l)) (sym L-is) ∙ lead-there ∙ sym p in
-        let a : fromTo from (length B + 3) work ≡ drop from B ++ three r =
-        up-to work (B ++ three r) ((nine ++ Y) ++ (M ++ T)) from (length B + 3) (all ∙ simp append-assoc) (length-append B (three r) ∙ omega arith) (omega arith) ∙ drop-append-le from B (three r) h in
-        let front-is : B ++ (three r ++ (nine ++ Y)) ≡ (B ++ (three r ++ nine)) ++ Y = sym (simp append-assoc) in
-        let four-long : length (B ++ (three r ++ nine)) ≡ length B + 4 = length-append B (three r ++ nine) ∙ omega arith in
-        let b : fromTo (length B + 4) place work ≡ Y =
-        up-to work (B ++ (three r ++ (nine ++ Y))) (M ++ T) (length B + 4) place all long (omega (arith, long, length-append B (three r ++ (nine ++ Y)))) ∙ ap (drop (length B + 4)) front-is ∙ drop-at (B ++ (three r ++ nine)) Y (length B + 4) four-long in
-        rw (count-is, k, a, b) (glue (drop from B) (three r) (listWords 9 ks) Y (listWords 21 ks))
+  piece-is : relationWords n (stampedWith r d ks) ≡ putFor ks W place ++ fromTo (place + 1) (length W) W
+  piece-is = its-stamped ∙ go (r .slotKinds) refl
+    where
+      kinds-are : kindCount W 0 ≡ length (r .slotKinds)
+      kinds-are = counted W 0 n r i most
 
-    put-one : (length (r .slotKinds) ≡ 0 → ⊥) → orKinds (r .slotKinds) ks ≡ r .slotKinds → drop from B ++ (lead n r d (orKinds (r .slotKinds) ks) ++ listWords 21 ks) ≡ putFor ks work from (length B) place
-    put-one k s = rw (kinds-are, ne-eqb (length (r .slotKinds)) 0 k, put-whole, s) (sym (append-assoc (drop from B) L (listWords 21 ks)))
+      go : (l : List ℕ) → r .slotKinds ≡ l → lead n r d (orKinds (r .slotKinds) ks) ++ (listWords 21 ks ++ late n d) ≡ putFor ks W place ++ fromTo (place + 1) (length W) W
+      go [] k =
+          let Y : List ℕ = wordOf 11 1 ∷ early n d in
+          let a : fromTo 0 3 W ≡ three r = ap (fromTo 0 3) its-words in
+          let b : fromTo 4 place W ≡ Y = up-to-place 4 (omega arith) ∙ ap (λ (l : List ℕ). drop 4 (lead n r d l)) k in
+          let none : kindCount W 0 ≡ 0 = kinds-are ∙ ap length k in
+          ap (λ (v : List ℕ). lead n r d (orKinds v ks) ++ (listWords 21 ks ++ late n d)) k ∙ rw (none, a, b, from-place) (glue (three r) (listWords 9 ks) Y (listWords 21 ks) (late n d))
+      go (x ∷ l) k =
+          rw (kinds-are, ne-eqb (length (r .slotKinds)) 0 (λ q. omega (arith, ap length k)), up-to-place 0 (omega arith), from-place)
+          (ap (λ (v : List ℕ). lead n r d (orKinds v ks) ++ (listWords 21 ks ++ late n d)) k ∙ ap (λ (v : List ℕ). lead n r d v ++ (listWords 21 ks ++ late n d)) (sym k) ∙ sym (append-assoc L (listWords 21 ks) (late n d)))
 
-    put-is : drop from B ++ (lead n r d (orKinds (r .slotKinds) ks) ++ listWords 21 ks) ≡ putFor ks work from (length B) place
-    put-is = go (r .slotKinds) refl
-      where
-        go : (l : List ℕ) → r .slotKinds ≡ l → drop from B ++ (lead n r d (orKinds (r .slotKinds) ks) ++ listWords 21 ks) ≡ putFor ks work from (length B) place
-        go [] k = put-both k
-        go (x ∷ l) k = put-one (λ q. omega (arith, ap length k)) (rw k refl)
+  piece-fits : place < length W
+  piece-fits = omega (arith, long)
 
   -- how many words more
-  stamped-long : (list : ℕ) (ws : List ℕ) → namesAt ws list ≡ some ks → length (relationWords n (stampedWith r d ks)) ≡ length (relationWords n r) + addedFor ws work list (length B)
-  unfolding addedFor
-  stamped-long list ws q =
-      let a = ap length its-words ∙ length-append L M in
+  stamped-long : {count : ℕ} → count ≡ length (r .slotKinds) → length (relationWords n (stampedWith r d ks)) ≡ length (relationWords n r) + length ks * pick (eqb count 0) 2 1
+  unfolding W
+  stamped-long {count} c =
       let b = ap length its-stamped ∙ length-append (lead n r d (orKinds (r .slotKinds) ks)) (listWords 21 ks ++ late n d) in
-      let c = length-append (listWords 21 ks) (late n d) in
-      let m = length-map ks (wordOf 10) in
-      rw q (go (r .slotKinds) refl a b c m)
+      let m = length-append (listWords 21 ks) (late n d) in
+      go (r .slotKinds) refl b
     where
       size : (l : List ℕ) → length (lead n r d l) ≡ 5 + length l + length (early n d)
       size l = omega (arith, length-append (nameWords l) (wordOf 11 1 ∷ early n d), length-map l (wordOf 10))
 
-      go : (l : List ℕ) → r .slotKinds ≡ l → length (relationWords n r) ≡ length L + length M → length (relationWords n (stampedWith r d ks)) ≡ length (lead n r d (orKinds (r .slotKinds) ks)) + length (listWords 21 ks ++ late n d)
-          → length (listWords 21 ks ++ late n d) ≡ length (listWords 21 ks) + length (late n d) → length (nameWords ks) ≡ length ks
-          → length (relationWords n (stampedWith r d ks)) ≡ length (relationWords n r) + length ks * pick (eqb (kindCount work (length B)) 0) 2 1
-      go [] k a b c m =
+      go : (l : List ℕ) → r .slotKinds ≡ l → length (relationWords n (stampedWith r d ks)) ≡ length (lead n r d (orKinds (r .slotKinds) ks)) + length (listWords 21 ks ++ late n d)
+          → length (relationWords n (stampedWith r d ks)) ≡ length W + length ks * pick (eqb count 0) 2 1
+      go [] k b =
           let x : length (lead n r d (orKinds (r .slotKinds) ks)) ≡ 5 + length ks + length (early n d) = ap (λ (l : List ℕ). length (lead n r d (orKinds l ks))) k ∙ size ks in
           let y : length L ≡ 5 + 0 + length (early n d) = ap (λ (l : List ℕ). length (lead n r d l)) k ∙ size [] in
-          let count-is : kindCount work (length B) ≡ 0 = counted work (length B) n r i most ∙ ap length k in
-          rw count-is (omega arith)
-      go (j ∷ l) k a b c m =
+          let zero-is : count ≡ 0 = c ∙ ap length k in
+          rw zero-is (omega (arith, long, place-is, length-append (listWords 21 ks) (late n d), length-map ks (wordOf 10)))
+      go (j ∷ l) k b =
           let x : length (lead n r d (orKinds (r .slotKinds) ks)) ≡ length L = ap (λ (v : List ℕ). length (lead n r d (orKinds v ks))) k ∙ ap (λ (v : List ℕ). length (lead n r d v)) (sym k) in
-          let count-is : kindCount work (length B) ≡ length (j ∷ l) = counted work (length B) n r i most ∙ ap length k in
-          rw (count-is, ne-eqb (length (j ∷ l)) 0 (λ q. omega arith)) (omega arith)
-
--- ---- by the list
-
-unstamped-same : {ws : List ℕ} {list : ℕ} {r r′ : Relation} → StampedBy ws list r r′ → list ≡ 0 → r′ ≡ r
-unstamped-same (as-it-is e) z = refl
-unstamped-same (with-kinds d ks pos q o s) z = absurd (omega arith)
-
-record On (ws : List ℕ) (list : ℕ) (r r′ : Relation) : Type 0 where
-  d : Derivation
-  ks : List ℕ
-  names : namesAt ws list ≡ some ks
-  derived : r .derivation ≡ some d
-  none-21 : d .slotEntities ≡ []
-  same : r′ ≡ stampedWith r d ks
-
-stamped-on : {ws : List ℕ} {list : ℕ} {r r′ : Relation} → StampedBy ws list r r′ → (list ≡ 0 → ⊥) → On ws list r r′
-stamped-on (as-it-is e) z = absurd (z e)
-stamped-on (with-kinds d ks pos q o s) z = record { d = d; ks = ks; names = q; derived = o; none-21 = s; same = refl }
+          rw (ne-eqb count 0 (λ q. omega (arith, c, ap length k))) (omega (arith, long, place-is, length-append (listWords 21 ks) (late n d), length-map ks (wordOf 10)))
 
 -- ---- how many words more all relations have
 
@@ -160,7 +136,8 @@ module _ (ws work : List ℕ) (n : ℕ) (most : n ≤ 4096) (after : List ℕ) w
       → length (relationWords n r′) ≡ length (relationWords n r) + addedFor ws work list (length B)
   unfolding addedFor namesAt
   one-longer B T r r′ used fine stands (as-it-is e) = rw e (omega arith)
-  one-longer B T r r′ used fine stands {list} (with-kinds d ks pos q o z) = stamped-long work n r B T stands used fine most d o z ks list ws q
+  one-longer B T r r′ used fine stands {list} (with-kinds d ks pos q o z) =
+      rw q (stamped-long n r used fine most d o z ks (counted work (length B) n r (record { before = B; after = T; long = refl; same-words = stands; used = used; fine = fine }) most))
 
   pub longer : (B : List ℕ) (used : List ℕ) {lists : List ℕ} {rs rs′ : List Relation} → RelationsFine n used rs → Stamped ws lists rs rs′ → work ≡ B ++ (wordsOf (relationWords n) rs ++ after)
       → length (wordsOf (relationWords n) rs′) ≡ length (wordsOf (relationWords n) rs) + addedBy ws work (placesFrom n (length B) rs) lists
@@ -175,230 +152,111 @@ module _ (ws work : List ℕ) (n : ℕ) (most : n ≤ 4096) (after : List ℕ) w
       ∙ ap (λ (x : ℕ). length (wordsOf (relationWords n) rs) + addedBy ws work (placesFrom n x rs) lists) long in
       length-append (relationWords n r′) (wordsOf (relationWords n) rs′) ∙ omega (arith, here, later, length-append (relationWords n r) (wordsOf (relationWords n) rs))
 
--- ---- all of them, for the code
+-- ---- pieces
 
-module _ {ws order lists work : List ℕ} {room : ℕ} (a : WriteAsked ws order lists work room) where
+joined-append : (a b : List (List ℕ)) → joined (a ++ b) ≡ joined a ++ joined b
+joined-append [] b = refl
+joined-append (w ∷ a) b = ap (λ (l : List ℕ). w ++ l) (joined-append a b) ∙ sym (append-assoc w (joined a) (joined b))
+
+pub joined-map : {A : Type 0} (W : A → List ℕ) (l : List A) → joined (map W l) ≡ wordsOf W l
+joined-map W [] = refl
+joined-map W (a ∷ l) = ap (λ (x : List ℕ). W a ++ x) (joined-map W l)
+
+-- with no lists they stay
+stays : (ws w : List ℕ) {lists : List ℕ} {l l′ : List (List ℕ)} → Pieces ws lists l l′ → Pieces ws (0 ∷ lists) (w ∷ l) (w ∷ l′)
+unfolding Stampable
+stays ws w more = piece (λ z. absurd (z refl)) (sym (piece-stays ws w refl)) more
+
+all-stay : (ws : List ℕ) (l : List (List ℕ)) → Pieces ws (replicate (length l) 0) l l
+all-stay ws [] = no-piece
+all-stay ws (w ∷ l) = stays ws w (all-stay ws l)
+
+module _ (ws : List ℕ) (n : ℕ) (most : n ≤ 4096) where
+  relation-piece : (r r′ : Relation) (used : ℕ → Bool) → Fine (relation n used) r → {list : ℕ} → StampedBy ws list r r′ → {lists : List ℕ} {l l′ : List (List ℕ)} → Pieces ws lists l l′ → Pieces ws (list ∷ lists) (relationWords n r ∷ l) (relationWords n r′ ∷ l′)
+  unfolding Stampable W
+  relation-piece r r′ used fine (as-it-is e) more = piece (λ z. absurd (z e)) (sym (piece-stays ws (relationWords n r) e)) more
+  relation-piece r r′ used fine {list} (with-kinds d ks pos q o z) more =
+      let on : list ≡ 0 → ⊥ = λ y. omega arith in
+      piece (λ y. piece-fits n r used fine most d o z ks) (piece-is n r used fine most d o z ks ∙ sym (piece-stamped ws (relationWords n r) on refl ∙ rw q refl)) more
+
+  relation-pieces : (used : List ℕ) {its : List ℕ} {rs rs′ : List Relation} → RelationsFine n used rs → Stamped ws its rs rs′ → {lists : List ℕ} {l l′ : List (List ℕ)} → Pieces ws lists l l′
+      → Pieces ws (its ++ lists) (map (relationWords n) rs ++ l) (map (relationWords n) rs′ ++ l′)
+  relation-pieces used f no-more rest = rest
+  relation-pieces used {rs = r ∷ rs} {rs′ = r′ ∷ rs′} f (one-more s more) rest = relation-piece r r′ (λ v. among v used) (f .0) s (relation-pieces (r .name ∷ used) (f .1) more rest)
+
+-- of a pack
+pub blocks-joined : (n : ℕ) (bs : List Block) → wordOf 28 (length bs) ∷ joined (map (blockPiece n) bs) ≡ wordsBy (blocks n) bs
+unfolding blocks wordsBy count items
+blocks-joined n bs = ap (λ (l : List ℕ). wordOf 28 (length bs) ∷ l) (go bs)
+  where
+    go : (bs : List Block) → joined (map (blockPiece n) bs) ≡ wordsAll {S = Unit {0}} (λ u a. u) (λ u a. wordsBy (block n) a) tt bs
+    go [] = refl
+    go (b ∷ bs) = ap (λ (l : List ℕ). blockPiece n b ++ l) (go bs)
+
+others-joined : (p : Pack) → joined (otherPieces p) ≡ wordOf 22 (length (p .rules)) ∷ rulesOn p
+unfolding otherPieces
+others-joined p =
+    let n : ℕ = p .names in
+    let B : List ℕ = wordOf 28 (length (p .blocks)) ∷ joined (map (blockPiece n) (p .blocks)) in
+    ap (λ (l : List ℕ). wordOf 22 (length (p .rules)) ∷ l)
+    (joined-append (map (ruleWords n) (p .rules)) _ ∙ ap (λ (l : List ℕ). l ++ B) (joined-map (ruleWords n) (p .rules)) ∙ ap (λ (l : List ℕ). wordsOf (ruleWords n) (p .rules) ++ l) (blocks-joined n (p .blocks)))
+
+pub pieces-joined : (p : Pack) (rs : List Relation) → joined (map (relationWords (p .names)) rs ++ otherPieces p) ≡ wordsOf (relationWords (p .names)) rs ++ (wordOf 22 (length (p .rules)) ∷ rulesOn p)
+pieces-joined p rs =
+    joined-append (map (relationWords (p .names)) rs) (otherPieces p) ∙ ap (λ (x : List ℕ). x ++ joined (otherPieces p)) (joined-map (relationWords (p .names)) rs)
+    ∙ ap (λ (x : List ℕ). wordsOf (relationWords (p .names)) rs ++ x) (others-joined p)
+
+-- ---- for the code
+
+module _ {ws places lists work : List ℕ} {room : ℕ} (a : WriteAsked ws places lists work room) where
   abbrev q : Pack
   q = a .whole
 
-  abbrev n : ℕ
-  n = q .names
-
-  abbrev W : Relation → List ℕ
-  W r = relationWords n r
+  abbrev q′ : Pack
+  q′ = withRelations q (a .stamped)
 
   abbrev after : List ℕ
   after = wordOf 22 (length (q .rules)) ∷ rulesOn q
 
-  abbrev result : List ℕ
-  result = words (withRelations q (a .stamped))
-
-  most : n ≤ 4096
-  most = parts q (a .fine) .most
-
-  -- so many relations are written or passed
-  pub record Writing (i from to : ℕ) (out : List ℕ) : Type 0 where
-    pub rest : List Relation
-    pub rest′ : List Relation
-    pub before : List ℕ
-    pub used : List ℕ
-    pub its : List ℕ
-    pub left : At work result before (wordsOf W rest ++ after) (wordsOf W rest′ ++ after) from to out
-    pub fine : RelationsFine n used rest
-    pub places : drop i order ≡ placesFrom n (length before) rest
-    pub listed : drop i lists ≡ its
-    pub stamps : Stamped ws its rest rest′
+  -- the pieces come out as those of the pack with its relations stamped, but for the total
+  abbrev pub come : List (List ℕ)
+  come = frontPiece q ∷ (map (relationWords (q .names)) (a .stamped) ++ otherPieces q)
 
   same-many : {ls : List ℕ} {rs rs′ : List Relation} → Stamped ws ls rs rs′ → length rs ≡ length rs′
   same-many no-more = refl
   same-many (one-more s more) = ap suc (same-many more)
 
-  pub not-empty : {l : ℕ} → l ≡ room → 0 < l
-  not-empty e = omega (arith, a .size, ap length (pack-words (withRelations q (a .stamped))), length-append (front (withRelations q (a .stamped))) (wordsOf W (a .stamped) ++ after))
+  total-set : {v : ℕ} → v ≡ wordOf 1 room → set (joined come) 0 v ≡ words q′
+  total-set {v} e =
+      let rest : List ℕ = wordsOf (relationWords (q .names)) (a .stamped) ++ after in
+      ap (λ (x : List ℕ). v ∷ (opened q ++ x)) (pieces-joined q (a .stamped)) ∙ ap (λ (x : ℕ). x ∷ (opened q ++ rest)) (e ∙ ap (wordOf 1) (a .size ∙ words-length q′))
+      ∙ ap (λ (k : ℕ). wordOf 1 (total q′) ∷ ((wordOf 2 (q .names) ∷ (wordsBy (defaulted (q .names)) (q .defaulted) ++ (wordOf 5 k ∷ []))) ++ rest)) (same-many (a .stamps)) ∙ sym (pack-words q′)
 
-  pub writing-begin : (out : List ℕ) → length out ≡ room → Writing 0 1 1 (set out 0 (wordOf 1 (length out)))
+  pub come-long : length (joined come) ≡ room
+  come-long = sym (length-set (joined come) 0 (wordOf 1 room)) ∙ ap length (total-set refl) ∙ sym (a .size)
+
+  pub come-few : length (joined come) ≤ 8192
+  come-few = omega (arith, come-long, a .few)
+
+  pub writing-begin : (out : List ℕ) → length out ≡ room → Writing ws work places lists (joined come) 0 0 0 out
   writing-begin out l =
-      let v : ℕ = wordOf 1 (length out) in
-      let p′ : Pack = withRelations q (a .stamped) in
-      let total-is : length out ≡ total p′ = l ∙ a .size ∙ words-length p′ in
-      let five : List ℕ = drop 1 (front q) in
-      let same : drop 1 (front p′) ≡ five = ap (λ (k : ℕ). wordOf 2 n ∷ (wordsBy (defaulted n) (q .defaulted) ++ (wordOf 5 k ∷ []))) (sym (same-many (a .stamps))) in
-      let first : take 1 (set out 0 v) ≡ v ∷ [] = take-suc-set out 0 v (not-empty l) in
       record {
-        rest = q .relations;
-        rest′ = a .stamped;
-        before = front q;
-        used = [];
+        B = [];
+        l = piecesOf q;
+        l′ = come;
         its = lists;
-        left = record {
-          stands = a .stands ∙ pack-words q;
-          behind = omega arith;
-          room = simp length-set (not-empty l);
-          size = length-set out 0 v ∙ l ∙ a .size;
-          todo = ap (λ (x : List ℕ). x ++ (five ++ (wordsOf W (a .stamped) ++ after))) first ∙ ap (λ (x : ℕ). wordOf 1 x ∷ (five ++ (wordsOf W (a .stamped) ++ after))) total-is
-              ∙ ap (λ (x : List ℕ). wordOf 1 (total p′) ∷ (x ++ (wordsOf W (a .stamped) ++ after))) (sym same) ∙ sym (pack-words p′);
-        };
-        fine = parts q (a .fine) .relations-fine;
-        places = a .places ∙ ap (λ (x : ℕ). placesFrom n x (q .relations)) (sym (front-long q));
+        stands = a .stands ∙ pack-words q ∙ ap (λ (x : List ℕ). frontPiece q ++ x) (sym (pieces-joined q (q .relations)));
+        starts = refl;
+        begins = a .begins;
         listed = refl;
-        stamps = a .stamps;
+        comes = subst (λ (x : List ℕ). Pieces ws x (piecesOf q) come) (sym (a .listed)) (stays ws (frontPiece q) (relation-pieces ws (q .names) (parts q (a .fine) .most) [] (parts q (a .fine) .relations-fine) (a .stamps) (all-stay ws (otherPieces q))));
+        size = l ∙ sym come-long;
+        room = omega arith;
+        todo = refl;
       }
 
-  -- the next relation
-  record Facing (i from to : ℕ) (out : List ℕ) : Type 0 where
-    r : Relation
-    r′ : Relation
-    rs : List Relation
-    rs′ : List Relation
-    before : List ℕ
-    used : List ℕ
-    its : List ℕ
-    left : At work result before (W r ++ (wordsOf W rs ++ after)) (W r′ ++ (wordsOf W rs′ ++ after)) from to out
-    fine : RelationsFine n used (r ∷ rs)
-    start : getD order i 0 ≡ length before
-    places : drop (suc i) order ≡ placesFrom n (length before + length (W r)) rs
-    inside : i < length lists
-    by : StampedBy ws (getD lists i 0) r r′
-    listed : drop (suc i) lists ≡ its
-    stamps : Stamped ws its rs rs′
+  pub not-empty : {out : List ℕ} → out ≡ joined come → 0 < length out
+  not-empty e = omega (arith, ap length e)
 
-  face : {i from to : ℕ} {out : List ℕ} → Writing i from to out → i < length order → Facing i from to out
-  unfolding placesFrom
-  face {i} {from} {to} {out} s h = go (s .stamps) (s .left) (s .fine) (s .places) (s .listed)
-    where
-      go : {its : List ℕ} {rest rest′ : List Relation} → Stamped ws its rest rest′ → At work result (s .before) (wordsOf W rest ++ after) (wordsOf W rest′ ++ after) from to out → RelationsFine n (s .used) rest
-          → drop i order ≡ placesFrom n (length (s .before)) rest → drop i lists ≡ its → Facing i from to out
-      go no-more t f p l = let x = drop-cons order i 0 h in let z : _≡_ {A = ℕ} 0 1 = cc in absurd (omega arith)
-      go {rest = r ∷ rs} {rest′ = r′ ∷ rs′} (one-more {list = list} {lists = ls} b more) t f p l =
-          let x = drop-cons order i 0 h in
-          let inside : i < length lists = omega (arith, ap length l, length-drop i lists) in
-          let y = drop-cons lists i 0 inside in
-          let list-is : list ≡ getD lists i 0 = cc in
-          record {
-            r = r;
-            r′ = r′;
-            rs = rs;
-            rs′ = rs′;
-            before = s .before;
-            used = s .used;
-            its = ls;
-            left = rw (append-assoc (W r) (wordsOf W rs) after, append-assoc (W r′) (wordsOf W rs′) after) at t;
-            fine = f;
-            start = cc;
-            places = cc;
-            inside = inside;
-            by = subst (λ (v : ℕ). StampedBy ws v r r′) list-is b;
-            listed = cc;
-            stamps = more;
-          }
-
-  module _ {i from to : ℕ} {out : List ℕ} (s : Writing i from to out) (h : i < length order) where
-    abbrev F : Facing i from to out
-    F = face s h
-
-    pub list-inside : i < length lists
-    list-inside = F .inside
-
-    on-from : {out′ : List ℕ} {from′ to′ : ℕ} → At work result (F .before ++ W (F .r)) (wordsOf W (F .rs) ++ after) (wordsOf W (F .rs′) ++ after) from′ to′ out′ → Writing (i + 1) from′ to′ out′
-    on-from t =
-        record {
-          rest = F .rs;
-          rest′ = F .rs′;
-          before = F .before ++ W (F .r);
-          used = F .r .name ∷ F .used;
-          its = F .its;
-          left = t;
-          fine = F .fine .1;
-          places = rw add-one (F .places ∙ ap (λ (x : ℕ). placesFrom n x (F .rs)) (sym (length-append (F .before) (W (F .r)))));
-          listed = rw add-one (F .listed);
-          stamps = F .stamps;
-        }
-
-    -- is passed
-    pub writing-pass : getD lists i 0 ≡ 0 → Writing (i + 1) from to out
-    writing-pass z =
-        on-from (at-on work result (F .before) (W (F .r)) (wordsOf W (F .rs) ++ after) (wordsOf W (F .rs′) ++ after)
-        (subst (λ (x : Relation). At work result (F .before) (W (F .r) ++ (wordsOf W (F .rs) ++ after)) (W x ++ (wordsOf W (F .rs′) ++ after)) from to out) (unstamped-same (F .by) z) (F .left)))
-
-    -- or stamped
-    module _ (list : getD lists i 0 ≡ 0 → ⊥) where
-      abbrev O : On ws (getD lists i 0) (F .r) (F .r′)
-      O = stamped-on (F .by) list
-
-      abbrev B : List ℕ
-      B = F .before
-
-      abbrev T : List ℕ
-      T = wordsOf W (F .rs) ++ after
-
-      abbrev T′ : List ℕ
-      T′ = wordsOf W (F .rs′) ++ after
-
-      abbrev X : List ℕ
-      X = lead n (F .r) (O .d) (F .r .slotKinds) ++ (wordOf 21 0 ∷ [])
-
-      abbrev X′ : List ℕ
-      X′ = lead n (F .r) (O .d) (orKinds (F .r .slotKinds) (O .ks)) ++ listWords 21 (O .ks)
-
-      words-are : W (F .r) ≡ X ++ late n (O .d)
-      words-are = its-words work n (F .r) B T (F .left .stands) (λ v. among v (F .used)) (F .fine .0) most (O .d) (O .derived) (O .none-21) (O .ks) ∙ sym (append-assoc (lead n (F .r) (O .d) (F .r .slotKinds)) (wordOf 21 0 ∷ []) (late n (O .d)))
-
-      words-become : W (F .r′) ≡ X′ ++ late n (O .d)
-      words-become =
-          ap W (O .same) ∙ its-stamped work n (F .r) B T (F .left .stands) (λ v. among v (F .used)) (F .fine .0) most (O .d) (O .derived) (O .none-21) (O .ks)
-          ∙ sym (append-assoc (lead n (F .r) (O .d) (orKinds (F .r .slotKinds) (O .ks))) (listWords 21 (O .ks)) (late n (O .d)))
-
-      opened-left : At work result B (X ++ (late n (O .d) ++ T)) (X′ ++ (late n (O .d) ++ T′)) from to out
-      opened-left =
-          rw (append-assoc X (late n (O .d)) T, append-assoc X′ (late n (O .d)) T′) at
-          (rw (words-are, words-become) at (F .left))
-
-      module _ {start place : ℕ} (st : start ≡ getD order i 0) (pl : place ≡ slotsPlace work start + 4) where
-        starts : start ≡ length B
-        starts = st ∙ F .start
-
-        placed : place ≡ slotsPlace work (length B) + 4
-        placed = pl ∙ ap (λ (x : ℕ). slotsPlace work x + 4) starts
-
-        more-is : drop from B ++ X′ ≡ putFor (namesOr (namesAt ws (getD lists i 0))) work from start place
-        more-is =
-            put-is work n (F .r) B T (F .left .stands) (λ v. among v (F .used)) (F .fine .0) most (O .d) (O .derived) (O .none-21) (O .ks) (F .left .behind) placed
-            ∙ rw (O .names, ← starts) refl
-
-        lead-long : length (B ++ lead n (F .r) (O .d) (F .r .slotKinds)) ≡ place
-        lead-long = lead-there work n (F .r) B T (F .left .stands) (λ v. among v (F .used)) (F .fine .0) most (O .d) (O .derived) (O .none-21) (O .ks) ∙ sym placed
-
-        result-few : length result ≤ 8192
-        result-few = omega (arith, a .size, a .few)
-
-        pub writing-asked : (start ≤ 65536) × (from ≤ start) × (start + 4 ≤ place) × (place ≤ length work) × Room out to (putFor (namesOr (namesAt ws (getD lists i 0))) work from start place)
-        writing-asked =
-            let L : List ℕ = lead n (F .r) (O .d) (F .r .slotKinds) in
-            let inside : length work ≡ length (B ++ L) + length ((wordOf 21 0 ∷ late n (O .d)) ++ T) =
-            ap length (lead-stands work n (F .r) B T (F .left .stands) (λ v. among v (F .used)) (F .fine .0) most (O .d) (O .derived) (O .none-21) (O .ks)) ∙ length-append (B ++ L) ((wordOf 21 0 ∷ late n (O .d)) ++ T) in
-            let low : start + 4 ≤ place = omega (arith, starts, lead-long, length-append B L) in
-            let high : place ≤ length work = omega (arith, inside, lead-long) in
-            let few : length work ≤ 8192 = (let m = a .fine .most in omega (arith, ap length (a .stands), words-length q)) in
-            (omega arith, omega (arith, starts, F .left .behind), low, high, at-room work result B X X′ (late n (O .d) ++ T) (late n (O .d) ++ T′) opened-left more-is result-few)
-
-        pub writing-put : {next : ℕ} {left : List ℕ} → Put out to (putFor (namesOr (namesAt ws (getD lists i 0))) work from start place) left next → length left ≡ length out → Writing (i + 1) (place + 1) next left
-        writing-put p l =
-            let long : length (B ++ X) ≡ place + 1 = ap length (sym (append-assoc B (lead n (F .r) (O .d) (F .r .slotKinds)) (wordOf 21 0 ∷ []))) ∙ length-append (B ++ lead n (F .r) (O .d) (F .r .slotKinds)) (wordOf 21 0 ∷ []) ∙ omega (arith, lead-long) in
-            let t = at-on work result (B ++ X) (late n (O .d)) T T′ (at-put work result B X X′ (late n (O .d) ++ T) (late n (O .d) ++ T′) opened-left more-is p l long) in
-            on-from (rw (append-assoc B X (late n (O .d)), ← words-are) at t)
-
-  -- then the rest
-  module _ {i from to : ℕ} {out : List ℕ} (s : Writing i from to out) (h : length order ≤ i) where
-    last : At work result (s .before) after after from to out
-    unfolding placesFrom
-    last = go (s .stamps) (s .left) (sym (drop-of-length-le order h) ∙ s .places)
-      where
-        go : {its : List ℕ} {rest rest′ : List Relation} → Stamped ws its rest rest′ → At work result (s .before) (wordsOf W rest ++ after) (wordsOf W rest′ ++ after) from to out → [] ≡ placesFrom n (length (s .before)) rest → At work result (s .before) after after from to out
-        go no-more t p = t
-        go (one-more b more) t p = let z : _≡_ {A = ℕ} 0 1 = cc in absurd (omega arith)
-
-    pub writing-rest : (from ≤ length work) × ((to ≤ length out) × ((length out ≤ 8192) × (length out - to ≡ length work - from)))
-    writing-rest = (at-within work result last, (last .room, (omega (arith, last .size, a .size, a .few), at-rest work result last)))
-
-    pub writing-end : {copied : List ℕ} → copied ≡ midOf from (length work - from) work → putMid to (length out - to) out copied ≡ result
-    writing-end c = at-end work result last c
+  pub writing-end : {out : List ℕ} → out ≡ joined come → set out 0 (wordOf 1 (length out)) ≡ words q′
+  writing-end {out} e = ap (λ (x : List ℕ). set x 0 (wordOf 1 (length out))) e ∙ total-set (ap (wordOf 1) (ap length e ∙ come-long))

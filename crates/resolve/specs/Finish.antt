@@ -1,13 +1,15 @@
 -- What the parts of Resolve promise each other: the first three steps of Resolving, and the result.
-use Prim.Native.Nat.{ℕ, _+_, _<_, _≤_}
+use Prim.Native.Nat.{ℕ, zero, suc, _+_, _*_, _<_, _≤_}
 use mathlib.Core.Path.{_≡_}
-use mathlib.Core.List.{List, map, []}
+use mathlib.Core.List.{List, [], _∷_, map}
 use mathlib.Core.Bool.{_||_}
 use mathlib.Core.Option.{none, some}
 use lib.ListN.{length, getD, take}
+use lib.Dec.{eqb}
 use Rattle.pack.specs.declared.answer.Answer.{Answer}
 use Rattle.pack.specs.declared.answer.Answer.the-variants.{Given, Refused}
 use Rattle.pack.specs.Table.{pick}
+use Rattle.pack.specs.Form.{repeats}
 use Rattle.pack.specs.Pack.{Relation, Pack, yes, read, words}
 use Rattle.chains.specs.Kinds.{find, allKinds}
 use Rattle.records.specs.declared.directory.Layout.{Layout}
@@ -22,11 +24,12 @@ use Rattle.directions.specs.Turning.{Outcome, done, refused}
 use Rattle.directions.specs.Tables.{tables}
 use Rattle.directions.specs.Resolving.{defaultedEqual, equalRefusal, stamp, atomNames, inDerivation, roleJudgment}
 use Rattle.resolve.specs.Operations.{givenOut, writtenOut, resolveAnswer, resolveBuffer}
-use Rattle.resolve.specs.Writing.{withRelations}
-use Rattle.directions.specs.Records.{turned, placesIn, Tabled}
+use Rattle.resolve.specs.Writing.{beginnings, piecesOf, withRelations}
+use Rattle.directions.specs.Records.{turned, Tabled}
 use Rattle.turning.specs.declared.turns.Ended.{Ended}
 use Rattle.turning.specs.declared.turns.Counts.{Counts}
-use Rattle.turning.specs.Notes.{NotesIn}
+use Rattle.turning.specs.Notes.{Note, Held, NotesIn}
+use Rattle.turning.specs.Asked.{InWords}
 use Rattle.turning.specs.Steps.{TurnedAs, PackAsked}
 use Rattle.resolve.specs.declared.finish.Figures.{Figures}
 
@@ -57,22 +60,47 @@ stampAll p q = withRelations q (map (stamp p) (q .relations))
 unfoldable pub orderIn : List ℕ → ℕ → List ℕ
 orderIn dir count = tableFrom (λ i. getD (startsIn dir) (getD dir i 0) 0) 0 count
 
+-- where rules start: the places of the notes that stand inside no other
+abbrev pub rootsOf : List Note → List ℕ
+rootsOf [] = []
+rootsOf (n ∷ ns) = pick (eqb (n .inside) 0) (n .place ∷ rootsOf ns) (rootsOf ns)
+
+-- notes in an array from an index up to another, and room for their roots
+pub record RulesAsked (notes : List ℕ) (from all room : ℕ) : Type 0 where
+  pub ws : List ℕ
+  pub ns : List Note
+  pub are : Held notes from ns
+  pub many : all + 1 ≡ from + length ns
+  pub within : all < length notes
+  pub there : InWords ws ns
+  pub size : room ≡ length (rootsOf ns)
+  pub few : room ≤ 8192
+
+pub record RulesCame (notes : List ℕ) (from all room : ℕ) (left : List ℕ) : Type 0 where
+  pub each : (a : RulesAsked notes from all room) → left ≡ rootsOf (a .ns)
+
+-- where so many blocks start, one after the other from a place on
+unfoldable pub blockPlaces : List ℕ → ℕ → ℕ → List ℕ
+blockPlaces ws at zero = []
+blockPlaces ws at (suc k) = at ∷ blockPlaces ws (at + 2 + 3 * repeats (valueAt ws (at + 1))) k
+
 -- by name: 1 for a relation "that some atom or Exists names, or whose predicate holds kinds 102 to 104", else 0
 pub record AskedOf (p : Pack) (asked : List ℕ) : Type 0 where
   pub says : (r : Relation) → find (r .name) (p .relations) ≡ some r → getD asked (r .name) 0 ≡ pick (atomNames p (r .name) || inDerivation roleJudgment (r .derivation)) 1 0
 
--- the words of a pack whose trees are resolved, with its directory, its tables, and what its notes ask for
 -- the names of so many relations have words in the directory
 pub record NamesIn (dir : List ℕ) (relations : ℕ) : Type 0 where
   pub most : ℕ
   pub low : NamesLow most (namesIn dir relations)
   pub reaches : Reaches dir most
 
-pub record FinishAsked (ws dir acts asked work : List ℕ) (relations steps : ℕ) : Type 0 where
+-- the words of a pack whose trees are resolved, with the places of its pieces, its tables, and what its notes ask for
+pub record FinishAsked (ws places acts asked work : List ℕ) (relations steps : ℕ) : Type 0 where
+  pub records : List ℕ
   pub taken : List ℕ
-  pub tabled : Tabled ws (startsIn dir) acts taken steps
-  pub low : NamesIn dir relations
-  pub places : orderIn dir relations ≡ placesIn (tabled .checked .pack)
+  pub tabled : Tabled ws records acts taken steps
+  pub counts : relations ≡ length (tabled .checked .pack .relations)
+  pub begins : places ≡ beginnings 0 (piecesOf (tabled .checked .pack))
   pub asks : AskedOf (tabled .checked .pack) asked
   pub whole : Pack
   pub resolves : turned (tabled .checked .pack) ≡ done whole
@@ -90,11 +118,24 @@ pub record ResolveAsked (ws dir acts taken asked notes : List ℕ) (f : Figures)
   pub filled : Filled ws (namesIn dir (layout .relations)) (startsIn dir) acts taken (f .steps)
   pub lent : Lent (layout .names) asked
   pub counts : f .relations ≡ layout .relations
+  pub ruled : f .rules ≡ layout .rules
   pub blocks : f .notes .blocks .at ≡ layout .blocks + 1
   pub many : f .notes .blocks .count ≡ valueAt ws (layout .blocks)
   pub noted : NotesIn (directory .checked .pack) notes (f .notes .noted) (f .notes .all)
   pub room : length work ≡ length ws
   pub fits : f .room ≤ length notes
+
+-- room for the places of its pieces, and these places
+pub record OrderAsked (ws dir notes : List ℕ) (f : Figures) (room : ℕ) : Type 0 where
+  pub acts : List ℕ
+  pub taken : List ℕ
+  pub marks : List ℕ
+  pub work : List ℕ
+  pub asked : ResolveAsked ws dir acts taken marks notes f work
+  pub size : room ≡ length (piecesOf (asked .directory .checked .pack))
+
+pub record OrderCame (ws dir notes : List ℕ) (f : Figures) (room : ℕ) (left : List ℕ) : Type 0 where
+  pub each : (a : OrderAsked ws dir notes f room) → left ≡ beginnings 0 (piecesOf (a .asked .directory .checked .pack))
 
 -- tables with a word for each name that the words say, all 0, and a directory that has one for each of them
 pub record TablesFor (ws dir acts taken asked : List ℕ) : Type 0 where

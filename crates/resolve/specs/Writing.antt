@@ -1,16 +1,17 @@
--- Writing a pack: its words as they stand, but each stamped list in place of an empty one.
--- `ws` are the words in which the lists of kinds stand; `lists` has, for each relation, the place there of the list that is stamped on it, 0 for none.
-use Prim.Native.Nat.{ℕ, _+_, _-_, _≤_}
+-- Writing a pack, one piece of its words after the other; a relation's record comes out with a list stamped on it.
+-- `ws` are the words in which the lists of kinds stand; `lists` has, for each piece, the place there of the list that is stamped on it, 0 for none.
+use Prim.Native.Nat.{ℕ, _+_, _-_, _<_, _≤_}
 use mathlib.Core.Path.{_≡_}
 use mathlib.Core.List.{List, [], _∷_, _++_, map}
-use lib.ListN.{length, take, drop}
+use lib.ListN.{length, take, drop, replicate}
 use lib.Dec.{eqb}
 use Rattle.pack.specs.Table.{pick, wordOf}
-use Rattle.pack.specs.Pack.{Relation, Pack, WellFormed, words}
-use Rattle.chains.specs.Places.{firstRelation}
-use Rattle.chains.specs.Record.{kindCount}
-use Rattle.directions.specs.Records.{placesFrom}
-use Rattle.stamping.specs.Stamping.{StampedBy}
+use Rattle.pack.specs.Form.{wordsBy}
+use Rattle.pack.specs.Pack.{Relation, Block, Pack, WellFormed, defaulted, block, total, words}
+use Rattle.chains.specs.Places.{namesAt, relationWords}
+use Rattle.chains.specs.Record.{kindCount, slotsPlace}
+use Rattle.directions.specs.Resolving.{ruleWords}
+use Rattle.stamping.specs.Stamping.{StampedBy, namesOr}
 
 -- relations, and in the same order as they come out with their lists stamped
 pub data Stamped (ws : List ℕ) : List ℕ → List Relation → List Relation → Type 0 where
@@ -22,6 +23,38 @@ abbrev pub withRelations : Pack → List Relation → Pack
 withRelations p rs =
     record { edition = p .edition; names = p .names; defaulted = p .defaulted; relations = rs; rules = p .rules; blocks = p .blocks }
 
+-- ---- pieces
+
+-- one after the other
+abbrev pub joined : List (List ℕ) → List ℕ
+joined [] = []
+joined (w ∷ l) = w ++ joined l
+
+-- where each begins, from a place on
+unfoldable pub sums : ℕ → List ℕ → List ℕ
+sums at [] = []
+sums at (n ∷ l) = at ∷ sums (at + n) l
+
+abbrev pub lengths : List (List ℕ) → List ℕ
+lengths l = map (λ (w : List ℕ). length w) l
+
+abbrev pub beginnings : ℕ → List (List ℕ) → List ℕ
+beginnings at l = sums at (lengths l)
+
+-- those of a pack: what stands before the relations, each relation, the count of rules, each rule, the count of blocks, each block
+abbrev pub frontPiece : Pack → List ℕ
+frontPiece p = wordOf 1 (total p) ∷ wordOf 2 (p .names) ∷ (wordsBy (defaulted (p .names)) (p .defaulted) ++ (wordOf 5 (length (p .relations)) ∷ []))
+
+abbrev pub blockPiece : ℕ → Block → List ℕ
+blockPiece n b = wordsBy (block n) b
+
+unfoldable pub otherPieces : Pack → List (List ℕ)
+otherPieces p =
+    (wordOf 22 (length (p .rules)) ∷ []) ∷ (map (ruleWords (p .names)) (p .rules) ++ ((wordOf 28 (length (p .blocks)) ∷ []) ∷ map (blockPiece (p .names)) (p .blocks)))
+
+abbrev pub piecesOf : Pack → List (List ℕ)
+piecesOf p = frontPiece p ∷ (map (relationWords (p .names)) (p .relations) ++ otherPieces p)
+
 -- ---- in the words
 
 -- the words from a place up to another
@@ -32,12 +65,20 @@ fromTo from to work = take (to - from) (drop from work)
 abbrev pub listWords : ℕ → List ℕ → List ℕ
 listWords kind ks = wordOf kind (length ks) ∷ map (wordOf 10) ks
 
--- the words from a place up to the count word of a relation's list 21, and the names in its place, and in that of list 9 where it is empty
-abbrev pub putFor : List ℕ → List ℕ → ℕ → ℕ → ℕ → List ℕ
-putFor ks work from start place =
-    pick (eqb (kindCount work start) 0)
-    (fromTo from (start + 3) work ++ (listWords 9 ks ++ (fromTo (start + 4) place work ++ listWords 21 ks)))
-    (fromTo from place work ++ listWords 21 ks)
+-- the words of a relation's record up to the count of its list 21, and the names in its place, and in that of list 9 where it is empty
+abbrev pub putFor : List ℕ → List ℕ → ℕ → List ℕ
+putFor ks w place =
+    pick (eqb (kindCount w 0) 0)
+    ((fromTo 0 3 w ++ listWords 9 ks) ++ (fromTo 4 place w ++ listWords 21 ks))
+    (fromTo 0 place w ++ listWords 21 ks)
+
+-- a piece with the list at a place stamped on it; without one it stays
+unfoldable pub pieceOut : List ℕ → ℕ → List ℕ → List ℕ
+pieceOut ws list w = pick (eqb list 0) w (putFor (namesOr (namesAt ws list)) w (slotsPlace w 0 + 4) ++ fromTo (slotsPlace w 0 + 4 + 1) (length w) w)
+
+-- a list is stamped only on a record that has a list 21
+unfoldable pub Stampable : ℕ → List ℕ → Type 0
+Stampable list w = (list ≡ 0 → ⊥) → slotsPlace w 0 + 4 < length w
 
 -- words that are put at a place: before them stand those that stood there
 pub record Put (out : List ℕ) (to : ℕ) (more : List ℕ) (left : List ℕ) (next : ℕ) : Type 0 where
@@ -51,15 +92,17 @@ pub record Room (out : List ℕ) (to : ℕ) (more : List ℕ) : Type 0 where
 
 -- ---- all of them
 
-pub record WriteAsked (ws order lists work : List ℕ) (room : ℕ) : Type 0 where
+pub record WriteAsked (ws places lists work : List ℕ) (room : ℕ) : Type 0 where
   pub whole : Pack
   pub fine : WellFormed whole
   pub stands : work ≡ words whole
-  pub places : order ≡ placesFrom (whole .names) (firstRelation whole) (whole .relations)
+  pub begins : places ≡ beginnings 0 (piecesOf whole)
+  pub its : List ℕ
   pub stamped : List Relation
-  pub stamps : Stamped ws lists (whole .relations) stamped
+  pub stamps : Stamped ws its (whole .relations) stamped
+  pub listed : lists ≡ 0 ∷ (its ++ replicate (length (otherPieces whole)) 0)
   pub size : room ≡ length (words (withRelations whole stamped))
   pub few : room ≤ 8192
 
-pub record WriteCame (ws order lists work : List ℕ) (room : ℕ) (left : List ℕ) : Type 0 where
-  pub each : (a : WriteAsked ws order lists work room) → left ≡ words (withRelations (a .whole) (a .stamped))
+pub record WriteCame (ws places lists work : List ℕ) (room : ℕ) (left : List ℕ) : Type 0 where
+  pub each : (a : WriteAsked ws places lists work room) → left ≡ words (withRelations (a .whole) (a .stamped))

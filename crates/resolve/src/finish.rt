@@ -1,5 +1,5 @@
 // The result: relations stamped, and the whole pack written out if there is room for it.
-use crate::order::order;
+use crate::order::Places;
 use crate::write::write;
 use checking::check::refuse;
 use pack::answer::Answer;
@@ -9,41 +9,41 @@ use stamping::lists::lists;
 use turning::turns::Counts;
 ghost use Rattle.resolve.specs.Finish.{FinishAsked, FinishCame};
 
-// Of a checked pack: its relations, its notes, and the declarations that were read for its kinds; and how many words there
-// is room for.
+// Of a checked pack: its relations, the place of its count of rules, its notes, and the declarations that were read for its
+// kinds; and how many words there is room for.
 pub struct Figures {
     pub relations: usize,
+    pub rules: usize,
     pub notes: Counts,
     pub steps: u32,
     pub room: usize,
 }
 
-// From the words of a pack whose trees are resolved.
+// From the words of a pack whose trees are resolved, and the places of its pieces.
 pub fn finish(
     pack: &[u32],
-    dir: &[u32],
     acts: &[u32],
     asked: &[u8],
+    places: &[u32],
     work: &[u32],
     figures: Figures,
     out: &mut [u32],
 ) -> Answer
-    requires { ⌜ FinishAsked (now pack) (now dir) (now acts) (now asked) (now work) (figures .relations) (figures .steps) ⌝ }
+    requires { ⌜ FinishAsked (now pack) (now places) (now acts) (now asked) (now work) (figures .relations) (figures .steps) ⌝ }
     ensures { λ r. ⌜ FinishCame (now (pack .entry)) (now (out .entry)) r (now (out .exit)) ⌝ }
 {
-    let count = figures.relations;
-    let mut starts = [0u32; Pack::MOST_RELATIONS as usize];
-    let places = &mut starts[0..count];
-    order(dir, places);
-    let mut found = [0u32; Pack::MOST_RELATIONS as usize];
-    let stamped = &mut found[0..count];
-    let len = work.len() + lists(pack, work, acts, asked, places, stamped);
+    let after = figures.relations + 1;
+    let mut found = [0u32; Places::MOST];
+    let order = &places[1..after];
+    let more = lists(pack, work, acts, asked, order, &mut found[1..after]);
+    let len = work.len() + more;
     if Pack::MOST_WORDS < len {
         return refuse(Number::NO_ROOM, 0);
     }
     if out.len() < len {
         return refuse(Number::NO_ROOM, 0);
     }
-    write(pack, work, places, stamped, &mut out[0..len]);
+    let all = places.len();
+    write(pack, work, places, &found[0..all], &mut out[0..len]);
     Answer::Given(len as u32, figures.steps)
 }

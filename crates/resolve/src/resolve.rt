@@ -1,6 +1,9 @@
 // Resolve: a pack with its directions settled, written out whole.
 use crate::finish::Figures;
 use crate::finish::finish;
+use crate::order::Places;
+use crate::order::order;
+use crate::order::pieces;
 use crate::write::copy;
 use chains::entry::start;
 use chains::record::value_at;
@@ -78,11 +81,15 @@ fn resolve_in(
 {
     let counts = figures.notes;
     ask_notes(pack, out, counts.all, asked);
+    let count = pieces(pack, figures);
+    let mut table = [0u32; Places::MOST];
+    let places = &mut table[0..count];
+    order(pack, dir, out, figures, places);
     copy(pack, work);
     match resolve_trees(pack, dir, acts, taken, work, out, counts) {
         Ended::All => {
             let room = figures.room;
-            finish(pack, dir, acts, asked, work, figures, &mut out[..room])
+            finish(pack, acts, asked, places, work, figures, &mut out[..room])
         }
         Ended::Refused(x) => Answer::Refused(x),
     }
@@ -111,8 +118,10 @@ fn resolve_checked(
     let all = l.all as usize;
     let counts = Counts { noted, all, blocks };
     let relations = l.relations as usize;
+    let rules = l.rules;
     let figures = Figures {
         relations,
+        rules,
         notes: counts,
         steps,
         room: wanted.room,

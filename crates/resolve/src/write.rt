@@ -1,5 +1,5 @@
-// Writing the whole pack: the resolved words as they stand, but each stamped list in place of an empty one.
-// `pack` are the words in which the lists stand, `work` the resolved ones.
+// Writing the whole pack, one piece of the resolved words after the other, each relation with the list stamped on it.
+// `pack` are the words in which the lists stand.
 use chains::record::kind_count;
 use chains::record::slots_place;
 use chains::record::value_at;
@@ -7,12 +7,12 @@ use pack::kinds::Pack;
 use stamping::lists::names_at;
 ghost use mathlib.Core.Path.{_≡_};
 ghost use mathlib.Core.List.{_++_, map};
-ghost use Prim.Native.Nat.{_+_, _≤_};
-ghost use lib.ListN.{length};
+ghost use Prim.Native.Nat.{_+_, _≤_, _<_};
+ghost use lib.ListN.{length, getD};
 ghost use Rattle.pack.specs.Table.{wordOf};
 ghost use Rattle.chains.specs.Places.{namesAt};
 ghost use Rattle.stamping.specs.Stamping.{namesOr, Lists};
-ghost use Rattle.resolve.specs.Writing.{fromTo, listWords, putFor, Put, Room, WriteAsked, WriteCame};
+ghost use Rattle.resolve.specs.Writing.{listWords, putFor, pieceOut, Stampable, Put, Room, WriteAsked, WriteCame};
 
 // The words of a slice in another of the same length.
 pub fn copy(from: &[u32], to: &mut [u32])
@@ -38,22 +38,22 @@ fn put_names(pack: &[u32], list: u32, out: &mut [u32])
     }
 }
 
-// The words from one place up to another, and then a list of a kind. The answer is the place after them.
-fn put_list(
-    pack: &[u32],
-    list: u32,
-    kind: u32,
-    work: &[u32],
-    from: usize,
-    place: usize,
-    out: &mut [u32],
-    to: usize,
-) -> usize
-    requires { ⌜ (from ≤ place) × (place ≤ length (now work)) × (kind ≤ 21) × Room (now out) to (fromTo from place (now work) ++ listWords kind (namesOr (namesAt (now pack) list))) ⌝ }
-    ensures { λ r. ⌜ Put (now (out .entry)) to (fromTo from place (now (work .entry)) ++ listWords kind (namesOr (namesAt (now (pack .entry)) list))) (now (out .exit)) r ⌝ }
+// Words at a place. The answer is the place after them, as of each that puts words.
+fn put_words(words: &[u32], out: &mut [u32], to: usize) -> usize
+    requires { ⌜ Room (now out) to (now words) ⌝ }
+    ensures { λ r. ⌜ Put (now (out .entry)) to (now (words .entry)) (now (out .exit)) r ⌝ }
 {
-    let at = to + (place - from);
-    copy(&work[from..place], &mut out[to..at]);
+    let next = to + words.len();
+    copy(words, &mut out[to..next]);
+    next
+}
+
+// Words, and then a list of a kind.
+fn put_list(pack: &[u32], list: u32, kind: u32, words: &[u32], out: &mut [u32], to: usize) -> usize
+    requires { ⌜ (kind ≤ 21) × Room (now out) to (now words ++ listWords kind (namesOr (namesAt (now pack) list))) ⌝ }
+    ensures { λ r. ⌜ Put (now (out .entry)) to (now (words .entry) ++ listWords kind (namesOr (namesAt (now (pack .entry)) list))) (now (out .exit)) r ⌝ }
+{
+    let at = put_words(words, out, to);
     let names = names_at(pack, list);
     out[at] = kind * Pack::VALUES + names;
     let next = at + 1 + names as usize;
@@ -61,55 +61,62 @@ fn put_list(
     next
 }
 
-// The words from a place up to the count word of a relation's list 21, with the list stamped on it.
-fn put_relation(
+// A relation's record up to the count of its list 21, which stands at a place, with the list stamped on it.
+fn put_lists(
     pack: &[u32],
     list: u32,
-    work: &[u32],
-    from: usize,
-    start: usize,
+    words: &[u32],
     place: usize,
     out: &mut [u32],
     to: usize,
 ) -> usize
-    requires { ⌜ (start ≤ 65536) × (from ≤ start) × (start + 4 ≤ place) × (place ≤ length (now work)) × Room (now out) to (putFor (namesOr (namesAt (now pack) list)) (now work) from start place) ⌝ }
-    ensures { λ r. ⌜ Put (now (out .entry)) to (putFor (namesOr (namesAt (now (pack .entry)) list)) (now (work .entry)) from start place) (now (out .exit)) r ⌝ }
+    requires { ⌜ (4 ≤ place) × (place ≤ length (now words)) × Room (now out) to (putFor (namesOr (namesAt (now pack) list)) (now words) place) ⌝ }
+    ensures { λ r. ⌜ Put (now (out .entry)) to (putFor (namesOr (namesAt (now (pack .entry)) list)) (now (words .entry)) place) (now (out .exit)) r ⌝ }
 {
-    if kind_count(work, start) != 0 {
-        return put_list(pack, list, Pack::SLOT_ENTITIES, work, from, place, out, to);
+    if kind_count(words, 0) != 0 {
+        return put_list(pack, list, Pack::SLOT_ENTITIES, &words[0..place], out, to);
     }
-    let next = put_list(pack, list, Pack::SLOT_KINDS, work, from, start + 3, out, to);
-    put_list(
-        pack,
-        list,
-        Pack::SLOT_ENTITIES,
-        work,
-        start + 4,
-        place,
-        out,
-        next,
-    )
+    let next = put_list(pack, list, Pack::SLOT_KINDS, &words[0..3], out, to);
+    put_list(pack, list, Pack::SLOT_ENTITIES, &words[4..place], out, next)
 }
 
-// All words, in a slice with as many: those before each stamped relation in one go, and those after the last.
-pub fn write(pack: &[u32], work: &[u32], order: &[u32], lists: &[u32], out: &mut [u32])
-    requires { ⌜ WriteAsked (now pack) (now order) (now lists) (now work) (length (now out)) ⌝ }
-    ensures { λ r. ⌜ WriteCame (now (pack .entry)) (now (order .entry)) (now (lists .entry)) (now (work .entry)) (length (now (out .entry))) (now (out .exit)) ⌝ }
+// A record with the list at a place stamped on it; at 0 there is none.
+fn put_record(pack: &[u32], list: u32, words: &[u32], out: &mut [u32], to: usize) -> usize
+    requires { ⌜ Stampable list (now words) × Room (now out) to (pieceOut (now pack) list (now words)) ⌝ }
+    ensures { λ r. ⌜ Put (now (out .entry)) to (pieceOut (now (pack .entry)) list (now (words .entry))) (now (out .exit)) r ⌝ }
 {
-    out[0] = Pack::TOTAL * Pack::VALUES + out.len() as u32;
-    let mut from: usize = 1;
-    let mut to: usize = 1;
-    let mut i: usize = 0;
-    while i < order.len() {
-        let list = lists[i];
-        let start = order[i] as usize;
-        i += 1;
-        if list == 0 {
-            continue;
-        }
-        let place = slots_place(work, start) + 4;
-        to = put_relation(pack, list, work, from, start, place, out, to);
-        from = place + 1;
+    if list == 0 {
+        return put_words(words, out, to);
     }
-    copy(&work[from..], &mut out[to..]);
+    let place = slots_place(words, 0) + 4;
+    let next = put_lists(pack, list, words, place, out, to);
+    put_words(&words[place + 1..], out, next)
+}
+
+// The i-th place of a table, past its end another.
+fn place_at(places: &[u32], i: usize, end: usize) -> usize
+    ensures { λ r. ⌜ r ≡ getD (now (places .entry)) i end ⌝ }
+{
+    if i < places.len() {
+        return places[i] as usize;
+    }
+    end
+}
+
+// All pieces, in a slice with as many words: each ends where the next begins, the last where the words end.
+pub fn write(pack: &[u32], work: &[u32], places: &[u32], lists: &[u32], out: &mut [u32])
+    requires { ⌜ WriteAsked (now pack) (now places) (now lists) (now work) (length (now out)) ⌝ }
+    ensures { λ r. ⌜ WriteCame (now (pack .entry)) (now (places .entry)) (now (lists .entry)) (now (work .entry)) (length (now (out .entry))) (now (out .exit)) ⌝ }
+{
+    let mut start: usize = 0;
+    let mut to: usize = 0;
+    let mut i: usize = 0;
+    while i < lists.len() {
+        let list = lists[i];
+        i += 1;
+        let end = place_at(places, i, work.len());
+        to = put_record(pack, list, &work[start..end], out, to);
+        start = end;
+    }
+    out[0] = Pack::TOTAL * Pack::VALUES + out.len() as u32;
 }

@@ -118,7 +118,7 @@ module _ (ws : List ℕ) (m : ℕ) where
 
 -- ---- notes of nodes stand in the relation or rule before them
 
-abbrev AllInside : List Note → Type 0
+abbrev pub AllInside : List Note → Type 0
 AllInside [] = Unit {0}
 AllInside (n ∷ ns) = (1 ≤ n .inside) × AllInside ns
 
@@ -151,7 +151,7 @@ mutual
   row-inside (more t f) i inside first rest at a b =
       inside-append (notesOf i inside first at t) _ (tree-inside t i inside first at a b) (row-inside f (i + length (notesOf i inside first at t)) inside rest rest _ (omega arith) b)
 
-run-inside : (inside i at : ℕ) → 1 ≤ i → 1 ≤ inside → (l : List Body) → AllInside (notesRun bodyWords (bodyNotes inside) i at l)
+pub run-inside : (inside i at : ℕ) → 1 ≤ i → 1 ≤ inside → (l : List Body) → AllInside (notesRun bodyWords (bodyNotes inside) i at l)
 unfolding notesRun
 run-inside inside i at a b [] = tt
 run-inside inside i at a b (x ∷ l) = inside-append (bodyNotes inside i at x) _ (tree-inside (x .tree) i inside false (at + 1) a b) (run-inside inside (i + length (bodyNotes inside i at x)) (at + length (bodyWords x)) (omega arith) b l)

@@ -82,7 +82,7 @@ refused-not e f = let z : _≡_ {A = ℕ} 0 1 = cc in omega arith
 
 -- ---- parts of the notes
 
-held-parts : (notes : List ℕ) (i j : ℕ) (ns ms : List Note) → j ≡ i + length ns → Held notes i (ns ++ ms) → Held notes i ns × Held notes j ms
+pub held-parts : (notes : List ℕ) (i j : ℕ) (ns ms : List Note) → j ≡ i + length ns → Held notes i (ns ++ ms) → Held notes i ns × Held notes j ms
 held-parts notes i j [] ms e h = let q : i ≡ j = omega arith in (tt, subst (λ (x : ℕ). Held notes x ms) q h)
 held-parts notes i j (n ∷ ns) ms e h = let q = held-parts notes (suc i) j ns ms (omega arith) (h .1) in ((h .0, q .0), q .1)
 

@@ -1,49 +1,49 @@
 -- `resolve::finish::finish` meets its contract.
 use native.Mathlib.Omega.{arith}
 use mathlib.Core.Path.{refl}
-use Rattle.resolve.proofs.FinishLaws.{whole-short, room-few, order-asked, finish-lists, too-long, too-short, finish-asked, finish-done}
+use Rattle.resolve.proofs.FinishLaws.{whole-short, few-starts, table-room, finish-lists, found-room, too-long, too-short, finish-asked, finish-done}
 use borrow.Author.Needs.{needs}
 use Rattle.resolve.proofs.finish.finish.Statement.{statement}
 use Rattle.resolve.proofs.finish.finish.Tie as tie
 
-sub-places : tie.Need-sub-places
-sub-places c = search needs
+add-after : tie.Need-add-after
+add-after c = omega (arith, few-starts (c .before .before .before .before .before .before .before .pre))
 
-part-starts-start : tie.Need-part-starts-start
-part-starts-start c = search needs
+sub-order : tie.Need-sub-order
+sub-order c = search needs
 
-part-starts-end : tie.Need-part-starts-end
-part-starts-end c = omega (arith, room-few (c .before .before .before .before .before .before .pre))
+part-order-start : tie.Need-part-order-start
+part-order-start c = search needs
 
-order-requires : tie.Need-order-requires
-order-requires c κs = order-asked (c .before .before .before .before .before .before .before .before .pre)
+part-order-end : tie.Need-part-order-end
+part-order-end c = table-room (c .before .before .before .before .before .before .before .pre) .0
 
-sub-stamped : tie.Need-sub-stamped
-sub-stamped c = search needs
+sub-lists : tie.Need-sub-lists
+sub-lists c = search needs
 
 part-found-start : tie.Need-part-found-start
 part-found-start c = search needs
 
 part-found-end : tie.Need-part-found-end
-part-found-end c = omega (arith, room-few (c .before .before .before .before .before .before .before .before .before .before .before .pre))
+part-found-end c = omega (arith, few-starts (c .before .before .before .before .before .before .before .before .pre))
 
 lists-requires : tie.Need-lists-requires
-lists-requires c κs = finish-lists (c .before .before .before .before .before .before .before .before .before .before .before .before .before .before .pre) (c .before .before .before .before .before .order .ensures)
+lists-requires c κs = finish-lists (c .before .before .before .before .before .before .before .before .before .pre) {most = 1603} (omega (arith, few-starts (c .before .before .before .before .before .before .before .before .before .pre)))
 
 add-len : tie.Need-add-len
-add-len c = omega (arith, whole-short (c .before .before .before .before .before .before .before .before .before .before .before .before .before .before .before .before .before .pre), (c .before .before .lists) .ensures .few)
+add-len c = omega (arith, whole-short (c .before .before .before .before .before .before .before .before .before .before .before .pre), (c .before .lists) .ensures .few)
 
 refuse-requires : tie.Need-refuse-requires
 refuse-requires c κs = search needs
 
 returns : tie.Need-returns
-returns c = too-long (c .before .before .before .before .before .before .before .before .before .before .before .before .before .before .before .before .before .before .before .before .before .pre) ((c .before .before .before .before .before .before .before .before .before .before .before .before .order) .ensures) ((c .before .before .before .before .before .before .lists) .ensures) refl _ ((c .before .before .before .if1) .taken) ((c .refuse) .ensures)
+returns c = too-long (c .before .before .before .before .before .before .before .before .before .before .before .before .before .pre) ((c .before .before .before .lists) .ensures) refl _ ((c .before .if1) .taken) ((c .refuse) .ensures)
 
 refuse-requires-2 : tie.Need-refuse-requires-2
 refuse-requires-2 c κs = search needs
 
 returns-2 : tie.Need-returns-2
-returns-2 c = too-short (c .before .before .before .before .before .before .before .before .before .before .before .before .before .before .before .before .before .before .before .before .before .before .pre) ((c .before .before .before .before .before .before .before .before .before .before .before .before .before .order) .ensures) ((c .before .before .before .before .before .before .before .lists) .ensures) refl _ ((c .before .before .before .if2) .taken) ((c .refuse2) .ensures)
+returns-2 c = too-short (c .before .before .before .before .before .before .before .before .before .before .before .before .before .before .pre) ((c .before .before .before .before .lists) .ensures) refl _ ((c .before .if2) .taken) ((c .refuse2) .ensures)
 
 sub-write : tie.Need-sub-write
 sub-write c = search needs
@@ -52,29 +52,38 @@ part-write-start : tie.Need-part-write-start
 part-write-start c = search needs
 
 part-write-end : tie.Need-part-write-end
-part-write-end c = search needs
+part-write-end c = found-room (c .before .before .before .before .before .before .before .before .before .before .before .before .before .before .pre) ((c .before .before .before .before .lists) .last .1 .1 .1 .1 .1 .0) ((c .before .before .before .before .lists) .kept .1 .1 .1 .1 .1 .0) (table-room (c .before .before .before .before .before .before .before .before .before .before .before .before .before .before .pre) .1)
+
+sub-write-2 : tie.Need-sub-write-2
+sub-write-2 c = search needs
+
+part-write-start-2 : tie.Need-part-write-start-2
+part-write-start-2 c = search needs
+
+part-write-end-2 : tie.Need-part-write-end-2
+part-write-end-2 c = search needs
 
 write-requires : tie.Need-write-requires
-write-requires c κs = finish-asked (c .before .before .before .before .before .before .before .before .before .before .before .before .before .before .before .before .before .before .before .before .before .before .pre) ((c .before .before .before .before .before .before .before .before .before .before .before .before .before .order) .ensures) ((c .before .before .before .before .before .before .before .lists) .ensures) refl _ ((c .before .before .before .before .if1) .left) ((c .before .before .before .if2) .left)
+write-requires c κs = finish-asked (c .before .before .before .before .before .before .before .before .before .before .before .before .before .before .before .before .pre) ((c .before .before .before .before .before .before .lists) .ensures) refl _ ((c .before .before .before .before .if1) .left) ((c .before .before .before .if2) .left) refl (table-room (c .before .before .before .before .before .before .before .before .before .before .before .before .before .before .before .before .pre) .1) ((c .before .before .before .before .before .before .lists) .kept .1 .1 .1 .1 .1 .0) refl
 
-cast-t37 : tie.Need-cast-t37
-cast-t37 c = search needs
+cast-t31 : tie.Need-cast-t31
+cast-t31 c = search needs
 
 same-length : tie.Need-same-length
 same-length c = search needs
 
 returns-3 : tie.Need-returns-3
-returns-3 c = finish-done (c .before .before .before .before .before .before .before .before .before .before .before .before .before .before .before .before .before .before .before .before .before .before .before .before .before .before .before .pre) ((c .before .before .before .before .before .before .before .before .before .before .before .before .before .before .before .before .before .before .order) .ensures) ((c .before .before .before .before .before .before .before .before .before .before .before .before .lists) .ensures) refl _ ((c .before .before .before .before .before .before .before .before .before .if1) .left) ((c .before .before .before .before .before .before .before .before .if2) .left) ((c .before .before .before .before .write) .ensures)
+returns-3 c = finish-done (c .before .before .before .before .before .before .before .before .before .before .before .before .before .before .before .before .before .before .before .pre) ((c .before .before .before .before .before .before .before .before .before .lists) .ensures) refl _ ((c .before .before .before .before .before .before .before .if1) .left) ((c .before .before .before .before .before .before .if2) .left) refl (table-room (c .before .before .before .before .before .before .before .before .before .before .before .before .before .before .before .before .before .before .before .pre) .1) ((c .before .before .before .before .before .before .before .before .before .lists) .kept .1 .1 .1 .1 .1 .0) refl ((c .before .before .write) .ensures)
 
 pub finish-spec : {M : Type 1} → statement M
 finish-spec =
     tie.close
     (tie.spec
-    sub-places
-    part-starts-start
-    part-starts-end
-    order-requires
-    sub-stamped
+    add-after
+    sub-order
+    part-order-start
+    part-order-end
+    sub-lists
     part-found-start
     part-found-end
     lists-requires
@@ -86,7 +95,10 @@ finish-spec =
     sub-write
     part-write-start
     part-write-end
+    sub-write-2
+    part-write-start-2
+    part-write-end-2
     write-requires
-    cast-t37
+    cast-t31
     same-length
     returns-3)

@@ -1,43 +1,15 @@
 -- `resolve::write::put_list` meets its contract.
 use native.Mathlib.Omega.{arith}
-use mathlib.Core.Path.{refl}
-use Rattle.resolve.proofs.WriteLaws.{put-room, inside-out, first-long, second-long, put-long, put-done}
+use mathlib.Core.Path.{_∙_}
+use lib.ListN.{length-set}
+use Rattle.pack.specs.Table.{wordOf}
+use Rattle.resolve.proofs.WriteLaws.{room-first, list-room, list-long, list-put}
 use borrow.Author.Needs.{needs}
 use Rattle.resolve.proofs.write.put_list.Statement.{statement}
 use Rattle.resolve.proofs.write.put_list.Tie as tie
 
-sub-at : tie.Need-sub-at
-sub-at c = search needs
-
-add-at : tie.Need-add-at
-add-at c = search needs
-
-mul-copy : tie.Need-mul-copy
-mul-copy c = search needs
-
-sub-copy : tie.Need-sub-copy
-sub-copy c = search needs
-
-part-copy-start : tie.Need-part-copy-start
-part-copy-start c = search needs
-
-part-copy-end : tie.Need-part-copy-end
-part-copy-end c = search needs
-
-mul-copy-2 : tie.Need-mul-copy-2
-mul-copy-2 c = search needs
-
-sub-copy-2 : tie.Need-sub-copy-2
-sub-copy-2 c = search needs
-
-part-copy-start-2 : tie.Need-part-copy-start-2
-part-copy-start-2 c = search needs
-
-part-copy-end-2 : tie.Need-part-copy-end-2
-part-copy-end-2 c = omega (arith, put-room ((c .before .before .before .before .args) .pack .now) ((c .before .before .before .before .args) .list) ((c .before .before .before .before .args) .kind) ((c .before .before .before .before .args) .work .now) ((c .before .before .before .before .args) .from) ((c .before .before .before .before .args) .place) ((c .before .before .before .before .args) .out .now) ((c .before .before .before .before .args) .to) ((c .before .before .before .before .pre) .0) ((c .before .before .before .before .pre) .1) ((c .before .before .before .before .pre) .3))
-
-copy-requires : tie.Need-copy-requires
-copy-requires c κs = search needs
+put-words-requires : tie.Need-put-words-requires
+put-words-requires c κs = room-first _ _ ((c .before .before .before .before .pre) .1)
 
 names-at-requires : tie.Need-names-at-requires
 names-at-requires c κs = search needs
@@ -52,7 +24,7 @@ mul-out-2 : tie.Need-mul-out-2
 mul-out-2 c = search needs
 
 slice-write-out : tie.Need-slice-write-out
-slice-write-out c = omega (arith, put-room ((c .before .before .before .before .before .before .before .before .before .args) .pack .now) ((c .before .before .before .before .before .before .before .before .before .args) .list) ((c .before .before .before .before .before .before .before .before .before .args) .kind) ((c .before .before .before .before .before .before .before .before .before .args) .work .now) ((c .before .before .before .before .before .before .before .before .before .args) .from) ((c .before .before .before .before .before .before .before .before .before .args) .place) ((c .before .before .before .before .before .before .before .before .before .args) .out .now) ((c .before .before .before .before .before .before .before .before .before .args) .to) ((c .before .before .before .before .before .before .before .before .before .pre) .0) ((c .before .before .before .before .before .before .before .before .before .pre) .1) ((c .before .before .before .before .before .before .before .before .before .pre) .3), first-long ((c .before .before .before .before .before .before .before .before .before .args) .pack .now) ((c .before .before .before .before .before .before .before .before .before .args) .list) ((c .before .before .before .before .before .before .before .before .before .args) .kind) ((c .before .before .before .before .before .before .before .before .before .args) .work .now) ((c .before .before .before .before .before .before .before .before .before .args) .from) ((c .before .before .before .before .before .before .before .before .before .args) .place) ((c .before .before .before .before .before .before .before .before .before .args) .out .now) ((c .before .before .before .before .before .before .before .before .before .args) .to) ((c .before .before .before .before .before .before .before .before .before .pre) .0) ((c .before .before .before .before .before .before .before .before .before .pre) .1) ((c .before .before .before .before .before .before .before .before .before .pre) .3) refl ((c .names-at) .ensures) refl ((c .before .before .before .copy) .ensures))
+slice-write-out c = omega (arith, list-room _ _ _ _ ((c .before .before .before .before .before .before .before .before .pre) .1) ((c .before .before .before .put-words) .ensures) ((c .before .before .before .put-words) .kept .1 .0) ((c .names-at) .ensures))
 
 add-next : tie.Need-add-next
 add-next c = search needs
@@ -76,32 +48,22 @@ part-put-names-start : tie.Need-part-put-names-start
 part-put-names-start c = search needs
 
 part-put-names-end : tie.Need-part-put-names-end
-part-put-names-end c = omega (arith, inside-out ((c .before .before .before .before .before .before .before .before .before .args) .pack .now) ((c .before .before .before .before .before .before .before .before .before .args) .list) ((c .before .before .before .before .before .before .before .before .before .args) .kind) ((c .before .before .before .before .before .before .before .before .before .args) .work .now) ((c .before .before .before .before .before .before .before .before .before .args) .from) ((c .before .before .before .before .before .before .before .before .before .args) .place) ((c .before .before .before .before .before .before .before .before .before .args) .out .now) ((c .before .before .before .before .before .before .before .before .before .args) .to) ((c .before .before .before .before .before .before .before .before .before .pre) .0) ((c .before .before .before .before .before .before .before .before .before .pre) .1) ((c .before .before .before .before .before .before .before .before .before .pre) .3) refl ((c .names-at) .ensures) refl, second-long ((c .before .before .before .before .before .before .before .before .before .args) .pack .now) ((c .before .before .before .before .before .before .before .before .before .args) .list) ((c .before .before .before .before .before .before .before .before .before .args) .kind) ((c .before .before .before .before .before .before .before .before .before .args) .work .now) ((c .before .before .before .before .before .before .before .before .before .args) .from) ((c .before .before .before .before .before .before .before .before .before .args) .place) ((c .before .before .before .before .before .before .before .before .before .args) .out .now) ((c .before .before .before .before .before .before .before .before .before .args) .to) ((c .before .before .before .before .before .before .before .before .before .pre) .0) ((c .before .before .before .before .before .before .before .before .before .pre) .1) ((c .before .before .before .before .before .before .before .before .before .pre) .3) refl ((c .names-at) .ensures) refl ((c .before .before .before .copy) .ensures))
+part-put-names-end c = omega (arith, list-room _ _ _ _ ((c .before .before .before .before .before .before .before .before .pre) .1) ((c .before .before .before .put-words) .ensures) ((c .before .before .before .put-words) .kept .1 .0) ((c .names-at) .ensures), length-set ((c .before .before .before .put-words) .last .1 .0) ((c .before .before .before .put-words) .result) (wordOf ((c .before .before .before .before .before .before .before .before .args) .kind) ((c .names-at) .result)))
 
 put-names-requires : tie.Need-put-names-requires
 put-names-requires c κs = search needs
 
 same-length : tie.Need-same-length
-same-length c = put-long ((c .before .before .before .before .before .before .before .before .before .before .before .before .before .args) .pack .now) ((c .before .before .before .before .before .before .before .before .before .before .before .before .before .args) .list) ((c .before .before .before .before .before .before .before .before .before .before .before .before .before .args) .kind) ((c .before .before .before .before .before .before .before .before .before .before .before .before .before .args) .work .now) ((c .before .before .before .before .before .before .before .before .before .before .before .before .before .args) .from) ((c .before .before .before .before .before .before .before .before .before .before .before .before .before .args) .place) ((c .before .before .before .before .before .before .before .before .before .before .before .before .before .args) .out .now) ((c .before .before .before .before .before .before .before .before .before .before .before .before .before .args) .to) ((c .before .before .before .before .before .before .before .before .before .before .before .before .before .pre) .0) ((c .before .before .before .before .before .before .before .before .before .before .before .before .before .pre) .1) ((c .before .before .before .before .before .before .before .before .before .before .before .before .before .pre) .3) refl ((c .before .before .before .before .names-at) .ensures) refl ((c .before .before .before .before .before .before .before .copy) .ensures) ((c .before .before .put-names) .ensures)
+same-length c = list-long _ _ _ _ ((c .before .before .before .before .before .before .before .before .before .before .before .before .pre) .1) ((c .before .before .before .before .before .before .before .put-words) .ensures) ((c .before .before .before .before .before .before .before .put-words) .kept .1 .0) ((c .before .before .before .before .names-at) .ensures) ((c .before .before .put-names) .ensures) ∙ ((c .before .before .before .before .before .before .before .put-words) .kept .1 .0)
 
 returns : tie.Need-returns
-returns c = put-done ((c .before .before .before .before .before .before .before .before .before .before .before .before .before .args) .pack .now) ((c .before .before .before .before .before .before .before .before .before .before .before .before .before .args) .list) ((c .before .before .before .before .before .before .before .before .before .before .before .before .before .args) .kind) ((c .before .before .before .before .before .before .before .before .before .before .before .before .before .args) .work .now) ((c .before .before .before .before .before .before .before .before .before .before .before .before .before .args) .from) ((c .before .before .before .before .before .before .before .before .before .before .before .before .before .args) .place) ((c .before .before .before .before .before .before .before .before .before .before .before .before .before .args) .out .now) ((c .before .before .before .before .before .before .before .before .before .before .before .before .before .args) .to) ((c .before .before .before .before .before .before .before .before .before .before .before .before .before .pre) .0) ((c .before .before .before .before .before .before .before .before .before .before .before .before .before .pre) .1) ((c .before .before .before .before .before .before .before .before .before .before .before .before .before .pre) .3) refl ((c .before .before .before .before .names-at) .ensures) refl ((c .before .before .before .before .before .before .before .copy) .ensures) ((c .before .before .put-names) .ensures)
+returns c = list-put _ _ _ _ ((c .before .before .before .before .before .before .before .before .before .before .before .before .pre) .1) ((c .before .before .before .before .before .before .before .put-words) .ensures) ((c .before .before .before .before .before .before .before .put-words) .kept .1 .0) ((c .before .before .before .before .names-at) .ensures) ((c .before .before .put-names) .ensures)
 
 pub put-list-spec : {M : Type 1} → statement M
 put-list-spec =
     tie.close
     (tie.spec
-    sub-at
-    add-at
-    mul-copy
-    sub-copy
-    part-copy-start
-    part-copy-end
-    mul-copy-2
-    sub-copy-2
-    part-copy-start-2
-    part-copy-end-2
-    copy-requires
+    put-words-requires
     names-at-requires
     mul-out
     add-out

@@ -1,110 +1,74 @@
 -- `resolve::write::write` meets its contract.
 use native.Mathlib.Omega.{arith}
-use Prim.Native.Nat.{ℕ, _+_, _-_}
-use mathlib.Core.Path.{_≡_, refl, ap, sym, _∙_}
+use Prim.Native.Nat.{ℕ, _-_}
+use mathlib.Core.Path.{_≡_, refl, sym, _∙_}
 use lib.ListN.{length, length-set}
-use borrow.Rule.Slice.PartMut.{mid-len}
-use Rattle.resolve.specs.Writing.{WriteAsked}
-use Rattle.resolve.proofs.WrittenPack.{Writing, not-empty, writing-begin, list-inside, writing-pass, writing-asked, writing-put, writing-rest, writing-end}
+use Rattle.resolve.specs.Writing.{joined, WriteAsked}
+use Rattle.resolve.proofs.WriteLaws.{Writing, part-within, part-asked, part-put, all-put}
+use Rattle.resolve.proofs.WrittenPack.{come, come-long, come-few, writing-begin, not-empty, writing-end}
 use borrow.Author.Needs.{needs}
 use Rattle.resolve.proofs.write.write.Statement.{statement}
 use Rattle.resolve.proofs.write.write.Tie as tie
 
 abbrev Inv-loop : tie.InvT-loop
-Inv-loop pack work order lists out₀ from₀ to₀ i₀ out from to i = (room : ℕ) → room ≡ length out₀ → (h : WriteAsked pack order lists work room) → Writing h i from to out
+Inv-loop pack work places lists out₀ start₀ to₀ i₀ out start to i = (room : ℕ) → room ≡ length out₀ → (a : WriteAsked pack places lists work room) → Writing pack work places lists (joined (come a)) i start to out
 
 abbrev μ-loop : tie.MeasureT-loop
-μ-loop pack work order lists out₀ from₀ to₀ i₀ out from to i = length order - i
-
-mul-out : tie.Need-mul-out Inv-loop μ-loop
-mul-out c = search needs
-
-cast-out : tie.Need-cast-out Inv-loop μ-loop
-cast-out c = omega (arith, (c .before .before .before .before .before .pre) .few)
-
-add-out : tie.Need-add-out Inv-loop μ-loop
-add-out c = omega (arith, (c .before .before .before .before .before .pre) .few)
-
-slice-write-out : tie.Need-slice-write-out Inv-loop μ-loop
-slice-write-out c = not-empty (c .before .before .before .before .before .pre) refl
+μ-loop pack work places lists out₀ start₀ to₀ i₀ out start to i = length lists - i
 
 loop-holds : tie.Need-loop-holds Inv-loop μ-loop
-loop-holds c = λ room e h. writing-begin h ((c .before .before .before .before .before .args) .out .now) (sym (e ∙ length-set ((c .before .before .before .before .before .args) .out .now) 0 _))
+loop-holds c = λ room e a. writing-begin a _ (sym e)
 
 mul-list : tie.Need-mul-list Inv-loop μ-loop
-mul-list c = omega (arith, list-inside (c .before .before .before .before .before .before .before .pre) ((c .before .loop) .inv _ (sym (length-set ((c .before .before .before .before .before .before .before .args) .out .now) 0 _)) (c .before .before .before .before .before .before .before .pre)) ((c .loop-test) .taken))
+mul-list c = search needs
 
 shared-slice-read-list : tie.Need-shared-slice-read-list Inv-loop μ-loop
-shared-slice-read-list c = list-inside (c .before .before .before .before .before .before .before .before .pre) ((c .before .before .loop) .inv _ (sym (length-set ((c .before .before .before .before .before .before .before .before .args) .out .now) 0 _)) (c .before .before .before .before .before .before .before .before .pre)) ((c .before .loop-test) .taken)
-
-mul-start : tie.Need-mul-start Inv-loop μ-loop
-mul-start c = search needs
-
-shared-slice-read-start : tie.Need-shared-slice-read-start Inv-loop μ-loop
-shared-slice-read-start c = search needs
-
-cast-start : tie.Need-cast-start Inv-loop μ-loop
-cast-start c = omega (arith, (c .shared-slice-known6) .given ((c .before .before .before .loop) .i))
+shared-slice-read-list c = search needs
 
 add-i : tie.Need-add-i Inv-loop μ-loop
 add-i c = search needs
+
+place-at-requires : tie.Need-place-at-requires Inv-loop μ-loop
+place-at-requires c κs = search needs
+
+mul-put-record : tie.Need-mul-put-record Inv-loop μ-loop
+mul-put-record c = let w = part-within _ _ _ _ _ ((c .before .before .before .loop) .inv _ refl (c .before .before .before .before .before .before .before .before .before .pre)) ((c .before .before .loop-test) .taken) ((c .place-at) .ensures) in omega (arith, w .0, w .1)
+
+sub-put-record : tie.Need-sub-put-record Inv-loop μ-loop
+sub-put-record c = omega (arith, part-within _ _ _ _ _ ((c .before .before .before .loop) .inv _ refl (c .before .before .before .before .before .before .before .before .before .pre)) ((c .before .before .loop-test) .taken) ((c .place-at) .ensures) .0)
+
+part-put-record-start : tie.Need-part-put-record-start Inv-loop μ-loop
+part-put-record-start c = omega (arith, part-within _ _ _ _ _ ((c .before .before .before .loop) .inv _ refl (c .before .before .before .before .before .before .before .before .before .pre)) ((c .before .before .loop-test) .taken) ((c .place-at) .ensures) .0)
+
+part-put-record-end : tie.Need-part-put-record-end Inv-loop μ-loop
+part-put-record-end c = omega (arith, part-within _ _ _ _ _ ((c .before .before .before .loop) .inv _ refl (c .before .before .before .before .before .before .before .before .before .pre)) ((c .before .before .loop-test) .taken) ((c .place-at) .ensures) .1)
+
+put-record-requires : tie.Need-put-record-requires Inv-loop μ-loop
+put-record-requires c κs = part-asked _ _ _ _ _ ((c .before .before .before .before .before .loop) .inv _ refl (c .before .before .before .before .before .before .before .before .before .before .before .pre)) ((c .before .before .before .before .loop-test) .taken) ((c .before .before .place-at) .ensures) (come-few (c .before .before .before .before .before .before .before .before .before .before .before .pre))
 
 loop-less : tie.Need-loop-less Inv-loop μ-loop
 loop-less c = search needs
 
 loop-again : tie.Need-loop-again Inv-loop μ-loop
-loop-again c = λ room e h. writing-pass h ((c .before .before .before .before .loop) .inv room e h) ((c .before .before .before .loop-test) .taken) ((c .if1) .taken)
+loop-again c = λ room e a. part-put _ _ _ _ _ ((c .before .before .before .before .before .before .before .before .loop) .inv room e a) ((c .before .before .before .before .before .before .before .loop-test) .taken) ((c .before .before .before .before .before .place-at) .ensures) ((c .before .before .put-record) .ensures) ((c .before .before .put-record) .kept .1 .1 .1 .0)
 
-slots-place-requires : tie.Need-slots-place-requires Inv-loop μ-loop
-slots-place-requires c κs = writing-asked (c .before .before .before .before .before .before .before .before .before .before .pre) ((c .before .before .before .before .loop) .inv _ (sym (length-set ((c .before .before .before .before .before .before .before .before .before .before .args) .out .now) 0 _)) (c .before .before .before .before .before .before .before .before .before .before .pre)) ((c .before .before .before .loop-test) .taken) ((c .if1) .left) refl refl .0
+mul-out : tie.Need-mul-out Inv-loop μ-loop
+mul-out c = search needs
 
-add-place : tie.Need-add-place Inv-loop μ-loop
-add-place c = search needs
+cast-out : tie.Need-cast-out Inv-loop μ-loop
+cast-out c = omega (arith, come-few (c .before .before .before .before .before .before .before .pre), (c .before .loop) .inv _ refl (c .before .before .before .before .before .before .before .pre) .size)
 
-put-relation-requires : tie.Need-put-relation-requires Inv-loop μ-loop
-put-relation-requires c κs = writing-asked (c .before .before .before .before .before .before .before .before .before .before .before .before .pre) ((c .before .before .before .before .before .before .loop) .inv _ (sym (length-set ((c .before .before .before .before .before .before .before .before .before .before .before .before .args) .out .now) 0 _)) (c .before .before .before .before .before .before .before .before .before .before .before .before .pre)) ((c .before .before .before .before .before .loop-test) .taken) ((c .before .before .if1) .left) refl (ap (λ (x : ℕ). x + 4) ((c .before .slots-place) .ensures .0))
+add-out : tie.Need-add-out Inv-loop μ-loop
+add-out c = omega (arith, come-few (c .before .before .before .before .before .before .before .pre), (c .before .loop) .inv _ refl (c .before .before .before .before .before .before .before .pre) .size)
 
-add-from : tie.Need-add-from Inv-loop μ-loop
-add-from c = search needs
-
-loop-less-2 : tie.Need-loop-less-2 Inv-loop μ-loop
-loop-less-2 c = search needs
-
-loop-again-2 : tie.Need-loop-again-2 Inv-loop μ-loop
-loop-again-2 c = λ room e h. writing-put h ((c .before .before .before .before .before .before .before .before .before .loop) .inv room e h) ((c .before .before .before .before .before .before .before .before .loop-test) .taken) ((c .before .before .before .before .before .if1) .left) refl (ap (λ (x : ℕ). x + 4) ((c .before .before .before .before .slots-place) .ensures .0)) ((c .before .before .put-relation) .ensures) ((c .before .before .put-relation) .kept .1 .1 .1 .1 .1 .1 .0)
-
-mul-copy : tie.Need-mul-copy Inv-loop μ-loop
-mul-copy c = omega (arith, writing-rest (c .before .before .before .before .before .before .before .pre) ((c .before .loop) .inv _ (sym (length-set ((c .before .before .before .before .before .before .before .args) .out .now) 0 _)) (c .before .before .before .before .before .before .before .pre)) ((c .loop-test) .left) .0)
-
-sub-copy : tie.Need-sub-copy Inv-loop μ-loop
-sub-copy c = omega (arith, writing-rest (c .before .before .before .before .before .before .before .pre) ((c .before .loop) .inv _ (sym (length-set ((c .before .before .before .before .before .before .before .args) .out .now) 0 _)) (c .before .before .before .before .before .before .before .pre)) ((c .loop-test) .left) .0)
-
-part-copy-start : tie.Need-part-copy-start Inv-loop μ-loop
-part-copy-start c = omega (arith, writing-rest (c .before .before .before .before .before .before .before .pre) ((c .before .loop) .inv _ (sym (length-set ((c .before .before .before .before .before .before .before .args) .out .now) 0 _)) (c .before .before .before .before .before .before .before .pre)) ((c .loop-test) .left) .0)
-
-part-copy-end : tie.Need-part-copy-end Inv-loop μ-loop
-part-copy-end c = search needs
-
-mul-copy-2 : tie.Need-mul-copy-2 Inv-loop μ-loop
-mul-copy-2 c = let r = writing-rest (c .before .before .before .before .before .before .before .before .pre) ((c .before .before .loop) .inv _ (sym (length-set ((c .before .before .before .before .before .before .before .before .args) .out .now) 0 _)) (c .before .before .before .before .before .before .before .before .pre)) ((c .before .loop-test) .left) in omega (arith, r .1 .0, r .1 .1 .0)
-
-sub-copy-2 : tie.Need-sub-copy-2 Inv-loop μ-loop
-sub-copy-2 c = omega (arith, writing-rest (c .before .before .before .before .before .before .before .before .pre) ((c .before .before .loop) .inv _ (sym (length-set ((c .before .before .before .before .before .before .before .before .args) .out .now) 0 _)) (c .before .before .before .before .before .before .before .before .pre)) ((c .before .loop-test) .left) .1 .0)
-
-part-copy-start-2 : tie.Need-part-copy-start-2 Inv-loop μ-loop
-part-copy-start-2 c = omega (arith, writing-rest (c .before .before .before .before .before .before .before .before .pre) ((c .before .before .loop) .inv _ (sym (length-set ((c .before .before .before .before .before .before .before .before .args) .out .now) 0 _)) (c .before .before .before .before .before .before .before .before .pre)) ((c .before .loop-test) .left) .1 .0)
-
-part-copy-end-2 : tie.Need-part-copy-end-2 Inv-loop μ-loop
-part-copy-end-2 c = search needs
-
-copy-requires : tie.Need-copy-requires Inv-loop μ-loop
-copy-requires c κs = mid-len _ _ _ (omega arith) ∙ writing-rest (c .before .before .before .before .before .before .before .before .before .pre) ((c .before .before .before .loop) .inv _ (sym (length-set ((c .before .before .before .before .before .before .before .before .before .args) .out .now) 0 _)) (c .before .before .before .before .before .before .before .before .before .pre)) ((c .before .before .loop-test) .left) .1 .1 .1 ∙ sym (mid-len _ _ _ (omega arith))
+slice-write-out : tie.Need-slice-write-out Inv-loop μ-loop
+slice-write-out c = not-empty (c .before .before .before .before .before .before .before .pre) (all-put _ _ _ _ _ ((c .before .loop) .inv _ refl (c .before .before .before .before .before .before .before .pre)) ((c .loop-test) .left))
 
 same-length : tie.Need-same-length Inv-loop μ-loop
-same-length c = ap length (writing-end (c .before .before .before .before .before .before .before .before .before .before .before .before .pre) ((c .before .before .before .before .before .before .loop) .inv _ (sym (length-set ((c .before .before .before .before .before .before .before .before .before .before .before .before .args) .out .now) 0 _)) (c .before .before .before .before .before .before .before .before .before .before .before .before .pre)) ((c .before .before .before .before .before .loop-test) .left) ((c .before .before .copy) .ensures)) ∙ sym ((c .before .before .before .before .before .before .before .before .before .before .before .before .pre) .size)
+same-length c = length-set ((c .before .loop) .out) 0 _ ∙ (c .before .loop) .inv _ refl (c .before .before .before .before .before .before .before .pre) .size ∙ come-long (c .before .before .before .before .before .before .before .pre)
 
 returns : tie.Need-returns Inv-loop μ-loop
-returns c = record { each = λ h. writing-end h ((c .before .before .before .before .before .before .loop) .inv _ (sym (length-set ((c .before .before .before .before .before .before .before .before .before .before .before .before .args) .out .now) 0 _)) h) ((c .before .before .before .before .before .loop-test) .left) ((c .before .before .copy) .ensures) }
+returns c = record { each = λ a. writing-end a (all-put _ _ _ _ _ ((c .before .loop) .inv _ refl a) ((c .loop-test) .left)) }
 
 pub write-spec : {M : Type 1} → statement M
 write-spec =
@@ -112,33 +76,21 @@ write-spec =
     (tie.spec
     Inv-loop
     μ-loop
+    loop-holds
+    mul-list
+    shared-slice-read-list
+    add-i
+    place-at-requires
+    mul-put-record
+    sub-put-record
+    part-put-record-start
+    part-put-record-end
+    put-record-requires
+    loop-less
+    loop-again
     mul-out
     cast-out
     add-out
     slice-write-out
-    loop-holds
-    mul-list
-    shared-slice-read-list
-    mul-start
-    shared-slice-read-start
-    cast-start
-    add-i
-    loop-less
-    loop-again
-    slots-place-requires
-    add-place
-    put-relation-requires
-    add-from
-    loop-less-2
-    loop-again-2
-    mul-copy
-    sub-copy
-    part-copy-start
-    part-copy-end
-    mul-copy-2
-    sub-copy-2
-    part-copy-start-2
-    part-copy-end-2
-    copy-requires
     same-length
     returns)
