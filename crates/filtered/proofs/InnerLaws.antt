@@ -1,23 +1,25 @@
 -- The walks along direct kinds: the marks that they leave are those of each name's own walk.
-use Prim.Native.Nat.{ℕ, zero, suc, _+_, _-_, _<_}
+use Prim.Native.Nat.{ℕ, zero, suc, _+_, _-_, _<_, _≤_}
 use native.Mathlib.Omega.{arith}
 use native.Mathlib.Numerals.{add-one}
 use mathlib.Core.Path.{_≡_, refl, ap, sym, _∙_, subst}
 use mathlib.Core.List.{List}
 use mathlib.Core.Bool.{Bool, true, false}
 use mathlib.Core.Option.{Option, none, some, Option·map}
-use lib.ListN.{length, getD}
+use lib.ListN.{length, getD, set, List·getD-eq-default}
+use lib.Seq.{getD-set-same, getD-set-other}
 use lib.Dec.{eqb, ltb}
-use borrow.Author.Tests.{eq-eqb, eqb-false, lt-ltb, le-ltb, ltb-true, ltb-false}
+use borrow.Author.Tests.{eq-eqb, eqb-true, eqb-false, lt-ltb, le-ltb, ltb-true, ltb-false}
 use Rattle.pack.specs.Table.{pick}
 use Rattle.pack.specs.Table as table
 use Rattle.pack.specs.Form.{among}
 use Rattle.chains.specs.Chain.{end, next, mapped, Settled, nothing, All, walkAll, own, same}
 use Rattle.filtered.specs.Filtered.{innerAt, upTo, innerStep}
 use Rattle.chains.specs.ByName.{tableFrom}
+use Rattle.chains.specs.Entry.{wordIn, declaredBy, declaredIn, declarationsIn}
 use Rattle.chains.specs.Settle.{stepAt, Leading, settledIn, walksIn, Walkable, WalkedHere, SettledAll}
 use Rattle.chains.specs.AllKinds.{Lent}
-use Rattle.filtered.specs.Said.{directOf, innerEntry, entriesIn, plainly, unseen, directIn, InnerAsked, InnerSettleable, InnerSettled, answered, InnerMarked}
+use Rattle.filtered.specs.Said.{directOf, innerEntry, plainly, unseen, directIn, InnerAsked, InnerWords, InnerSettleable, InnerSettled, answered, InnerMarked}
 use Rattle.chains.proofs.Names.{or-left, or-right}
 use Rattle.chains.proofs.MappedLaws.{AnswersMapped, answers-mapped}
 use Rattle.filtered.proofs.FilteredLaws.{inner-own}
@@ -37,12 +39,35 @@ among-counted n (suc k) (suc i) h =
     let e : suc n + i ≡ n + suc i = omega arith in
     or-right (eqb (n + suc i) n) (ap (λ (m : ℕ). among m (tableFrom plainly (suc n) k)) (sym e) ∙ among-counted (suc n) k i (omega arith))
 
-module _ (taken : List ℕ) (n : ℕ) (asked : InnerAsked taken n) where
+-- ---- the words, one after another
+
+pub words-next : {taken dir : List ℕ} {j : ℕ} → InnerWords taken j dir → 512 + j < length dir → (v : ℕ) → declaredBy v ≡ innerEntry (getD taken j 0) j → InnerWords taken (j + 1) (set dir (512 + j) v)
+words-next {taken} {dir} {j} s h v e = record { says = λ m l. go m l (eqb m j) refl }
+  where
+    go : (m : ℕ) → m < j + 1 → (b : Bool) → eqb m j ≡ b → declaredBy (wordIn (set dir (512 + j) v) m) ≡ innerEntry (getD taken m 0) m
+    go m l true q = let z : m ≡ j = eqb-true m j q in rw z (ap declaredBy (getD-set-same dir (512 + j) v 0 h) ∙ e)
+    go m l false q = let o = eqb-false m j q in ap declaredBy (getD-set-other dir (512 + j) (512 + m) v 0 (λ z. o (omega arith))) ∙ s .says m (omega arith)
+
+-- ---- the walks along them
+
+module _ (taken : List ℕ) (n : ℕ) (asked : InnerAsked taken n) (dir : List ℕ) (long : length dir ≡ 512 + n) (words : InnerWords taken n dir) where
   abbrev names : List ℕ
   names = tableFrom plainly 0 n
 
   abbrev index : List ℕ
-  index = tableFrom (entriesIn taken) 0 n
+  index = declarationsIn dir
+
+  at-name : (m : ℕ) → m < n → getD index m 0 ≡ innerEntry (getD taken m 0) m
+  unfolding declarationsIn declaredIn
+  at-name m h = whole-at (declaredIn dir) 4096 m (omega (arith, asked .most)) ∙ words .says m h
+
+  past-names : (m : ℕ) → n ≤ m → getD index m 0 ≡ 0
+  unfolding declarationsIn declaredIn
+  past-names m h = go (ltb m 4096) refl
+    where
+      go : (c : Bool) → ltb m 4096 ≡ c → getD (tableFrom (declaredIn dir) 0 4096) m 0 ≡ 0
+      go true e = whole-at (declaredIn dir) 4096 m (ltb-true m 4096 e) ∙ ap declaredBy (List·getD-eq-default dir 0 (omega arith))
+      go false e = whole-past (declaredIn dir) 4096 m (ltb-false m 4096 e)
 
   -- what a name's entry says
   record Says (m x : ℕ) : Type 0 where
@@ -75,12 +100,11 @@ module _ (taken : List ℕ) (n : ℕ) (asked : InnerAsked taken n) where
       go false z = leads z (eqb d m) refl
 
   all-says : (m : ℕ) → Says m (getD index m 0)
-  unfolding entriesIn
   all-says m = go (ltb m n) refl
     where
       go : (c : Bool) → ltb m n ≡ c → Says m (getD index m 0)
-      go true e = let h = ltb-true m n e in rw (whole-at (entriesIn taken) n m h) (entry-says m h)
-      go false e = let h = ltb-false m n e in rw (whole-past (entriesIn taken) n m h) (ends m 0 none (rw e refl) refl (omega arith))
+      go true e = let h = ltb-true m n e in rw (at-name m h) (entry-says m h)
+      go false e = let h = ltb-false m n e in rw (past-names m h) (ends m 0 none (rw e refl) refl (omega arith))
 
   leading : Leading n index
   unfolding Leading
@@ -121,36 +145,32 @@ module _ (taken : List ℕ) (n : ℕ) (asked : InnerAsked taken n) where
       }
 
   -- the same of the code's values
-  module _ {t marks : List ℕ} {k : ℕ} (filled : t ≡ index) (cleared : marks ≡ tableFrom unseen 0 k) (alike : k ≡ n) where
-    as-many : length t ≡ n
-    as-many = ap length filled ∙ table-length (entriesIn taken) 0 n
+  module _ {marks : List ℕ} (cleared : marks ≡ tableFrom unseen 0 n) where
+    as-many : length marks ≡ n
+    as-many = ap length cleared ∙ table-length unseen 0 n
 
-    blank : marks ≡ tableFrom unseen 0 n
-    blank = cleared ∙ ap (tableFrom unseen 0) alike
-
-    pub walks-asked : InnerSettleable t marks
+    pub walks-asked : InnerSettleable dir marks
     walks-asked =
         record {
-          most = omega (arith, as-many, asked .most);
-          alike = ap length blank ∙ table-length unseen 0 n ∙ sym as-many;
-          settleable = rw (as-many, filled, blank)
+          reaches = record { most = omega (arith, as-many, asked .most); long = omega (arith, as-many, long) };
+          settleable = rw (as-many, cleared)
               (settleable-clear index names (n + 1) lent-unseen name-below leading (omega (arith, table-length plainly 0 n, asked .most)) (omega (arith, asked .most)));
         }
 
-    pub walks-left : {marks′ : List ℕ} {steps : ℕ} → InnerSettled t marks marks′ steps → InnerMarked taken n marks′
-    walks-left s = inner-marked lent-unseen (rw (as-many, filled, blank) at s)
+    pub walks-left : {marks′ : List ℕ} {steps : ℕ} → InnerSettled dir marks marks′ steps → InnerMarked taken n marks′
+    walks-left s = inner-marked lent-unseen (rw (as-many, cleared) at s)
 
--- ---- the walks from all names of a table in order
+-- ---- the walks from all names in order
 
-module _ {table marks₀ : List ℕ} (asked : InnerSettleable table marks₀) {marks : List ℕ} {steps j : ℕ} (s : Settling table marks₀ (tableFrom plainly 0 (length table)) 0 (length table + 1) marks steps j) (h : j < length table) where
-  here : getD (tableFrom plainly 0 (length table)) j 0 ≡ j
-  here = whole-at plainly (length table) j h
+module _ {dir marks₀ : List ℕ} (asked : InnerSettleable dir marks₀) {marks : List ℕ} {steps j : ℕ} (s : Settling (declarationsIn dir) marks₀ (tableFrom plainly 0 (length marks₀)) 0 (length marks₀ + 1) marks steps j) (h : j < length marks₀) where
+  here : getD (tableFrom plainly 0 (length marks₀)) j 0 ≡ j
+  here = whole-at plainly (length marks₀) j h
 
-  within : j < length (tableFrom plainly 0 (length table))
-  within = omega (arith, table-length plainly 0 (length table))
+  within : j < length (tableFrom plainly 0 (length marks₀))
+  within = omega (arith, table-length plainly 0 (length marks₀))
 
-  pub name-walkable : Walkable table marks steps j (length table + 1)
-  name-walkable = subst (λ (n : ℕ). Walkable table marks steps n (length table + 1)) here (walkable _ _ _ _ _ (asked .settleable) s within)
+  pub name-walkable : Walkable (declarationsIn dir) marks steps j (length marks₀ + 1)
+  name-walkable = subst (λ (n : ℕ). Walkable (declarationsIn dir) marks steps n (length marks₀ + 1)) here (walkable _ _ _ _ _ (asked .settleable) s within)
 
-  pub name-walked : {r : ℕ} {marks′ : List ℕ} {steps′ : ℕ} → WalkedHere table marks steps j (length table + 1) r marks′ steps′ → Settling table marks₀ (tableFrom plainly 0 (length table)) 0 (length table + 1) marks′ steps′ (j + 1)
-  name-walked {r} {marks′} {steps′} w = walk-on _ _ _ _ _ (asked .settleable) s within (subst (λ (n : ℕ). WalkedHere table marks steps n (length table + 1) r marks′ steps′) (sym here) w)
+  pub name-walked : {r : ℕ} {marks′ : List ℕ} {steps′ : ℕ} → WalkedHere (declarationsIn dir) marks steps j (length marks₀ + 1) r marks′ steps′ → Settling (declarationsIn dir) marks₀ (tableFrom plainly 0 (length marks₀)) 0 (length marks₀ + 1) marks′ steps′ (j + 1)
+  name-walked {r} {marks′} {steps′} w = walk-on _ _ _ _ _ (asked .settleable) s within (subst (λ (n : ℕ). WalkedHere (declarationsIn dir) marks steps n (length marks₀ + 1) r marks′ steps′) (sym here) w)

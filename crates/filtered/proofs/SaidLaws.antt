@@ -1,10 +1,23 @@
 -- What the filtered tables say of a name, in each way out of the code that says it.
-use Prim.Native.Nat.{ℕ, _+_, _-_, _<_, _≤_}
-use mathlib.Core.Path.{_≡_, refl, sym}
+use Prim.Native.Nat.{ℕ, _+_, _-_, _*_, _/_, _%_, _<_, _≤_}
+use mathlib.Core.Path.{_≡_, refl, sym, _∙_}
 use native.Mathlib.Omega.{arith}
 use borrow.Author.Tests.{eq-eqb, ne-eqb, lt-ltb, le-ltb, le-leb, lt-leb}
+use Rattle.chains.specs.Entry.{declaredBy}
 use Rattle.filtered.specs.Taking.{several}
-use Rattle.filtered.specs.Said.{directOf, aliasOf, unresolvedOf, innerEntry, innerOf}
+use Rattle.filtered.specs.Said.{directOf, aliasOf, unresolvedOf, innerEntry, innerOf, KnownName}
+
+-- a word of the directory that has a name for its place and a list 1 behind it
+ends-at : (e : ℕ) → e < 4096 → declaredBy (e + 8192) ≡ e + 1
+ends-at e l = let a : (e + 8192) / 8192 % 64 ≡ 1 = omega arith in let b : (e + 8192) % 8192 ≡ e = omega arith in rw (a, b) refl
+
+-- and one that leads on
+leads-to : (d : ℕ) → declaredBy (524288 * (64 + d)) ≡ 65536 + d
+leads-to d =
+    let a : 524288 * (64 + d) / 8192 % 64 ≡ 0 = omega arith in
+    let b : 524288 * (64 + d) / 8192 / 64 ≡ 64 + d = omega arith in
+    let c : 64 + d - 64 ≡ d = omega arith in
+    rw (a, b, le-ltb (64 + d) 64 (omega arith), c) refl
 
 module _ (x : ℕ) where
   pub direct-few : x < 2 → 16777215 ≡ directOf x
@@ -41,17 +54,20 @@ module _ (x : ℕ) where
     alias-other h q = sym (simp (le-ltb x 2 h, ne-eqb x (2 + e) q))
 
     module _ {d : ℕ} (k : d ≡ directOf x) where
-      pub entry-none : d ≡ 16777215 → e + 1 ≡ innerEntry x e
-      unfolding innerEntry
-      entry-none q = sym (rw (← k, eq-eqb d 16777215 q) refl)
+      pub direct-low : KnownName x e → (d ≡ 16777215 → ⊥) → d < 4096
+      direct-low n z = omega (arith, n .leads (λ q. z (k ∙ q)))
 
-      pub entry-itself : (d ≡ 16777215 → ⊥) → d ≡ e → e + 1 ≡ innerEntry x e
+      pub word-none : e < 4096 → d ≡ 16777215 → declaredBy (e + 8192) ≡ innerEntry x e
       unfolding innerEntry
-      entry-itself z q = sym (rw (← k, ne-eqb d 16777215 z, eq-eqb d e q) refl)
+      word-none l q = ends-at e l ∙ sym (rw (← k, eq-eqb d 16777215 q) refl)
 
-      pub entry-leads : (d ≡ 16777215 → ⊥) → (d ≡ e → ⊥) → 65536 + d ≡ innerEntry x e
+      pub word-itself : e < 4096 → (d ≡ 16777215 → ⊥) → d ≡ e → declaredBy (e + 8192) ≡ innerEntry x e
       unfolding innerEntry
-      entry-leads z q = sym (rw (← k, ne-eqb d 16777215 z, ne-eqb d e q) refl)
+      word-itself l z q = ends-at e l ∙ sym (rw (← k, ne-eqb d 16777215 z, eq-eqb d e q) refl)
+
+      pub word-leads : (d ≡ 16777215 → ⊥) → (d ≡ e → ⊥) → declaredBy (524288 * (64 + d)) ≡ innerEntry x e
+      unfolding innerEntry
+      word-leads z q = leads-to d ∙ sym (rw (← k, ne-eqb d 16777215 z, ne-eqb d e q) refl)
 
   module _ (mark : ℕ) {d : ℕ} (k : d ≡ directOf x) where
     pub inner-none : d ≡ 16777215 → 16777215 ≡ innerOf x mark

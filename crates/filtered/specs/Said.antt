@@ -14,6 +14,7 @@ use Rattle.chains.specs.Chain.{own, same}
 use Rattle.filtered.specs.Filtered.{upTo, innerStep}
 use Rattle.filtered.specs.FilteredTables.{filterWords}
 use Rattle.chains.specs.ByName.{tableFrom}
+use Rattle.chains.specs.Entry.{Reaches, wordIn, declaredBy, declarationsIn}
 use Rattle.chains.specs.Settle.{Settleable, SettledAll}
 use Rattle.filtered.specs.Taking.{several}
 
@@ -27,7 +28,7 @@ aliasOf x e = pick (ltb x 2) 0 (pick (eqb x (2 + e)) 0 1)
 unfoldable pub unresolvedOf : ℕ → ℕ
 unresolvedOf x = pick (eqb x 1) 1 0
 
--- the chain of direct kinds as an index: where a name leads on it is 65536 and the name, else 1 and the name itself
+-- the chain of direct kinds as declarations: where a name leads on it is 65536 and the name, else 1 and the name itself
 unfoldable pub innerEntry : ℕ → ℕ → ℕ
 innerEntry x e = pick (eqb (directOf x) table.none) (e + 1) (pick (eqb (directOf x) e) (e + 1) (65536 + directOf x))
 
@@ -43,9 +44,6 @@ said Unresolved x mark e = unresolvedOf x
 
 unfoldable pub saidIn : Filter → List ℕ → List ℕ → ℕ → ℕ
 saidIn f taken marks e = said f (getD taken e 0) (getD marks e 0) e
-
-unfoldable pub entriesIn : List ℕ → ℕ → ℕ
-entriesIn taken e = innerEntry (getD taken e 0) e
 
 -- a name whose direct kind is a name
 pub record KnownName (x e : ℕ) : Type 0 where
@@ -71,14 +69,17 @@ pub record InnerAsked (taken : List ℕ) (n : ℕ) : Type 0 where
   pub long : n ≤ length taken
   pub leads : (e : ℕ) → e < n → (directOf (getD taken e 0) ≡ table.none → ⊥) → directOf (getD taken e 0) < n
 
--- what the walks from all names of a table ask for, and what they leave
-pub record InnerSettleable (table marks : List ℕ) : Type 0 where
-  pub most : length table ≤ 4096
-  pub alike : length marks ≡ length table
-  pub settleable : Settleable table marks (tableFrom plainly 0 (length table)) 0 (length table + 1)
+-- the words of n names in a directory say them
+pub record InnerWords (taken : List ℕ) (n : ℕ) (dir : List ℕ) : Type 0 where
+  pub says : (m : ℕ) → m < n → declaredBy (wordIn dir m) ≡ innerEntry (getD taken m 0) m
+
+-- what the walks from all names that have a mark ask for, and what they leave
+pub record InnerSettleable (dir marks : List ℕ) : Type 0 where
+  pub reaches : Reaches dir (length marks)
+  pub settleable : Settleable (declarationsIn dir) marks (tableFrom plainly 0 (length marks)) 0 (length marks + 1)
 
 abbrev pub InnerSettled : List ℕ → List ℕ → List ℕ → ℕ → Type 0
-InnerSettled table marks marks′ steps = SettledAll table marks (tableFrom plainly 0 (length table)) 0 (length table + 1) marks′ steps
+InnerSettled dir marks marks′ steps = SettledAll (declarationsIn dir) marks (tableFrom plainly 0 (length marks)) 0 (length marks + 1) marks′ steps
 
 -- an innermost kind as a walk's answer
 abbrev pub answered : Option ℕ → ℕ

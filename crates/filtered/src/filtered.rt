@@ -2,7 +2,6 @@
 use crate::inner::settle_all;
 use crate::taking::Taken;
 use crate::taking::take_kinds;
-use chains::entry::Declaration;
 use chains::settle::Mark;
 use checking::check::answer;
 use checking::check::check_directory;
@@ -15,15 +14,15 @@ use records::directory::Directory;
 use records::directory::Laid;
 use records::directory::Layout;
 ghost use mathlib.Core.Path.{_≡_};
-ghost use Prim.Native.Nat.{_<_, _≤_};
+ghost use Prim.Native.Nat.{_+_, _<_, _≤_};
 ghost use lib.ListN.{length};
 ghost use Rattle.chains.specs.ByName.{tableFrom};
-ghost use Rattle.chains.specs.Entry.{Reaches};
+ghost use Rattle.chains.specs.Entry.{Reaches, declaredBy};
 ghost use Rattle.chains.specs.AllKinds.{Lent, Room, IsDirectory};
 ghost use Rattle.checking.specs.Checked.{namesSaid};
 ghost use Rattle.chains.specs.Answers.{Answered};
 ghost use Rattle.filtered.specs.FilteredTables.{filterAnswer, filterBuffer};
-ghost use Rattle.filtered.specs.Said.{directOf, aliasOf, unresolvedOf, innerEntry, innerOf, said, saidIn, entriesIn, unseen, InnerAsked, InnerMarked, InnerFor, FilterLeft, KnownName};
+ghost use Rattle.filtered.specs.Said.{directOf, aliasOf, unresolvedOf, innerEntry, innerOf, said, saidIn, unseen, InnerAsked, InnerWords, InnerMarked, InnerFor, FilterLeft, KnownName};
 
 pub enum Filter {
     Direct,
@@ -104,29 +103,29 @@ fn say_all(taken: &[u32], filter: Filter, out: &mut [u32])
     }
 }
 
-// The direct kind of a name as a declaration: it leads on, or the name itself is the answer.
-fn inner_entry(x: u32, e: u32) -> u32
+// The direct kind of a name as a word of the directory: it leads on, or a list settles it 1 behind the name itself.
+fn inner_word(x: u32, e: u32) -> u32
     requires { ⌜ KnownName x e ⌝ }
-    ensures { λ r. ⌜ r ≡ innerEntry x e ⌝ }
+    ensures { λ r. ⌜ declaredBy r ≡ innerEntry x e ⌝ }
 {
     let d = direct_of(x);
     if d == Pack::NONE {
-        return e + 1;
+        return e + Directory::PLACES;
     }
     if d == e {
-        return e + 1;
+        return e + Directory::PLACES;
     }
-    Declaration::LEADS + d
+    Directory::PLACES * Directory::OFFSETS * (Directory::OFFSETS + d)
 }
 
-// The direct kinds of names as declarations.
-fn inner_entries(taken: &[u32], table: &mut [u32])
-    requires { ⌜ InnerAsked (now taken) (length (now table)) ⌝ }
-    ensures { λ r. ⌜ now (table .exit) ≡ tableFrom (entriesIn (now (taken .entry))) 0 (length (now (table .entry))) ⌝ }
+// The direct kinds of so many names as words of a directory.
+fn inner_words(taken: &[u32], dir: &mut [u32], count: usize)
+    requires { ⌜ InnerAsked (now taken) count × (length (now dir) ≡ 512 + count) ⌝ }
+    ensures { λ r. ⌜ InnerWords (now (taken .entry)) count (now (dir .exit)) ⌝ }
 {
     let mut j: usize = 0;
-    while j < table.len() {
-        table[j] = inner_entry(taken[j], j as u32);
+    while j < count {
+        dir[Directory::NAMES + j] = inner_word(taken[j], j as u32);
         j += 1;
     }
 }
@@ -142,35 +141,35 @@ fn clear(marks: &mut [u32])
     }
 }
 
-// The walks along the direct kinds of all names, for which the table and the marks have one word each.
-fn walk_inner(taken: &[u32], table: &mut [u32], marks: &mut [u32])
-    requires { ⌜ InnerAsked (now taken) (length (now table)) × (length (now marks) ≡ length (now table)) ⌝ }
-    ensures { λ r. ⌜ InnerMarked (now (taken .entry)) (length (now (table .entry))) (now (marks .exit)) ⌝ }
+// The walks along the direct kinds of all names, by a directory that is free: it and the marks have one word for each.
+fn walk_inner(taken: &[u32], dir: &mut [u32], marks: &mut [u32])
+    requires { ⌜ InnerAsked (now taken) (length (now marks)) × (length (now dir) ≡ 512 + length (now marks)) ⌝ }
+    ensures { λ r. ⌜ InnerMarked (now (taken .entry)) (length (now (marks .entry))) (now (marks .exit)) ⌝ }
 {
-    inner_entries(taken, table);
+    inner_words(taken, dir, marks.len());
     clear(marks);
-    settle_all(table, marks);
+    settle_all(dir, marks);
 }
 
 // The walks, where a filter needs them.
-fn mark_inner(filter: Filter, taken: &[u32], table: &mut [u32], marks: &mut [u32])
-    requires { ⌜ InnerAsked (now taken) (length (now table)) × (length (now marks) ≡ length (now table)) ⌝ }
-    ensures { λ r. ⌜ InnerFor filter (now (taken .entry)) (length (now (table .entry))) (now (marks .exit)) ⌝ }
+fn mark_inner(filter: Filter, taken: &[u32], dir: &mut [u32], marks: &mut [u32])
+    requires { ⌜ InnerAsked (now taken) (length (now marks)) × (length (now dir) ≡ 512 + length (now marks)) ⌝ }
+    ensures { λ r. ⌜ InnerFor filter (now (taken .entry)) (length (now (marks .entry))) (now (marks .exit)) ⌝ }
 {
     match filter {
         Filter::Direct => {}
-        Filter::Innermost => walk_inner(taken, table, marks),
+        Filter::Innermost => walk_inner(taken, dir, marks),
         Filter::Alias => {}
         Filter::Unresolved => {}
     }
 }
 
-// A table of a checked pack into a slice with one word for each name. When the kinds are taken the marks are free for the
+// A table of a checked pack into a slice with one word for each name. When the kinds are taken the directory is free for the
 // walks along them.
 fn fill(
     pack: &[u32],
     l: Layout,
-    dir: &[u32],
+    dir: &mut [u32],
     filter: Filter,
     marks: &mut [u32],
     taken: &mut [u32],
@@ -180,8 +179,8 @@ fn fill(
     ensures { λ r. ⌜ FilterLeft filter (now (pack .entry)) (now (out .exit)) ⌝ }
 {
     take_kinds(pack, l, dir, marks, taken);
-    let count = out.len();
-    mark_inner(filter, taken, &mut marks[0..count], out);
+    let words = Directory::NAMES + out.len();
+    mark_inner(filter, taken, &mut dir[0..words], out);
     say_all(taken, filter, out);
 }
 

@@ -1,6 +1,7 @@
 -- `filtered::filtered::fill` meets its contract.
 use native.Mathlib.Omega.{arith}
 use mathlib.Core.Path.{sym, _∙_, subst}
+use Prim.Native.Nat.{_+_}
 use lib.ListN.{length}
 use Rattle.chains.proofs.AnswerLaws.{front-length}
 use Rattle.filtered.specs.Said.{InnerAsked}
@@ -10,7 +11,10 @@ use Rattle.filtered.proofs.filtered.fill.Statement.{statement}
 use Rattle.filtered.proofs.filtered.fill.Tie as tie
 
 take-kinds-requires : tie.Need-take-kinds-requires
-take-kinds-requires c κs = (c .before .before .before .before .before .before .before .pre .0, c .before .before .before .before .before .before .before .pre .1, c .before .before .before .before .before .before .before .pre .2, c .before .before .before .before .before .before .before .pre .3)
+take-kinds-requires c κs = let p = c .before .before .before .before .before .before .before .before .pre in (p .0, p .1, p .2, p .3)
+
+add-words : tie.Need-add-words
+add-words c = search needs
 
 sub-mark-inner : tie.Need-sub-mark-inner
 sub-mark-inner c = search needs
@@ -19,13 +23,13 @@ part-mark-inner-start : tie.Need-part-mark-inner-start
 part-mark-inner-start c = search needs
 
 part-mark-inner-end : tie.Need-part-mark-inner-end
-part-mark-inner-end c = omega (arith, c .before .before .before .before .before .take-kinds .kept .1 .1 .1 .0, c .before .before .before .before .before .before .before .before .before .before .before .before .before .pre .1 .long, c .before .before .before .before .before .before .before .before .before .before .before .before .before .pre .4)
+part-mark-inner-end c = let p = c .before .before .before .before .before .before .before .before .before .before .before .before .before .before .pre in omega (arith, p .0 .reaches .long, p .4)
 
 mark-inner-requires : tie.Need-mark-inner-requires
-mark-inner-requires c κs = let f = front-length (c .before .before .before .before .before .before .before .take-kinds .last .1 .1 .1 .0) (length (c .before .before .before .before .before .before .before .before .before .before .before .before .before .before .before .args .out .now)) (omega (arith, c .before .before .before .before .before .before .before .take-kinds .kept .1 .1 .1 .0, c .before .before .before .before .before .before .before .before .before .before .before .before .before .before .before .pre .1 .long, c .before .before .before .before .before .before .before .before .before .before .before .before .before .before .before .pre .4)) ∙ (c .before .before .before .before .before .before .before .before .before .before .before .before .before .before .before .pre .4) in (subst (InnerAsked _) (sym f) (inner-asked (c .before .before .before .before .before .before .before .before .before .before .before .before .before .before .before .pre .0 .checked) (c .before .before .before .before .before .before .before .take-kinds .ensures) (c .before .before .before .before .before .before .before .before .before .before .before .before .before .before .before .pre .0 .named) (omega (arith, c .before .before .before .before .before .before .before .take-kinds .kept .1 .1 .1 .1 .0, c .before .before .before .before .before .before .before .before .before .before .before .before .before .before .before .pre .3 .long))), (c .before .before .before .before .before .before .before .before .before .before .before .before .before .before .before .pre .4) ∙ sym f)
+mark-inner-requires c κs = let p = c .before .before .before .before .before .before .before .before .before .before .before .before .before .before .before .before .pre in let t = c .before .before .before .before .before .before .before .take-kinds in (subst (InnerAsked _) (sym (p .4)) (inner-asked (p .0 .checked) (t .ensures) (p .0 .named) (omega (arith, t .kept .1 .1 .1 .1 .0, p .3 .long))), front-length (c .before .before .before .before .before .before .before .before .before .before .before .before .before .before .before .before .args .dir .now) (512 + length (c .before .before .before .before .before .before .before .before .before .before .before .before .before .before .before .before .args .out .now)) (omega (arith, p .0 .reaches .long, p .4)))
 
 say-all-requires : tie.Need-say-all-requires
-say-all-requires c κs = (omega (arith, c .before .before .before .before .before .before .mark-inner .kept .1 .1 .1 .0, c .before .before .before .before .before .before .before .before .before .before .before .before .before .before .take-kinds .kept .1 .1 .1 .1 .0, c .before .before .before .before .before .before .before .before .before .before .before .before .before .before .before .before .before .before .before .before .before .before .pre .3 .long, c .before .before .before .before .before .before .before .before .before .before .before .before .before .before .before .before .before .before .before .before .before .before .pre .4), omega (arith, c .before .before .before .before .before .before .mark-inner .kept .1 .1 .1 .0, c .before .before .before .before .before .before .before .before .before .before .before .before .before .before .before .before .before .before .before .before .before .before .pre .0 .reaches .most, c .before .before .before .before .before .before .before .before .before .before .before .before .before .before .before .before .before .before .before .before .before .before .pre .4))
+say-all-requires c κs = let p = c .before .before .before .before .before .before .before .before .before .before .before .before .before .before .before .before .before .before .before .before .before .before .before .pre in let k = c .before .before .before .before .before .before .mark-inner .kept .1 .1 .1 .0 in (omega (arith, k, c .before .before .before .before .before .before .before .before .before .before .before .before .before .before .take-kinds .kept .1 .1 .1 .1 .0, p .3 .long, p .4), omega (arith, k, p .0 .reaches .most, p .4))
 
 same-length : tie.Need-same-length
 same-length c = search needs
@@ -36,14 +40,18 @@ same-length-2 c = search needs
 same-length-3 : tie.Need-same-length-3
 same-length-3 c = search needs
 
+same-length-4 : tie.Need-same-length-4
+same-length-4 c = search needs
+
 returns : tie.Need-returns
-returns c = filter-left (c .before .before .before .before .before .before .before .before .before .before .before .before .before .before .before .before .before .before .before .before .before .before .before .before .before .pre .0 .checked) (c .before .before .before .before .before .before .before .before .before .before .before .before .before .before .before .before .before .take-kinds .ensures) (c .before .before .before .before .before .before .before .before .before .before .before .before .before .before .before .before .before .before .before .before .before .before .before .before .before .pre .0 .named) _ _ (c .before .before .before .before .before .before .before .before .before .mark-inner .ensures) (front-length (c .before .before .before .before .before .before .before .before .before .before .before .before .before .before .before .before .before .take-kinds .last .1 .1 .1 .0) (length (c .before .before .before .before .before .before .before .before .before .before .before .before .before .before .before .before .before .before .before .before .before .before .before .before .before .args .out .now)) (omega (arith, c .before .before .before .before .before .before .before .before .before .before .before .before .before .before .before .before .before .take-kinds .kept .1 .1 .1 .0, c .before .before .before .before .before .before .before .before .before .before .before .before .before .before .before .before .before .before .before .before .before .before .before .before .before .pre .1 .long, c .before .before .before .before .before .before .before .before .before .before .before .before .before .before .before .before .before .before .before .before .before .before .before .before .before .pre .4)) ∙ (c .before .before .before .before .before .before .before .before .before .before .before .before .before .before .before .before .before .before .before .before .before .before .before .before .before .pre .4)) (c .before .before .say-all .ensures) ((c .before .before .before .before .before .before .before .before .before .mark-inner .kept .1 .1 .1 .0) ∙ (c .before .before .before .before .before .before .before .before .before .before .before .before .before .before .before .before .before .before .before .before .before .before .before .before .before .pre .4))
+returns c = let p = c .before .before .before .before .before .before .before .before .before .before .before .before .before .before .before .before .before .before .before .before .before .before .before .before .before .before .pre in let m = c .before .before .before .before .before .before .before .before .before .mark-inner in filter-left (p .0 .checked) (c .before .before .before .before .before .before .before .before .before .before .before .before .before .before .before .before .before .take-kinds .ensures) (p .0 .named) _ _ (m .ensures) (p .4) (c .before .before .say-all .ensures) (m .kept .1 .1 .1 .0 ∙ p .4)
 
 pub fill-spec : {M : Type 1} → statement M
 fill-spec =
     tie.close
     (tie.spec
     take-kinds-requires
+    add-words
     sub-mark-inner
     part-mark-inner-start
     part-mark-inner-end
@@ -52,4 +60,5 @@ fill-spec =
     same-length
     same-length-2
     same-length-3
+    same-length-4
     returns)

@@ -64,7 +64,7 @@ same-length-6 : tie.Need-same-length-6
 same-length-6 c = search needs
 
 returns-3 : tie.Need-returns-3
-returns-3 c = let d = directed (c .before .before .before .before .before .before .before .before .before .before .before .before .before .before .before .before .before .before .before .before .before .before .before .before .pre .0 .clear) (c .before .before .before .before .before .before .before .before .before .before .before .before .before .before .before .before .before .check-directory .ensures) (c .before .before .before .before .before .before .before .before .before .before .before .before .before .r .given .1) in filter-done _ _ _ (d .checked) (d .named) (omega arith) (c .before .before .before .before .before .before .fill .ensures)
+returns-3 c = let d = directed (c .before .before .before .before .before .before .before .before .before .before .before .before .before .before .before .before .before .before .before .before .before .before .before .before .before .before .pre .0 .clear) (c .before .before .before .before .before .before .before .before .before .before .before .before .before .before .before .before .before .before .before .check-directory .ensures) (c .before .before .before .before .before .before .before .before .before .before .before .before .before .before .before .r .given .1) in filter-done _ _ _ (d .checked) (d .named) (omega arith) (c .before .before .before .before .before .before .before .before .fill .ensures)
 
 pub filtered-in-spec : {M : Type 1} → statement M
 filtered-in-spec =

@@ -1,17 +1,18 @@
 -- `filtered::filtered::walk_inner` meets its contract.
+use mathlib.Core.Path.{_∙_}
 use Rattle.filtered.proofs.InnerLaws.{walks-asked, walks-left}
 use borrow.Author.Needs.{needs}
 use Rattle.filtered.proofs.filtered.walk_inner.Statement.{statement}
 use Rattle.filtered.proofs.filtered.walk_inner.Tie as tie
 
-inner-entries-requires : tie.Need-inner-entries-requires
-inner-entries-requires c κs = c .before .before .before .before .pre .0
+inner-words-requires : tie.Need-inner-words-requires
+inner-words-requires c κs = search needs
 
 clear-requires : tie.Need-clear-requires
 clear-requires c κs = search needs
 
 settle-all-requires : tie.Need-settle-all-requires
-settle-all-requires c κs = walks-asked _ _ (c .before .before .before .before .before .before .before .before .before .before .before .before .before .pre .0) (c .before .before .before .before .before .before .before .before .inner-entries .ensures) (c .before .before .before .before .clear .ensures) (c .before .before .before .before .before .before .before .before .before .before .before .before .before .pre .1)
+settle-all-requires c κs = walks-asked _ _ (c .before .before .before .before .before .before .before .before .before .before .before .before .before .pre .0) _ ((c .before .before .before .before .before .before .before .before .inner-words .kept .1 .0) ∙ (c .before .before .before .before .before .before .before .before .before .before .before .before .before .pre .1)) (c .before .before .before .before .before .before .before .before .inner-words .ensures) (c .before .before .before .before .clear .ensures)
 
 same-length : tie.Need-same-length
 same-length c = search needs
@@ -20,13 +21,13 @@ same-length-2 : tie.Need-same-length-2
 same-length-2 c = search needs
 
 returns : tie.Need-returns
-returns c = walks-left _ _ (c .before .before .before .before .before .before .before .before .before .before .before .before .before .before .before .before .pre .0) (c .before .before .before .before .before .before .before .before .before .before .before .inner-entries .ensures) (c .before .before .before .before .before .before .before .clear .ensures) (c .before .before .before .before .before .before .before .before .before .before .before .before .before .before .before .before .pre .1) (c .before .before .settle-all .ensures)
+returns c = walks-left _ _ (c .before .before .before .before .before .before .before .before .before .before .before .before .before .before .before .before .pre .0) _ ((c .before .before .before .before .before .before .before .before .before .before .before .inner-words .kept .1 .0) ∙ (c .before .before .before .before .before .before .before .before .before .before .before .before .before .before .before .before .pre .1)) (c .before .before .before .before .before .before .before .before .before .before .before .inner-words .ensures) (c .before .before .before .before .before .before .before .clear .ensures) (c .before .before .settle-all .ensures)
 
 pub walk-inner-spec : {M : Type 1} → statement M
 walk-inner-spec =
     tie.close
     (tie.spec
-    inner-entries-requires
+    inner-words-requires
     clear-requires
     settle-all-requires
     same-length

@@ -1,9 +1,10 @@
 -- `filtered::inner::settle_all` meets its contract.
 use Prim.Native.Nat.{_+_, _-_}
 use native.Mathlib.Omega.{arith}
-use mathlib.Core.Path.{_∙_}
+use mathlib.Core.Path.{sym, subst}
 use lib.ListN.{length}
 use Rattle.chains.specs.ByName.{tableFrom}
+use Rattle.chains.specs.Entry.{Reaches, declarationsIn}
 use Rattle.filtered.specs.Said.{plainly}
 use Rattle.chains.proofs.FillLaws.{table-length}
 use Rattle.chains.proofs.SettleLaws.{Settling, begin, all-settled}
@@ -13,22 +14,22 @@ use Rattle.filtered.proofs.inner.settle_all.Statement.{statement}
 use Rattle.filtered.proofs.inner.settle_all.Tie as tie
 
 abbrev Inv-loop : tie.InvT-loop
-Inv-loop table marks₀ steps₀ fuel j₀ marks steps j = Settling table marks₀ (tableFrom plainly 0 (length table)) 0 (length table + 1) marks steps j
+Inv-loop dir marks₀ steps₀ fuel j₀ marks steps j = Settling (declarationsIn dir) marks₀ (tableFrom plainly 0 (length marks₀)) 0 (length marks₀ + 1) marks steps j
 
 abbrev μ-loop : tie.MeasureT-loop
-μ-loop table marks₀ steps₀ fuel j₀ marks steps j = length table - j
+μ-loop dir marks₀ steps₀ fuel j₀ marks steps j = length marks₀ - j
 
 cast-fuel : tie.Need-cast-fuel Inv-loop μ-loop
-cast-fuel c = omega (arith, c .before .before .pre .most)
+cast-fuel c = omega (arith, c .before .before .pre .reaches .most)
 
 add-fuel : tie.Need-add-fuel Inv-loop μ-loop
-add-fuel c = omega (arith, c .before .before .pre .most)
+add-fuel c = omega (arith, c .before .before .pre .reaches .most)
 
 loop-holds : tie.Need-loop-holds Inv-loop μ-loop
 loop-holds c = begin _ _ _ _ _ (c .before .before .pre .settleable)
 
 walk-requires : tie.Need-walk-requires Inv-loop μ-loop
-walk-requires c κs = (name-walkable (c .before .before .before .before .before .before .pre) (c .before .before .before .loop .inv) (omega arith), (c .before .before .before .loop .inv .long) ∙ (c .before .before .before .before .before .before .pre .alike))
+walk-requires c κs = (name-walkable (c .before .before .before .before .before .before .pre) (c .before .before .before .loop .inv) (omega (arith, c .before .before .before .loop .inv .long)), subst (Reaches (c .before .before .before .before .before .before .args .dir .now)) (sym (c .before .before .before .loop .inv .long)) (c .before .before .before .before .before .before .pre .reaches))
 
 add-j : tie.Need-add-j Inv-loop μ-loop
 add-j c = search needs
@@ -43,7 +44,7 @@ same-length : tie.Need-same-length Inv-loop μ-loop
 same-length c = c .before .loop .inv .long
 
 returns : tie.Need-returns Inv-loop μ-loop
-returns c = all-settled _ _ _ _ _ (c .before .before .before .before .pre .settleable) (c .before .loop .inv) (omega (arith, table-length plainly 0 (length (c .before .before .before .before .args .table .now))))
+returns c = all-settled _ _ _ _ _ (c .before .before .before .before .pre .settleable) (c .before .loop .inv) (omega (arith, table-length plainly 0 (length (c .before .before .before .before .args .marks .now))))
 
 pub settle-all-spec : {M : Type 1} → statement M
 settle-all-spec =
