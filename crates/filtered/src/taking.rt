@@ -138,13 +138,7 @@ fn read_relations(pack: &[u32], dir: &[u32], count: u32, acts: &mut [u32], taken
 
 // The tables of a checked pack, which hold zeros before: the marks of the chain walk become what aggregates do. The answer is the
 // number of declarations read.
-pub fn read_tables(
-    pack: &[u32],
-    l: Layout,
-    dir: &[u32],
-    acts: &mut [u32],
-    taken: &mut [u32],
-) -> u32
+pub fn read_tables(pack: &[u32], l: Layout, dir: &[u32], acts: &mut [u32], taken: &mut [u32]) -> u32
     requires { ⌜ IsDirectory (now pack) l (now dir) × Lent (l .names) (now acts) × Reaches (now dir) (length (now acts)) × Lent (l .names) (now taken) ⌝ }
     ensures { λ r. ⌜ Filled (now (pack .entry)) (namesIn (now (dir .entry)) (l .relations)) (startsIn (now (dir .entry))) (now (acts .exit)) (now (taken .exit)) r ⌝ }
 {

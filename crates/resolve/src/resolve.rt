@@ -171,7 +171,14 @@ fn resolve_few(pack: &[u32], out: &mut [u32], room: usize, words: &mut [u32]) ->
     let mut taken = [0u32; Directory::FEW];
     let mut asked = [0u8; Directory::FEW];
     resolve_by(
-        pack, &mut dir, &mut acts, &mut taken, &mut asked, out, room, words,
+        pack,
+        &mut dir,
+        &mut acts,
+        &mut taken,
+        &mut asked,
+        out,
+        room,
+        words,
     )
 }
 
@@ -184,7 +191,14 @@ fn resolve_some(pack: &[u32], out: &mut [u32], room: usize, words: &mut [u32]) -
     let mut taken = [0u32; Directory::SOME];
     let mut asked = [0u8; Directory::SOME];
     resolve_by(
-        pack, &mut dir, &mut acts, &mut taken, &mut asked, out, room, words,
+        pack,
+        &mut dir,
+        &mut acts,
+        &mut taken,
+        &mut asked,
+        out,
+        room,
+        words,
     )
 }
 
@@ -197,7 +211,14 @@ fn resolve_all(pack: &[u32], out: &mut [u32], room: usize, words: &mut [u32]) ->
     let mut taken = [0u32; Pack::MOST_NAMES as usize];
     let mut asked = [0u8; Pack::MOST_NAMES as usize];
     resolve_by(
-        pack, &mut dir, &mut acts, &mut taken, &mut asked, out, room, words,
+        pack,
+        &mut dir,
+        &mut acts,
+        &mut taken,
+        &mut asked,
+        out,
+        room,
+        words,
     )
 }
 

@@ -44,13 +44,7 @@ pub struct Node {
 }
 
 // Its direction as an aggregate.
-fn turned(
-    pack: &[u32],
-    acts: &[u32],
-    taken: &[u32],
-    at: usize,
-    entity: u32,
-) -> Direction
+fn turned(pack: &[u32], acts: &[u32], taken: &[u32], at: usize, entity: u32) -> Direction
     requires { ⌜ NodeStands (now pack) at × (lookOf (kindIn (now pack) at) .slots ≡ true) ⌝ }
     ensures { λ r. ⌜ (r ≡ turnAt (tablesIn (now (pack .entry)) (now (acts .entry)) (now (taken .entry))) (now (pack .entry)) at entity) × SlotsFit r ⌝ }
 {
@@ -101,13 +95,7 @@ fn only(pack: &[u32], cited: Cited, d: Direction, word: u32) -> Out
 }
 
 // By its kind.
-pub fn step(
-    pack: &[u32],
-    acts: &[u32],
-    taken: &[u32],
-    cited: Cited,
-    node: Node,
-) -> Out
+pub fn step(pack: &[u32], acts: &[u32], taken: &[u32], cited: Cited, node: Node) -> Out
     requires { ⌜ NodeStands (now pack) (node .at) × (cited .blocks .at ≤ 65536) × (cited .blocks .count ≤ 64) ⌝ }
     ensures { λ r. ⌜ StepTaken (now (pack .entry)) (now (acts .entry)) (now (taken .entry)) (cited .blocks .at) (cited .blocks .count) (cited .origin) (node .entity) (membershipIn (node .m)) (node .at) r ⌝ }
 {
