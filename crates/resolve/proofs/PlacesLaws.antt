@@ -340,5 +340,5 @@ module _ {ws dir acts taken marks notes : List ℕ} {f : Figures} {work : List �
     pub pieces-few : r ≤ 1603
     pieces-few = let n = numbers (orderOf a refl) in omega (arith, n .3, n .4)
 
-    pub pieces-room : length {A = ℕ} (midOf 0 (r - 0) (replicate 1603 0)) ≡ length (piecesOf (a .directory .checked .pack))
-    pieces-room = mid-len 0 r (replicate {A = ℕ} 1603 0) (omega (arith, pieces-few, length-replicate {A = ℕ} 1603 0)) ∙ omega (arith, numbers (orderOf a refl) .3)
+    pub pieces-room : (most : ℕ) → r ≤ most → length {A = ℕ} (midOf 0 (r - 0) (replicate most 0)) ≡ length (piecesOf (a .directory .checked .pack))
+    pieces-room most h = mid-len 0 r (replicate {A = ℕ} most 0) (omega (arith, length-replicate {A = ℕ} most 0)) ∙ omega (arith, numbers (orderOf a refl) .3)

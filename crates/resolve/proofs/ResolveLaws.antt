@@ -45,12 +45,12 @@ use Rattle.chains.specs.Record.{valueAt}
 use Rattle.directions.specs.Records.{withRecords, turned, Tabled}
 use Rattle.resolve.specs.declared.finish.Figures.{Figures}
 use Rattle.resolve.specs.Writing.{beginnings, piecesOf}
-use Rattle.resolve.specs.Finish.{stampAll, unstamped, AskedOf, TreesAsked, TreesCame, ResolveAsked, TablesFor, CheckedAsked, RoomFor, frontOf, Into, FinishAsked, FinishCame}
+use Rattle.resolve.specs.Finish.{stampAll, unstamped, AskedOf, TreesAsked, TreesCame, ResolveAsked, PlacedAsked, TablesFor, CheckedAsked, RoomFor, frontOf, Into, FinishAsked, FinishCame}
 use Rattle.turning.specs.declared.turns.Ended.{Ended}
 use Rattle.turning.specs.declared.turns.Ended.the-variants as ended
 use Rattle.turning.specs.declared.turns.Counts.{Counts}
 use Rattle.turning.specs.Notes.{notesOfPack}
-use Rattle.turning.specs.Steps.{knownIn, TurnedAs, PackTurned}
+use Rattle.turning.specs.Steps.{knownIn, TurnedAs, PackAsked, PackTurned}
 use Rattle.turning.specs.Asked.{markNotes, InWords, MarksAsked, NotesMarked}
 use Rattle.turning.proofs.KnownLaws.{notes-inside, known-is}
 use Rattle.turning.proofs.MarkedLaws.{marks-are}
@@ -516,6 +516,32 @@ pub room-made : (ws : List ℕ) (many : ℕ) {room : ℕ} → room ≡ min many 
 room-made ws many e =
     let a = length-replicate {A = ℕ} 8193 0 in
     record { first = omega arith; blank = getD-replicate {A = ℕ} 8193 0 0 0 (omega arith); noted = λ m. omega arith; fits = omega arith }
+
+-- ---- with the places of its pieces
+
+module _ {ws acts taken asked places notes : List ℕ} {f : Figures} {work : List ℕ} (a : PlacedAsked ws acts taken asked places notes f work) where
+  pub turns-asked : {words : List ℕ} → words ≡ ws → PackAsked ws acts taken words notes (f .notes .blocks .at) (f .notes .blocks .count) (f .notes .noted) (f .notes .all)
+  turns-asked e = trees-asked (a .resolves) e .turns
+
+  came : {o : Ended} {left : List ℕ} → PackTurned ws o left → TreesCame ws o left
+  came t = trees-turned (trees-asked (a .resolves) refl) refl (a .unequal) t
+
+  pub placed-finish : {o : Ended} {left : List ℕ} → PackTurned ws o left → o ≡ ended.All → FinishAsked ws places acts asked left (f .relations) (f .steps)
+  placed-finish t e = finish-asked (a .resolves) (a .marked) (came t) e (a .begins)
+
+  pub placed-all : {o : Ended} {left : List ℕ} → PackTurned ws o left → o ≡ ended.All → {lent : List ℕ} {answer : Answer} {out : List ℕ} → FinishCame ws lent answer out → Answered resolveAnswer resolveBuffer ws lent answer out
+  placed-all t e g = resolve-all (a .resolves) (a .marked) (came t) e g
+
+  pub placed-stopped : {o : Ended} {left : List ℕ} {r : Refusal} → PackTurned ws o left → o ≡ ended.Refused r → (lent : List ℕ) → Refused r ≡ resolveAnswer ws (length lent)
+  placed-stopped t e lent = resolve-stopped (a .resolves .directory .checked) lent (came t) e .answers
+
+-- a defaulted name with equal kinds
+module _ {ws dir acts taken asked notes : List ℕ} {f : Figures} {work : List ℕ} (a : ResolveAsked ws dir acts taken asked notes f work) {name : ℕ} (first : name ≡ firstEqual ws acts 3 (valueAt ws 2)) where
+  pub equal-reached : (name ≡ table.none → ⊥) → Reaches dir (name + 1)
+  equal-reached z = default-name (trees-asked a refl) first z
+
+  pub equal-refused : (name ≡ table.none → ⊥) → (lent : List ℕ) → Refused (record { number = 9; place = getD (startsIn dir) name 0; name = name; other = 0 }) ≡ resolveAnswer ws (length lent)
+  equal-refused z lent = resolve-stopped (a .directory .checked) lent (trees-equal (trees-asked a refl) first z []) refl .answers
 
 -- cleared tables for so many names
 pub tables-for : (ws : List ℕ) (most : ℕ) → most ≤ 4096 → namesSaid ws ≤ most → TablesFor ws (replicate (512 + most) 0) (replicate most 0) (replicate most 0) (replicate most 0)

@@ -31,6 +31,9 @@ use Rattle.turning.specs.declared.turns.Counts.{Counts}
 use Rattle.turning.specs.Notes.{Note, Held, NotesIn}
 use Rattle.turning.specs.Asked.{InWords}
 use Rattle.turning.specs.Steps.{TurnedAs, PackAsked}
+use Rattle.turning.specs.Asked.{NotesMarked}
+use Rattle.directions.specs.Words.{firstEqual}
+use Rattle.pack.specs.Table as table
 use Rattle.resolve.specs.declared.finish.Figures.{Figures}
 
 -- ---- the first three steps of Resolving
@@ -124,6 +127,15 @@ pub record ResolveAsked (ws dir acts taken asked notes : List ℕ) (f : Figures)
   pub noted : NotesIn (directory .checked .pack) notes (f .notes .noted) (f .notes .all)
   pub room : length work ≡ length ws
   pub fits : f .room ≤ length notes
+
+-- the same after what stamping asks of its notes was asked, with the places of its pieces, where no defaulted name has equal kinds
+pub record PlacedAsked (ws acts taken asked places notes : List ℕ) (f : Figures) (work : List ℕ) : Type 0 where
+  pub dir : List ℕ
+  pub before : List ℕ
+  pub resolves : ResolveAsked ws dir acts taken before notes f work
+  pub marked : NotesMarked ws notes (f .notes .all) before asked
+  pub begins : places ≡ beginnings 0 (piecesOf (resolves .directory .checked .pack))
+  pub unequal : firstEqual ws acts 3 (valueAt ws 2) ≡ table.none
 
 -- room for the places of its pieces, and these places
 pub record OrderAsked (ws dir notes : List ℕ) (f : Figures) (room : ℕ) : Type 0 where

@@ -13,11 +13,13 @@ ghost use lib.ListN.{length};
 ghost use Rattle.chains.specs.Record.{valueAt};
 ghost use Rattle.resolve.specs.Finish.{NamesIn, orderIn, RulesAsked, RulesCame, blockPlaces, OrderAsked, OrderCame};
 
-// How many pieces there are at most, and how many are neither relations nor rules nor blocks.
+// How many pieces are neither relations nor rules nor blocks, how many small packs have, and how many there are at most.
 pub struct Places {}
 
 impl Places {
     pub const OTHERS: usize = 3;
+
+    pub const FEW: usize = 128;
 
     pub const MOST: usize = Places::OTHERS
         + (Pack::MOST_RELATIONS + Pack::MOST_RULES + Pack::MOST_BLOCKS) as usize;

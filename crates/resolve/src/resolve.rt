@@ -28,10 +28,11 @@ use turning::turns::turn_pack;
 ghost use Rattle.chains.specs.Answers.{Answered};
 ghost use Rattle.resolve.specs.Operations.{resolveAnswer, resolveBuffer};
 ghost use mathlib.Core.Path.{_≡_};
-ghost use Prim.Native.Nat.{_≤_, min};
-ghost use lib.ListN.{length};
+ghost use Prim.Native.Nat.{_+_, _≤_, min};
+ghost use lib.ListN.{length, getD};
+ghost use Rattle.chains.specs.Entry.{Reaches, startsIn};
 ghost use Rattle.checking.specs.Checked.{namesSaid};
-ghost use Rattle.resolve.specs.Finish.{TreesAsked, TreesCame, ResolveAsked, CheckedAsked, TablesFor, RoomFor, Into};
+ghost use Rattle.resolve.specs.Finish.{PlacedAsked, ResolveAsked, CheckedAsked, TablesFor, RoomFor, Into};
 
 // A checked pack's layout, and how many words there is room for.
 pub struct Wanted {
@@ -39,33 +40,33 @@ pub struct Wanted {
     pub room: usize,
 }
 
-// Defaulted names with equal kinds are refused; then all trees are resolved, in a copy of the words.
-fn resolve_trees(
+// The place of each piece of a pack is known, and no defaulted name has equal kinds: all trees are resolved in a copy of the words,
+// and then the result takes the place of the notes, if there is room for it.
+fn resolve_placed(
     pack: &[u32],
-    dir: &[u32],
     acts: &[u32],
     taken: &[u32],
+    asked: &[u8],
+    places: &[u32],
+    out: &mut [u32],
+    figures: Figures,
     work: &mut [u32],
-    notes: &mut [u32],
-    counts: Counts,
-) -> Ended
-    requires { ⌜ TreesAsked (now pack) (now dir) (now acts) (now taken) (now work) (now notes) counts ⌝ }
-    ensures { λ r. ⌜ TreesCame (now (pack .entry)) r (now (work .exit)) ⌝ }
+) -> Answer
+    requires { ⌜ PlacedAsked (now pack) (now acts) (now taken) (now asked) (now places) (now out) figures (now work) ⌝ }
+    ensures { λ r. ⌜ Into (now (pack .entry)) (figures .room) r (now (out .exit)) ⌝ }
 {
-    let name = first_equal(pack, acts);
-    if name == Pack::NONE {
-        return turn_pack(pack, acts, taken, work, notes, counts);
+    copy(pack, work);
+    match turn_pack(pack, acts, taken, work, out, figures.notes) {
+        Ended::All => {
+            let room = figures.room;
+            finish(pack, acts, asked, places, work, figures, &mut out[..room])
+        }
+        Ended::Refused(x) => Answer::Refused(x),
     }
-    Ended::Refused(Refusal {
-        number: Number::EQUAL_KINDS,
-        place: start(dir, name as usize),
-        name,
-        other: 0,
-    })
 }
 
-// A checked pack with its tables and its notes, and a slice for its words. What stamping asks of the notes is asked
-// before they are turned; after that the result takes their place, if there is room for it.
+// A checked pack with its tables and its notes, and a slice for its words. Defaulted names with equal kinds are refused. What
+// stamping asks of the notes, and where rules stand, is read before they are turned.
 fn resolve_in(
     pack: &[u32],
     dir: &[u32],
@@ -79,20 +80,36 @@ fn resolve_in(
     requires { ⌜ ResolveAsked (now pack) (now dir) (now acts) (now taken) (now asked) (now out) figures (now work) ⌝ }
     ensures { λ r. ⌜ Into (now (pack .entry)) (figures .room) r (now (out .exit)) ⌝ }
 {
+    let name = first_equal(pack, acts);
+    if name != Pack::NONE {
+        return equal_kinds(dir, name);
+    }
     let counts = figures.notes;
     ask_notes(pack, out, counts.all, asked);
     let count = pieces(pack, figures);
-    let mut table = [0u32; Places::MOST];
-    let places = &mut table[0..count];
-    order(pack, dir, out, figures, places);
-    copy(pack, work);
-    match resolve_trees(pack, dir, acts, taken, work, out, counts) {
-        Ended::All => {
-            let room = figures.room;
-            finish(pack, acts, asked, places, work, figures, &mut out[..room])
-        }
-        Ended::Refused(x) => Answer::Refused(x),
+    if count <= Places::FEW {
+        let mut few = [0u32; Places::FEW];
+        let places = &mut few[0..count];
+        order(pack, dir, out, figures, places);
+        return resolve_placed(pack, acts, taken, asked, places, out, figures, work);
     }
+    let mut all = [0u32; Places::MOST];
+    let places = &mut all[0..count];
+    order(pack, dir, out, figures, places);
+    resolve_placed(pack, acts, taken, asked, places, out, figures, work)
+}
+
+// The refusal of a name whose relation has equal kinds in both slots.
+fn equal_kinds(dir: &[u32], name: u32) -> Answer
+    requires { ⌜ Reaches (now dir) (name + 1) ⌝ }
+    ensures { λ r. ⌜ r ≡ Answer.Refused (record { number = 9; place = getD (startsIn (now (dir .entry))) name 0; name = name; other = 0 }) ⌝ }
+{
+    Answer::Refused(Refusal {
+        number: Number::EQUAL_KINDS,
+        place: start(dir, name as usize),
+        name,
+        other: 0,
+    })
 }
 
 // A checked pack with its directory, its notes where the result is to stand, and cleared tables for its names.
