@@ -28,7 +28,7 @@ use Rattle.stamping.specs.Stamping.{listsFor, addedBy, Listed}
 use Rattle.resolve.specs.Writing.{sums, lengths, beginnings, otherPieces, piecesOf, Stamped, WriteAsked, WriteCame}
 use Rattle.directions.specs.Records.{placesFrom, wordsOf, runBy, RelationKeeps, withRecords, turned, placesIn, Tabled}
 use Rattle.resolve.specs.Operations.{givenOut, writtenOut}
-use Rattle.resolve.specs.Finish.{stampAll, AskedOf, FinishAsked, FinishCame}
+use Rattle.resolve.specs.Finish.{stampAll, AskedOf, ClearFor, FinishAsked, FinishCame}
 use Rattle.directions.proofs.KeepsForm.{Good}
 use Rattle.directions.proofs.ResolvedFine.{RulesFine, rules-good}
 use Rattle.resolve.proofs.ResolvedPack.{least-words, rules-fine}
@@ -250,11 +250,16 @@ module _ {ws places acts asked work : List ℕ} {relations steps : ℕ} (a : Fin
   finish-recorded : Recorded ws order
   finish-recorded = record { within = place-within; few = (let m = w .most in omega (arith, words-length p, ap length (words-read ws p h .same))) }
 
-  pub finish-lists : {most : ℕ} → relations + 1 ≤ most → Recorded ws order × (length {A = ℕ} (midOf 1 (relations + 1 - 1) (replicate most 0)) ≡ length order) × (length order ≤ 512)
-  finish-lists {most} k = (finish-recorded, mid-len 1 (relations + 1) (replicate most 0) (omega (arith, length-replicate {A = ℕ} most 0)) ∙ omega (arith, order-long), omega (arith, order-long, few-starts))
+  -- lists in a cleared table
+  module _ {t : List ℕ} (z : ClearFor places t) where
+    pub table-fits : relations + 1 ≤ length t
+    table-fits = omega (arith, table-room .0, z .room, ap length (z .zeros), length-replicate {A = ℕ} (z .most) 0)
 
-  pub found-room : {most : ℕ} (lists : List ℕ) → length lists ≡ length {A = ℕ} (midOf 1 (relations + 1 - 1) (replicate most 0)) → length places ≤ most → length places ≤ length (putMid 1 (relations + 1 - 1) (replicate most 0) lists)
-  found-room {most} lists kept fit = omega (arith, same-len-mid 1 (relations + 1 - 1) (replicate most 0) lists kept, length-replicate {A = ℕ} most 0)
+    pub finish-lists : Recorded ws order × (length (midOf 1 (relations + 1 - 1) t) ≡ length order) × (length order ≤ 512)
+    finish-lists = (finish-recorded, mid-len 1 (relations + 1) t (omega (arith, table-fits)) ∙ omega (arith, order-long), omega (arith, order-long, few-starts))
+
+    pub found-room : (lists : List ℕ) → length lists ≡ length (midOf 1 (relations + 1 - 1) t) → length places ≤ length (putMid 1 (relations + 1 - 1) t lists)
+    found-room lists kept = omega (arith, same-len-mid 1 (relations + 1 - 1) t lists kept, z .room, ap length (z .zeros), length-replicate {A = ℕ} (z .most) 0)
 
   -- the words written
   module _ {lists : List ℕ} {added : ℕ} (listed : Listed ws work acts asked order lists added) where
@@ -303,9 +308,11 @@ module _ {ws places acts asked work : List ℕ} {relations steps : ℕ} (a : Fin
         fits : (leb len 8192 && leb len (length lent)) ≡ true
         fits = rw (le-leb len 8192 few, le-leb len (length lent) room) refl
 
-        module _ {most all : ℕ} {found : List ℕ} (of-table : all ≡ length places) (fit : all ≤ most) (kept : length lists ≡ length {A = ℕ} (midOf 1 (relations + 1 - 1) (replicate most 0))) (stamped : found ≡ putMid 1 (relations + 1 - 1) (replicate most 0) lists) where
+        module _ {t found : List ℕ} {all : ℕ} (z : ClearFor places t) (of-table : all ≡ length places) (kept : length lists ≡ length (midOf 1 (relations + 1 - 1) t)) (stamped : found ≡ putMid 1 (relations + 1 - 1) t lists) where
           table-stamped : midOf 0 (all - 0) found ≡ 0 ∷ (lists ++ replicate (length others) 0)
-          table-stamped = ap (midOf 0 (all - 0)) stamped ∙ in-zeros most (relations + 1) all (length others) lists (omega (arith, kept, finish-lists {most = most} (omega (arith, table-room .0)) .1, order-long)) (of-table ∙ table-long) fit
+          table-stamped =
+              ap (midOf 0 (all - 0)) (stamped ∙ ap (λ (l : List ℕ). putMid 1 (relations + 1 - 1) l lists) (z .zeros))
+              ∙ in-zeros (z .most) (relations + 1) all (length others) lists (omega (arith, kept, finish-lists z .1, order-long)) (of-table ∙ table-long) (omega (arith, z .room))
 
           pub finish-asked : WriteAsked ws places (midOf 0 (all - 0) found) work (length (midOf 0 (len - 0) lent))
           finish-asked = its-asked p w (T .rels) (T .rls) (T .rules-are) (T .relations-are) (a .tabled) h (a .asks) stands-so their-places listed (a .begins) table-stamped (lent-long ∙ size) (omega (arith, lent-long))

@@ -4,7 +4,7 @@ use mathlib.Core.Path.{_≡_}
 use mathlib.Core.List.{List, [], _∷_, map}
 use mathlib.Core.Bool.{_||_}
 use mathlib.Core.Option.{none, some}
-use lib.ListN.{length, getD, take}
+use lib.ListN.{length, getD, take, replicate}
 use lib.Dec.{eqb}
 use Rattle.pack.specs.declared.answer.Answer.{Answer}
 use Rattle.pack.specs.declared.answer.Answer.the-variants.{Given, Refused}
@@ -108,6 +108,12 @@ pub record FinishAsked (ws places acts asked work : List ℕ) (relations steps :
   pub whole : Pack
   pub resolves : turned (tabled .checked .pack) ≡ done whole
   pub stands : work ≡ words whole
+
+-- a table of zeros with a word for each place
+pub record ClearFor (places t : List ℕ) : Type 0 where
+  pub most : ℕ
+  pub zeros : t ≡ replicate most 0
+  pub room : length places ≤ most
 
 -- what is answered and left of them
 pub record FinishCame (ws lent : List ℕ) (answer : Answer) (left : List ℕ) : Type 0 where

@@ -1,104 +1,43 @@
 -- `resolve::finish::finish` meets its contract.
-use native.Mathlib.Omega.{arith}
 use mathlib.Core.Path.{refl}
-use Rattle.resolve.proofs.FinishLaws.{whole-short, few-starts, table-room, finish-lists, found-room, too-long, too-short, finish-asked, finish-done}
+use Rattle.resolve.proofs.FinishLaws.{table-room}
 use borrow.Author.Needs.{needs}
 use Rattle.resolve.proofs.finish.finish.Statement.{statement}
 use Rattle.resolve.proofs.finish.finish.Tie as tie
 
-add-after : tie.Need-add-after
-add-after c = omega (arith, few-starts (c .before .before .before .before .before .before .before .pre))
+slice-aggregate-finish-in : tie.Need-slice-aggregate-finish-in
+slice-aggregate-finish-in c = search needs
 
-sub-order : tie.Need-sub-order
-sub-order c = search needs
-
-part-order-start : tie.Need-part-order-start
-part-order-start c = search needs
-
-part-order-end : tie.Need-part-order-end
-part-order-end c = table-room (c .before .before .before .before .before .before .before .pre) .0
-
-sub-lists : tie.Need-sub-lists
-sub-lists c = search needs
-
-part-found-start : tie.Need-part-found-start
-part-found-start c = search needs
-
-part-found-end : tie.Need-part-found-end
-part-found-end c = omega (arith, few-starts (c .before .before .before .before .before .before .before .before .pre))
-
-lists-requires : tie.Need-lists-requires
-lists-requires c κs = finish-lists (c .before .before .before .before .before .before .before .before .before .pre) {most = 1603} (omega (arith, few-starts (c .before .before .before .before .before .before .before .before .before .pre)))
-
-add-len : tie.Need-add-len
-add-len c = omega (arith, whole-short (c .before .before .before .before .before .before .before .before .before .before .before .pre), (c .before .lists) .ensures .few)
-
-refuse-requires : tie.Need-refuse-requires
-refuse-requires c κs = search needs
-
-returns : tie.Need-returns
-returns c = too-long (c .before .before .before .before .before .before .before .before .before .before .before .before .before .pre) ((c .before .before .before .lists) .ensures) refl _ ((c .before .if1) .taken) ((c .refuse) .ensures)
-
-refuse-requires-2 : tie.Need-refuse-requires-2
-refuse-requires-2 c κs = search needs
-
-returns-2 : tie.Need-returns-2
-returns-2 c = too-short (c .before .before .before .before .before .before .before .before .before .before .before .before .before .before .pre) ((c .before .before .before .before .lists) .ensures) refl _ ((c .before .if2) .taken) ((c .refuse2) .ensures)
-
-sub-write : tie.Need-sub-write
-sub-write c = search needs
-
-part-write-start : tie.Need-part-write-start
-part-write-start c = search needs
-
-part-write-end : tie.Need-part-write-end
-part-write-end c = found-room (c .before .before .before .before .before .before .before .before .before .before .before .before .before .before .pre) ((c .before .before .before .before .lists) .last .1 .1 .1 .1 .1 .0) ((c .before .before .before .before .lists) .kept .1 .1 .1 .1 .1 .0) (table-room (c .before .before .before .before .before .before .before .before .before .before .before .before .before .before .pre) .1)
-
-sub-write-2 : tie.Need-sub-write-2
-sub-write-2 c = search needs
-
-part-write-start-2 : tie.Need-part-write-start-2
-part-write-start-2 c = search needs
-
-part-write-end-2 : tie.Need-part-write-end-2
-part-write-end-2 c = search needs
-
-write-requires : tie.Need-write-requires
-write-requires c κs = finish-asked (c .before .before .before .before .before .before .before .before .before .before .before .before .before .before .before .before .pre) ((c .before .before .before .before .before .before .lists) .ensures) refl _ ((c .before .before .before .before .if1) .left) ((c .before .before .before .if2) .left) refl (table-room (c .before .before .before .before .before .before .before .before .before .before .before .before .before .before .before .before .pre) .1) ((c .before .before .before .before .before .before .lists) .kept .1 .1 .1 .1 .1 .0) refl
-
-cast-t31 : tie.Need-cast-t31
-cast-t31 c = search needs
+finish-in-requires : tie.Need-finish-in-requires
+finish-in-requires c κs = (c .before .before .before .before .before .before .before .before .before .pre, record { most = 128; zeros = refl; room = c .before .before .if1 .taken })
 
 same-length : tie.Need-same-length
 same-length c = search needs
 
-returns-3 : tie.Need-returns-3
-returns-3 c = finish-done (c .before .before .before .before .before .before .before .before .before .before .before .before .before .before .before .before .before .before .before .pre) ((c .before .before .before .before .before .before .before .before .before .lists) .ensures) refl _ ((c .before .before .before .before .before .before .before .if1) .left) ((c .before .before .before .before .before .before .if2) .left) refl (table-room (c .before .before .before .before .before .before .before .before .before .before .before .before .before .before .before .before .before .before .before .pre) .1) ((c .before .before .before .before .before .before .before .before .before .lists) .kept .1 .1 .1 .1 .1 .0) refl ((c .before .before .write) .ensures)
+returns : tie.Need-returns
+returns c = search needs
+
+slice-aggregate-finish-in-2 : tie.Need-slice-aggregate-finish-in-2
+slice-aggregate-finish-in-2 c = search needs
+
+finish-in-requires-2 : tie.Need-finish-in-requires-2
+finish-in-requires-2 c κs = (c .before .before .before .before .before .before .before .before .before .pre, record { most = 1603; zeros = refl; room = table-room (c .before .before .before .before .before .before .before .before .before .pre) .1 })
+
+same-length-2 : tie.Need-same-length-2
+same-length-2 c = search needs
+
+returns-2 : tie.Need-returns-2
+returns-2 c = search needs
 
 pub finish-spec : {M : Type 1} → statement M
 finish-spec =
     tie.close
     (tie.spec
-    add-after
-    sub-order
-    part-order-start
-    part-order-end
-    sub-lists
-    part-found-start
-    part-found-end
-    lists-requires
-    add-len
-    refuse-requires
-    returns
-    refuse-requires-2
-    returns-2
-    sub-write
-    part-write-start
-    part-write-end
-    sub-write-2
-    part-write-start-2
-    part-write-end-2
-    write-requires
-    cast-t31
+    slice-aggregate-finish-in
+    finish-in-requires
     same-length
-    returns-3)
+    returns
+    slice-aggregate-finish-in-2
+    finish-in-requires-2
+    same-length-2
+    returns-2)
