@@ -8,7 +8,7 @@ use mathlib.Core.Bool.{Bool, true, false}
 use lib.ListN.{length, getD, set}
 use lib.Seq.{sets, drop-cons}
 use lib.Dec.{eqb, ltb}
-use borrow.Author.Tests.{eq-eqb, ne-eqb, ltb-true, ltb-false}
+use borrow.Author.Tests.{eq-eqb, ne-eqb, eqb-true, eqb-false, ltb-true, ltb-false}
 use Rattle.pack.specs.declared.table.Follows.{Follows}
 use Rattle.pack.specs.declared.table.Follows.the-variants.{Nothing, Counted, OneScalar, TwoScalars, Scalars, Patterns, Periods, OneJudgment, Judgments, Choice, Aggregate, OnlyRelated, Slots, Atom, Exists}
 use Rattle.pack.specs.Table.{pick, kindOf, valueOf, entryOf, table, fieldsOf}
@@ -69,12 +69,12 @@ slots-last : (k : ℕ) → 102 ≤ k → k < 256 → lookOf k .slots ≡ false
 unfolding lookBy entryOf table
 slots-last k l h = in-range (λ (x : ℕ). lookOf x .slots) false 102 154 refl k l h
 
-pub no-slots : (k : ℕ) → k < 256 → (k ≡ 101 → ⊥) → (k ≡ 78 → ⊥) → (74 ≤ k → 77 < k) → lookOf k .slots ≡ false
-no-slots k small a b c = go (ltb k 74) refl (ltb k 79) refl (ltb k 101) refl
+pub no-slots : (k : ℕ) → k < 256 → (k ≡ 101 → ⊥) → (74 ≤ k → 78 < k) → lookOf k .slots ≡ false
+no-slots k small a c = go (ltb k 74) refl (ltb k 79) refl (ltb k 101) refl
   where
     go : (x : Bool) → ltb k 74 ≡ x → (y : Bool) → ltb k 79 ≡ y → (z : Bool) → ltb k 101 ≡ z → lookOf k .slots ≡ false
     go true e y f z g = slots-few k (ltb-true k 74 e)
-    go false e true f z g = let l = ltb-false k 74 e in let h = ltb-true k 79 f in let q = c l in absurd (b (omega arith))
+    go false e true f z g = let l = ltb-false k 74 e in let h = ltb-true k 79 f in let q = c l in absurd (omega arith)
     go false e false f true g = slots-middle k (ltb-false k 79 f) (ltb-true k 101 g)
     go false e false f false g = let l = ltb-false k 101 g in slots-last k (omega arith) small
 
@@ -118,6 +118,14 @@ aggregate-slots = refl
 pub only-slots : lookBy OnlyRelated .slots ≡ true
 unfolding lookBy
 only-slots = refl
+
+-- an aggregate of any sort
+pub turned-slots : (k : ℕ) → 74 ≤ k → k < 79 → lookOf k .slots ≡ true
+turned-slots k l h = go (eqb k 78) refl
+  where
+    go : (b : Bool) → eqb k 78 ≡ b → lookOf k .slots ≡ true
+    go true e = slots-of (only-kind k (eqb-true k 78 e)) only-slots
+    go false e = slots-of (aggregates k l (let z = eqb-false k 78 e in omega arith)) aggregate-slots
 
 pub test-slots : lookBy Slots .slots ≡ true
 unfolding lookBy

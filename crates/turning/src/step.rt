@@ -101,18 +101,21 @@ pub fn step(pack: &[u32], acts: &[u32], taken: &[u32], cited: Cited, node: Node)
 {
     let at = node.at;
     let word = pack[at];
-    match word / Pack::VALUES {
+    let kind = word / Pack::VALUES;
+    match kind {
         Pack::RELATION_MEMBER => {
             let relation = (word % Pack::VALUES) as usize;
             let current = pack[at + 1] % Pack::VALUES;
             let related = pack[at + 2] % Pack::VALUES;
             tested(member(pack, acts, relation, node.m, current, related))
         }
-        Pack::ONLY_RELATED => {
+        Pack::COUNT..=Pack::ONLY_RELATED => {
             let d = turned(pack, acts, taken, at, node.entity);
-            only(pack, cited, d, pack[at + 3])
+            if kind == Pack::ONLY_RELATED {
+                return only(pack, cited, d, pack[at + 3]);
+            }
+            went(d)
         }
-        Pack::COUNT..=Pack::SINGLE => went(turned(pack, acts, taken, at, node.entity)),
         _ => Out::Passes,
     }
 }

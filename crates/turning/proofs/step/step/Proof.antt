@@ -1,6 +1,6 @@
 -- `turning::step::step` meets its contract.
-use Rattle.turning.proofs.StepLaws.{three-words, four-words, test-kind, only-kind, aggregates, no-slots, slots-of, aggregate-slots, only-slots, test-slots, test-taken, only-taken, went-taken, none-taken}
 use native.Mathlib.Omega.{arith}
+use Rattle.turning.proofs.StepLaws.{three-words, four-words, test-kind, only-kind, aggregates, no-slots, slots-of, turned-slots, test-slots, test-taken, only-taken, went-taken, none-taken}
 use borrow.Author.Needs.{needs}
 use Rattle.turning.proofs.step.step.Statement.{statement}
 use Rattle.turning.proofs.step.step.Tie as tie
@@ -21,7 +21,7 @@ mul-current : tie.Need-mul-current
 mul-current c = search needs
 
 shared-slice-read-current : tie.Need-shared-slice-read-current
-shared-slice-read-current c = omega (arith, three-words ((c .before .before .before .before .before .before .pre) .0) (slots-of (test-kind _ ((c .before .match) .keys1)) test-slots))
+shared-slice-read-current c = omega (arith, three-words (c .before .before .before .before .before .before .pre .0) (slots-of (test-kind _ (c .before .match .keys1)) test-slots))
 
 add-related : tie.Need-add-related
 add-related c = search needs
@@ -30,7 +30,7 @@ mul-related : tie.Need-mul-related
 mul-related c = search needs
 
 shared-slice-read-related : tie.Need-shared-slice-read-related
-shared-slice-read-related c = omega (arith, three-words ((c .before .before .before .before .before .before .before .pre) .0) (slots-of (test-kind _ ((c .before .before .match) .keys1)) test-slots))
+shared-slice-read-related c = omega (arith, three-words (c .before .before .before .before .before .before .before .pre .0) (slots-of (test-kind _ (c .before .before .match .keys1)) test-slots))
 
 member-requires : tie.Need-member-requires
 member-requires c κs = search needs
@@ -39,7 +39,7 @@ tested-requires : tie.Need-tested-requires
 tested-requires c κs = search needs
 
 turned-requires : tie.Need-turned-requires
-turned-requires c κs = ((c .before .before .before .before .before .pre) .0, slots-of (only-kind _ ((c .match) .keys2)) only-slots)
+turned-requires c κs = (c .before .before .before .before .before .before .before .pre .0, turned-slots _ (c .before .if1 .left) (omega (arith, c .if2 .taken)))
 
 add-only : tie.Need-add-only
 add-only c = search needs
@@ -48,31 +48,28 @@ mul-only : tie.Need-mul-only
 mul-only c = search needs
 
 shared-slice-read-only : tie.Need-shared-slice-read-only
-shared-slice-read-only c = omega (arith, four-words ((c .before .before .before .before .before .before .before .pre) .0) (only-kind _ ((c .before .before .match) .keys2)))
+shared-slice-read-only c = omega (arith, four-words (c .before .before .before .before .before .before .before .before .before .before .pre .0) (only-kind _ (c .before .if3 .taken)))
 
 only-requires : tie.Need-only-requires
 only-requires c κs = search needs
 
-turned-requires-2 : tie.Need-turned-requires-2
-turned-requires-2 c κs = ((c .before .before .before .before .before .before .before .pre) .0, slots-of (aggregates _ ((c .before .if1) .left) ((c .if2) .taken)) aggregate-slots)
+returns : tie.Need-returns
+returns c = only-taken (c .before .before .before .before .before .before .before .before .before .before .before .pre .0) (only-kind _ (c .before .before .if3 .taken)) (c .before .before .before .turned .ensures .0) (c .before .before .before .turned .ensures .1) (c .only .ensures)
 
 went-requires : tie.Need-went-requires
 went-requires c κs = search needs
 
-returns : tie.Need-returns
-returns c = test-taken ((c .before .before .before .before .before .before .before .before .before .pre) .0) (test-kind _ ((c .before .before .before .before .match) .keys1)) ((c .before .member) .ensures) ((c .tested) .ensures)
-
 returns-2 : tie.Need-returns-2
-returns-2 c = only-taken ((c .before .before .before .before .before .before .before .before .pre) .0) (only-kind _ ((c .before .before .before .match) .keys2)) ((c .before .before .turned) .ensures .0) ((c .before .before .turned) .ensures .1) ((c .only) .ensures)
+returns-2 c = test-taken (c .before .before .before .before .before .before .before .before .before .pre .0) (test-kind _ (c .before .before .before .before .match .keys1)) (c .before .member .ensures) (c .tested .ensures)
 
 returns-3 : tie.Need-returns-3
-returns-3 c = went-taken ((c .before .before .before .before .before .before .before .before .before .pre) .0) (aggregates _ ((c .before .before .before .if1) .left) ((c .before .before .if2) .taken)) ((c .before .turned2) .ensures .0) ((c .before .turned2) .ensures .1) ((c .went) .ensures)
+returns-3 c = went-taken (c .before .before .before .before .before .before .before .before .before .before .pre .0) (aggregates _ (c .before .before .before .before .if1 .left) (omega (arith, c .before .before .before .if2 .taken, c .before .if3 .left))) (c .before .before .turned .ensures .0) (c .before .before .turned .ensures .1) (c .went .ensures)
 
 returns-4 : tie.Need-returns-4
-returns-4 c = none-taken ((c .before .before .before .before .before .before .pre) .0) (no-slots _ (omega (arith, (c .before .before .shared-slice-known4) .given ((c .before .before .before .before .before .before .args) .node .at))) ((c .before .match) .rest .0 .1) ((c .before .match) .rest .1) (λ l. omega arith))
+returns-4 c = none-taken (c .before .before .before .before .before .before .pre .0) (no-slots _ (omega (arith, (c .before .before .shared-slice-known4) .given (c .before .before .before .before .before .before .args .node .at))) (c .before .match .rest .1) (λ l. omega arith))
 
 returns-5 : tie.Need-returns-5
-returns-5 c = none-taken ((c .before .before .before .before .before .before .before .pre) .0) (no-slots _ (omega (arith, (c .before .before .before .shared-slice-known4) .given ((c .before .before .before .before .before .before .before .args) .node .at))) ((c .before .before .match) .rest .0 .1) ((c .before .before .match) .rest .1) (λ l. omega arith))
+returns-5 c = none-taken (c .before .before .before .before .before .before .before .pre .0) (no-slots _ (omega (arith, (c .before .before .before .shared-slice-known4) .given (c .before .before .before .before .before .before .before .args .node .at))) (c .before .before .match .rest .1) (λ l. omega arith))
 
 pub step-spec : {M : Type 1} → statement M
 step-spec =
@@ -94,9 +91,8 @@ step-spec =
     mul-only
     shared-slice-read-only
     only-requires
-    turned-requires-2
-    went-requires
     returns
+    went-requires
     returns-2
     returns-3
     returns-4
