@@ -20,7 +20,7 @@ use Rattle.directions.specs.Direction.{kindOrZero, membership, relatedKi
 use Rattle.directions.specs.Resolving.{sameKind, equalKinds}
 use Rattle.pack.specs.Table.{pick}
 use Rattle.pack.specs.Table as table
-use Rattle.directions.specs.Words.{firstEqual, derivedIn, equalIn, membershipOf, MembershipFits}
+use Rattle.directions.specs.Words.{firstEqual, derivedIn, memberIn, equalIn, membershipOf, MembershipFits}
 use Rattle.chains.specs.Record.{valueAt}
 use Rattle.filtered.specs.Acts.{actPart, actList}
 
@@ -37,8 +37,8 @@ is-small ws list slot f e = subst Small e (f .small)
 
 -- the kinds of the relation with a number, whose part is the place of its slots
 module _ (ws : List ℕ) (n : ℕ) {part : ℕ} (p : part ≡ actPart n) where
-  pub not-derived : part ≤ 1 → none ≡ memberKinds (derivedIn ws n)
-  unfolding derivedIn
+  pub not-derived : part ≤ 1 → none ≡ memberIn ws n
+  unfolding memberIn derivedIn
   not-derived h = rw (← p, lt-ltb part 2 (omega arith)) refl
 
   pub no-related : part ≤ 1 → 0 ≡ relatedKind (derivedIn ws n)
@@ -50,21 +50,21 @@ module _ (ws : List ℕ) (n : ℕ) {part : ℕ} (p : part ≡ actPart n) where
   its-related h l v q = q ∙ rw (← p, le-ltb part 2 (omega arith), ← l, ← v) refl
 
   module _ (d : 1 < part) {list x : ℕ} (l : list ≡ actList n) (u : x ≡ valueAt ws part) where
-    kinds-are : memberKinds (derivedIn ws n) ≡ membership (kindAt (namesAt ws list) x) (kindAt (namesAt ws list) (valueAt ws (part + 1)))
-    unfolding derivedIn
+    kinds-are : memberIn ws n ≡ membership (kindAt (namesAt ws list) x) (kindAt (namesAt ws list) (valueAt ws (part + 1)))
+    unfolding memberIn derivedIn
     kinds-are = rw (← p, le-ltb part 2 (omega arith), ← l, ← u) refl
 
-    pub first-unknown : {f : Kind} → KindFound ws list x f → f ≡ kind.Unknown → none ≡ memberKinds (derivedIn ws n)
+    pub first-unknown : {f : Kind} → KindFound ws list x f → f ≡ kind.Unknown → none ≡ memberIn ws n
     first-unknown f e = sym (kinds-are ∙ rw (is-unknown ws list x f e) refl)
 
     module _ {f : Kind} {c y : ℕ} (found : KindFound ws list x f) (e : f ≡ kind.Is c) (v : y ≡ valueAt ws (part + 1)) where
-      pub second-unknown : {g : Kind} → KindFound ws list y g → g ≡ kind.Unknown → none ≡ memberKinds (derivedIn ws n)
+      pub second-unknown : {g : Kind} → KindFound ws list y g → g ≡ kind.Unknown → none ≡ memberIn ws n
       second-unknown g h = sym (kinds-are ∙ rw (← v, is-known ws list x found e, is-unknown ws list y g h) refl)
 
       pub both-small : {g : Kind} {r : ℕ} → KindFound ws list y g → g ≡ kind.Is r → MembershipFits (Kinds c r)
       both-small g h = (is-small ws list x found e, is-small ws list y g h)
 
-      pub both-known : {g : Kind} {r : ℕ} → KindFound ws list y g → g ≡ kind.Is r → some (c, r) ≡ memberKinds (derivedIn ws n)
+      pub both-known : {g : Kind} {r : ℕ} → KindFound ws list y g → g ≡ kind.Is r → some (c, r) ≡ memberIn ws n
       both-known g h = sym (kinds-are ∙ rw (← v, is-known ws list x found e, is-known ws list y g h) refl)
 
 -- ---- equal kinds
@@ -84,9 +84,9 @@ unfolding alike
 equal-alike none = refl
 equal-alike (some d) = same-kind (kindAt (d .kinds) (d .current)) (kindAt (d .kinds) (d .related))
 
-module _ (ws acts : List ℕ) (name : ℕ) {x : ℕ} (is : x ≡ getD acts name 0) (m : direction.Membership) (q : membershipOf m ≡ memberKinds (derivedIn ws x)) where
+module _ (ws acts : List ℕ) (name : ℕ) {x : ℕ} (is : x ≡ getD acts name 0) (m : direction.Membership) (q : membershipOf m ≡ memberIn ws x) where
   its-kinds : alike (membershipOf m) ≡ equalIn ws acts name
-  unfolding equalIn
+  unfolding equalIn memberIn
   its-kinds = ap alike q ∙ sym (equal-alike (derivedIn ws x)) ∙ ap (λ (y : ℕ). equalKinds (derivedIn ws y)) is
 
   pub unknown-kinds : m ≡ Unknown → false ≡ equalIn ws acts name

@@ -22,7 +22,7 @@ use Rattle.directions.specs.declared.direction.Membership as direction
 use Rattle.directions.specs.declared.direction.Membership.the-variants.{Kinds, Unknown}
 use Rattle.directions.specs.Direction.{bearing, orElse, kindOrZero, matched, towards, turn, Membership, eachOnce, between, tested, member}
 use Rattle.directions.specs.Tables.{Derived, Tables}
-use Rattle.directions.specs.Words.{typedIn, derivedIn, tablesIn, membershipOf, membershipIn, MembershipFits, MemberTurned}
+use Rattle.directions.specs.Words.{typedIn, derivedIn, tablesIn, membershipOf, MemberTurned}
 use Rattle.chains.specs.Record.{valueAt}
 
 -- ---- a kind or 0
@@ -145,25 +145,6 @@ module _ (ws acts taken : List ℕ) (relation e c r : ℕ) {x part : ℕ} (is : 
   pub is-derived : (part ≡ 0 → ⊥) → (part ≡ 1 → ⊥) → {u v list k : ℕ} → u ≡ valueAt ws part → v ≡ valueAt ws (part + 1) → list ≡ actList x → k ≡ kindOrZero (namesAt ws list) v → Turned u v k ≡ turn T relation e c r
   is-derived z y {u} {v} {list} {k} s t l q =
       rw q (sym (turn-derived T relation e c r (record { current = u; related = v; kinds = namesAt ws list }) (derived-here ws acts relation is p (omega arith) s t l taken)))
-
--- ---- a membership in one number
-
-pub from-code : (code : ℕ) → (code ≡ 0 → ⊥) → some ((code - 1) % 16777216, (code - 1) / 16777216 % 16777216) ≡ membershipIn code
-from-code zero h = absurd (h refl)
-from-code (suc x) h = let z : suc x - 1 ≡ x = omega arith in rw z refl
-
-kinds-back : (c r : ℕ) → c < 16777216 → r < 16777216 → membershipIn (1 + (c + 16777216 * r)) ≡ some (c, r)
-kinds-back c r p q =
-    let code : ℕ = 1 + (c + 16777216 * r) in
-    let low : (code - 1) % 16777216 ≡ c = omega arith in
-    let high : (code - 1) / 16777216 ≡ r = omega arith in
-    let whole : r % 16777216 ≡ r = omega arith in
-    sym (from-code code (λ (z : code ≡ 0). omega arith)) ∙ rw (low, high, whole) refl
-
-pub code-known : {m : direction.Membership} {c r : ℕ} → m ≡ Kinds c r → MembershipFits m → membershipIn (1 + (c + 16777216 * r)) ≡ membershipOf m
-code-known {m} {c} {r} e h =
-    let fits : MembershipFits (Kinds c r) = subst MembershipFits e h in
-    kinds-back c r (fits .0) (fits .1) ∙ rw e refl
 
 -- ---- a test of membership
 

@@ -1,5 +1,5 @@
 -- What the code reads of a relation from the words of a pack.
-use Prim.Native.Nat.{ℕ, zero, suc, _+_, _/_, _%_, _<_}
+use Prim.Native.Nat.{ℕ, zero, suc, _+_, _<_}
 use mathlib.Core.Path.{_≡_}
 use mathlib.Core.List.{List, [], _∷_}
 use mathlib.Core.Option.{Option, none, some}
@@ -17,7 +17,7 @@ use Rattle.directions.specs.declared.direction.Direction.the-variants.{T
 use Rattle.directions.specs.declared.direction.Membership as direction
 use Rattle.directions.specs.declared.direction.Membership.the-variants.{Kinds, Unknown}
 use Rattle.directions.specs.Tables.{Derived, Tables}
-use Rattle.directions.specs.Direction.{Membership, member}
+use Rattle.directions.specs.Direction.{Membership, memberKinds, member}
 use Rattle.directions.specs.Resolving.{equalKinds}
 
 -- what its number says of a relation: as a typed one by the two names of its list, and as a derived one whose slots stand at a place
@@ -41,10 +41,9 @@ abbrev pub MembershipFits : direction.Membership → Type 0
 MembershipFits (Kinds c r) = (c < 16777216) × (r < 16777216)
 MembershipFits Unknown = Unit {0}
 
--- the same in one number: 0 where it is not known, else one more than the current kind and 16777216 times the related one
-abbrev pub membershipIn : ℕ → Membership
-membershipIn zero = none
-membershipIn (suc x) = some (x % 16777216, x / 16777216 % 16777216)
+-- the membership of what stands in the predicate of a relation, by its number; with 0 there is none
+unfoldable pub memberIn : List ℕ → ℕ → Membership
+memberIn ws x = memberKinds (derivedIn ws x)
 
 -- slots that fit into words
 abbrev pub SlotsFit : Direction → Type 0

@@ -13,8 +13,8 @@ ghost use mathlib.Core.List.{[], _∷_};
 ghost use Rattle.chains.specs.Places.{namesAt};
 ghost use Rattle.filtered.specs.Acts.{actPart};
 ghost use Rattle.filtered.specs.Said.{directIn};
-ghost use Rattle.directions.specs.Direction.{bearing, orElse, kindOrZero, matched, towards, turn, between, tested};
-ghost use Rattle.directions.specs.Words.{typedIn, tablesIn, membershipOf, membershipIn, MembershipFits, MemberTurned};
+ghost use Rattle.directions.specs.Direction.{bearing, orElse, kindOrZero, matched, towards, turn, relatedKind, between, tested};
+ghost use Rattle.directions.specs.Words.{typedIn, derivedIn, tablesIn, membershipOf, memberIn, MembershipFits, MemberTurned};
 
 // How a node comes out: its slots and the kind that results; or its direction is open, between slots of this kind or entity.
 pub enum Direction {
@@ -26,35 +26,6 @@ pub enum Direction {
 pub enum Membership {
     Kinds(u32, u32),
     Unknown,
-}
-
-// A membership in one number, as turning hands it on: UNKNOWN, or one more than the current kind and VALUES times the
-// related one.
-pub struct Code {}
-
-impl Code {
-    pub const UNKNOWN: u64 = 0;
-}
-
-pub fn membership_code(m: Membership) -> u64
-    requires { ⌜ MembershipFits m ⌝ }
-    ensures { λ r. ⌜ membershipIn r ≡ membershipOf m ⌝ }
-{
-    let Membership::Kinds(c, r) = m else {
-        return Code::UNKNOWN;
-    };
-    1 + (c as u64 + Pack::VALUES as u64 * r as u64)
-}
-
-pub fn membership_of(code: u64) -> Membership
-    ensures { λ r. ⌜ membershipOf r ≡ membershipIn code ⌝ }
-{
-    if code == Code::UNKNOWN {
-        return Membership::Unknown;
-    }
-    let x = code - 1;
-    let values = Pack::VALUES as u64;
-    Membership::Kinds((x % values) as u32, (x / values % values) as u32)
 }
 
 // The kind at a slot of the list whose count word stands at a place, or 0.
@@ -176,12 +147,42 @@ pub fn turn(
     Direction::Turned(c, r, kind_or_zero(pack, list(x), r))
 }
 
-// A test of membership over a typed relation, by its number.
-fn tested(pack: &[u32], x: u32, m: u64, current: u32, related: u32) -> Direction
-    requires { ⌜ actPart x ≡ 1 ⌝ }
-    ensures { λ r. ⌜ r ≡ tested (typedIn (now (pack .entry)) x) (membershipIn m) current related ⌝ }
+// The kinds in the slots of a derived relation, by its number.
+pub fn slot_kinds(pack: &[u32], x: u32) -> Membership
+    ensures { λ r. ⌜ (membershipOf r ≡ memberIn (now (pack .entry)) x) × MembershipFits r ⌝ }
 {
-    let Membership::Kinds(c, r) = membership_of(m) else {
+    let part = part(x);
+    if part <= Act::TYPED {
+        return Membership::Unknown;
+    }
+    let at = part as usize;
+    let list = list(x);
+    let Kind::Is(c) = kind_at(pack, list, value_at(pack, at)) else {
+        return Membership::Unknown;
+    };
+    let Kind::Is(r) = kind_at(pack, list, value_at(pack, at + 1)) else {
+        return Membership::Unknown;
+    };
+    Membership::Kinds(c, r)
+}
+
+// The kind at the related slot of a derived relation, by its number, or 0.
+pub fn related_kind(pack: &[u32], x: u32) -> u32
+    ensures { λ r. ⌜ r ≡ relatedKind (derivedIn (now (pack .entry)) x) ⌝ }
+{
+    let part = part(x);
+    if part <= Act::TYPED {
+        return 0;
+    }
+    kind_or_zero(pack, list(x), value_at(pack, part as usize + 1))
+}
+
+// A test of membership over a typed relation, by its number, in the predicate of another.
+fn tested(pack: &[u32], x: u32, own: u32, current: u32, related: u32) -> Direction
+    requires { ⌜ actPart x ≡ 1 ⌝ }
+    ensures { λ r. ⌜ r ≡ tested (typedIn (now (pack .entry)) x) (memberIn (now (pack .entry)) own) current related ⌝ }
+{
+    let Membership::Kinds(c, r) = slot_kinds(pack, own) else {
         return Direction::Turned(current, related, 0);
     };
     let at = list(x) as usize;
@@ -190,16 +191,16 @@ fn tested(pack: &[u32], x: u32, m: u64, current: u32, related: u32) -> Direction
     between(a, b, c, r, current, related)
 }
 
-// A test of membership in a relation.
+// A test of membership in a relation, in the predicate of the one with this number.
 pub fn member(
     pack: &[u32],
     acts: &[u32],
     relation: usize,
-    m: u64,
+    own: u32,
     current: u32,
     related: u32,
 ) -> Direction
-    ensures { λ r. ⌜ MemberTurned (now (pack .entry)) (now (acts .entry)) relation (membershipIn m) current related r ⌝ }
+    ensures { λ r. ⌜ MemberTurned (now (pack .entry)) (now (acts .entry)) relation (memberIn (now (pack .entry)) own) current related r ⌝ }
 {
     let x = act_of(acts, relation);
     let part = part(x);
@@ -207,7 +208,7 @@ pub fn member(
         return Direction::Turned(current, related, 0);
     }
     if part == Act::TYPED {
-        return tested(pack, x, m, current, related);
+        return tested(pack, x, own, current, related);
     }
     let at = part as usize;
     let c = value_at(pack, at);

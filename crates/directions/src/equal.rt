@@ -1,48 +1,12 @@
-// The kinds in the slots of derived relations, and those with equal kinds in both.
+// Derived relations with equal kinds in both slots.
 use crate::direction::Membership;
-use crate::direction::kind_or_zero;
+use crate::direction::slot_kinds;
 use chains::record::value_at;
-use filtered::act::Act;
 use filtered::act::act_of;
-use filtered::act::list;
-use filtered::act::part;
-use filtered::taking::Kind;
-use filtered::taking::kind_at;
 use pack::kinds::Pack;
 ghost use mathlib.Core.Path.{_≡_};
 ghost use Rattle.chains.specs.Record.{valueAt};
-ghost use Rattle.directions.specs.Direction.{relatedKind, memberKinds};
-ghost use Rattle.directions.specs.Words.{membershipOf, MembershipFits, derivedIn, equalIn, firstEqual};
-
-// The kinds in the slots of a derived relation, by its number.
-pub fn slot_kinds(pack: &[u32], x: u32) -> Membership
-    ensures { λ r. ⌜ (membershipOf r ≡ memberKinds (derivedIn (now (pack .entry)) x)) × MembershipFits r ⌝ }
-{
-    let part = part(x);
-    if part <= Act::TYPED {
-        return Membership::Unknown;
-    }
-    let at = part as usize;
-    let list = list(x);
-    let Kind::Is(c) = kind_at(pack, list, value_at(pack, at)) else {
-        return Membership::Unknown;
-    };
-    let Kind::Is(r) = kind_at(pack, list, value_at(pack, at + 1)) else {
-        return Membership::Unknown;
-    };
-    Membership::Kinds(c, r)
-}
-
-// The kind at the related slot of a derived relation, by its number, or 0.
-pub fn related_kind(pack: &[u32], x: u32) -> u32
-    ensures { λ r. ⌜ r ≡ relatedKind (derivedIn (now (pack .entry)) x) ⌝ }
-{
-    let part = part(x);
-    if part <= Act::TYPED {
-        return 0;
-    }
-    kind_or_zero(pack, list(x), value_at(pack, part as usize + 1))
-}
+ghost use Rattle.directions.specs.Words.{equalIn, firstEqual};
 
 // Whether a name is that of a derived relation with equal kinds there.
 pub fn equal_kinds(pack: &[u32], acts: &[u32], name: usize) -> bool

@@ -12,7 +12,7 @@ use borrow.Author.Tests.{eq-eqb, ne-eqb, eqb-true, eqb-false}
 use Rattle.pack.specs.Table.{pick, wordOf, entryOf, fieldsOf}
 use Rattle.directions.specs.Direction.{relatedKind, Membership}
 use Rattle.directions.specs.Turning.{Outcome, done, refused, Citing, Fields, currentOf, relatedOf, withSlots, Step, goes, stops, stepBy, fieldWords}
-use Rattle.directions.specs.Words.{membershipIn}
+use Rattle.directions.specs.Words.{memberIn}
 use Rattle.turning.specs.declared.step.Out.{Out}
 use Rattle.turning.specs.declared.step.Out.the-variants.{Opens, Sets, Passes, Stops}
 use Rattle.turning.specs.declared.root.Root as code
@@ -112,24 +112,24 @@ module _ (ws acts taken words notes : List ℕ) (blocks count i : ℕ) (r : code
   unfolding turnNote openRoot
   opens-root h {x} o = record { each = each; long = refl; wide = length-set notes i (x .entity); others = λ j q. getD-set-other notes i j (x .entity) 0 q }
     where
-      each : (n : Note) → getD notes i 0 ≡ noteCode n → Stands ws i n → NextBy (turnNote K ws i n (work words notes (rootIn r))) (next.On x) words (set notes i (x .entity))
+      each : (n : Note) → getD notes i 0 ≡ noteCode n → Stands ws i n → NextBy ws (turnNote K ws i n (work words notes (rootIn ws r))) (next.On x) words (set notes i (x .entity))
       each n is st = rw (eq-eqb (n .inside) 0 (sym (its-inside notes n is st) ∙ h)) (go (eqb (kindIn ws (n .place)) 23) refl (subst (λ (y : ℕ). RootOpened ws acts y x) (its-place notes n is st) o))
         where
           go : (b : Bool) → eqb (kindIn ws (n .place)) 23 ≡ b → RootOpened ws acts (n .place) x
-              → NextBy (done (pick b (work words (set notes i (valueIn ws (n .place + 2))) (ruleRoot ws (n .place))) (work words (set notes i (relatedKind (K .tables .derived (valueIn ws (n .place))))) (relationRoot K ws (n .place))))) (next.On x) words (set notes i (x .entity))
+              → NextBy ws (done (pick b (work words (set notes i (valueIn ws (n .place + 2))) (ruleRoot ws (n .place))) (work words (set notes i (relatedKind (K .tables .derived (valueIn ws (n .place))))) (relationRoot K ws (n .place))))) (next.On x) words (set notes i (x .entity))
           go true e p = let q = p .rule (eqb-true (kindIn ws (n .place)) 23 e) in (x, refl, q .1, refl, ap (set notes i) (q .0))
           go false e p = let q = p .relation (eqb-false (kindIn ws (n .place)) 23 e) taken blocks count in (x, refl, q .1, refl, ap (set notes i) (q .0))
 
   -- a node: what came of its step
-  module _ (h : insideOf (getD notes i 0) ≡ 0 → ⊥) (μ : ℕ) (keep : (n : Note) → getD notes i 0 ≡ noteCode n → n .place + 1 < 8192 → membershipIn μ ≡ held (n .lost) (membershipIn (r .m))) {o : Out}
-      (t : StepTaken ws acts taken blocks count (r .origin) (getD notes (getD notes i 0 / 16384) 0) (membershipIn μ) (getD notes i 0 % 8192 - 1) o) where
-    its-outcome : (n : Note) → getD notes i 0 ≡ noteCode n → Stands ws i n → turnNote K ws i n (work words notes (rootIn r)) ≡ applied i (n .place) (work words notes (rootIn r)) o
+  module _ (h : insideOf (getD notes i 0) ≡ 0 → ⊥) (μ : ℕ) (keep : (n : Note) → getD notes i 0 ≡ noteCode n → n .place + 1 < 8192 → (v : List ℕ) → memberIn v μ ≡ held (n .lost) (memberIn v (r .own))) {o : Out}
+      (t : StepTaken ws acts taken blocks count (r .origin) (getD notes (getD notes i 0 / 16384) 0) (memberIn ws μ) (getD notes i 0 % 8192 - 1) o) where
+    its-outcome : (n : Note) → getD notes i 0 ≡ noteCode n → Stands ws i n → turnNote K ws i n (work words notes (rootIn ws r)) ≡ applied i (n .place) (work words notes (rootIn ws r)) o
     unfolding turnNote
     its-outcome n is st =
         let away : n .inside ≡ 0 → ⊥ = λ e. h (its-inside notes n is st ∙ e) in
-        let step : o ≡ outAt (citing K (rootIn r)) (getD notes (n .inside) 0) (held (n .lost) (membershipIn (r .m))) ws (n .place) =
-        t .each (rootIn r) refl ∙ λ j. outAt (citing K (rootIn r)) (getD notes (its-inside notes n is st j) 0) (keep n is (st .near) j) ws (its-place notes n is st j) in
-        rw (ne-eqb (n .inside) 0 away) (node-turned K ws i n (work words notes (rootIn r)) (st .node away) ∙ ap (applied i (n .place) (work words notes (rootIn r))) (sym step))
+        let step : o ≡ outAt (citing K (rootIn ws r)) (getD notes (n .inside) 0) (held (n .lost) (memberIn ws (r .own))) ws (n .place) =
+        t .each (rootIn ws r) refl ∙ λ j. outAt (citing K (rootIn ws r)) (getD notes (its-inside notes n is st j) 0) (keep n is (st .near) ws j) ws (its-place notes n is st j) in
+        rw (ne-eqb (n .inside) 0 away) (node-turned K ws i n (work words notes (rootIn ws r)) (st .node away) ∙ ap (applied i (n .place) (work words notes (rootIn ws r))) (sym step))
 
     abbrev at : ℕ
     at = getD notes i 0 % 8192 - 1

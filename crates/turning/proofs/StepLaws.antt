@@ -18,7 +18,7 @@ use Rattle.directions.specs.declared.direction.Direction.the-variants.{Turned, 
 use Rattle.directions.specs.Direction.{Membership}
 use Rattle.directions.specs.Direction as direction
 use Rattle.directions.specs.Turning.{Fields, withSlots, stops, aggregate, allowedInput, onlyRelated, membershipTest, stepBy}
-use Rattle.directions.specs.Words.{tablesIn, membershipIn, MemberTurned, SlotsFit}
+use Rattle.directions.specs.Words.{derivedIn, tablesIn, memberIn, MemberTurned, SlotsFit}
 use Rattle.inputs.specs.Blocks.{inputIn}
 use Rattle.directions.proofs.SlotLaws.{member-fits-code}
 use Rattle.turning.specs.declared.step.Out.{Out}
@@ -229,8 +229,9 @@ module _ (m : ℕ) {code : ℕ} (n : Note) (e : code ≡ noteCode n) (h : n .pla
   lost-is : eqb (code / 8192 % 2) 1 ≡ n .lost
   lost-is = ap lostOf e ∙ code-parts n h .lost
 
-  pub keeps : code / 8192 % 2 ≡ 0 → membershipIn m ≡ held (n .lost) (membershipIn m)
-  keeps z = rw (sym lost-is ∙ ap (λ (x : ℕ). eqb x 1) z) refl
+  pub keeps : code / 8192 % 2 ≡ 0 → (ws : List ℕ) → memberIn ws m ≡ held (n .lost) (memberIn ws m)
+  keeps z ws = rw (sym lost-is ∙ ap (λ (x : ℕ). eqb x 1) z) refl
 
-  pub loses : (code / 8192 % 2 ≡ 0 → ⊥) → membershipIn 0 ≡ held (n .lost) (membershipIn m)
-  loses z = rw (sym lost-is ∙ eq-eqb (code / 8192 % 2) 1 (omega arith)) refl
+  pub loses : (code / 8192 % 2 ≡ 0 → ⊥) → (ws : List ℕ) → memberIn ws 0 ≡ held (n .lost) (memberIn ws m)
+  unfolding memberIn derivedIn
+  loses z ws = rw (sym lost-is ∙ eq-eqb (code / 8192 % 2) 1 (omega arith)) refl

@@ -13,6 +13,7 @@ use Rattle.turning.specs.declared.turns.Next.the-variants as next
 use Rattle.turning.specs.declared.turns.Ended.the-variants as ended
 use Rattle.turning.specs.Notes.{Note, noteCode, Held}
 use Rattle.turning.specs.Turns.{Known, Root, Work, work, nowhere, turnNote, turnNotes}
+use Rattle.directions.specs.Words.{derivedIn, memberIn}
 use Rattle.turning.specs.Steps.{knownIn, Stands, rootIn, NextBy, NoteAsked, NoteTurned, Placed, EndedBy, TurnsAsked, NotesTurned}
 
 -- numbers that are left as they were
@@ -39,7 +40,7 @@ module _ (ws acts taken : List ℕ) (blocks count from to : ℕ) (words₀ notes
     pub are : Held notes i rest
     pub many : to ≡ i + length rest
     pub placed : Placed ws i rest
-    pub left : turnNotes K ws from all (work words₀ notes₀ nowhere) ≡ turnNotes K ws i rest (work words notes (rootIn r))
+    pub left : turnNotes K ws from all (work words₀ notes₀ nowhere) ≡ turnNotes K ws i rest (work words notes (rootIn ws r))
 
   -- of any notes that the numbers are
   pub record Going (words notes : List ℕ) (i : ℕ) (r : code.Root) : Type 0 where
@@ -49,7 +50,8 @@ module _ (ws acts taken : List ℕ) (blocks count from to : ℕ) (words₀ notes
     pub earlier : (j : ℕ) → j < from → getD notes j 0 ≡ getD notes₀ j 0
     pub each : (ns : List Note) → Held notes₀ from ns → to ≡ from + length ns → Placed ws from ns → Left ns words notes i r
 
-  pub turns-begin : Going words₀ notes₀ from (record { name = 0; origin = 0; entity = 0; m = 0 })
+  pub turns-begin : Going words₀ notes₀ from (record { name = 0; origin = 0; entity = 0; own = 0 })
+  unfolding memberIn derivedIn
   turns-begin = record { same = refl; wide = refl; on = omega arith; earlier = λ j h. refl; each = λ ns are many placed. record { rest = ns; are = are; many = many; placed = placed; left = refl } }
 
   module _ {words notes : List ℕ} {i : ℕ} {r : code.Root} (g : Going words notes i r) where
@@ -63,9 +65,9 @@ module _ (ws acts taken : List ℕ) (blocks count from to : ℕ) (words₀ notes
         pub many : to ≡ i + suc (length rest)
         pub stands : Stands ws i n
         pub placed : Placed ws (suc i) rest
-        pub left : turnNotes K ws from all (work words₀ notes₀ nowhere) ≡ turnNotes K ws i (n ∷ rest) (work words notes (rootIn r))
+        pub left : turnNotes K ws from all (work words₀ notes₀ nowhere) ≡ turnNotes K ws i (n ∷ rest) (work words notes (rootIn ws r))
 
-      next-by : (all rest : List Note) → Held notes i rest → to ≡ i + length rest → Placed ws i rest → turnNotes K ws from all (work words₀ notes₀ nowhere) ≡ turnNotes K ws i rest (work words notes (rootIn r)) → Next-note all
+      next-by : (all rest : List Note) → Held notes i rest → to ≡ i + length rest → Placed ws i rest → turnNotes K ws from all (work words₀ notes₀ nowhere) ≡ turnNotes K ws i rest (work words notes (rootIn ws r)) → Next-note all
       next-by all [] are many placed left = absurd (omega arith)
       next-by all (n ∷ rest) are many placed left = record { n = n; rest = rest; is = are .0; are = are .1; many = many; stands = placed .0; placed = placed .1; left = left }
 
@@ -80,12 +82,12 @@ module _ (ws acts taken : List ℕ) (blocks count from to : ℕ) (words₀ notes
       module _ {o : Next} {left kinds : List ℕ} (t : NoteTurned ws acts taken blocks count i r words notes o left kinds) where
         -- it goes on
         module _ {x : code.Root} (e : o ≡ next.On x) where
-          went : (all : List Note) (y : Next-note all) (p : Outcome Work) → turnNote K ws i (y .n) (work words notes (rootIn r)) ≡ p → NextBy p o left kinds → Left all left kinds (suc i) x
+          went : (all : List Note) (y : Next-note all) (p : Outcome Work) → turnNote K ws i (y .n) (work words notes (rootIn ws r)) ≡ p → NextBy ws p o left kinds → Left all left kinds (suc i) x
           unfolding turnNotes
           went all y (refused z) q h = absurd (on-refused (sym e ∙ h))
           went all y (done s) q h =
               let same : h .0 ≡ x = on-is (sym (h .1) ∙ e) in
-              let state : s ≡ work left kinds (rootIn x) = λ j. work (sym (h .3) j) (sym (h .4) j) ((sym (h .2) ∙ ap rootIn same) j) in
+              let state : s ≡ work left kinds (rootIn ws x) = λ j. work (sym (h .3) j) (sym (h .4) j) ((sym (h .2) ∙ ap (rootIn ws) same) j) in
               record {
                 rest = y .rest;
                 are = held-still notes kinds i (t .others) (suc i) (omega arith) (y .rest) (y .are);
@@ -102,12 +104,12 @@ module _ (ws acts taken : List ℕ) (blocks count from to : ℕ) (words₀ notes
                 wide = t .wide ∙ g .wide;
                 on = let h = g .on in omega arith;
                 earlier = λ j l. t .others j (λ z. let h = g .on in omega arith) ∙ g .earlier j l;
-                each = λ ns are many placed. let y = next-note ns (g .each ns are many placed) in went ns y (turnNote K ws i (y .n) (work words notes (rootIn r))) refl (t .each (y .n) (y .is) (y .stands));
+                each = λ ns are many placed. let y = next-note ns (g .each ns are many placed) in went ns y (turnNote K ws i (y .n) (work words notes (rootIn ws r))) refl (t .each (y .n) (y .is) (y .stands));
               })
 
         -- or is refused
         module _ {x : Refusal} (e : o ≡ next.Refused x) where
-          stopped : (all : List Note) (y : Next-note all) (p : Outcome Work) → turnNote K ws i (y .n) (work words notes (rootIn r)) ≡ p → NextBy p o left kinds → EndedBy (turnNotes K ws from all (work words₀ notes₀ nowhere)) (ended.Refused x) left kinds
+          stopped : (all : List Note) (y : Next-note all) (p : Outcome Work) → turnNote K ws i (y .n) (work words notes (rootIn ws r)) ≡ p → NextBy ws p o left kinds → EndedBy (turnNotes K ws from all (work words₀ notes₀ nowhere)) (ended.Refused x) left kinds
           unfolding turnNotes
           stopped all y (done s) q h = absurd (on-refused (sym (h .1) ∙ e))
           stopped all y (refused z) q h = rw (y .left, q) (ap ended.Refused (refusal-is (sym e ∙ h)))
@@ -115,14 +117,14 @@ module _ (ws acts taken : List ℕ) (blocks count from to : ℕ) (words₀ notes
           pub turns-stop : NotesTurned ws acts taken blocks count from to words₀ notes₀ (ended.Refused x) left kinds
           turns-stop =
               record {
-                each = λ ns are many placed. let y = next-note ns (g .each ns are many placed) in stopped ns y (turnNote K ws i (y .n) (work words notes (rootIn r))) refl (t .each (y .n) (y .is) (y .stands));
+                each = λ ns are many placed. let y = next-note ns (g .each ns are many placed) in stopped ns y (turnNote K ws i (y .n) (work words notes (rootIn ws r))) refl (t .each (y .n) (y .is) (y .stands));
                 long = t .long ∙ g .same;
                 wide = t .wide ∙ g .wide;
                 earlier = λ j l. t .others j (λ z. let h = g .on in omega arith) ∙ g .earlier j l;
               }
 
     -- none is left
-    ends-by : (all rest : List Note) → to ≤ i → to ≡ i + length rest → turnNotes K ws from all (work words₀ notes₀ nowhere) ≡ turnNotes K ws i rest (work words notes (rootIn r)) → EndedBy (turnNotes K ws from all (work words₀ notes₀ nowhere)) ended.All words notes
+    ends-by : (all rest : List Note) → to ≤ i → to ≡ i + length rest → turnNotes K ws from all (work words₀ notes₀ nowhere) ≡ turnNotes K ws i rest (work words notes (rootIn ws r)) → EndedBy (turnNotes K ws from all (work words₀ notes₀ nowhere)) ended.All words notes
     unfolding turnNotes
     ends-by all [] h many left = rw left (refl, refl, refl)
     ends-by all (n ∷ rest) h many left = absurd (omega arith)

@@ -10,16 +10,15 @@ use Rattle.pack.specs.Pack.{Pack, yes, read, words}
 use Rattle.inputs.specs.Blocks.{inputIn}
 use Rattle.directions.specs.declared.direction.Direction.{Direction}
 use Rattle.directions.specs.declared.direction.Direction.the-variants.{Turned, Open}
-use Rattle.directions.specs.Tables.{Derived, Tables}
-use Rattle.directions.specs.Direction.{turn, Membership, relatedKind, memberKinds}
+use Rattle.directions.specs.Tables.{Tables}
+use Rattle.directions.specs.Direction.{turn, Membership, relatedKind}
 use mathlib.Core.Option.{Option, none, some}
 use Rattle.directions.specs.Turning.{Outcome, done, refused, Citing, currentOf, relatedOf, Step, goes, stops}
-use Rattle.directions.specs.Words.{tablesIn, membershipIn}
+use Rattle.directions.specs.Words.{tablesIn, memberIn}
 use Rattle.directions.specs.Records.{turned}
 use Rattle.turning.specs.declared.step.Out.{Out}
 use Rattle.turning.specs.declared.step.Out.the-variants.{Opens, Sets, Passes, Stops}
 use Rattle.turning.specs.declared.root.Root as code
-use Rattle.turning.specs.declared.root.Pair.{Pair}
 use Rattle.turning.specs.declared.turns.Next.{Next}
 use Rattle.turning.specs.declared.turns.Next.the-variants as next
 use Rattle.turning.specs.declared.turns.Ended.{Ended}
@@ -101,24 +100,20 @@ pub record StepTaken (ws acts taken : List ℕ) (blocks count origin entity : �
 
 -- ---- a rule or relation
 
-pub record PairOf (d : Option Derived) (k : Pair) : Type 0 where
-  pub entity : k .entity ≡ relatedKind d
-  pub member : membershipIn (k .m) ≡ memberKinds d
-
-abbrev pub rootIn : code.Root → Root
-rootIn r = record { name = r .name; origin = r .origin; member = membershipIn (r .m) }
+abbrev pub rootIn : List ℕ → code.Root → Root
+rootIn ws r = record { name = r .name; origin = r .origin; member = memberIn ws (r .own) }
 
 pub record RootOpened (ws acts : List ℕ) (at : ℕ) (r : code.Root) : Type 0 where
-  pub rule : kindIn ws at ≡ 23 → (r .entity ≡ valueIn ws (at + 2)) × (rootIn r ≡ ruleRoot ws at)
+  pub rule : kindIn ws at ≡ 23 → (r .entity ≡ valueIn ws (at + 2)) × (rootIn ws r ≡ ruleRoot ws at)
   pub relation : (kindIn ws at ≡ 23 → ⊥) → (taken : List ℕ) (blocks count : ℕ)
-      → (r .entity ≡ relatedKind (tablesIn ws acts taken .derived (valueIn ws at))) × (rootIn r ≡ relationRoot (knownIn ws acts taken blocks count) ws at)
+      → (r .entity ≡ relatedKind (tablesIn ws acts taken .derived (valueIn ws at))) × (rootIn ws r ≡ relationRoot (knownIn ws acts taken blocks count) ws at)
 
 -- ---- notes
 
 -- what comes of a note
-abbrev pub NextBy : Outcome Work → Next → List ℕ → List ℕ → Type 0
-NextBy (done s) o words notes = (r : code.Root) × (o ≡ next.On r) × (rootIn r ≡ s .root) × (words ≡ s .words) × (notes ≡ s .results)
-NextBy (refused x) o words notes = o ≡ next.Refused x
+abbrev pub NextBy : List ℕ → Outcome Work → Next → List ℕ → List ℕ → Type 0
+NextBy ws (done s) o words notes = (r : code.Root) × (o ≡ next.On r) × (rootIn ws r ≡ s .root) × (words ≡ s .words) × (notes ≡ s .results)
+NextBy ws (refused x) o words notes = o ≡ next.Refused x
 
 -- the i-th note stands there, and its code in its place
 pub record NoteAsked (ws words notes : List ℕ) (blocks count i : ℕ) : Type 0 where
@@ -131,7 +126,7 @@ pub record NoteAsked (ws words notes : List ℕ) (blocks count i : ℕ) : Type 0
   pub stands : Stands ws i n
 
 pub record NoteTurned (ws acts taken : List ℕ) (blocks count i : ℕ) (r : code.Root) (words notes : List ℕ) (o : Next) (left kinds : List ℕ) : Type 0 where
-  pub each : (n : Note) → getD notes i 0 ≡ noteCode n → Stands ws i n → NextBy (turnNote (knownIn ws acts taken blocks count) ws i n (work words notes (rootIn r))) o left kinds
+  pub each : (n : Note) → getD notes i 0 ≡ noteCode n → Stands ws i n → NextBy ws (turnNote (knownIn ws acts taken blocks count) ws i n (work words notes (rootIn ws r))) o left kinds
   pub long : length left ≡ length words
   pub wide : length kinds ≡ length notes
   pub others : (j : ℕ) → (j ≡ i → ⊥) → getD kinds j 0 ≡ getD notes j 0

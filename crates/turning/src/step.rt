@@ -7,7 +7,7 @@ use pack::answer::Number;
 use pack::kinds::Pack;
 ghost use mathlib.Core.Path.{_≡_};
 ghost use Prim.Native.Nat.{_<_, _≤_};
-ghost use Rattle.directions.specs.Words.{tablesIn, membershipIn};
+ghost use Rattle.directions.specs.Words.{tablesIn, memberIn};
 ghost use Rattle.inputs.specs.Blocks.{inputIn};
 ghost use Rattle.directions.specs.Words.{SlotsFit};
 ghost use Rattle.turning.specs.Steps.{NodeStands, turnAt, wentBy, testedBy, onlyBy, StepTaken};
@@ -36,11 +36,11 @@ pub struct Cited {
     pub origin: u32,
 }
 
-// A node: where it stands, with which entity and membership.
+// A node: where it stands, with which entity, and in the predicate of the relation with which number.
 pub struct Node {
     pub at: usize,
     pub entity: u32,
-    pub m: u64,
+    pub own: u32,
 }
 
 // Its direction as an aggregate.
@@ -97,7 +97,7 @@ fn only(pack: &[u32], cited: Cited, d: Direction, word: u32) -> Out
 // By its kind.
 pub fn step(pack: &[u32], acts: &[u32], taken: &[u32], cited: Cited, node: Node) -> Out
     requires { ⌜ NodeStands (now pack) (node .at) × (cited .blocks .at ≤ 65536) × (cited .blocks .count ≤ 64) ⌝ }
-    ensures { λ r. ⌜ StepTaken (now (pack .entry)) (now (acts .entry)) (now (taken .entry)) (cited .blocks .at) (cited .blocks .count) (cited .origin) (node .entity) (membershipIn (node .m)) (node .at) r ⌝ }
+    ensures { λ r. ⌜ StepTaken (now (pack .entry)) (now (acts .entry)) (now (taken .entry)) (cited .blocks .at) (cited .blocks .count) (cited .origin) (node .entity) (memberIn (now (pack .entry)) (node .own)) (node .at) r ⌝ }
 {
     let at = node.at;
     let word = pack[at];
@@ -107,7 +107,7 @@ pub fn step(pack: &[u32], acts: &[u32], taken: &[u32], cited: Cited, node: Node)
             let relation = (word % Pack::VALUES) as usize;
             let current = pack[at + 1] % Pack::VALUES;
             let related = pack[at + 2] % Pack::VALUES;
-            tested(member(pack, acts, relation, node.m, current, related))
+            tested(member(pack, acts, relation, node.own, current, related))
         }
         Pack::COUNT..=Pack::ONLY_RELATED => {
             let d = turned(pack, acts, taken, at, node.entity);

@@ -8,16 +8,15 @@ use crate::step::Cited;
 use crate::step::Node;
 use crate::step::Out;
 use crate::step::step;
-use directions::direction::Code;
 use pack::answer::Refusal;
 use pack::kinds::Pack;
 ghost use mathlib.Core.Path.{_≡_};
-ghost use mathlib.Core.List.{[], _∷_};
-ghost use Prim.Native.Nat.{_+_, _<_, _≤_};
+ghost use mathlib.Core.List.{List, [], _∷_};
+ghost use Prim.Native.Nat.{ℕ, _+_, _<_, _≤_};
 ghost use lib.ListN.{length, getD};
 ghost use lib.Seq.{sets};
 ghost use Rattle.pack.specs.Table.{wordOf};
-ghost use Rattle.directions.specs.Words.{membershipIn};
+ghost use Rattle.directions.specs.Words.{memberIn};
 ghost use Rattle.turning.specs.Notes.{Note, noteCode};
 ghost use Rattle.turning.specs.Turns.{held, insideOf};
 ghost use Rattle.turning.specs.Steps.{NoteAsked, NoteTurned, TurnsAsked, NotesTurned, PackAsked, PackTurned};
@@ -72,14 +71,14 @@ fn set_slots(work: &mut [u32], at: usize, current: u32, related: u32)
     work[at + 2] = Pack::RELATED * Pack::VALUES + related;
 }
 
-// The membership that a note keeps of its rule's or relation's.
-fn kept(note: u32, m: u64) -> u64
-    ensures { λ r. ⌜ ((n : Note) → note ≡ noteCode n → n .place + 1 < 8192 → membershipIn r ≡ held (n .lost) (membershipIn m)) ⌝ }
+// The number of the relation whose membership a note keeps; 0 where it is lost.
+fn kept(note: u32, own: u32) -> u32
+    ensures { λ r. ⌜ ((n : Note) → note ≡ noteCode n → n .place + 1 < 8192 → (ws : List ℕ) → memberIn ws r ≡ held (n .lost) (memberIn ws own)) ⌝ }
 {
     if note / NoteCode::FIELDS % 2 == 0 {
-        return m;
+        return own;
     }
-    Code::UNKNOWN
+    0
 }
 
 // The i-th note, of a node: its own number gives way to the entity of what stands inside it.
@@ -99,11 +98,11 @@ fn turn_node(
     let note = notes[i];
     let at = (note % NoteCode::FIELDS) as usize - 1;
     let entity = notes[(note / NoteCode::INSIDES) as usize];
-    let m = kept(note, root.m);
+    let own = kept(note, root.own);
     let blocks = here.blocks;
     let origin = root.origin;
     let cited = Cited { blocks, origin };
-    match step(pack, acts, taken, cited, Node { at, entity, m }) {
+    match step(pack, acts, taken, cited, Node { at, entity, own }) {
         Out::Opens(current, related, kind) => {
             set_slots(work, at, current, related);
             notes[i] = kind;

@@ -4,8 +4,8 @@ use borrow.Author.Needs.{needs}
 use Rattle.directions.proofs.direction.tested.Statement.{statement}
 use Rattle.directions.proofs.direction.tested.Tie as tie
 
-membership-of-requires : tie.Need-membership-of-requires
-membership-of-requires c κs = search needs
+slot-kinds-requires : tie.Need-slot-kinds-requires
+slot-kinds-requires c κs = search needs
 
 enum-known-c : tie.Need-enum-known-c
 enum-known-c c = search needs
@@ -14,7 +14,7 @@ enum-told : tie.Need-enum-told
 enum-told c = search needs
 
 returns : tie.Need-returns
-returns c = no-membership _ _ _ _ (c .before .before .membership-of .ensures) (c .enum-told .given .1)
+returns c = no-membership _ _ _ _ (c .before .before .slot-kinds .ensures .0) (c .enum-told .given .1)
 
 list-requires : tie.Need-list-requires
 list-requires c κs = search needs
@@ -38,13 +38,13 @@ between-requires : tie.Need-between-requires
 between-requires c κs = search needs
 
 returns-2 : tie.Need-returns-2
-returns-2 c = is-tested _ _ (c .before .before .before .before .before .before .before .before .before .pre) (c .before .before .before .list .ensures .0) (c .before .before .value-at .ensures .0) (c .before .value-at2 .ensures .0) _ _ (c .before .before .before .before .before .before .before .membership-of .ensures) (c .before .before .before .before .before .c .given .1) (c .between .ensures)
+returns-2 c = is-tested _ _ (c .before .before .before .before .before .before .before .before .before .pre) (c .before .before .before .list .ensures .0) (c .before .before .value-at .ensures .0) (c .before .value-at2 .ensures .0) _ _ (c .before .before .before .before .before .before .before .slot-kinds .ensures .0) (c .before .before .before .before .before .c .given .1) (c .between .ensures)
 
 pub tested-spec : {M : Type 1} → statement M
 tested-spec =
     tie.close
     (tie.spec
-    membership-of-requires
+    slot-kinds-requires
     enum-known-c
     enum-told
     returns

@@ -1,6 +1,6 @@
 -- `turning::root::opened` meets its contract.
-use Rattle.turning.proofs.RootLaws.{rule-opened, relation-opened}
 use mathlib.Core.Path.{refl}
+use Rattle.turning.proofs.RootLaws.{rule-opened, relation-opened}
 use borrow.Author.Needs.{needs}
 use Rattle.turning.proofs.root.opened.Statement.{statement}
 use Rattle.turning.proofs.root.opened.Tie as tie
@@ -30,16 +30,19 @@ shared-slice-read-entity : tie.Need-shared-slice-read-entity
 shared-slice-read-entity c = search needs
 
 returns : tie.Need-returns
-returns c = rule-opened _ _ _ refl ((c .before .if1) .taken) refl refl refl
+returns c = rule-opened _ _ _ refl (c .before .if1 .taken) refl refl refl
 
-cast-kinds : tie.Need-cast-kinds
-cast-kinds c = search needs
+cast-act-of : tie.Need-cast-act-of
+cast-act-of c = search needs
 
-kinds-requires : tie.Need-kinds-requires
-kinds-requires c κs = search needs
+act-of-requires : tie.Need-act-of-requires
+act-of-requires c κs = search needs
+
+related-kind-requires : tie.Need-related-kind-requires
+related-kind-requires c κs = search needs
 
 returns-2 : tie.Need-returns-2
-returns-2 c = relation-opened _ _ _ refl ((c .before .if1) .left) refl refl ((c .kinds) .ensures)
+returns-2 c = relation-opened _ _ _ refl (c .before .before .if1 .left) refl refl (c .before .act-of .ensures) (c .related-kind .ensures)
 
 pub opened-spec : {M : Type 1} → statement M
 opened-spec =
@@ -54,6 +57,7 @@ opened-spec =
     mul-entity
     shared-slice-read-entity
     returns
-    cast-kinds
-    kinds-requires
+    cast-act-of
+    act-of-requires
+    related-kind-requires
     returns-2)

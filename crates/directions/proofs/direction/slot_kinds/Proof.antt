@@ -1,8 +1,8 @@
--- `directions::equal::slot_kinds` meets its contract.
+-- `directions::direction::slot_kinds` meets its contract.
 use Rattle.directions.proofs.EqualLaws.{not-derived, first-unknown, second-unknown, both-small, both-known}
 use borrow.Author.Needs.{needs}
-use Rattle.directions.proofs.equal.slot_kinds.Statement.{statement}
-use Rattle.directions.proofs.equal.slot_kinds.Tie as tie
+use Rattle.directions.proofs.direction.slot_kinds.Statement.{statement}
+use Rattle.directions.proofs.direction.slot_kinds.Tie as tie
 
 part-requires : tie.Need-part-requires
 part-requires c κs = search needs

@@ -1,8 +1,8 @@
--- `directions::equal::related_kind` meets its contract.
+-- `directions::direction::related_kind` meets its contract.
 use Rattle.directions.proofs.EqualLaws.{no-related, its-related}
 use borrow.Author.Needs.{needs}
-use Rattle.directions.proofs.equal.related_kind.Statement.{statement}
-use Rattle.directions.proofs.equal.related_kind.Tie as tie
+use Rattle.directions.proofs.direction.related_kind.Statement.{statement}
+use Rattle.directions.proofs.direction.related_kind.Tie as tie
 
 part-requires : tie.Need-part-requires
 part-requires c κs = search needs
