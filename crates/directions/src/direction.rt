@@ -171,10 +171,10 @@ pub fn related_kind(pack: &[u32], x: u32) -> u32
     ensures { λ r. ⌜ r ≡ relatedKind (derivedIn (now (pack .entry)) x) ⌝ }
 {
     let part = part(x);
-    if part <= Act::TYPED {
-        return 0;
+    if Act::TYPED < part {
+        return kind_or_zero(pack, list(x), value_at(pack, part as usize + 1));
     }
-    kind_or_zero(pack, list(x), value_at(pack, part as usize + 1))
+    0
 }
 
 // A test of membership over a typed relation, by its number, in the predicate of another.
