@@ -496,8 +496,10 @@ pub fn allows_head(t: &[u32; 256], kind: u32, v: u32) -> bool
     v <= limit
 }
 
-// Whether a rule allows a value, which is held to n: the total to the number of words, a name to N.
+// Whether a rule allows a value, which is held to n: the total to the number of words, a name to N. One more than none is 0
+// modulo VALUES, so that a name or none takes one comparison.
 pub fn allows(rule: Rule, n: u32, v: u32) -> bool
+    requires { ⌜ v < 16777216 ⌝ }
     ensures { λ r. ⌜ r ≡ allowed rule n v ⌝ }
 {
     match rule {
@@ -508,7 +510,7 @@ pub fn allows(rule: Rule, n: u32, v: u32) -> bool
         Rule::AtMostOrNone(most) => v <= most || v == Pack::NONE,
         Rule::Total => v == n,
         Rule::Name => v < n,
-        Rule::NameOrNone => v < n || v == Pack::NONE,
+        Rule::NameOrNone => (v + 1) % Pack::VALUES <= n,
     }
 }
 

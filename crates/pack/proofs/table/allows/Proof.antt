@@ -1,6 +1,12 @@
 -- `pack::table::allows` meets its contract, rule by rule.
 -- Assumes nothing.
-use borrow.Author.Tests.{lt-ltb, le-ltb, le-leb, lt-leb}
+use Prim.Native.Nat.{ℕ, _+_, _%_, _<_}
+use native.Mathlib.Omega.{arith}
+use mathlib.Core.Bool.{Bool, true, false, _||_}
+use mathlib.Core.Path.{_≡_, refl}
+use lib.Dec.{leb, ltb, eqb}
+use Rattle.pack.specs.Table.{none}
+use borrow.Author.Tests.{ltb-true, ltb-false, eqb-true, eqb-false, lt-ltb, le-ltb, le-leb, lt-leb}
 use borrow.Author.Needs.{needs}
 use Rattle.pack.proofs.table.allows.Statement.{statement}
 use Rattle.pack.proofs.table.allows.Tie as tie
@@ -56,11 +62,20 @@ returns-8 c = rw (c .enum-told3 .given .1)
 returns-9 : tie.Need-returns-9
 returns-9 c = rw (c .enum-told4 .given .1)
 
-returns-10 : tie.Need-returns-10
-returns-10 c = simp (c .before .enum-told5 .given .1, lt-ltb _ _ (c .if3 .taken))
+add-result : tie.Need-add-result
+add-result c = search needs
 
-returns-11 : tie.Need-returns-11
-returns-11 c = simp (c .before .enum-told5 .given .1, le-ltb _ _ (c .if3 .left))
+-- one more than none is 0, and one more than a name below n is at most n
+name-or-none : (n v : ℕ) → v < 16777216 → leb ((v + 1) % 16777216) n ≡ (ltb v n || eqb v none)
+name-or-none n v h = go (ltb v n) (eqb v none) refl refl
+  where
+    go : (x y : Bool) → ltb v n ≡ x → eqb v none ≡ y → leb ((v + 1) % 16777216) n ≡ (ltb v n || eqb v none)
+    go true y p q = let l = ltb-true v n p in simp (p, le-leb ((v + 1) % 16777216) n (omega arith)) refl
+    go false true p q = let e = eqb-true v none q in simp (p, q, le-leb ((v + 1) % 16777216) n (omega arith)) refl
+    go false false p q = let l = ltb-false v n p in let e = eqb-false v none q in simp (p, q, lt-leb ((v + 1) % 16777216) n (omega arith)) refl
+
+returns-10 : tie.Need-returns-10
+returns-10 c = rw (c .enum-told5 .given .1) (name-or-none _ _ (c .before .before .pre))
 
 pub allows-spec : {M : Type 1} → statement M
 allows-spec =
@@ -74,6 +89,7 @@ allows-spec =
     enum-told-3
     enum-told-4
     enum-told-5
+    add-result
     returns
     returns-2
     returns-3
@@ -83,5 +99,4 @@ allows-spec =
     returns-7
     returns-8
     returns-9
-    returns-10
-    returns-11)
+    returns-10)
