@@ -87,7 +87,7 @@ pub fn check_directory(pack: &[u32], dir: &mut [u32]) -> Laid
     ensures { λ r. ⌜ Checked (now (pack .entry)) (now (dir .entry)) r (now (dir .exit)) ⌝ }
 {
     let mut none = [0u32; 1];
-    check_notes(pack, dir, &mut none)
+    check_notes(pack, dir, &mut none[0..0])
 }
 
 // What Check answers.

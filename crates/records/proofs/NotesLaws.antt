@@ -14,7 +14,7 @@ use Rattle.pack.specs.Pack.{Body, Derivation, Relation, Chain, Member, Relation
 use Rattle.pack.specs.Packed.{boundOf}
 use Rattle.pack.specs.Steps.{stepOf, walk, same, nameOf, fieldStep}
 use Rattle.reading.specs.Noting.{ReadyFor, Context, noteTree, NotedStep}
-use Rattle.records.specs.Directory.{Noted, hops, chainLead, entities, derivedBy, noteIn, tailNote, noteRelation}
+use Rattle.records.specs.Directory.{Noted, hops, chainLead, entities, derivedBy, memberNote, noteIn, tailNote, noteRelation}
 use Rattle.records.specs.Notes.{opened, inside, noteBody, noteMember, noteDerivation, noteOptional, noteTail, notePredicate, Both, noteBoth, noteBodies, noteRule}
 use Rattle.records.proofs.KeptLaws.{there, within, noted-then, noted-via, noted-as, noted-last, tree-noted}
 use Rattle.records.proofs.DirectoryLaws.{chain-words, derived-note}
@@ -47,30 +47,33 @@ list-words n kind l = let e = names-words n l in omega arith
 -- what follows the chain of a derivation: its predicate is noted
 module _ (n context : ℕ) (ws : List ℕ) (at : ℕ) (d : List ℕ) {y₁ y₂ y₃ : Step} {v₁ v₂ v₃ : ℕ} {k₁ k₂ k₃ : Cursor} where
   pub member-noted : y₁ ≡ walk (field n 19) ws at → y₁ ≡ On v₁ k₁ → y₂ ≡ walk (field n 20) ws (k₁ .at) → y₂ ≡ On v₂ k₂ → y₃ ≡ stepOf (count list) (nameList n 21) ws (k₂ .at) → y₃ ≡ On v₃ k₃
+      → (kinds slots lead : ℕ) {s : ℕ} → s ≡ derivedBy kinds slots v₃ lead
       → {x : Step} {e : List ℕ} → Noted (λ u. 0) (root n 1) (λ u d. noteTree context u (k₃ .at, d) .1) ws (k₃ .at) d x e → {v : ℕ} {k : Cursor} → x ≡ On v k
-      → Noted entities (member n) (noteMember context at) ws at d (On v₃ k) e
+      → Noted (memberNote kinds slots lead) (member n) (noteMember context at) ws at d (On s k) e
   unfolding member wordsBy count
-  member-noted q₁ o₁ q₂ o₂ q₃ o₃ h o =
+  member-noted q₁ o₁ q₂ o₂ q₃ o₃ kinds slots lead {s} m h o =
       noted-then (λ a. 0) (field n 19) ws at q₁ o₁ _ _ (noteMember context at) d
       (λ a. noted-then (λ a. 0) (field n 20) ws (k₁ .at) q₂ o₂ _ _ (λ t. noteMember context at (a .value, t)) d
       (λ b. noted-then (count list) (nameList n 21) ws (k₂ .at) q₃ o₃ _ _ (λ t. noteMember context at (a .value, (b .value, t))) d
       (λ l. let w = list-words n 21 (l .value) in
       let p : k₃ .at ≡ at + 3 + length (l .value) = omega (arith, a .on, b .on, l .on, w) in
-      noted-as _ _ _ _ _ _ _ _ (noted-last _ _ _ _ _ _ h o (λ u. length (l .value)) (λ t. l .kept)) (λ u. ap (λ (i : ℕ). noteTree context u (i, d) .1) p))))
+      noted-as _ _ _ _ _ _ _ _ (noted-last _ _ _ _ _ _ h o (λ u. derivedBy kinds slots (length (l .value)) lead) (λ t. ap (λ (i : ℕ). derivedBy kinds slots i lead) (l .kept) ∙ sym m)) (λ u. ap (λ (i : ℕ). noteTree context u (i, d) .1) p))))
 
 -- a derivation, of a relation that starts at a place
 module _ (n kinds start : ℕ) (ws : List ℕ) (at : ℕ) (d : List ℕ) {y : Step} {lead : ℕ} {k : Cursor} where
   pub derivation-noted : y ≡ stepOf chainLead (chain n) ws at → y ≡ On lead k → {context : ℕ} {d₁ : List ℕ} → context ≡ inside d → d₁ ≡ opened start d
-      → {x : Step} {e : List ℕ} → Noted entities (member n) (noteMember context (k .at)) ws (k .at) d₁ x e → {many : ℕ} {j : Cursor} → x ≡ On many j
-      → {slots s : ℕ} → slots ≡ 3 + kinds + (k .at - at) → s ≡ derivedBy kinds slots many lead
-      → Noted (λ a. noteIn kinds (some a)) (derivation n) (noteDerivation start at) ws at d (On s j) e
+      → (slots : ℕ) → slots ≡ 3 + kinds + (k .at - at)
+      → {x : Step} {e : List ℕ} → Noted (memberNote kinds slots lead) (member n) (noteMember context (k .at)) ws (k .at) d₁ x e
+      → Noted (λ a. noteIn kinds (some a)) (derivation n) (noteDerivation start at) ws at d x e
   unfolding derivation
-  derivation-noted q o {context} {d₁} c p h w z m =
+  derivation-noted q o {context} {d₁} c p slots z {x} {e} h =
       noted-via toDerivation _ _ _ (λ a. noteIn kinds (some a)) _ (noteDerivation start at) ws at d
       (noted-then chainLead (chain n) ws at q o _ _ (λ t. noteDerivation start at (toDerivation t)) d
       (λ a. let long = chain-words n (a .value) in
       let at₁ : (x : ℕ) → k .at + 3 + x ≡ at + 4 + 3 * hops (a .value .1 .0) + 3 + x = λ x. omega (arith, a .on, long) in
-      noted-as _ _ _ _ _ _ _ _ (noted-last _ _ _ _ _ _ h w (λ b. noteIn kinds (some (toDerivation (a .value, b)))) (λ b. derived-note n kinds (a .value) (b .value) (omega (arith, a .on, z)) (a .kept) (b .kept) m))
+      let same-note : (b : Member) → memberNote kinds slots lead b ≡ noteIn kinds (some (toDerivation (a .value, b)))
+          = λ b. sym (derived-note n kinds (a .value) b (omega (arith, a .on, z)) (a .kept) refl refl) in
+      noted-as _ _ _ _ _ _ _ _ (subst (λ (f : Member → ℕ). Noted f (member n) (noteMember context (k .at)) ws (k .at) d₁ x e) (λ i. λ b. same-note b i) h)
       (λ b. λ i. noteTree (c i) (b .1 .1 .1) (at₁ (length (b .1 .1 .0)) i, p i) .1)))
 
 -- what follows the name of a relation

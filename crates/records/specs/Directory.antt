@@ -65,6 +65,10 @@ abbrev pub derivedBy : ℕ → ℕ → ℕ → ℕ → ℕ
 derivedBy kinds slots many lead =
     pick (eqb many 0) (pick (eqb kinds 0) (pick (eqb lead 0) (64 * slots) (64 * (63 + lead))) (3 + 64 * slots)) (slots + 4 + 64 * slots)
 
+-- of a derivation with such a chain, by what follows the chain
+abbrev pub memberNote : ℕ → ℕ → ℕ → Member → ℕ
+memberNote kinds slots lead t = derivedBy kinds slots (entities t) lead
+
 unfoldable pub noteIn : ℕ → Option Derivation → ℕ
 noteIn kinds none = plainBy kinds
 noteIn kinds (some d) = derivedBy kinds (slotsBehind kinds d) (length (d .slotEntities)) (leadOf (d .source) (d .path))

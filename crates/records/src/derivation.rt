@@ -16,7 +16,7 @@ ghost use Rattle.pack.specs.Form.{count, list, listOrNone};
 ghost use mathlib.Core.Option.{some};
 ghost use Prim.Native.Nat.{_≤_};
 ghost use Rattle.reading.specs.Noting.{ReadyFor, Context};
-ghost use Rattle.records.specs.Directory.{Noted, leadIn, chainLead, entities, plainBy, derivedBy, noteIn};
+ghost use Rattle.records.specs.Directory.{Noted, leadIn, chainLead, plainBy, derivedBy, memberNote, noteIn};
 ghost use Rattle.records.specs.Notes.{noteMember, noteDerivation, noteOptional};
 
 // A count of this kind, and as many names: how many.
@@ -114,10 +114,54 @@ fn chain(from: Cursor, s: &[u32], n: u32) -> Step
     Step::On(lead(source, steps), c4)
 }
 
-// The entity, the member relation, the list and the predicate: how many names the list has.
-fn member(from: Cursor, s: &[u32], t: &[u32; 256], n: u32, context: u32, notes: &mut [u32]) -> Step
-    requires { ⌜ ReadyFor (now s) (now t) n × Context context ⌝ }
-    ensures { λ r. ⌜ Noted entities (member n) (noteMember context (from .at)) (now (s .entry)) (from .at) (now (notes .entry)) r (now (notes .exit)) ⌝ }
+// What is known of a derivation before its 19: how many kinds its relation has, how far behind the relation's place its slots
+// stand, and where it leads.
+struct Front {
+    kinds: u32,
+    slots: u32,
+    lead: u32,
+}
+
+// What is noted of a relation with so many kinds and without a derivation.
+fn plain(kinds: u32) -> u32
+    ensures { λ r. ⌜ r ≡ plainBy kinds ⌝ }
+{
+    if kinds == 0 {
+        return 0;
+    }
+    Directory::LIST_9
+}
+
+// The same with one whose list 21 has so many names.
+fn derived(front: Front, many: u32) -> u32
+    requires { ⌜ (front .slots ≤ 8300) × (front .lead ≤ 4096) ⌝ }
+    ensures { λ r. ⌜ r ≡ derivedBy (front .kinds) (front .slots) many (front .lead) ⌝ }
+{
+    let slots = front.slots;
+    if many != 0 {
+        return slots + Directory::LIST_21 + Directory::OFFSETS * slots;
+    }
+    if front.kinds != 0 {
+        return Directory::LIST_9 + Directory::OFFSETS * slots;
+    }
+    if front.lead == 0 {
+        return Directory::OFFSETS * slots;
+    }
+    Directory::OFFSETS * (Directory::OFFSETS + front.lead - 1)
+}
+
+// The entity, the member relation, the list and the predicate: what is noted of the relation.
+fn member(
+    from: Cursor,
+    s: &[u32],
+    t: &[u32; 256],
+    n: u32,
+    front: Front,
+    context: u32,
+    notes: &mut [u32],
+) -> Step
+    requires { ⌜ ReadyFor (now s) (now t) n × Context context × (front .slots ≤ 8300) × (front .lead ≤ 4096) ⌝ }
+    ensures { λ r. ⌜ Noted (memberNote (front .kinds) (front .slots) (front .lead)) (member n) (noteMember context (from .at)) (now (s .entry)) (from .at) (now (notes .entry)) r (now (notes .exit)) ⌝ }
 {
     let f1 = from.skip(s, n, Pack::ENTITY, Rule::NameOrNone);
     let Step::On(_, c1) = f1 else {
@@ -131,38 +175,12 @@ fn member(from: Cursor, s: &[u32], t: &[u32; 256], n: u32, context: u32, notes: 
     let Step::On(many, c3) = f3 else {
         return f3;
     };
+    let noted = derived(front, many);
     let f4 = judgment(s, t, c3, context, notes);
     let Step::On(_, c4) = f4 else {
         return f4;
     };
-    Step::On(many, c4)
-}
-
-// What is noted of a relation with so many kinds and without a derivation.
-fn plain(kinds: u32) -> u32
-    ensures { λ r. ⌜ r ≡ plainBy kinds ⌝ }
-{
-    if kinds == 0 {
-        return 0;
-    }
-    Directory::LIST_9
-}
-
-// The same with one: its slots stand so far behind its place, its list 21 has so many names.
-fn derived(kinds: u32, slots: u32, many: u32, lead: u32) -> u32
-    requires { ⌜ (slots ≤ 8300) × (lead ≤ 4096) ⌝ }
-    ensures { λ r. ⌜ r ≡ derivedBy kinds slots many lead ⌝ }
-{
-    if many != 0 {
-        return slots + Directory::LIST_21 + Directory::OFFSETS * slots;
-    }
-    if kinds != 0 {
-        return Directory::LIST_9 + Directory::OFFSETS * slots;
-    }
-    if lead == 0 {
-        return Directory::OFFSETS * slots;
-    }
-    Directory::OFFSETS * (Directory::OFFSETS + lead - 1)
+    Step::On(noted, c4)
 }
 
 // A derivation of the relation that starts at a place and has so many kinds: what is noted of it. It stands among the notes too.
@@ -184,13 +202,9 @@ fn derivation(
         return f1;
     };
     let context = open(notes, start);
-    let f2 = member(c1, s, t, n, context, notes);
-    let Step::On(many, c2) = f2 else {
-        return f2;
-    };
     // before a derivation stand 6 to 9, the kinds and 11; the slots are the last two words of the chain
     let slots = 3 + kinds + (c1.at - first) as u32;
-    Step::On(derived(kinds, slots, many, lead), c2)
+    member(c1, s, t, n, Front { kinds, slots, lead }, context, notes)
 }
 
 // A flag, and a derivation where it is 1: what is noted of the relation.

@@ -26,42 +26,28 @@ returns c = noted-no _ _ _ _ _ _ (by-via _ _ _ _ _ _ _ _ (search (by-then, then-
 open-requires : tie.Need-open-requires
 open-requires c κs = let r = chain-read _ _ _ (c .before .before .before .before .chain .ensures) (c .before .before .f1 .given .1) in omega (arith, (c .before .before .before .before .before .before .before .pre) .0 .ready .most, (c .before .before .before .before .before .before .before .pre) .3)
 
+add-slots : tie.Need-add-slots
+add-slots c = search needs
+
+sub-slots : tie.Need-sub-slots
+sub-slots c = let r = chain-read _ _ _ (c .before .before .before .before .before .before .before .before .chain .ensures) (c .before .before .before .before .before .before .f1 .given .1) in omega arith
+
+cast-slots : tie.Need-cast-slots
+cast-slots c = let r = chain-read _ _ _ (c .before .before .before .before .before .before .before .before .chain .ensures) (c .before .before .before .before .before .before .f1 .given .1) in omega (arith, (c .before .before .before .before .before .before .before .before .before .before .before .pre) .0 .ready .most)
+
+add-slots-2 : tie.Need-add-slots-2
+add-slots-2 c = let r = chain-read _ _ _ (c .before .before .before .before .before .before .before .before .chain .ensures) (c .before .before .before .before .before .before .f1 .given .1) in omega (arith, (c .before .before .before .before .before .before .before .before .before .before .before .pre) .0 .ready .most)
+
 member-requires : tie.Need-member-requires
-member-requires c κs = ((c .before .before .before .before .before .before .before .before .before .before .before .pre) .0, rule-context (c .before .before .before .before .before .before .before .before .before .before .before .args .notes .now) (c .before .before .before .«open» .ensures .0))
-
-enum-known-f2 : tie.Need-enum-known-f2
-enum-known-f2 c = search needs
-
-enum-told-2 : tie.Need-enum-told-2
-enum-told-2 c = search needs
+member-requires c κs =
+    let r = chain-read _ _ _ (c .before .before .before .before .before .before .before .before .before .chain .ensures) (c .before .before .before .before .before .before .before .f1 .given .1) in
+    ((c .before .before .before .before .before .before .before .before .before .before .before .before .pre) .0, rule-context (c .before .before .before .before .before .before .before .before .before .before .before .before .args .notes .now) (c .before .before .before .before .«open» .ensures .0), omega (arith, (c .before .before .before .before .before .before .before .before .before .before .before .before .pre) .0 .ready .most), omega arith)
 
 same-length : tie.Need-same-length
 same-length c = search needs
 
 returns-2 : tie.Need-returns-2
-unfolding derivation
-returns-2 c = noted-no _ _ _ _ _ _ (by-via _ _ _ _ _ _ _ _ (by-then _ _ _ _ (c .before .before .before .before .before .before .before .before .before .before .before .before .before .chain .ensures) _ _ (c .before .before .before .before .before .before .before .before .before .before .before .f1 .given .1) (λ _. last-stop _ _ _ _ (c .before .before .before .before .member .ensures .answers) _ (c .enum-told2 .given .1)))) (c .enum-told2 .given .1)
-
-add-slots : tie.Need-add-slots
-add-slots c = search needs
-
-sub-slots : tie.Need-sub-slots
-sub-slots c = let r = chain-read _ _ _ (c .before .before .before .before .before .before .before .before .before .before .before .before .before .before .before .chain .ensures) (c .before .before .before .before .before .before .before .before .before .before .before .before .before .f1 .given .1) in omega arith
-
-cast-slots : tie.Need-cast-slots
-cast-slots c = let r = chain-read _ _ _ (c .before .before .before .before .before .before .before .before .before .before .before .before .before .before .before .chain .ensures) (c .before .before .before .before .before .before .before .before .before .before .before .before .before .f1 .given .1) in omega (arith, (c .before .before .before .before .before .before .before .before .before .before .before .before .before .before .before .before .before .before .pre) .0 .ready .most)
-
-add-slots-2 : tie.Need-add-slots-2
-add-slots-2 c = let r = chain-read _ _ _ (c .before .before .before .before .before .before .before .before .before .before .before .before .before .before .before .chain .ensures) (c .before .before .before .before .before .before .before .before .before .before .before .before .before .f1 .given .1) in omega (arith, (c .before .before .before .before .before .before .before .before .before .before .before .before .before .before .before .before .before .before .pre) .0 .ready .most)
-
-derived-requires : tie.Need-derived-requires
-derived-requires c κs = let r = chain-read _ _ _ (c .before .before .before .before .before .before .before .before .before .before .before .before .before .before .before .chain .ensures) (c .before .before .before .before .before .before .before .before .before .before .before .before .before .f1 .given .1) in (omega (arith, (c .before .before .before .before .before .before .before .before .before .before .before .before .before .before .before .before .before .before .pre) .0 .ready .most), omega arith)
-
-same-length-2 : tie.Need-same-length-2
-same-length-2 c = search needs
-
-returns-3 : tie.Need-returns-3
-returns-3 c = derivation-noted _ _ _ _ _ _ (c .before .before .before .before .before .before .before .before .before .before .before .before .before .before .before .before .chain .ensures) (c .before .before .before .before .before .before .before .before .before .before .before .before .before .before .f1 .given .1) (c .before .before .before .before .before .before .before .before .before .before .before .«open» .ensures .0) (c .before .before .before .before .before .before .before .before .before .before .before .«open» .ensures .1) (c .before .before .before .before .before .before .before .member .ensures) (c .before .before .before .f2 .given .1) refl (c .derived .ensures)
+returns-2 c = derivation-noted _ _ _ _ _ _ (c .before .before .before .before .before .before .before .before .before .before .before .before .chain .ensures) (c .before .before .before .before .before .before .before .before .before .before .f1 .given .1) (c .before .before .before .before .before .before .before .«open» .ensures .0) (c .before .before .before .before .before .before .before .«open» .ensures .1) _ refl (c .before .before .member .ensures)
 
 pub derivation-spec : {M : Type 1} → statement M
-derivation-spec = tie.close (tie.spec chain-requires enum-known-f1 enum-told returns open-requires member-requires enum-known-f2 enum-told-2 same-length returns-2 add-slots sub-slots cast-slots add-slots-2 derived-requires same-length-2 returns-3)
+derivation-spec = tie.close (tie.spec chain-requires enum-known-f1 enum-told returns open-requires add-slots sub-slots cast-slots add-slots-2 member-requires same-length returns-2)

@@ -26,13 +26,13 @@ add-result-3 : tie.Need-add-result-3
 add-result-3 c = search needs
 
 returns-2 : tie.Need-returns-2
-returns-2 c = sym (simp (eq-eqb _ _ (c .before .if1 .left), ne-eqb _ _ (c .if2 .taken)))
+returns-2 c = sym (simp (eq-eqb _ _ (c .before .before .if1 .left), ne-eqb _ _ (c .if2 .taken)))
 
 mul-result-3 : tie.Need-mul-result-3
 mul-result-3 c = search needs
 
 returns-3 : tie.Need-returns-3
-returns-3 c = sym (simp (eq-eqb _ _ (c .before .before .if1 .left), eq-eqb _ _ (c .before .if2 .left), eq-eqb _ _ (c .if3 .taken)))
+returns-3 c = sym (simp (eq-eqb _ _ (c .before .before .before .before .if1 .left), eq-eqb _ _ (c .before .before .if2 .left), eq-eqb _ _ (c .if3 .taken)))
 
 add-result-4 : tie.Need-add-result-4
 add-result-4 c = search needs
@@ -44,7 +44,7 @@ mul-result-4 : tie.Need-mul-result-4
 mul-result-4 c = search needs
 
 returns-4 : tie.Need-returns-4
-returns-4 c = simp (eq-eqb _ _ (c .before .before .if1 .left), eq-eqb _ _ (c .before .if2 .left), ne-eqb _ _ (c .if3 .left)) (omega arith)
+returns-4 c = simp (eq-eqb _ _ (c .before .before .before .before .before .if1 .left), eq-eqb _ _ (c .before .before .before .if2 .left), ne-eqb _ _ (c .before .if3 .left)) (omega arith)
 
 pub derived-spec : {M : Type 1} → statement M
 derived-spec =
