@@ -4,8 +4,14 @@ use borrow.Author.Needs.{needs}
 use Rattle.checking.proofs.check.check_directory.Statement.{statement}
 use Rattle.checking.proofs.check.check_directory.Tie as tie
 
-slice-aggregate-check-notes : tie.Need-slice-aggregate-check-notes
-slice-aggregate-check-notes c = search needs
+sub-check-notes : tie.Need-sub-check-notes
+sub-check-notes c = search needs
+
+part-none-start : tie.Need-part-none-start
+part-none-start c = search needs
+
+part-none-end : tie.Need-part-none-end
+part-none-end c = search needs
 
 check-notes-requires : tie.Need-check-notes-requires
 check-notes-requires c κs = search needs
@@ -17,4 +23,4 @@ returns : tie.Need-returns
 returns c = without-notes (c .before .before .before .check-notes .ensures)
 
 pub check-directory-spec : {M : Type 1} → statement M
-check-directory-spec = tie.close (tie.spec slice-aggregate-check-notes check-notes-requires same-length returns)
+check-directory-spec = tie.close (tie.spec sub-check-notes part-none-start part-none-end check-notes-requires same-length returns)
