@@ -9,12 +9,12 @@ use crate::text::least;
 use crate::text::stands;
 use crate::words::read_words;
 use checking::check::refuse;
-use filtered::filtered::Filter;
+use definitions::operation::Filter;
 use filtered::filtered::filtered;
 use kinds::all_kinds::all_kinds;
 use kinds::kinds_of::kinds_of;
 use kinds::lean::lean;
-use pack::answer::Answer;
+use definitions::answer::Answer;
 use resolve::resolve::resolve;
 
 // What the operation that is named here answers; no operation gives refusal 0.

@@ -1,6 +1,6 @@
 // Answers and buffers, expected and found.
-use pack::answer::Answer;
-use pack::answer::Refusal;
+use definitions::answer::Answer;
+use definitions::answer::Refusal;
 
 // Whether two answers are alike in every field.
 pub fn same(a: Answer, b: Answer) -> bool {

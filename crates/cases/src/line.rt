@@ -4,8 +4,8 @@ use crate::text::find;
 use crate::text::least;
 use crate::text::number_at;
 use crate::text::stands;
-use pack::answer::Answer;
-use pack::answer::Refusal;
+use definitions::answer::Answer;
+use definitions::answer::Refusal;
 ghost use Prim.Native.Nat.{_≤_};
 ghost use lib.ListN.{length};
 

@@ -2,7 +2,7 @@
 use crate::line::call_end;
 use crate::line::name_end;
 use libc::STDOUT_FILENO;
-use pack::answer::Answer;
+use definitions::answer::Answer;
 
 fn text(bytes: &[u8]) {
     io::write_all(STDOUT_FILENO, bytes);

@@ -20,7 +20,7 @@ use crate::text::number_at;
 use crate::words::read_words;
 use checking::check::check;
 use checking::rewrite::rewrite;
-use pack::answer::Answer;
+use definitions::answer::Answer;
 ghost use Prim.Native.Nat.{_≤_};
 ghost use lib.ListN.{length};
 

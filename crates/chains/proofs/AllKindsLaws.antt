@@ -8,12 +8,12 @@ use mathlib.Core.Option.{none, some, Option·map}
 use lib.ListN.{length, getD}
 use lib.Dec.{ltb}
 use borrow.Author.Tests.{ltb-false}
-use Rattle.pack.specs.Table.{pick}
-use Rattle.pack.specs.Form.{among}
-use Rattle.pack.specs.Pack.{Relation, Pack}
-use Rattle.chains.specs.Chain.{Settled, nothing, own, All, walkAll, same}
-use Rattle.chains.specs.Kinds.{declared, kindStep, allKinds, ownAnswer}
-use Rattle.chains.specs.Places.{placeOf}
+use Rattle.definitions.specs.Table.{pick}
+use Rattle.definitions.specs.Form.{among}
+use Rattle.definitions.specs.Records.{Relation, Pack}
+use Rattle.definitions.specs.Chain.{Settled, nothing, own, All, walkAll, same}
+use Rattle.definitions.specs.Kinds.{declared, kindStep, allKinds, ownAnswer}
+use Rattle.definitions.specs.Places.{placeOf}
 use Rattle.chains.specs.Settle.{stepAt, settledIn, walkIn, walksIn, SettledAll}
 use Rattle.chains.proofs.MappedLaws.{AnswersMapped, answers-mapped}
 use Rattle.chains.proofs.KindLaws.{kinds-own}

@@ -7,13 +7,14 @@ use lib.ListN.{length}
 use lib.Seq.{length-take-le}
 use borrow.Author.Tests.{le-leb, lt-leb}
 use borrow.Rule.Slice.PartMut.{midOf, putMid}
-use Rattle.pack.specs.declared.answer.Refusal.{Refusal}
-use Rattle.pack.specs.declared.answer.Answer.{Answer}
-use Rattle.pack.specs.declared.answer.Answer.the-variants.{Given, Refused}
-use Rattle.pack.specs.Pack.{Pack, read}
-use Rattle.pack.specs.Operations.{answer, buffer, noRoom, checkAnswer}
+use Rattle.definitions.specs.declared.answer.Refusal.{Refusal}
+use Rattle.definitions.specs.declared.answer.Answer.{Answer}
+use Rattle.definitions.specs.declared.answer.Answer.the-variants.{Given, Refused}
+use Rattle.definitions.specs.Records.{Pack}
+use Rattle.definitions.specs.Pack.{read}
+use Rattle.definitions.specs.Answers.{answer, buffer, noRoom, writeAnswer, writeBuffer, Answered}
+use Rattle.definitions.specs.Checking.{checkAnswer}
 use Rattle.checking.proofs.OperationLaws.{accepted, turned-away}
-use Rattle.chains.specs.Answers.{writeAnswer, writeBuffer, Answered}
 use Rattle.chains.specs.AllKinds.{IsPack}
 
 -- an answer of Check's

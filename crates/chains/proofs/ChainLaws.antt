@@ -7,10 +7,10 @@ use mathlib.Core.List.{List, [], _++_}
 use mathlib.Core.Bool.{Bool, true, false, _||_, or-false}
 use mathlib.Core.Option.{Option, none, some}
 use lib.ListN.{length, length-append}
-use Rattle.pack.specs.Table.{pick}
-use Rattle.pack.specs.Form.{among}
-use Rattle.pack.specs.Dealt.{InAnyOrder}
-use Rattle.chains.specs.Chain.{Step, end, next, nothing, own, All, walkAll, Distinct, OnlyDeclaredLead, outside}
+use Rattle.definitions.specs.Table.{pick}
+use Rattle.definitions.specs.Form.{among}
+use Rattle.definitions.specs.Dealt.{InAnyOrder}
+use Rattle.definitions.specs.Chain.{Step, end, next, nothing, own, All, walkAll, Distinct, OnlyDeclaredLead, outside}
 use Rattle.chains.proofs.Names.{shuffled-among, apart, or-cases, or-left, both-ways, false-of, among-append, distinct-append, same-number}
 use Rattle.chains.proofs.Outside.{Outside, outside-is}
 use Rattle.chains.proofs.Walks.{answer-end, answer-back, answer-alike, Entry, Kept, Read, reads, own-answer}

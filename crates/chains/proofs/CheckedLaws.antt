@@ -10,12 +10,13 @@ use lib.ListN.{length, getD, take, length-append, length-map}
 use lib.Seq.{getD-at}
 use lib.Dec.{eqb}
 use borrow.Author.Tests.{eq-eqb, le-leb}
-use Rattle.pack.specs.Table.{wordOf}
-use Rattle.pack.specs.Form.{among}
-use Rattle.pack.specs.Pack.{Relation, Pack, WellFormed, yes, read, words}
+use Rattle.definitions.specs.Table.{wordOf}
+use Rattle.definitions.specs.Form.{among}
+use Rattle.definitions.specs.Records.{Relation, Pack}
+use Rattle.definitions.specs.Pack.{WellFormed, yes, read, words}
 use Rattle.pack.proofs.PackLaws.{words-read, words-length}
-use Rattle.chains.specs.Kinds.{declared, allKinds, ownAnswer}
-use Rattle.chains.specs.Places.{placeOf}
+use Rattle.definitions.specs.Kinds.{declared, allKinds, ownAnswer}
+use Rattle.definitions.specs.Places.{placeOf}
 use Rattle.chains.specs.Entry.{declarationsIn, namesIn}
 use Rattle.chains.specs.Settle.{Leading, Marked, OnPath, Settleable, SettledAll, Placeable}
 use Rattle.records.specs.declared.directory.Layout.{Layout}

@@ -5,9 +5,10 @@ use mathlib.Core.Path.{_≡_, refl, ap, sym, _∙_, subst}
 use mathlib.Core.List.{List, []}
 use mathlib.Core.Option.{Option, none, some}
 use lib.ListN.{getD}
-use Rattle.pack.specs.Pack.{Relation, Pack, WellFormed, words}
-use Rattle.chains.specs.Kinds.{find}
-use Rattle.chains.specs.Places.{startOf, firstRelation}
+use Rattle.definitions.specs.Records.{Relation, Pack}
+use Rattle.definitions.specs.Pack.{WellFormed, words}
+use Rattle.definitions.specs.Kinds.{find}
+use Rattle.definitions.specs.Places.{startOf, firstRelation}
 use Rattle.chains.specs.AllKinds.{placeIn, recordOf}
 use Rattle.chains.proofs.PackIndex.{parts, find-name, find-kept, start-least}
 use Rattle.chains.proofs.ListAt.{InWords, in-pack}

@@ -10,21 +10,23 @@ use lib.ListN.{length, getD, set, take, replicate, length-replicate, length-set,
 use lib.Seq.{getD-set-same, getD-set-other, take-set-le, take-suc-set, length-take-le, getD-take, ext-getD}
 use lib.Dec.{eqb, ltb}
 use borrow.Author.Tests.{eq-eqb, ne-eqb, eqb-true, eqb-false, lt-ltb, le-ltb, ltb-true, ltb-false}
-use Rattle.pack.specs.Table.{pick}
-use Rattle.pack.specs.Table as tables
-use Rattle.pack.specs.Form.{among, wordsBy, count, items}
-use Rattle.pack.specs.Pack.{Hop, Derivation, Relation, Pack, WellFormed, yes, read, newName, relation, relations, defaulted, toRow}
+use Rattle.definitions.specs.Table.{pick}
+use Rattle.definitions.specs.Table as tables
+use Rattle.definitions.specs.Form.{among, wordsBy, count, items}
+use Rattle.definitions.specs.Records.{Hop, Derivation, Relation, Pack}
+use Rattle.definitions.specs.Rows.{toRow}
+use Rattle.definitions.specs.Pack.{WellFormed, yes, read, newName, relation, relations, defaulted}
 use Rattle.records.specs.declared.directory.Layout.{Layout}
 use Rattle.records.specs.declared.directory.Laid.{Laid}
 use Rattle.records.specs.declared.directory.Laid.the-variants.{Yes, No}
 use Rattle.records.specs.Directory.{notesAll, noteRelation, noteRelations, directoryOf, layoutOf, relationsAt, rulesAt, blocksAt, relationWords, entry, derivedBy, noteIn, leadOf, hops, Clear}
 use Rattle.checking.specs.Checked.{namesSaid, Checked, answerIn}
-use Rattle.chains.specs.Chain.{mapped, end, next}
-use Rattle.chains.specs.Kinds.{list21, inherits, plain, derived, declares, declared, find, readAt, kindStep}
-use Rattle.chains.specs.Places.{startOf, firstRelation, relationsEnd, countPlace, placeOf}
-use Rattle.chains.specs.Places as places
+use Rattle.definitions.specs.Chain.{mapped, end, next}
+use Rattle.definitions.specs.Kinds.{list21, inherits, plain, derived, declares, declared, find, readAt, kindStep}
+use Rattle.definitions.specs.Places.{startOf, firstRelation, relationsEnd, countPlace, placeOf}
+use Rattle.definitions.specs.Places as places
 use Rattle.chains.specs.Declaration.{coded, placed, declarationAt}
-use Rattle.chains.specs.ByName.{tableFrom}
+use Rattle.definitions.specs.Answers.{tableFrom}
 use Rattle.chains.specs.Settle.{ReadOne}
 use Rattle.chains.specs.Entry.{Reaches, wordIn, startBy, slotsBy, declaredBy, startIn, slotIn, declaredIn, startsIn, slotsIn, declarationsIn, namesIn}
 use Rattle.chains.specs.AllKinds.{placeIn, recordOf, slotsFor, slotsOf, IsPack, Lent, Room, IsDirectory}

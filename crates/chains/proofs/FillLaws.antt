@@ -7,7 +7,7 @@ use mathlib.Core.Path.{_≡_, refl, ap, sym, _∙_}
 use mathlib.Core.List.{List, [], _∷_, _++_, append-nil, append-assoc}
 use lib.ListN.{length, getD, drop, set, length-set, drop-of-length-le}
 use lib.Seq.{drop-cons, getD-drop, set-at}
-use Rattle.chains.specs.ByName.{tableFrom}
+use Rattle.definitions.specs.Answers.{tableFrom}
 
 module _ (f : ℕ → ℕ) where
   pub table-length : (n k : ℕ) → length (tableFrom f n k) ≡ k

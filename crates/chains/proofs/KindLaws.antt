@@ -8,14 +8,15 @@ use mathlib.Core.Option.{none, some}
 use lib.ListN.{length, length-map}
 use lib.Dec.{eqb}
 use borrow.Author.Tests.{eqb-true, eq-eqb, not-true}
-use Rattle.pack.specs.Table.{pick}
-use Rattle.pack.specs.Form.{among, items, Fine, FineAll}
-use Rattle.pack.specs.Pack.{Relation, Pack, WellFormed, newName, relation, nextUsed, relations, records, inner}
-use Rattle.pack.specs.Dealt.{nil, cons, swap, trans, InAnyOrder}
-use Rattle.chains.specs.Chain.{next, Distinct, OnlyDeclaredLead, same}
-use Rattle.chains.specs.Kinds.{find, readAt, kindStep, declared, Answer, allKinds, ownAnswer, undeclaredSources, listIn, namesOf, kindsOf}
+use Rattle.definitions.specs.Table.{pick}
+use Rattle.definitions.specs.Form.{among, items, Fine, FineAll}
+use Rattle.definitions.specs.Records.{Relation, Pack}
+use Rattle.definitions.specs.Pack.{WellFormed, newName, relation, nextUsed, relations, records, inner}
+use Rattle.definitions.specs.Dealt.{nil, cons, swap, trans, InAnyOrder}
+use Rattle.definitions.specs.Chain.{next, Distinct, OnlyDeclaredLead, same}
+use Rattle.definitions.specs.Kinds.{find, readAt, kindStep, declared, Answer, allKinds, ownAnswer, undeclaredSources, listIn, namesOf, kindsOf}
 use Rattle.chains.proofs.Names.{apart, or-left, or-right, shuffled-map, shuffled-distinct}
-use Rattle.chains.specs.Places.{placeOf, settledOf, allKindsWords}
+use Rattle.definitions.specs.Places.{placeOf, settledOf, allKindsWords}
 use Rattle.chains.proofs.Outside.{outside-is}
 use Rattle.chains.proofs.ChainLaws.{settled-own, steps-sum, walks-shuffled}
 

@@ -8,13 +8,14 @@ use mathlib.Core.Option.{Option, none, some}
 use lib.ListN.{length, getD, take, drop, length-append, length-map}
 use lib.Dec.{eqb}
 use borrow.Author.Tests.{ne-eqb}
-use Rattle.pack.specs.Table.{pick, wordOf, valueOf, judgment}
-use Rattle.pack.specs.Form.{among, wordsAll, FineAll, Fits, wordsBy, Fine, count, items}
-use Rattle.pack.specs.Pack.{Hop, Derivation, Relation, Pack, WellFormed, newName, nameList, hop, path, chain, member, derivation, optionalDerivation, relationTail, relation, words}
-use Rattle.pack.specs.Tree.{root}
-use Rattle.chains.specs.Chain.{Step, end, next, nothing, walk, own, same}
-use Rattle.chains.specs.Kinds.{Which, list9, list21, countKind, Source, Answer, find, readAt, kindStep, declared, ownAnswer, listOf, namesOf, kindsOf}
-use Rattle.chains.specs.Places.{relationWords, startOf, firstRelation, hops, countPlace, placeOf, namesAt, OwnersList, allKindsWords, SettledAt, AllSettledAt}
+use Rattle.definitions.specs.Table.{pick, wordOf, valueOf, judgment}
+use Rattle.definitions.specs.Form.{among, wordsAll, FineAll, Fits, wordsBy, Fine, count, items}
+use Rattle.definitions.specs.Records.{Hop, Derivation, Relation, Pack}
+use Rattle.definitions.specs.Pack.{WellFormed, newName, nameList, hop, path, chain, member, derivation, optionalDerivation, relationTail, relation, words}
+use Rattle.definitions.specs.Tree.{root}
+use Rattle.definitions.specs.Chain.{Step, end, next, nothing, walk, own, same}
+use Rattle.definitions.specs.Kinds.{Which, list9, list21, countKind, Source, Answer, find, readAt, kindStep, declared, ownAnswer, listOf, namesOf, kindsOf}
+use Rattle.definitions.specs.Places.{relationWords, startOf, firstRelation, hops, countPlace, placeOf, namesAt, OwnersList, allKindsWords, SettledAt, AllSettledAt}
 use Rattle.chains.proofs.KindLaws.{in-row, words-own}
 use Rattle.chains.proofs.RelationScan.{relationsWords, RelationsFine}
 use Rattle.chains.proofs.PackIndex.{parts, split, opening, opening-length, relationsPart, find-name, each-way-listed}

@@ -6,9 +6,9 @@ use mathlib.Core.Bool.{Bool, true, false}
 use mathlib.Core.Option.{Option, none, some, Option·map}
 use lib.ListN.{length}
 use lib.Dec.{eqb}
-use Rattle.pack.specs.Table.{pick}
-use Rattle.pack.specs.Form.{among}
-use Rattle.chains.specs.Chain.{Step, end, next, mapped, Settled, nothing, put, Walked, walk, own, All, walkAll, walksFrom}
+use Rattle.definitions.specs.Table.{pick}
+use Rattle.definitions.specs.Form.{among}
+use Rattle.definitions.specs.Chain.{Step, end, next, mapped, Settled, nothing, put, Walked, walk, own, All, walkAll, walksFrom}
 
 module _ {R S : Type 0} (g : R → S) where
   abbrev mappedSettled : Settled R → Settled S

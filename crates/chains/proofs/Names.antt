@@ -8,11 +8,11 @@ use mathlib.Core.Bool.{Bool, true, false, _||_, or-assoc}
 use lib.ListN.{length}
 use lib.Dec.{eqb}
 use borrow.Author.Tests.{eqb-true, eq-eqb, ne-eqb}
-use Rattle.pack.specs.Table.{pick}
-use Rattle.pack.specs.Form.{among}
-use Rattle.pack.specs.Dealt.{nil, cons, swap, trans, InAnyOrder}
-use Rattle.chains.specs.Chain.{Distinct}
-use Rattle.chains.specs.Reach.{any}
+use Rattle.definitions.specs.Table.{pick}
+use Rattle.definitions.specs.Form.{among}
+use Rattle.definitions.specs.Dealt.{nil, cons, swap, trans, InAnyOrder}
+use Rattle.definitions.specs.Chain.{Distinct}
+use Rattle.definitions.specs.Lean.{any}
 
 -- tests
 pub apart : {A : Type 0} {b : Bool} → b ≡ true → b ≡ false → A

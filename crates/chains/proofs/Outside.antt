@@ -7,10 +7,10 @@ use mathlib.Core.Bool.{Bool, true, false, _||_, _&&_, not}
 use lib.ListN.{length}
 use lib.Dec.{eqb}
 use borrow.Author.Tests.{eqb-true, eq-eqb}
-use Rattle.pack.specs.Table.{pick}
-use Rattle.pack.specs.Form.{among}
-use Rattle.chains.specs.Chain.{Step, end, next, Distinct, withNext, outside}
-use Rattle.chains.specs.Reach.{any}
+use Rattle.definitions.specs.Table.{pick}
+use Rattle.definitions.specs.Form.{among}
+use Rattle.definitions.specs.Chain.{Step, end, next, Distinct, withNext, outside}
+use Rattle.definitions.specs.Lean.{any}
 use Rattle.chains.proofs.Names.{apart, nor-right, any-of, of-any}
 
 module _ {R : Type 0} (step : ℕ → Step R) (declared : List ℕ) where

@@ -8,13 +8,14 @@ use mathlib.Core.Option.{Option, none, some}
 use lib.ListN.{length, getD, length-append, replicate}
 use lib.Dec.{eqb, leb}
 use borrow.Author.Tests.{eq-eqb, eqb-true, leb-true}
-use Rattle.pack.specs.Table.{pick, wordOf, entryOf, table}
-use Rattle.pack.specs.Table as table
-use Rattle.pack.specs.Form.{among, allowedHere, wordsAll, FineAll, count, items, wordsBy, Fine}
-use Rattle.pack.specs.Pack.{Hop, Derivation, Relation, Edition, undated, firstKind, above, newName, nextUsed, relation, rule, defaultedName, defaulted, relations, rules, blocks, records, inner, layout, Pack, total, words, WellFormed}
-use Rattle.chains.specs.Chain.{Step, end, next, mapped}
-use Rattle.chains.specs.Kinds.{Which, list9, list21, Answer, from, inherits, derived, declares, find}
-use Rattle.chains.specs.Places.{relationWords, startOf, firstRelation}
+use Rattle.definitions.specs.Table.{pick, wordOf, entryOf, table}
+use Rattle.definitions.specs.Table as table
+use Rattle.definitions.specs.Form.{among, allowedHere, wordsAll, FineAll, count, items, wordsBy, Fine}
+use Rattle.definitions.specs.Records.{Hop, Derivation, Relation, Edition, undated, Pack}
+use Rattle.definitions.specs.Pack.{firstKind, above, newName, nextUsed, relation, rule, defaultedName, defaulted, relations, rules, blocks, records, inner, layout, total, words, WellFormed}
+use Rattle.definitions.specs.Chain.{Step, end, next, mapped}
+use Rattle.definitions.specs.Kinds.{Which, list9, list21, Answer, from, inherits, derived, declares, find}
+use Rattle.definitions.specs.Places.{relationWords, startOf, firstRelation}
 use Rattle.pack.proofs.PackLaws.{words-length}
 use Rattle.chains.proofs.Names.{neither, or-right}
 use Rattle.chains.proofs.RelationScan.{RelationsFine, relationsWords, Kept, kept}

@@ -8,13 +8,14 @@ use mathlib.Core.Option.{Option, none, some}
 use lib.ListN.{length, getD}
 use lib.Dec.{eqb}
 use borrow.Author.Tests.{ne-eqb, leb-true, ltb-true, lt-ltb, le-ltb}
-use Rattle.pack.specs.Table.{pick, entryOf, table}
-use Rattle.pack.specs.Table as table
-use Rattle.pack.specs.Form.{among, allowedHere, says, count, items, Fine}
-use Rattle.pack.specs.Pack.{Hop, Derivation, Relation, Pack, WellFormed, nameList, path, chain, derivation, optionalDerivation, relationTail, relation}
-use Rattle.chains.specs.Chain.{Step, end, next, mapped}
-use Rattle.chains.specs.Kinds.{Which, list9, list21, Answer, from, find, readAt, kindStep}
-use Rattle.chains.specs.Places.{firstRelation, hops, countPlace, placeOf}
+use Rattle.definitions.specs.Table.{pick, entryOf, table}
+use Rattle.definitions.specs.Table as table
+use Rattle.definitions.specs.Form.{among, allowedHere, says, count, items, Fine}
+use Rattle.definitions.specs.Records.{Hop, Derivation, Relation, Pack}
+use Rattle.definitions.specs.Pack.{WellFormed, nameList, path, chain, derivation, optionalDerivation, relationTail, relation}
+use Rattle.definitions.specs.Chain.{Step, end, next, mapped}
+use Rattle.definitions.specs.Kinds.{Which, list9, list21, Answer, from, find, readAt, kindStep}
+use Rattle.definitions.specs.Places.{firstRelation, hops, countPlace, placeOf}
 use Rattle.chains.specs.Declaration.{coded}
 use Rattle.chains.specs.Settle.{stepAt, Leading}
 use Rattle.chains.proofs.Names.{apart}

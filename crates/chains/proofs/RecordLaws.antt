@@ -7,10 +7,11 @@ use mathlib.Core.Option.{Option, none, some}
 use lib.ListN.{length, getD, length-append, length-map}
 use lib.Seq.{getD-at}
 use borrow.Author.Tests.{eq-eqb, ne-eqb}
-use Rattle.pack.specs.Table.{wordOf, valueOf}
-use Rattle.pack.specs.Form.{listOrNone, count, items, repeats, wordsBy}
-use Rattle.pack.specs.Pack.{Hop, Derivation, Relation, relation, newName, relationTail, nameList, optionalDerivation, path, derivation, member}
-use Rattle.chains.specs.Places.{hops}
+use Rattle.definitions.specs.Table.{wordOf, valueOf}
+use Rattle.definitions.specs.Form.{listOrNone, count, items, repeats, wordsBy}
+use Rattle.definitions.specs.Records.{Hop, Derivation, Relation}
+use Rattle.definitions.specs.Pack.{relation, newName, relationTail, nameList, optionalDerivation, path, derivation, member}
+use Rattle.definitions.specs.Places.{hops}
 use Rattle.chains.specs.Record.{valueAt, kindCount, flagAt, slotsPlace, entityCount}
 use Rattle.chains.proofs.RelationScan.{Fitting, Kept, kept}
 use Rattle.chains.proofs.ListAt.{nameWords, list-words, path-words, early, late, option-words, InWords}

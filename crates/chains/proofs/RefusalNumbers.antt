@@ -7,14 +7,14 @@ use mathlib.Core.Bool.{Bool, true, false}
 use mathlib.Core.Logic.{_⊎_, inl, inr}
 use lib.ListN.{length}
 use lib.Dec.{leb}
-use Rattle.pack.specs.declared.answer.Refusal.{Refusal}
-use Rattle.pack.specs.declared.answer.Answer.{Answer}
-use Rattle.pack.specs.declared.answer.Answer.the-variants.{Given, Refused}
-use Rattle.pack.specs.Table.{pick}
-use Rattle.pack.specs.Pack.{Pack, Reading, yes, refuse, read}
-use Rattle.pack.specs.Operations.{answer, noRoom}
+use Rattle.definitions.specs.declared.answer.Refusal.{Refusal}
+use Rattle.definitions.specs.declared.answer.Answer.{Answer}
+use Rattle.definitions.specs.declared.answer.Answer.the-variants.{Given, Refused}
+use Rattle.definitions.specs.Table.{pick}
+use Rattle.definitions.specs.Records.{Pack}
+use Rattle.definitions.specs.Pack.{Reading, yes, refuse, read}
+use Rattle.definitions.specs.Answers.{answer, noRoom, writeAnswer}
 use Rattle.pack.proofs.Refusals.{CheckRefuses, read-numbers}
-use Rattle.chains.specs.Answers.{writeAnswer}
 
 pub no-given : {v s : ℕ} {r : Refusal} → _≡_ {A = Answer} (Given v s) (Refused r) → ⊥
 no-given e = let z : _≡_ {A = ℕ} 0 1 = cc in omega arith

@@ -8,9 +8,10 @@ use mathlib.Core.Option.{Option, none, some}
 use lib.ListN.{length}
 use lib.Dec.{eqb}
 use borrow.Author.Tests.{eqb-true, eqb-false, ltb-true, not-true}
-use Rattle.pack.specs.Table.{pick, entryOf, table}
-use Rattle.pack.specs.Form.{among, allowedHere, wordsAll, FineAll, says, count, items, listOrNone, wordsBy, Fine}
-use Rattle.pack.specs.Pack.{Hop, Derivation, Relation, newName, nameList, path, chain, member, derivation, optionalDerivation, relationTail, relation, nextUsed}
+use Rattle.definitions.specs.Table.{pick, entryOf, table}
+use Rattle.definitions.specs.Form.{among, allowedHere, wordsAll, FineAll, says, count, items, listOrNone, wordsBy, Fine}
+use Rattle.definitions.specs.Records.{Hop, Derivation, Relation}
+use Rattle.definitions.specs.Pack.{newName, nameList, path, chain, member, derivation, optionalDerivation, relationTail, relation, nextUsed}
 
 -- what a derivation's values keep to
 pub record Fitting (d : Derivation) : Type 0 where

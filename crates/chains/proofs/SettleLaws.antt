@@ -11,9 +11,9 @@ use lib.ListN.{length, getD, drop, set, length-set, drop-of-length-le}
 use lib.Seq.{drop-cons, getD-set-same, getD-set-other}
 use lib.Dec.{ltb, eqb}
 use borrow.Author.Tests.{eq-eqb, ne-eqb, eqb-true, eqb-false, lt-ltb, le-ltb}
-use Rattle.pack.specs.Table.{pick}
-use Rattle.pack.specs.Form.{among}
-use Rattle.chains.specs.Chain.{Settled, put, Walked, walk, All, walksFrom}
+use Rattle.definitions.specs.Table.{pick}
+use Rattle.definitions.specs.Form.{among}
+use Rattle.definitions.specs.Chain.{Settled, put, Walked, walk, All, walksFrom}
 use Rattle.chains.specs.Settle.{stepAt, Leading, settledIn, OnPath, walkIn, Marked, Walkable, WalkedHere, walksIn, Settleable, SettledAll}
 
 -- a store at a name, by the name that is looked at

@@ -9,9 +9,9 @@ use mathlib.Core.Option.{Option, none, some}
 use lib.ListN.{length, length-append}
 use lib.Dec.{eqb}
 use borrow.Author.Tests.{eqb-true, eqb-false, eq-eqb, ne-eqb}
-use Rattle.pack.specs.Table.{pick}
-use Rattle.pack.specs.Form.{among}
-use Rattle.chains.specs.Chain.{Step, end, next, Settled, nothing, put, Walked, walk, own, All, walkAll, Distinct, OnlyDeclaredLead, walksFrom}
+use Rattle.definitions.specs.Table.{pick}
+use Rattle.definitions.specs.Form.{among}
+use Rattle.definitions.specs.Chain.{Step, end, next, Settled, nothing, put, Walked, walk, own, All, walkAll, Distinct, OnlyDeclaredLead, walksFrom}
 use Rattle.chains.proofs.Names.{apart, or-cases, or-left, or-right, nor-right, or-swap, false-of, among-append}
 
 -- how many names of a list are not on a path: with more fuel than that a walk goes on

@@ -5,14 +5,16 @@ use mathlib.Core.List.{List}
 use mathlib.Core.Bool.{true}
 use mathlib.Core.Option.{Option, none, some}
 use lib.ListN.{length, getD}
-use Rattle.pack.specs.Form.{among}
-use Rattle.pack.specs.Pack.{Relation, Pack, yes, read, toRow}
+use Rattle.definitions.specs.Form.{among}
+use Rattle.definitions.specs.Records.{Relation, Pack}
+use Rattle.definitions.specs.Rows.{toRow}
+use Rattle.definitions.specs.Pack.{yes, read}
 use Rattle.records.specs.declared.directory.Layout.{Layout}
 use Rattle.records.specs.Directory.{blocksAt, Clear}
 use Rattle.checking.specs.Checked.{namesSaid}
-use Rattle.chains.specs.Chain.{mapped}
-use Rattle.chains.specs.Kinds.{find, declared, kindStep, allKinds, ownAnswer}
-use Rattle.chains.specs.Places.{startOf, firstRelation, relationsEnd, hops, placeOf}
+use Rattle.definitions.specs.Chain.{mapped}
+use Rattle.definitions.specs.Kinds.{find, declared, kindStep, allKinds, ownAnswer}
+use Rattle.definitions.specs.Places.{startOf, firstRelation, relationsEnd, hops, placeOf}
 use Rattle.chains.specs.Declaration.{coded}
 use Rattle.chains.specs.Entry.{Reaches, startsIn, slotsIn, declarationsIn, namesIn}
 

@@ -1,10 +1,10 @@
 -- What one declaration read says, as one number.
 use Prim.Native.Nat.{ℕ, _+_}
 use mathlib.Core.Option.{none, some}
-use Rattle.pack.specs.Pack.{Relation}
-use Rattle.chains.specs.Chain.{Step, end, next, mapped}
-use Rattle.chains.specs.Kinds.{Answer, declares}
-use Rattle.chains.specs.Places.{countPlace}
+use Rattle.definitions.specs.Records.{Relation}
+use Rattle.definitions.specs.Chain.{Step, end, next, mapped}
+use Rattle.definitions.specs.Kinds.{Answer, declares}
+use Rattle.definitions.specs.Places.{countPlace}
 
 -- a declaration as one number: the place where its list is counted, 0 for no kinds, or 65536 and the name that it leads on to
 abbrev pub coded : Step ℕ → ℕ

@@ -3,8 +3,8 @@ use Prim.Native.Nat.{ℕ, _+_, _-_, _/_, _%_, _≤_}
 use mathlib.Core.List.{List}
 use lib.ListN.{length, getD}
 use lib.Dec.{eqb, ltb}
-use Rattle.pack.specs.Table.{pick}
-use Rattle.chains.specs.ByName.{tableFrom}
+use Rattle.definitions.specs.Table.{pick}
+use Rattle.definitions.specs.Answers.{tableFrom}
 
 -- a directory with a word for each of so many names
 pub record Reaches (dir : List ℕ) (names : ℕ) : Type 0 where

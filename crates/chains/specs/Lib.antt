@@ -1,9 +1,3 @@
-pub mod Chain
-pub mod Kinds
-pub mod Reach
-pub mod Places
-pub mod Answers
-pub mod ByName
 pub mod Entry
 pub mod Record
 pub mod Declaration

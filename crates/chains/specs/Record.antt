@@ -2,8 +2,8 @@
 use Prim.Native.Nat.{ℕ, _+_, _*_, _<_, _≤_}
 use mathlib.Core.List.{List}
 use lib.ListN.{length, getD}
-use Rattle.pack.specs.Table.{valueOf}
-use Rattle.pack.specs.Form.{repeats}
+use Rattle.definitions.specs.Table.{valueOf}
+use Rattle.definitions.specs.Form.{repeats}
 
 unfoldable pub valueAt : List ℕ → ℕ → ℕ
 valueAt ws at = valueOf (getD ws at 0)

@@ -5,9 +5,9 @@ use mathlib.Core.List.{List, []}
 use mathlib.Core.Option.{none, some}
 use lib.ListN.{length, getD, set}
 use lib.Dec.{ltb, eqb}
-use Rattle.pack.specs.Table.{pick}
-use Rattle.pack.specs.Form.{among}
-use Rattle.chains.specs.Chain.{Step, end, next, Settled, Walked, walk, All, walksFrom, same}
+use Rattle.definitions.specs.Table.{pick}
+use Rattle.definitions.specs.Form.{among}
+use Rattle.definitions.specs.Chain.{Step, end, next, Settled, Walked, walk, All, walksFrom, same}
 
 -- what one entry of the table says
 unfoldable pub stepAt : List ℕ → ℕ → Step ℕ

@@ -1,9 +1,9 @@
 // The refusal of a name that a pack does not have.
-use pack::answer::Answer;
-use pack::answer::Number;
-use pack::answer::Refusal;
+use definitions::answer::Answer;
+use definitions::answer::Number;
+use definitions::answer::Refusal;
 ghost use mathlib.Core.Path.{_≡_};
-ghost use Rattle.chains.specs.Answers.{unknown};
+ghost use Rattle.definitions.specs.Answers.{unknown};
 
 // The refusal of a name that is not below N.
 pub fn unknown_name(name: u32) -> Answer

@@ -8,17 +8,19 @@ use lib.ListN.{length, drop, getD, drop-of-length-le, replicate, length-replicat
 use lib.Seq.{drop-cons, getD-drop}
 use lib.Dec.{leb, ltb}
 use borrow.Author.Tests.{le-leb, lt-leb, leb-true, ltb-true, ltb-false}
-use Rattle.pack.specs.declared.answer.Refusal.{Refusal}
-use Rattle.pack.specs.declared.answer.Answer.the-variants.{Given}
-use Rattle.pack.specs.declared.answer.Answer.the-variants.{Refused as No}
+use Rattle.definitions.specs.declared.answer.Refusal.{Refusal}
+use Rattle.definitions.specs.declared.answer.Answer.the-variants.{Given, Refused as No}
 use Rattle.pack.specs.declared.cursor.Cursor.{Cursor}
 use Rattle.pack.specs.declared.cursor.Step.{Step}
 use Rattle.pack.specs.declared.cursor.Step.the-variants.{On, Refused}
-use Rattle.pack.specs.Table.{pick, valueOf, wordOf, entryOf, table}
-use Rattle.pack.specs.Form.{Form, Read, mapRead, field, got, readBy, wordsBy}
-use Rattle.pack.specs.Pack.{Records, Reading, yes, undated, layout, inner, records, complete, read, ofRow, toRow, Pack}
+use Rattle.definitions.specs.Table.{pick, valueOf, wordOf, entryOf, table}
+use Rattle.definitions.specs.Form.{Form, Read, mapRead, field, got, readBy, wordsBy}
+use Rattle.definitions.specs.Records.{undated, Pack}
+use Rattle.definitions.specs.Rows.{Records, ofRow, toRow}
+use Rattle.definitions.specs.Pack.{Reading, yes, layout, inner, records, complete, read}
 use Rattle.pack.specs.Steps.{stepOf, walk, same, fieldStep}
-use Rattle.pack.specs.Operations.{answer, checkAnswer}
+use Rattle.definitions.specs.Answers.{answer}
+use Rattle.definitions.specs.Checking.{checkAnswer}
 use Rattle.pack.proofs.FormLaws.{clash, map-got}
 use Rattle.records.specs.declared.directory.Layout.{Layout}
 use Rattle.records.specs.declared.directory.Laid.{Laid}

@@ -4,13 +4,16 @@ use mathlib.Core.Path.{_≡_}
 use mathlib.Core.List.{List}
 use lib.ListN.{length, getD}
 use lib.Dec.{leb}
-use Rattle.pack.specs.declared.answer.Answer.{Answer}
-use Rattle.pack.specs.declared.answer.Answer.the-variants.{Refused}
-use Rattle.pack.specs.Table.{pick, valueOf}
-use Rattle.pack.specs.Form.{got, readBy}
-use Rattle.pack.specs.Pack.{Records, undated, layout, Pack, yes, read, toRow}
+use Rattle.definitions.specs.declared.answer.Answer.{Answer}
+use Rattle.definitions.specs.declared.answer.Answer.the-variants.{Refused}
+use Rattle.definitions.specs.Table.{pick, valueOf}
+use Rattle.definitions.specs.Form.{got, readBy}
+use Rattle.definitions.specs.Records.{undated, Pack}
+use Rattle.definitions.specs.Rows.{Records, toRow}
+use Rattle.definitions.specs.Pack.{layout, yes, read}
 use Rattle.pack.specs.Steps.{walk}
-use Rattle.pack.specs.Operations.{saysYes, checkAnswer}
+use Rattle.definitions.specs.Answers.{saysYes}
+use Rattle.definitions.specs.Checking.{checkAnswer}
 use Rattle.records.specs.declared.directory.Laid.{Laid}
 use Rattle.records.specs.declared.directory.Laid.the-variants.{Yes, No}
 use Rattle.records.specs.Directory.{stepIn, layoutOf, directoryOf}

@@ -1,10 +1,10 @@
 // Check: whether a slice of words is a pack.
-use pack::answer::Answer;
-use pack::answer::Number;
-use pack::answer::Refusal;
+use definitions::answer::Answer;
+use definitions::answer::Number;
+use definitions::answer::Refusal;
 use pack::cursor::Step;
 use pack::kinds::Pack;
-use pack::table::Rule;
+use definitions::table::Rule;
 use pack::table::table_for;
 use records::all::records;
 use records::all::refused;
@@ -15,7 +15,7 @@ ghost use Prim.Native.Nat.{_≤_};
 ghost use lib.ListN.{length};
 ghost use Rattle.records.specs.Directory.{Clear};
 ghost use Rattle.checking.specs.Checked.{namesSaid, LaidWhole, answerIn, CheckedNotes, Checked};
-ghost use Rattle.pack.specs.Operations.{checkAnswer};
+ghost use Rattle.definitions.specs.Checking.{checkAnswer};
 
 pub fn refuse(number: u32, place: usize) -> Answer
     ensures { λ r. ⌜ r ≡ Answer.Refused (record { number = number; place = place; name = 0; other = 0 }) ⌝ }

@@ -8,22 +8,23 @@ use mathlib.Core.Option.{Option, none, some}
 use lib.ListN.{length, getD}
 use lib.Dec.{eqb, ltb}
 use borrow.Author.Tests.{ne-eqb, lt-ltb, le-ltb}
-use Rattle.pack.specs.Table.{pick}
-use Rattle.pack.specs.Pack.{Derivation, Relation, Pack, WellFormed, yes, read, words}
+use Rattle.definitions.specs.Table.{pick}
+use Rattle.definitions.specs.Records.{Derivation, Relation, Pack}
+use Rattle.definitions.specs.Pack.{WellFormed, yes, read, words}
 use Rattle.pack.proofs.PackLaws.{words-read}
-use Rattle.chains.specs.Chain.{Step, end, own, walk}
-use Rattle.chains.specs.Kinds.{list9, Answer, from, find, kindStep, kindsOf, ownAnswer}
-use Rattle.chains.specs.Places.{startOf, firstRelation, hops, placeOf, namesAt}
+use Rattle.definitions.specs.Chain.{Step, end, own, walk}
+use Rattle.definitions.specs.Kinds.{list9, Answer, from, find, kindStep, kindsOf, ownAnswer}
+use Rattle.definitions.specs.Places.{startOf, firstRelation, hops, placeOf, namesAt}
 use Rattle.chains.specs.AllKinds.{slotsOf}
 use Rattle.filtered.specs.Acts.{actPart, actList, partOf, ActsOf}
-use Rattle.filtered.specs.Filtered.{direct}
+use Rattle.definitions.specs.Filtered.{direct}
 use Rattle.filtered.specs.Taking.{Known}
 use Rattle.filtered.specs.Said.{directIn}
 use Rattle.chains.proofs.PackIndex.{parts, find-name}
 use Rattle.chains.proofs.ListAt.{InWords, in-pack, place-holds}
 use Rattle.filtered.proofs.ActLaws.{found-among}
 use Rattle.filtered.proofs.SaysLaws.{direct-in}
-use Rattle.directions.specs.Tables.{derivedBy, derivedAt, typedBy, typedAt, Tables, tables}
+use Rattle.definitions.specs.Tables.{derivedBy, derivedAt, typedBy, typedAt, Tables, tables}
 use Rattle.directions.specs.Words.{typedIn, derivedIn, tablesIn}
 use Rattle.directions.specs.Records.{KindsReady, Tabled}
 use Rattle.directions.proofs.TablesLaws.{two-kinds, derived-there}

@@ -2,11 +2,11 @@
 use Prim.Native.Nat.{ℕ, _+_}
 use mathlib.Core.Path.{_≡_, refl}
 use lib.ListN.{length}
-use Rattle.pack.specs.Table.{entryOf}
-use Rattle.pack.specs.Tree.{Tree, Forest, node, more}
-use Rattle.directions.specs.Direction.{Membership}
-use Rattle.directions.specs.Turning.{Outcome, done, refused, andThen, mapDone, Citing, Fields, Step, goes, stops, stepBy, size, atNode, resolveTree, resolveForest}
-use Rattle.pack.specs.Tree as trees
+use Rattle.definitions.specs.Table.{entryOf}
+use Rattle.definitions.specs.Tree.{Tree, Forest, node, more, Fields, size}
+use Rattle.definitions.specs.Direction.{Membership}
+use Rattle.definitions.specs.Turning.{Outcome, done, refused, andThen, mapDone, Citing, Step, goes, stops, stepBy, atNode, resolveTree, resolveForest}
+use Rattle.definitions.specs.Tree as trees
 
 abbrev pub NamedBy : {A : Type 0} → ℕ → Outcome A → Type 0
 NamedBy n (done a) = Unit {0}

@@ -7,17 +7,18 @@ use mathlib.Core.Bool.{Bool, true, false}
 use mathlib.Core.Option.{Option, none, some}
 use lib.ListN.{length, getD, length-append}
 use lib.Seq.{getD-at}
-use Rattle.pack.specs.Table.{pick, valueOf, wordOf}
-use Rattle.pack.specs.Table as tables
-use Rattle.pack.specs.Form.{Fine, FineAll, wordsAll, wordsBy}
-use Rattle.pack.specs.Pack.{Pack, yes, read, total, defaultedName, above}
+use Rattle.definitions.specs.Table.{pick, valueOf, wordOf}
+use Rattle.definitions.specs.Table as tables
+use Rattle.definitions.specs.Form.{Fine, FineAll, wordsAll, wordsBy}
+use Rattle.definitions.specs.Records.{Pack}
+use Rattle.definitions.specs.Pack.{yes, read, total, defaultedName, above}
 use Rattle.pack.proofs.PackLaws.{words-read}
 use Rattle.chains.proofs.PackIndex.{Parts, parts, split, relationsPart}
-use Rattle.directions.specs.Tables.{Tables}
-use Rattle.directions.specs.Resolving.{equalKinds, defaultedEqual}
+use Rattle.definitions.specs.Tables.{Tables}
+use Rattle.definitions.specs.Resolving.{equalKinds, defaultedEqual}
 use Rattle.directions.specs.Words.{derivedIn, equalIn, firstEqual}
 use Rattle.chains.specs.Record.{valueAt}
-use Rattle.chains.specs.ByName.{tableFrom}
+use Rattle.definitions.specs.Answers.{tableFrom}
 
 -- a name, or the number for none
 abbrev pub orNone : Option ℕ → ℕ

@@ -10,16 +10,16 @@ use lib.Dec.{eqb}
 use borrow.Author.Tests.{lt-ltb, le-ltb}
 use Rattle.filtered.specs.declared.taking.Kind.{Kind}
 use Rattle.filtered.specs.declared.taking.Kind.the-variants as kind
-use Rattle.chains.specs.Places.{namesAt}
-use Rattle.filtered.specs.Filtered.{kindAt}
+use Rattle.definitions.specs.Places.{namesAt}
+use Rattle.definitions.specs.Filtered.{kindAt}
 use Rattle.filtered.specs.Taking.{KindFound, kindIn, Small}
 use Rattle.directions.specs.declared.direction.Membership as direction
 use Rattle.directions.specs.declared.direction.Membership.the-variants.{Kinds, Unknown}
-use Rattle.directions.specs.Tables.{Derived}
-use Rattle.directions.specs.Direction.{kindOrZero, membership, relatedKind, memberKinds}
-use Rattle.directions.specs.Resolving.{sameKind, equalKinds}
-use Rattle.pack.specs.Table.{pick}
-use Rattle.pack.specs.Table as table
+use Rattle.definitions.specs.Tables.{Derived}
+use Rattle.definitions.specs.Direction.{kindOrZero, membership, relatedKind, memberKinds}
+use Rattle.definitions.specs.Resolving.{sameKind, equalKinds}
+use Rattle.definitions.specs.Table.{pick}
+use Rattle.definitions.specs.Table as table
 use Rattle.directions.specs.Words.{firstEqual, derivedIn, memberIn, equalIn, membershipOf, MembershipFits}
 use Rattle.chains.specs.Record.{valueAt}
 use Rattle.filtered.specs.Acts.{actPart, actList}

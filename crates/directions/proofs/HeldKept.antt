@@ -4,13 +4,13 @@ use mathlib.Core.Path.{_≡_, refl, ap, _∙_, subst}
 use mathlib.Core.Bool.{Bool, false, _||_}
 use mathlib.Core.Option.{Option, none, some}
 use lib.ListN.{length}
-use Rattle.pack.specs.Table.{entryOf}
-use Rattle.pack.specs.Tree.{Tree, Forest, node, more}
-use Rattle.pack.specs.Tree as trees
-use Rattle.pack.specs.Pack.{Derivation, Relation, Pack}
-use Rattle.directions.specs.Direction.{Membership}
-use Rattle.directions.specs.Turning.{done, mapDone, Citing, Step, goes, stops, stepBy, size, atNode, resolveTree, resolveForest}
-use Rattle.directions.specs.Resolving.{holds, held, inDerivation, withPredicate, predicateBy, resolvePredicate, resolveDerivation, resolveRelation}
+use Rattle.definitions.specs.Table.{entryOf}
+use Rattle.definitions.specs.Tree.{Tree, Forest, node, more, size}
+use Rattle.definitions.specs.Tree as trees
+use Rattle.definitions.specs.Records.{Derivation, Relation, Pack}
+use Rattle.definitions.specs.Direction.{Membership}
+use Rattle.definitions.specs.Turning.{done, mapDone, Citing, Step, goes, stops, stepBy, atNode, resolveTree, resolveForest}
+use Rattle.definitions.specs.Resolving.{holds, held, inDerivation, withPredicate, predicateBy, resolvePredicate, resolveDerivation, resolveRelation}
 use Rattle.filtered.specs.Acts.{partAt}
 use Rattle.directions.proofs.KeepsForm.{Good, map-good, then-good}
 

@@ -7,23 +7,23 @@ use mathlib.Core.Bool.{Bool, true, false, _||_, not}
 use mathlib.Core.Option.{Option, none, some}
 use lib.ListN.{length}
 use lib.Dec.{eqb}
-use Rattle.pack.specs.declared.table.Follows.{Follows}
-use Rattle.pack.specs.declared.table.Follows.the-variants.{Nothing, Counted, OneScalar, TwoScalars, Scalars, Patterns, Periods, OneJudgment, Judgments, Choice, Aggregate, OnlyRelated, Slots, Atom, Exists}
-use Rattle.pack.specs.declared.answer.Refusal.{Refusal}
-use Rattle.pack.specs.Table.{pick, entryOf}
-use Rattle.pack.specs.Tree.{Tree, Forest, node, more}
-use Rattle.pack.specs.Pack.{Item, Block, Derivation, Relation, Body, Rule, Pack}
-use Rattle.chains.specs.Reach.{any}
-use Rattle.chains.specs.Places.{relationWords, firstRelation}
-use Rattle.directions.specs.Direction.{Membership, turn}
-use Rattle.inputs.specs.Inputs.{ofOrigin, noSequence, declarations, owned, input}
-use Rattle.directions.specs.Turning.{Outcome, done, refused, andThen, mapDone, Citing, Fields, currentOf, relatedOf, withSlots, valueOfNode, Step, goes, stops, aggregate, allowedInput, onlyRelated, membershipTest, stepBy, size, atNode, resolveTree, resolveForest, InRange}
-use Rattle.directions.specs.declared.direction.Direction.{Direction}
-use Rattle.directions.specs.declared.direction.Direction.the-variants.{Turned, Open}
-use Rattle.directions.specs.Tables.{tables}
-use Rattle.directions.specs.Resolving.{cites, predicatePlace, withPredicate, resolveBody, resolveBodies, bodySize, ruleBy, resolveRule, ruleWords, resolveRules, predicateBy, resolvePredicate, resolveDerivation, resolveRelation, resolveRelations, defaultedEqual, equalRefusal, firstRule, resolveRecords, resolved}
-use Rattle.pack.specs.Tree as trees
-use Rattle.directions.specs.Direction as direction
+use Rattle.definitions.specs.declared.table.Follows.{Follows}
+use Rattle.definitions.specs.declared.table.Follows.the-variants.{Nothing, Counted, OneScalar, TwoScalars, Scalars, Patterns, Periods, OneJudgment, Judgments, Choice, Aggregate, OnlyRelated, Slots, Atom, Exists}
+use Rattle.definitions.specs.declared.answer.Refusal.{Refusal}
+use Rattle.definitions.specs.Table.{pick, entryOf}
+use Rattle.definitions.specs.Tree.{Tree, Forest, node, more, Fields, size}
+use Rattle.definitions.specs.Records.{Item, Block, Derivation, Relation, Body, Rule, Pack}
+use Rattle.definitions.specs.Lean.{any}
+use Rattle.definitions.specs.Places.{relationWords, firstRelation}
+use Rattle.definitions.specs.Direction.{Membership, turn}
+use Rattle.definitions.specs.Inputs.{ofOrigin, noSequence, declarations, owned, input}
+use Rattle.definitions.specs.Turning.{Outcome, done, refused, andThen, mapDone, Citing, currentOf, relatedOf, withSlots, valueOfNode, Step, goes, stops, aggregate, allowedInput, onlyRelated, membershipTest, stepBy, atNode, resolveTree, resolveForest, InRange}
+use Rattle.definitions.specs.declared.direction.Direction.{Direction}
+use Rattle.definitions.specs.declared.direction.Direction.the-variants.{Turned, Open}
+use Rattle.definitions.specs.Tables.{tables}
+use Rattle.definitions.specs.Resolving.{cites, predicatePlace, withPredicate, resolveBody, resolveBodies, bodySize, ruleBy, resolveRule, ruleWords, resolveRules, predicateBy, resolvePredicate, resolveDerivation, resolveRelation, resolveRelations, defaultedEqual, equalRefusal, firstRule, resolveRecords, resolved}
+use Rattle.definitions.specs.Tree as trees
+use Rattle.definitions.specs.Direction as direction
 
 abbrev pub Numbered : {A : Type 0} → Outcome A → Type 0
 Numbered (done a) = Unit {0}

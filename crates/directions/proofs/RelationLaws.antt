@@ -5,15 +5,16 @@ use mathlib.Core.Path.{_≡_, refl, ap, sym, _∙_}
 use mathlib.Core.List.{List, [], _∷_, _++_, append-nil}
 use mathlib.Core.Option.{Option, none, some}
 use lib.ListN.{length, length-append, length-map}
-use Rattle.pack.specs.Table.{wordOf, judgment}
-use Rattle.pack.specs.Form.{count, items, wordsBy, Fine}
-use Rattle.pack.specs.Tree.{Tree, root, tree}
-use Rattle.pack.specs.Pack.{Derivation, Relation, Pack, WellFormed, newName, nameList, optionalDerivation, relationTail, relation, path, derivation, member}
-use Rattle.chains.specs.Places.{relationWords}
+use Rattle.definitions.specs.Table.{wordOf, judgment}
+use Rattle.definitions.specs.Form.{count, items, wordsBy, Fine}
+use Rattle.definitions.specs.Tree.{Tree, root, tree, treeWords, size}
+use Rattle.definitions.specs.Records.{Derivation, Relation, Pack}
+use Rattle.definitions.specs.Pack.{WellFormed, newName, nameList, optionalDerivation, relationTail, relation, path, derivation, member}
+use Rattle.definitions.specs.Places.{relationWords}
 use Rattle.chains.proofs.ListAt.{nameWords, list-words, path-words, early, late, derived-fine, option-words}
-use Rattle.directions.specs.Direction.{membership, orElse}
-use Rattle.directions.specs.Turning.{Outcome, done, refused, mapDone, Citing, treeWords, size, resolveTree}
-use Rattle.directions.specs.Resolving.{cites, predicatePlace, withPredicate, predicateBy, resolvePredicate, resolveDerivation, resolveRelation}
+use Rattle.definitions.specs.Direction.{membership, orElse}
+use Rattle.definitions.specs.Turning.{Outcome, done, refused, mapDone, Citing, resolveTree}
+use Rattle.definitions.specs.Resolving.{cites, predicatePlace, withPredicate, predicateBy, resolvePredicate, resolveDerivation, resolveRelation}
 use Rattle.directions.specs.Records.{placesFrom, RelationKeeps}
 use Rattle.directions.proofs.KeepsForm.{Good, tree-good}
 use Rattle.directions.proofs.RefusalBounds.{MemberSmall}

@@ -6,20 +6,21 @@ use mathlib.Core.List.{List, [], _∷_, map}
 use mathlib.Core.Bool.{Bool, true, false, _&&_}
 use mathlib.Core.Option.{Option, none, some}
 use lib.ListN.{length}
-use Rattle.pack.specs.Table.{pick, judgment, table, entryOf}
-use Rattle.pack.specs.Form.{among, allowedHere, FineAll, says, count, items, Fine}
-use Rattle.pack.specs.Tree.{root, tree}
-use Rattle.pack.specs.Pack.{Derivation, Relation, Body, Rule, Pack, WellFormed, nameList, chain, member, derivation, optionalDerivation, relationTail, newName, relation, body, bodies, rule, relations}
-use Rattle.chains.specs.Kinds.{find, kindsOf, ownAnswer, namesOf, listIn, Which, list9, list21}
-use Rattle.filtered.specs.Filtered.{kindAt}
-use Rattle.chains.specs.Places.{relationWords}
+use Rattle.definitions.specs.Table.{pick, judgment, table, entryOf}
+use Rattle.definitions.specs.Form.{among, allowedHere, FineAll, says, count, items, Fine}
+use Rattle.definitions.specs.Tree.{root, tree}
+use Rattle.definitions.specs.Records.{Derivation, Relation, Body, Rule, Pack}
+use Rattle.definitions.specs.Pack.{WellFormed, nameList, chain, member, derivation, optionalDerivation, relationTail, newName, relation, body, bodies, rule, relations}
+use Rattle.definitions.specs.Kinds.{find, kindsOf, ownAnswer, namesOf, listIn, Which, list9, list21}
+use Rattle.definitions.specs.Filtered.{kindAt}
+use Rattle.definitions.specs.Places.{relationWords}
 use Rattle.chains.proofs.RelationScan.{RelationsFine}
 use Rattle.chains.proofs.PackIndex.{parts, find-kept}
-use Rattle.directions.specs.Tables.{Derived, derivedBy, derivedAt, pair, typedBy, typedAt, tables}
-use Rattle.directions.specs.Turning.{Citing, resolveTree}
-use Rattle.directions.specs.Resolving.{cites, resolveBody, resolveBodies, bodySize, ruleBy, resolveRule, ruleWords, resolveRules, predicatePlace, withPredicate, predicateBy, resolvePredicate, resolveDerivation, resolveRelation, resolveRelations, empty, passedOver, unlike, orKinds, withEntities, stampedWith, stampBy, stampDerived, stamp}
+use Rattle.definitions.specs.Tables.{Derived, derivedBy, derivedAt, pair, typedBy, typedAt, tables}
+use Rattle.definitions.specs.Turning.{Citing, resolveTree}
+use Rattle.definitions.specs.Resolving.{cites, resolveBody, resolveBodies, bodySize, ruleBy, resolveRule, ruleWords, resolveRules, predicatePlace, withPredicate, predicateBy, resolvePredicate, resolveDerivation, resolveRelation, resolveRelations, empty, passedOver, unlike, orKinds, withEntities, stampedWith, stampBy, stampDerived, stamp}
 use Rattle.directions.proofs.KeepsForm.{Good, good-imp, map-good, then-good, TablesFit, tree-good}
-use Rattle.chains.specs.Kinds as kinds
+use Rattle.definitions.specs.Kinds as kinds
 
 -- ---- the tables of a checked pack
 

@@ -5,12 +5,13 @@ use mathlib.Core.Path.{_≡_, refl, ap, sym, _∙_, subst, fun-ext}
 use mathlib.Core.List.{List, [], _∷_, _++_}
 use lib.ListN.{length}
 use mathlib.Core.Option.{none}
-use Rattle.pack.specs.Table.{wordOf}
-use Rattle.pack.specs.Form.{wordsAll, FineAll, wordsBy, Fine}
-use Rattle.pack.specs.Tree.{root, tree, Tree}
-use Rattle.pack.specs.Pack.{Body, Rule, Pack, WellFormed, body, bodies, rule}
-use Rattle.directions.specs.Turning.{Outcome, done, refused, andThen, mapDone, Citing, size, resolveTree}
-use Rattle.directions.specs.Resolving.{cites, resolveBody, resolveBodies, bodySize, ruleBy, resolveRule, ruleWords}
+use Rattle.definitions.specs.Table.{wordOf}
+use Rattle.definitions.specs.Form.{wordsAll, FineAll, wordsBy, Fine}
+use Rattle.definitions.specs.Tree.{root, tree, Tree, size}
+use Rattle.definitions.specs.Records.{Body, Rule, Pack}
+use Rattle.definitions.specs.Pack.{WellFormed, body, bodies, rule}
+use Rattle.definitions.specs.Turning.{Outcome, done, refused, andThen, mapDone, Citing, resolveTree}
+use Rattle.definitions.specs.Resolving.{cites, resolveBody, resolveBodies, bodySize, ruleBy, resolveRule, ruleWords}
 use Rattle.directions.specs.Records.{wordsOf, runBy, All, bodyWords}
 use Rattle.directions.proofs.KeepsForm.{Good}
 use Rattle.directions.proofs.TreeWords.{size-is, tree-words, size-kept}

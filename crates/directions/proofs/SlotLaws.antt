@@ -7,17 +7,17 @@ use mathlib.Core.Bool.{Bool, true, false}
 use mathlib.Core.Option.{none, some}
 use lib.ListN.{length, getD}
 use lib.Dec.{eqb, ltb}
-use Rattle.pack.specs.Table.{pick}
-use Rattle.chains.specs.Places.{namesAt}
-use Rattle.directions.specs.declared.direction.Direction.{Direction}
-use Rattle.directions.specs.declared.direction.Direction.the-variants.{Turned, Open}
-use Rattle.directions.specs.Tables.{Derived}
-use Rattle.directions.specs.Direction.{turn, Membership}
+use Rattle.definitions.specs.Table.{pick}
+use Rattle.definitions.specs.Places.{namesAt}
+use Rattle.definitions.specs.declared.direction.Direction.{Direction}
+use Rattle.definitions.specs.declared.direction.Direction.the-variants.{Turned, Open}
+use Rattle.definitions.specs.Tables.{Derived}
+use Rattle.definitions.specs.Direction.{turn, Membership}
 use Rattle.directions.specs.Words.{typedIn, derivedIn, tablesIn, SlotsFit, MemberTurned}
 use Rattle.chains.specs.Record.{valueAt}
 use Rattle.filtered.specs.Acts.{actPart, actList}
 use Rattle.directions.proofs.KeepsForm.{DirectionFits, TablesFit, turn-fits, member-fits}
-use Rattle.directions.specs.Direction as direction
+use Rattle.definitions.specs.Direction as direction
 
 pub value-small : (ws : List ℕ) (at : ℕ) → valueAt ws at < 16777216
 unfolding valueAt

@@ -7,12 +7,12 @@ use mathlib.Core.Bool.{Bool, true, false}
 use mathlib.Core.Option.{Option, none, some}
 use lib.ListN.{length, getD}
 use lib.Dec.{ltb}
-use Rattle.pack.specs.Table.{pick}
+use Rattle.definitions.specs.Table.{pick}
 use Rattle.filtered.proofs.KindBounds.{Below}
-use Rattle.directions.specs.declared.direction.Direction.{Direction}
-use Rattle.directions.specs.declared.direction.Direction.the-variants.{Turned, Open}
-use Rattle.directions.specs.Tables.{Derived, Tables}
-use Rattle.directions.specs.Direction.{bearing, orElse, kindOrZero, matched, towards, turn}
+use Rattle.definitions.specs.declared.direction.Direction.{Direction}
+use Rattle.definitions.specs.declared.direction.Direction.the-variants.{Turned, Open}
+use Rattle.definitions.specs.Tables.{Derived, Tables}
+use Rattle.definitions.specs.Direction.{bearing, orElse, kindOrZero, matched, towards, turn}
 
 -- kinds below a limit
 abbrev pub Small : ℕ → Option (List ℕ) → Type 0

@@ -5,11 +5,12 @@ use mathlib.Core.Path.{_≡_, ap, sym, _∙_, subst}
 use mathlib.Core.List.{List, [], _∷_, _++_, append-assoc}
 use mathlib.Core.Option.{some}
 use lib.ListN.{length, length-append}
-use Rattle.pack.specs.Table.{wordOf}
-use Rattle.pack.specs.Form.{wordsBy}
-use Rattle.pack.specs.Pack.{Derivation, Relation, optionalDerivation}
-use Rattle.chains.specs.Places.{hops}
-use Rattle.chains.specs.Kinds.{list9}
+use Rattle.definitions.specs.Table.{wordOf}
+use Rattle.definitions.specs.Form.{wordsBy}
+use Rattle.definitions.specs.Records.{Derivation, Relation}
+use Rattle.definitions.specs.Pack.{optionalDerivation}
+use Rattle.definitions.specs.Places.{hops}
+use Rattle.definitions.specs.Kinds.{list9}
 use Rattle.chains.specs.Record.{valueAt, slotsPlace}
 use Rattle.filtered.proofs.KindBounds.{Below, tail-below}
 use Rattle.chains.proofs.RelationScan.{kept}

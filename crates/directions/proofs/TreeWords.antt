@@ -7,18 +7,18 @@ use mathlib.Core.Bool.{Bool, true, false}
 use mathlib.Core.Option.{Option, none, some}
 use lib.ListN.{length, length-append}
 use lib.Dec.{eqb}
-use Rattle.pack.specs.declared.table.Follows.{Follows}
-use Rattle.pack.specs.declared.table.Follows.the-variants.{Nothing, Counted, OneScalar, TwoScalars, Scalars, Patterns, Periods, OneJudgment, Judgments, Choice, Aggregate, OnlyRelated, Slots, Atom, Exists}
-use Rattle.pack.specs.Table.{pick, wordOf, entryOf, fieldsOf, childrenOf}
-use Rattle.pack.specs.Form.{only, wordsEach, FineEach, word, wordsBy, Fine}
-use Rattle.pack.specs.Tree.{Tree, Forest, node, more, ofForest, lastField, fields, follow, tree}
-use Rattle.directions.specs.declared.direction.Direction.{Direction}
-use Rattle.directions.specs.declared.direction.Direction.the-variants.{Turned, Open}
-use Rattle.directions.specs.Direction.{turn, Membership}
-use Rattle.directions.specs.Turning.{mapDone, Citing, Fields, currentOf, relatedOf, withSlots, valueOfNode, Step, goes, stops, aggregate, allowedInput, onlyRelated, membershipTest, stepBy, fieldWords, treeWords, forestWords, size, sizes, atNode, resolveTree, resolveForest}
+use Rattle.definitions.specs.declared.table.Follows.{Follows}
+use Rattle.definitions.specs.declared.table.Follows.the-variants.{Nothing, Counted, OneScalar, TwoScalars, Scalars, Patterns, Periods, OneJudgment, Judgments, Choice, Aggregate, OnlyRelated, Slots, Atom, Exists}
+use Rattle.definitions.specs.Table.{pick, wordOf, entryOf, fieldsOf, childrenOf}
+use Rattle.definitions.specs.Form.{only, wordsEach, FineEach, word, wordsBy, Fine}
+use Rattle.definitions.specs.Tree.{Tree, Forest, node, more, ofForest, lastField, fields, follow, tree, Fields, fieldWords, treeWords, forestWords, size, sizes}
+use Rattle.definitions.specs.declared.direction.Direction.{Direction}
+use Rattle.definitions.specs.declared.direction.Direction.the-variants.{Turned, Open}
+use Rattle.definitions.specs.Direction.{turn, Membership}
+use Rattle.definitions.specs.Turning.{mapDone, Citing, currentOf, relatedOf, withSlots, valueOfNode, Step, goes, stops, aggregate, allowedInput, onlyRelated, membershipTest, stepBy, atNode, resolveTree, resolveForest}
 use Rattle.directions.proofs.KeepsForm.{Good, map-good, then-good, FieldsFine, open-node, no-level}
-use Rattle.pack.specs.Tree as trees
-use Rattle.directions.specs.Direction as direction
+use Rattle.definitions.specs.Tree as trees
+use Rattle.definitions.specs.Direction as direction
 
 fields-words : (n : ℕ) (kss : List (List ℕ)) (fs : Fields) → FieldsFine n kss fs → wordsEach (λ ks a. wordsBy (word (only ks) n) a) kss fs ≡ fieldWords fs
 unfolding wordsBy

@@ -7,15 +7,17 @@ use mathlib.Core.Bool.{Bool, true, false, _||_}
 use lib.ListN.{length, length-append}
 use lib.Dec.{eqb}
 use borrow.Author.Tests.{eq-eqb}
-use Rattle.pack.specs.Table.{wordOf}
-use Rattle.pack.specs.Form.{among, wordsAll, FineAll, count, items, wordsBy, Fine}
-use Rattle.pack.specs.Pack.{Relation, Rule, Pack, WellFormed, toRow, newName, relation, relations, rule, rules, blocks, defaulted, defaultedName, above, records, inner, layout, total, words}
-use Rattle.chains.specs.Kinds.{declared}
-use Rattle.chains.specs.Places.{relationWords, firstRelation, relationsEnd}
+use Rattle.definitions.specs.Table.{wordOf}
+use Rattle.definitions.specs.Form.{among, wordsAll, FineAll, count, items, wordsBy, Fine}
+use Rattle.definitions.specs.Records.{Relation, Rule, Pack}
+use Rattle.definitions.specs.Rows.{toRow}
+use Rattle.definitions.specs.Pack.{WellFormed, newName, relation, relations, rule, rules, blocks, defaulted, defaultedName, above, records, inner, layout, total, words}
+use Rattle.definitions.specs.Kinds.{declared}
+use Rattle.definitions.specs.Places.{relationWords, firstRelation, relationsEnd}
 use Rattle.chains.proofs.RelationScan.{relationsWords, RelationsFine}
 use Rattle.chains.proofs.PackIndex.{parts}
-use Rattle.directions.specs.Turning.{Outcome, andThen, mapDone}
-use Rattle.directions.specs.Resolving.{ruleWords, resolveRule, resolveRules, resolveRelation, resolveRelations, firstRule}
+use Rattle.definitions.specs.Turning.{Outcome, andThen, mapDone}
+use Rattle.definitions.specs.Resolving.{ruleWords, resolveRule, resolveRules, resolveRelation, resolveRelations, firstRule}
 use Rattle.directions.specs.Records.{wordsOf, runBy, All, Many, RelationKeeps, withRecords}
 use Rattle.inputs.proofs.BlocksStand.{first-kind}
 

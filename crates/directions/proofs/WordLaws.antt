@@ -8,20 +8,20 @@ use mathlib.Core.Option.{Option, none, some}
 use lib.ListN.{length, getD, List·getD-eq-default}
 use lib.Dec.{eqb}
 use borrow.Author.Tests.{eq-eqb, ne-eqb, eqb-true, eqb-false, lt-ltb, le-ltb}
-use Rattle.pack.specs.Table.{pick}
+use Rattle.definitions.specs.Table.{pick}
 use Rattle.filtered.specs.declared.taking.Kind.{Kind}
 use Rattle.filtered.specs.declared.taking.Kind.the-variants as kind
-use Rattle.filtered.specs.Filtered.{kindAt}
-use Rattle.chains.specs.Places.{namesAt}
+use Rattle.definitions.specs.Filtered.{kindAt}
+use Rattle.definitions.specs.Places.{namesAt}
 use Rattle.filtered.specs.Taking.{kindIn, KindFound}
 use Rattle.filtered.specs.Acts.{actPart, actList}
 use Rattle.filtered.specs.Said.{directOf, directIn}
-use Rattle.directions.specs.declared.direction.Direction.{Direction}
-use Rattle.directions.specs.declared.direction.Direction.the-variants.{Turned, Open}
+use Rattle.definitions.specs.declared.direction.Direction.{Direction}
+use Rattle.definitions.specs.declared.direction.Direction.the-variants.{Turned, Open}
 use Rattle.directions.specs.declared.direction.Membership as direction
 use Rattle.directions.specs.declared.direction.Membership.the-variants.{Kinds, Unknown}
-use Rattle.directions.specs.Direction.{bearing, orElse, kindOrZero, matched, towards, turn, Membership, eachOnce, between, tested, member}
-use Rattle.directions.specs.Tables.{Derived, Tables}
+use Rattle.definitions.specs.Direction.{bearing, orElse, kindOrZero, matched, towards, turn, Membership, eachOnce, between, tested, member}
+use Rattle.definitions.specs.Tables.{Derived, Tables}
 use Rattle.directions.specs.Words.{typedIn, derivedIn, tablesIn, membershipOf, MemberTurned}
 use Rattle.chains.specs.Record.{valueAt}
 

@@ -4,16 +4,18 @@ use mathlib.Core.Path.{_≡_}
 use mathlib.Core.List.{List, [], _∷_, _++_}
 use mathlib.Core.Bool.{Bool, true}
 use lib.ListN.{length, getD}
-use Rattle.pack.specs.Table.{wordOf}
-use Rattle.pack.specs.Form.{among, Fine}
-use Rattle.pack.specs.Pack.{Relation, Body, Rule, Pack, yes, read, relation}
-use Rattle.chains.specs.Kinds.{declared, kindsOf}
-use Rattle.chains.specs.Places.{relationWords, firstRelation, namesAt}
+use Rattle.definitions.specs.Table.{wordOf}
+use Rattle.definitions.specs.Form.{among, Fine}
+use Rattle.definitions.specs.Records.{Relation, Body, Rule, Pack}
+use Rattle.definitions.specs.Pack.{yes, read, relation}
+use Rattle.definitions.specs.Kinds.{declared, kindsOf}
+use Rattle.definitions.specs.Places.{relationWords, firstRelation, namesAt}
 use Rattle.chains.specs.AllKinds.{IsPack}
 use Rattle.filtered.specs.Acts.{actList}
 use Rattle.filtered.specs.Taking.{Filled}
-use Rattle.directions.specs.Turning.{Outcome, done, andThen, mapDone, treeWords}
-use Rattle.directions.specs.Resolving.{resolveRules, resolveRelations, firstRule}
+use Rattle.definitions.specs.Tree.{treeWords}
+use Rattle.definitions.specs.Turning.{Outcome, done, andThen, mapDone}
+use Rattle.definitions.specs.Resolving.{resolveRules, resolveRelations, firstRule}
 
 -- a run of records, one after the other
 abbrev pub wordsOf : {A : Type 0} → (A → List ℕ) → List A → List ℕ

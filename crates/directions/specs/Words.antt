@@ -6,19 +6,19 @@ use mathlib.Core.Option.{Option, none, some}
 use mathlib.Core.Bool.{Bool}
 use lib.ListN.{getD}
 use lib.Dec.{eqb, ltb}
-use Rattle.pack.specs.Table.{pick}
-use Rattle.pack.specs.Table as table
-use Rattle.chains.specs.Places.{namesAt}
+use Rattle.definitions.specs.Table.{pick}
+use Rattle.definitions.specs.Table as table
+use Rattle.definitions.specs.Places.{namesAt}
 use Rattle.chains.specs.Record.{valueAt}
 use Rattle.filtered.specs.Acts.{actPart, actList}
 use Rattle.filtered.specs.Said.{directIn}
-use Rattle.directions.specs.declared.direction.Direction.{Direction}
-use Rattle.directions.specs.declared.direction.Direction.the-variants.{Turned, Open}
+use Rattle.definitions.specs.declared.direction.Direction.{Direction}
+use Rattle.definitions.specs.declared.direction.Direction.the-variants.{Turned, Open}
 use Rattle.directions.specs.declared.direction.Membership as direction
 use Rattle.directions.specs.declared.direction.Membership.the-variants.{Kinds, Unknown}
-use Rattle.directions.specs.Tables.{Derived, Tables}
-use Rattle.directions.specs.Direction.{Membership, memberKinds, member}
-use Rattle.directions.specs.Resolving.{equalKinds}
+use Rattle.definitions.specs.Tables.{Derived, Tables}
+use Rattle.definitions.specs.Direction.{Membership, memberKinds, member}
+use Rattle.definitions.specs.Resolving.{equalKinds}
 
 -- what its number says of a relation: as a typed one by the two names of its list, and as a derived one whose slots stand at a place
 unfoldable pub typedIn : List ℕ → ℕ → Option (List ℕ)

@@ -1,5 +1,6 @@
 // The direction of one node, from what the pack says of its relation.
 use chains::record::value_at;
+use definitions::direction::Direction;
 use filtered::act::Act;
 use filtered::act::act_of;
 use filtered::act::list;
@@ -10,17 +11,11 @@ use filtered::taking::kind_at;
 use pack::kinds::Pack;
 ghost use mathlib.Core.Path.{_≡_};
 ghost use mathlib.Core.List.{[], _∷_};
-ghost use Rattle.chains.specs.Places.{namesAt};
+ghost use Rattle.definitions.specs.Places.{namesAt};
 ghost use Rattle.filtered.specs.Acts.{actPart};
 ghost use Rattle.filtered.specs.Said.{directIn};
-ghost use Rattle.directions.specs.Direction.{bearing, orElse, kindOrZero, matched, towards, turn, relatedKind, between, tested};
+ghost use Rattle.definitions.specs.Direction.{bearing, orElse, kindOrZero, matched, towards, turn, relatedKind, between, tested};
 ghost use Rattle.directions.specs.Words.{typedIn, derivedIn, tablesIn, membershipOf, memberIn, MembershipFits, MemberTurned};
-
-// How a node comes out: its slots and the kind that results; or its direction is open, between slots of this kind or entity.
-pub enum Direction {
-    Turned(u32, u32, u32),
-    Open(u32),
-}
 
 // The current and the related kind of a membership, where both are known.
 pub enum Membership {

@@ -9,12 +9,13 @@ use lib.ListN.{length, getD, set, length-set}
 use lib.Seq.{getD-set-same, getD-set-other}
 use lib.Dec.{eqb}
 use borrow.Author.Tests.{eqb-true, eqb-false}
-use Rattle.pack.specs.Table.{pick}
-use Rattle.pack.specs.Form.{among}
-use Rattle.pack.specs.Pack.{Relation, Pack, WellFormed, yes, read, words}
+use Rattle.definitions.specs.Table.{pick}
+use Rattle.definitions.specs.Form.{among}
+use Rattle.definitions.specs.Records.{Relation, Pack}
+use Rattle.definitions.specs.Pack.{WellFormed, yes, read, words}
 use Rattle.pack.proofs.PackLaws.{words-read}
-use Rattle.chains.specs.Kinds.{find, declared, ownAnswer}
-use Rattle.chains.specs.Places.{startOf, firstRelation, placeOf}
+use Rattle.definitions.specs.Kinds.{find, declared, ownAnswer}
+use Rattle.definitions.specs.Places.{startOf, firstRelation, placeOf}
 use Rattle.chains.specs.Record.{kindCount}
 use Rattle.chains.specs.Settle.{Marked}
 use Rattle.chains.specs.AllKinds.{slotsFor, slotsOf, Noted, KindsMarked}

@@ -7,12 +7,13 @@ use mathlib.Core.Bool.{Bool, true, false, _||_}
 use mathlib.Core.Option.{Option, none, some}
 use lib.Dec.{eqb, ltb}
 use borrow.Author.Tests.{ne-eqb, ltb-true}
-use Rattle.pack.specs.Table.{pick, table, entryOf}
-use Rattle.pack.specs.Table as table
-use Rattle.pack.specs.Form.{among, allowedHere, items, Fine}
-use Rattle.pack.specs.Pack.{Derivation, Relation, Pack, WellFormed, derivation, member, optionalDerivation, relationTail}
-use Rattle.chains.specs.Reach.{any}
-use Rattle.filtered.specs.Filtered.{entityIs, takes, takenFrom, taken, single, direct, namesEntity}
+use Rattle.definitions.specs.Table.{pick, table, entryOf}
+use Rattle.definitions.specs.Table as table
+use Rattle.definitions.specs.Form.{among, allowedHere, items, Fine}
+use Rattle.definitions.specs.Records.{Derivation, Relation, Pack}
+use Rattle.definitions.specs.Pack.{WellFormed, derivation, member, optionalDerivation, relationTail}
+use Rattle.definitions.specs.Lean.{any}
+use Rattle.definitions.specs.Filtered.{entityIs, takes, takenFrom, taken, single, direct, namesEntity}
 use Rattle.chains.proofs.RelationScan.{RelationsFine, kept}
 use Rattle.chains.proofs.PackIndex.{parts}
 

@@ -5,15 +5,16 @@ use mathlib.Core.List.{List}
 use mathlib.Core.Logic.{_⊎_}
 use lib.ListN.{length}
 use borrow.Rule.Slice.PartMut.{putMid}
-use Rattle.pack.specs.declared.answer.Refusal.{Refusal}
-use Rattle.pack.specs.declared.answer.Answer.{Answer}
-use Rattle.pack.specs.declared.answer.Answer.the-variants.{Given, Refused}
-use Rattle.pack.specs.Pack.{Pack}
-use Rattle.pack.specs.Operations.{noRoom, checkAnswer}
+use Rattle.definitions.specs.declared.answer.Refusal.{Refusal}
+use Rattle.definitions.specs.declared.answer.Answer.{Answer}
+use Rattle.definitions.specs.declared.answer.Answer.the-variants.{Given, Refused}
+use Rattle.definitions.specs.Records.{Pack}
+use Rattle.definitions.specs.Answers.{noRoom, writeAnswer, Answered}
+use Rattle.definitions.specs.Checking.{checkAnswer}
 use Rattle.pack.proofs.Refusals.{CheckRefuses}
-use Rattle.filtered.specs.declared.filtered.Filter.{Filter}
-use Rattle.chains.specs.Answers.{writeAnswer, Answered}
-use Rattle.filtered.specs.FilteredTables.{says, filterWords, filterAnswer, filterBuffer}
+use Rattle.definitions.specs.declared.operation.Filter.{Filter}
+use Rattle.definitions.specs.Filtered.{says, filterWords}
+use Rattle.definitions.specs.Operations.{filterAnswer, filterBuffer}
 use Rattle.chains.specs.AllKinds.{IsPack, Named}
 use Rattle.filtered.specs.Said.{FilterLeft}
 use Rattle.chains.proofs.FillLaws.{table-length}

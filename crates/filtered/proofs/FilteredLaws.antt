@@ -7,14 +7,14 @@ use mathlib.Core.Bool.{Bool, true, false, _||_, _&&_, not}
 use mathlib.Core.Option.{Option, none, some}
 use lib.Dec.{ltb, eqb}
 use borrow.Author.Tests.{eqb-true, eqb-false, ne-eqb, ltb-true}
-use Rattle.pack.specs.Table.{pick}
-use Rattle.pack.specs.Form.{among}
-use Rattle.pack.specs.Pack.{Derivation, Relation}
-use Rattle.pack.specs.Dealt.{nil, cons, swap, trans, InAnyOrder}
-use Rattle.chains.specs.Chain.{end, next, Distinct, OnlyDeclaredLead, same}
-use Rattle.chains.specs.Kinds.{kindsOf, declared}
-use Rattle.chains.specs.Reach.{any}
-use Rattle.filtered.specs.Filtered.{kindAt, listed, entityIs, takes, takenFrom, taken, single, direct, alias, namesEntity, isNil, unresolved, innerAt, upTo, innerStep, innermostBy, innermost}
+use Rattle.definitions.specs.Table.{pick}
+use Rattle.definitions.specs.Form.{among}
+use Rattle.definitions.specs.Records.{Derivation, Relation}
+use Rattle.definitions.specs.Dealt.{nil, cons, swap, trans, InAnyOrder}
+use Rattle.definitions.specs.Chain.{end, next, Distinct, OnlyDeclaredLead, same}
+use Rattle.definitions.specs.Kinds.{kindsOf, declared}
+use Rattle.definitions.specs.Lean.{any}
+use Rattle.definitions.specs.Filtered.{kindAt, listed, entityIs, takes, takenFrom, taken, single, direct, alias, namesEntity, isNil, unresolved, innerAt, upTo, innerStep, innermostBy, innermost}
 use Rattle.chains.proofs.Names.{shuffled-after, shuffled-rows, shuffled-any}
 use Rattle.chains.proofs.ChainLaws.{SettledOwn, settled-own}
 use Rattle.chains.proofs.KindLaws.{kinds-dealt}

@@ -10,12 +10,12 @@ use lib.ListN.{length, getD, set, List·getD-eq-default}
 use lib.Seq.{getD-set-same, getD-set-other}
 use lib.Dec.{eqb, ltb}
 use borrow.Author.Tests.{eq-eqb, eqb-true, eqb-false, lt-ltb, le-ltb, ltb-true, ltb-false}
-use Rattle.pack.specs.Table.{pick}
-use Rattle.pack.specs.Table as table
-use Rattle.pack.specs.Form.{among}
-use Rattle.chains.specs.Chain.{end, next, mapped, Settled, nothing, All, walkAll, own, same}
-use Rattle.filtered.specs.Filtered.{innerAt, upTo, innerStep}
-use Rattle.chains.specs.ByName.{tableFrom}
+use Rattle.definitions.specs.Table.{pick}
+use Rattle.definitions.specs.Table as table
+use Rattle.definitions.specs.Form.{among}
+use Rattle.definitions.specs.Chain.{end, next, mapped, Settled, nothing, All, walkAll, own, same}
+use Rattle.definitions.specs.Filtered.{innerAt, upTo, innerStep}
+use Rattle.definitions.specs.Answers.{tableFrom}
 use Rattle.chains.specs.Entry.{wordIn, declaredBy, declaredIn, declarationsIn}
 use Rattle.chains.specs.Settle.{stepAt, Leading, settledIn, walksIn, Walkable, WalkedHere, SettledAll}
 use Rattle.chains.specs.AllKinds.{Lent}

@@ -8,12 +8,13 @@ use mathlib.Core.Option.{Option, none, some}
 use lib.ListN.{length, getD}
 use lib.Dec.{eqb, ltb}
 use borrow.Author.Tests.{ltb-true}
-use Rattle.pack.specs.Table.{pick, entryOf, table}
-use Rattle.pack.specs.Form.{allowedHere, FineAll, field, Fine, items}
-use Rattle.pack.specs.Pack.{Derivation, Relation, Pack, WellFormed, nameList, member, derivation, optionalDerivation, relationTail}
-use Rattle.chains.specs.Kinds.{Which, list9, list21, Answer, find, listOf, listIn, namesOf, kindsOf, ownAnswer}
-use Rattle.chains.specs.Reach.{any}
-use Rattle.filtered.specs.Filtered.{kindAt, listed, entityIs, takes, takenFrom, taken, single, direct}
+use Rattle.definitions.specs.Table.{pick, entryOf, table}
+use Rattle.definitions.specs.Form.{allowedHere, FineAll, field, Fine, items}
+use Rattle.definitions.specs.Records.{Derivation, Relation, Pack}
+use Rattle.definitions.specs.Pack.{WellFormed, nameList, member, derivation, optionalDerivation, relationTail}
+use Rattle.definitions.specs.Kinds.{Which, list9, list21, Answer, find, listOf, listIn, namesOf, kindsOf, ownAnswer}
+use Rattle.definitions.specs.Lean.{any}
+use Rattle.definitions.specs.Filtered.{kindAt, listed, entityIs, takes, takenFrom, taken, single, direct}
 use Rattle.chains.proofs.PackIndex.{parts, find-kept}
 
 abbrev pub Below : ℕ → List ℕ → Type 0

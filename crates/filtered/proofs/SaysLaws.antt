@@ -8,19 +8,18 @@ use mathlib.Core.Option.{Option, none, some}
 use lib.ListN.{length, getD}
 use lib.Dec.{eqb, ltb, leb}
 use borrow.Author.Tests.{eq-eqb, ne-eqb, eqb-true, eqb-false, le-ltb, lt-leb, ltb-true}
-use Rattle.pack.specs.Table.{pick}
-use Rattle.pack.specs.Table as table
-use Rattle.pack.specs.Pack.{Relation, Pack, WellFormed, yes, read}
+use Rattle.definitions.specs.Table.{pick}
+use Rattle.definitions.specs.Table as table
+use Rattle.definitions.specs.Records.{Relation, Pack}
+use Rattle.definitions.specs.Pack.{WellFormed, yes, read}
 use Rattle.pack.proofs.PackLaws.{words-read}
-use Rattle.filtered.specs.declared.filtered.Filter.{Filter}
-use Rattle.filtered.specs.declared.filtered.Filter.the-variants.{Direct, Innermost, Alias, Unresolved}
-use Rattle.chains.specs.Chain.{Step, end, own, same}
-use Rattle.chains.specs.Reach.{any}
-use Rattle.filtered.specs.Filtered.{taken, single, direct, alias, namesEntity, isNil, unresolved, innerAt, upTo, innerStep, innermost}
+use Rattle.definitions.specs.declared.operation.Filter.{Filter}
+use Rattle.definitions.specs.declared.operation.Filter.the-variants.{Direct, Innermost, Alias, Unresolved}
+use Rattle.definitions.specs.Chain.{Step, end, own, same}
+use Rattle.definitions.specs.Lean.{any}
+use Rattle.definitions.specs.Filtered.{taken, single, direct, alias, namesEntity, isNil, unresolved, innerAt, upTo, innerStep, innermost, orNone, says, filterWords}
 use Rattle.chains.specs.AllKinds.{IsPack, Named}
-use Rattle.chains.specs.Answers.{yesNo}
-use Rattle.chains.specs.ByName.{tableFrom}
-use Rattle.filtered.specs.FilteredTables.{orNone, says, filterWords}
+use Rattle.definitions.specs.Answers.{yesNo, tableFrom}
 use Rattle.filtered.specs.Taking.{several, known, Known}
 use Rattle.filtered.specs.Said.{directOf, aliasOf, unresolvedOf, innerOf, saidIn, directIn, InnerAsked, answered, InnerMarked, InnerFor, FilterLeft}
 use Rattle.chains.proofs.PackIndex.{parts}

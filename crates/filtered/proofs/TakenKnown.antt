@@ -9,15 +9,16 @@ use lib.ListN.{length, getD, take, drop, set, length-set, List·getD-map, List·
 use lib.Seq.{getD-set-same, getD-set-other}
 use lib.Dec.{eqb, ltb}
 use borrow.Author.Tests.{eq-eqb, ne-eqb, eqb-true, eqb-false, lt-ltb, le-ltb, ltb-true, ltb-false}
-use Rattle.pack.specs.Table.{pick, valueOf}
-use Rattle.pack.specs.Table as table
-use Rattle.pack.specs.Form.{among}
-use Rattle.pack.specs.Pack.{Derivation, Relation, Pack, WellFormed, yes, read, words}
-use Rattle.chains.specs.Kinds.{find, declared, ownAnswer, kindsOf}
-use Rattle.chains.specs.Reach.{any}
-use Rattle.filtered.specs.Filtered as filtered
-use Rattle.filtered.specs.Filtered.{kindAt, listed, entityIs, takenFrom, taken, namesEntity}
-use Rattle.chains.specs.Places.{startOf, firstRelation, hops, placeOf, namesAt}
+use Rattle.definitions.specs.Table.{pick, valueOf}
+use Rattle.definitions.specs.Table as table
+use Rattle.definitions.specs.Form.{among}
+use Rattle.definitions.specs.Records.{Derivation, Relation, Pack}
+use Rattle.definitions.specs.Pack.{WellFormed, yes, read, words}
+use Rattle.definitions.specs.Kinds.{find, declared, ownAnswer, kindsOf}
+use Rattle.definitions.specs.Lean.{any}
+use Rattle.definitions.specs.Filtered as filtered
+use Rattle.definitions.specs.Filtered.{kindAt, listed, entityIs, takenFrom, taken, namesEntity}
+use Rattle.definitions.specs.Places.{startOf, firstRelation, hops, placeOf, namesAt}
 use Rattle.chains.specs.Record.{valueAt, slotsPlace}
 use Rattle.records.specs.declared.directory.Layout.{Layout}
 use Rattle.chains.specs.Entry.{startsIn, slotsIn, namesIn}

@@ -10,11 +10,11 @@ use lib.ListN.{length, getD, take, drop, set, length-map, length-take, length-dr
 use lib.Seq.{getD-take, getD-drop, getD-set-same, getD-set-other, drop-cons}
 use lib.Dec.{eqb, ltb}
 use borrow.Author.Tests.{eq-eqb, ne-eqb, eqb-true, eqb-false, lt-ltb, le-ltb, ltb-true, ltb-false}
-use Rattle.pack.specs.Table.{pick, valueOf}
+use Rattle.definitions.specs.Table.{pick, valueOf}
 use Rattle.filtered.specs.declared.taking.Kind.{Kind}
 use Rattle.filtered.specs.declared.taking.Kind.the-variants.{Is, Unknown}
-use Rattle.filtered.specs.Filtered.{kindAt}
-use Rattle.chains.specs.Places.{namesAt}
+use Rattle.definitions.specs.Filtered.{kindAt}
+use Rattle.definitions.specs.Places.{namesAt}
 use Rattle.chains.specs.Record.{valueAt, kindCount}
 use Rattle.chains.specs.Entry.{namesIn}
 use Rattle.chains.proofs.EntryLaws.{name-here}

@@ -6,11 +6,12 @@ use mathlib.Core.Bool.{true}
 use mathlib.Core.Option.{Option, none, some}
 use lib.ListN.{length, getD, set}
 use lib.Dec.{eqb}
-use Rattle.pack.specs.Table.{pick}
-use Rattle.pack.specs.Form.{among}
-use Rattle.pack.specs.Pack.{Relation, Pack, yes, read}
-use Rattle.chains.specs.Kinds.{find, declared, ownAnswer}
-use Rattle.chains.specs.Places.{startOf, firstRelation, placeOf}
+use Rattle.definitions.specs.Table.{pick}
+use Rattle.definitions.specs.Form.{among}
+use Rattle.definitions.specs.Records.{Relation, Pack}
+use Rattle.definitions.specs.Pack.{yes, read}
+use Rattle.definitions.specs.Kinds.{find, declared, ownAnswer}
+use Rattle.definitions.specs.Places.{startOf, firstRelation, placeOf}
 use Rattle.chains.specs.Record.{kindCount}
 use Rattle.chains.specs.AllKinds.{slotsFor}
 

@@ -5,15 +5,15 @@ use mathlib.Core.List.{List}
 use mathlib.Core.Option.{Option, none, some}
 use lib.ListN.{length, getD}
 use lib.Dec.{ltb, leb, eqb}
-use Rattle.pack.specs.Table.{pick}
-use Rattle.pack.specs.Table as table
-use Rattle.pack.specs.Pack.{Pack, yes, read}
-use Rattle.filtered.specs.declared.filtered.Filter.{Filter}
-use Rattle.filtered.specs.declared.filtered.Filter.the-variants.{Direct, Innermost, Alias, Unresolved}
-use Rattle.chains.specs.Chain.{own, same}
-use Rattle.filtered.specs.Filtered.{upTo, innerStep}
-use Rattle.filtered.specs.FilteredTables.{filterWords}
-use Rattle.chains.specs.ByName.{tableFrom}
+use Rattle.definitions.specs.Table.{pick}
+use Rattle.definitions.specs.Table as table
+use Rattle.definitions.specs.Records.{Pack}
+use Rattle.definitions.specs.Pack.{yes, read}
+use Rattle.definitions.specs.declared.operation.Filter.{Filter}
+use Rattle.definitions.specs.declared.operation.Filter.the-variants.{Direct, Innermost, Alias, Unresolved}
+use Rattle.definitions.specs.Chain.{own, same}
+use Rattle.definitions.specs.Filtered.{upTo, innerStep, filterWords}
+use Rattle.definitions.specs.Answers.{tableFrom}
 use Rattle.chains.specs.Entry.{Reaches, wordIn, declaredBy, declarationsIn}
 use Rattle.chains.specs.Settle.{Settleable, SettledAll}
 use Rattle.filtered.specs.Taking.{several}

@@ -6,15 +6,16 @@ use mathlib.Core.Bool.{Bool, not}
 use mathlib.Core.Option.{Option, none, some}
 use lib.ListN.{length, getD, set}
 use lib.Dec.{ltb, eqb}
-use Rattle.pack.specs.Table.{pick}
-use Rattle.pack.specs.Pack.{Pack, yes, read}
+use Rattle.definitions.specs.Table.{pick}
+use Rattle.definitions.specs.Records.{Pack}
+use Rattle.definitions.specs.Pack.{yes, read}
 use Rattle.filtered.specs.declared.taking.Kind.{Kind}
 use Rattle.filtered.specs.declared.taking.Kind.the-variants.{Is, Unknown}
-use Rattle.chains.specs.Reach.{any}
-use Rattle.filtered.specs.Filtered.{kindAt, taken, namesEntity}
-use Rattle.chains.specs.Places.{namesAt}
+use Rattle.definitions.specs.Lean.{any}
+use Rattle.definitions.specs.Filtered.{kindAt, taken, namesEntity}
+use Rattle.definitions.specs.Places.{namesAt}
 use Rattle.chains.specs.Record.{valueAt}
-use Rattle.chains.specs.Kinds.{allKinds}
+use Rattle.definitions.specs.Kinds.{allKinds}
 use Rattle.chains.specs.AllKinds.{Noted}
 use Rattle.filtered.specs.Acts.{actList, actFor, actsFrom, ActsOf}
 

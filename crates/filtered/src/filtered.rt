@@ -7,8 +7,9 @@ use checking::check::answer;
 use checking::check::check_directory;
 use checking::check::names_said;
 use checking::check::refuse;
-use pack::answer::Answer;
-use pack::answer::Number;
+use definitions::operation::Filter;
+use definitions::answer::Answer;
+use definitions::answer::Number;
 use pack::kinds::Pack;
 use records::directory::Directory;
 use records::directory::Laid;
@@ -16,20 +17,12 @@ use records::directory::Layout;
 ghost use mathlib.Core.Path.{_≡_};
 ghost use Prim.Native.Nat.{_+_, _<_, _≤_};
 ghost use lib.ListN.{length};
-ghost use Rattle.chains.specs.ByName.{tableFrom};
+ghost use Rattle.definitions.specs.Answers.{tableFrom, Answered};
 ghost use Rattle.chains.specs.Entry.{Reaches, declaredBy};
 ghost use Rattle.chains.specs.AllKinds.{Lent, Room, IsDirectory};
 ghost use Rattle.checking.specs.Checked.{namesSaid};
-ghost use Rattle.chains.specs.Answers.{Answered};
-ghost use Rattle.filtered.specs.FilteredTables.{filterAnswer, filterBuffer};
+ghost use Rattle.definitions.specs.Operations.{filterAnswer, filterBuffer};
 ghost use Rattle.filtered.specs.Said.{directOf, aliasOf, unresolvedOf, innerEntry, innerOf, said, saidIn, unseen, InnerAsked, InnerWords, InnerMarked, InnerFor, FilterLeft, KnownName};
-
-pub enum Filter {
-    Direct,
-    Innermost,
-    Alias,
-    Unresolved,
-}
 
 // The one kind that an entity takes, or none.
 pub fn direct_of(x: u32) -> u32

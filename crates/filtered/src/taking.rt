@@ -13,7 +13,7 @@ ghost use mathlib.Core.Path.{_≡_};
 ghost use Prim.Native.Nat.{_+_, _<_, _≤_};
 ghost use lib.ListN.{length};
 ghost use lib.Dec.{eqb};
-ghost use Rattle.pack.specs.Table.{pick};
+ghost use Rattle.definitions.specs.Table.{pick};
 ghost use Rattle.chains.specs.Record.{kindCount};
 ghost use Rattle.chains.specs.Entry.{Reaches, startsIn, slotsIn, namesIn};
 ghost use Rattle.chains.specs.AllKinds.{Lent, IsDirectory};

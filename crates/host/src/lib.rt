@@ -1,16 +1,14 @@
 // The host's functions: a pack and an output as bytes, each answer as one number.
-use filtered::filtered::Filter;
-use over_bytes::operations::Question;
-use over_bytes::operations::Writing;
+use definitions::operation::Filter;
+use definitions::operation::Question;
+use definitions::operation::Writing;
 use over_bytes::operations::ask;
 use over_bytes::operations::write;
 ghost use mathlib.Core.Path.{_≡_};
-ghost use Rattle.pack.specs.Operations.{checkAnswer, rewriteAnswer, rewriteBuffer};
-ghost use Rattle.kinds.specs.Operations.{allKindsAnswer, allKindsBuffer, kindsOfAnswer, leanAnswer};
-ghost use Rattle.filtered.specs.FilteredTables.{filterAnswer, filterBuffer};
-ghost use Rattle.resolve.specs.Operations.{resolveAnswer, resolveBuffer};
-ghost use Rattle.filtered.specs.declared.filtered.Filter.the-variants.{Direct, Innermost, Alias, Unresolved};
-ghost use Rattle.wire.specs.Bytes.{encode, overBytes, Gives};
+ghost use Rattle.definitions.specs.Checking.{checkAnswer, rewriteAnswer, rewriteBuffer};
+ghost use Rattle.definitions.specs.Operations.{allKindsAnswer, allKindsBuffer, kindsOfAnswer, leanAnswer, filterAnswer, filterBuffer, resolveAnswer, resolveBuffer};
+ghost use Rattle.definitions.specs.declared.operation.Filter.the-variants.{Direct, Innermost, Alias, Unresolved};
+ghost use Rattle.definitions.specs.Bytes.{encode, overBytes, Gives};
 
 // Check.
 #[no_mangle]

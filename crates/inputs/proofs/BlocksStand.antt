@@ -8,13 +8,15 @@ use mathlib.Core.Option.{Option, none, some}
 use lib.ListN.{length, getD, length-append}
 use lib.Dec.{eqb}
 use borrow.Author.Tests.{leb-true, eqb-true, eqb-false}
-use Rattle.pack.specs.Table.{pick, kindOf, wordOf, table, entryOf}
-use Rattle.pack.specs.Form.{allowedHere, wordsAll, FineAll, says, count, items, listOrNone, wordsBy, Fine}
-use Rattle.pack.specs.Pack.{Item, Block, Pack, WellFormed, yes, read, item, blockItems, block, blocks, defaulted, relations, rules, records, inner, layout, total, words, toRow, firstKind, Edition, undated}
+use Rattle.definitions.specs.Table.{pick, kindOf, wordOf, table, entryOf}
+use Rattle.definitions.specs.Form.{allowedHere, wordsAll, FineAll, says, count, items, listOrNone, wordsBy, Fine}
+use Rattle.definitions.specs.Records.{Item, Block, Pack, Edition, undated}
+use Rattle.definitions.specs.Rows.{toRow}
+use Rattle.definitions.specs.Pack.{WellFormed, yes, read, item, blockItems, block, blocks, defaulted, relations, rules, records, inner, layout, total, words, firstKind}
 use Rattle.pack.proofs.PackLaws.{words-read}
 use Rattle.records.specs.Directory.{relationsAt, rulesAt, blocksAt}
 use Rattle.chains.specs.AllKinds.{BlocksAt}
-use Rattle.inputs.specs.Inputs.{sequence, input}
+use Rattle.definitions.specs.Inputs.{sequence, input}
 use Rattle.chains.specs.Record.{valueAt}
 use Rattle.inputs.specs.Blocks.{inputIn}
 use Rattle.chains.proofs.RecordLaws.{value-there}

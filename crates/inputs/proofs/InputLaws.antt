@@ -7,14 +7,14 @@ use mathlib.Core.Bool.{Bool, true, false, _||_}
 use mathlib.Core.Option.{Option, none, some}
 use lib.ListN.{length}
 use lib.Dec.{eqb}
-use Rattle.pack.specs.Table.{pick}
-use Rattle.pack.specs.Pack.{Item, Block}
-use Rattle.pack.specs.Dealt.{Shuffled, nil, cons, swap, trans, InAnyOrder, SameItems, SameBlock}
-use Rattle.pack.specs.Dealt as dealt
+use Rattle.definitions.specs.Table.{pick}
+use Rattle.definitions.specs.Records.{Item, Block}
+use Rattle.definitions.specs.Dealt.{Shuffled, nil, cons, swap, trans, InAnyOrder, SameItems, SameBlock}
+use Rattle.definitions.specs.Dealt as dealt
 use Rattle.pack.proofs.DealtLaws.{shuffled-length}
-use Rattle.chains.specs.Reach.{any}
+use Rattle.definitions.specs.Lean.{any}
 use Rattle.chains.proofs.Names.{or-swap, shuffled-same, shuffled-after, shuffled-rows}
-use Rattle.inputs.specs.Inputs.{ofOrigin, noSequence, named, sequence, declarations, owned, input}
+use Rattle.definitions.specs.Inputs.{ofOrigin, noSequence, named, sequence, declarations, owned, input}
 
 shuffled-before : {A : Type 0} {k l : List A} → InAnyOrder k l → (m : List A) → InAnyOrder (k ++ m) (l ++ m)
 shuffled-before nil m = shuffled-same m

@@ -8,12 +8,12 @@ use mathlib.Core.Option.{Option, none, some}
 use lib.ListN.{length, length-append}
 use lib.Dec.{eqb}
 use borrow.Author.Tests.{eq-eqb, ne-eqb}
-use Rattle.pack.specs.Table.{pick, wordOf}
-use Rattle.pack.specs.Table as table
-use Rattle.pack.specs.Form.{listOrNone, count, repeats}
-use Rattle.pack.specs.Pack.{Item, Block}
-use Rattle.chains.specs.Reach.{any}
-use Rattle.inputs.specs.Inputs.{ofOrigin, noSequence, named, sequence, declarations, owned, input}
+use Rattle.definitions.specs.Table.{pick, wordOf}
+use Rattle.definitions.specs.Table as table
+use Rattle.definitions.specs.Form.{listOrNone, count, repeats}
+use Rattle.definitions.specs.Records.{Item, Block}
+use Rattle.definitions.specs.Lean.{any}
+use Rattle.definitions.specs.Inputs.{ofOrigin, noSequence, named, sequence, declarations, owned, input}
 use Rattle.chains.specs.Record.{valueAt}
 use Rattle.inputs.specs.Blocks.{seenAfter, seenItems, seenBlock, seenBlocks, inputNumber, inputIn}
 use Rattle.chains.proofs.RecordLaws.{value-there}

@@ -6,7 +6,7 @@ use mathlib.Core.List.{List}
 use mathlib.Core.Bool.{Bool, true, false, not}
 use lib.Dec.{eqb}
 use borrow.Author.Tests.{eq-eqb, ne-eqb}
-use Rattle.pack.specs.Table.{pick}
+use Rattle.definitions.specs.Table.{pick}
 use Rattle.chains.specs.Record.{valueAt}
 use Rattle.inputs.specs.Blocks.{seenAfter, seenItems, seenBlock, seenBlocks, inputNumber, inputIn, far, Near, SeenItems, SeenBlock, AfterBlock, SeenBlocks}
 

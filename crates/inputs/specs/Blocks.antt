@@ -4,9 +4,9 @@ use mathlib.Core.Path.{_≡_}
 use mathlib.Core.List.{List, [], _∷_}
 use mathlib.Core.Bool.{Bool, _||_, not}
 use lib.Dec.{eqb}
-use Rattle.pack.specs.Table.{pick, kindOf}
-use Rattle.pack.specs.Table as table
-use Rattle.pack.specs.Form.{repeats}
+use Rattle.definitions.specs.Table.{pick, kindOf}
+use Rattle.definitions.specs.Table as table
+use Rattle.definitions.specs.Form.{repeats}
 use Rattle.chains.specs.Record.{valueAt}
 
 -- the declarations of a name so far: 0 none, the place of the only one, or 1

@@ -1,6 +1,6 @@
 // The input that an OnlyRelated node names: the blocks of an origin, and the declarations of a name in them.
 use chains::record::value_at;
-use pack::answer::Number;
+use definitions::answer::Number;
 use pack::kinds::Pack;
 ghost use mathlib.Core.Path.{_≡_};
 ghost use Prim.Native.Nat.{_≤_};

@@ -9,14 +9,14 @@ use mathlib.Core.Option.{some}
 use lib.ListN.{length, length-map}
 use lib.Dec.{eqb}
 use borrow.Author.Tests.{eqb-true, eq-eqb}
-use Rattle.pack.specs.Table.{pick}
-use Rattle.pack.specs.Form.{among}
-use Rattle.pack.specs.Pack.{Relation}
-use Rattle.pack.specs.Dealt.{InAnyOrder}
+use Rattle.definitions.specs.Table.{pick}
+use Rattle.definitions.specs.Form.{among}
+use Rattle.definitions.specs.Records.{Relation}
+use Rattle.definitions.specs.Dealt.{InAnyOrder}
 use Rattle.pack.proofs.DealtLaws.{shuffled-length}
-use Rattle.chains.specs.Chain.{Distinct}
-use Rattle.chains.specs.Kinds.{find, declared}
-use Rattle.chains.specs.Reach.{Leads, straight, onward, leadsWithin, sourceAt, sources, leans}
+use Rattle.definitions.specs.Chain.{Distinct}
+use Rattle.definitions.specs.Kinds.{find, declared}
+use Rattle.definitions.specs.Lean.{Leads, straight, onward, leadsWithin, sourceAt, sources, leans}
 use Rattle.chains.proofs.Names.{apart, or-cases, or-left, or-right, any-of, of-any, no-more}
 use Rattle.chains.proofs.KindLaws.{find-dealt}
 

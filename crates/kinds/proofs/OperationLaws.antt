@@ -7,19 +7,19 @@ use lib.ListN.{length}
 use lib.Dec.{ltb}
 use borrow.Author.Tests.{le-ltb, lt-ltb}
 use borrow.Rule.Slice.PartMut.{putMid}
-use Rattle.pack.specs.declared.answer.Refusal.{Refusal}
-use Rattle.pack.specs.declared.answer.Answer.{Answer}
-use Rattle.pack.specs.declared.answer.Answer.the-variants.{Given, Refused}
-use Rattle.pack.specs.Table.{pick}
-use Rattle.pack.specs.Pack.{Pack}
-use Rattle.pack.specs.Operations.{noRoom, checkAnswer}
+use Rattle.definitions.specs.declared.answer.Refusal.{Refusal}
+use Rattle.definitions.specs.declared.answer.Answer.{Answer}
+use Rattle.definitions.specs.declared.answer.Answer.the-variants.{Given, Refused}
+use Rattle.definitions.specs.Table.{pick}
+use Rattle.definitions.specs.Records.{Pack}
+use Rattle.definitions.specs.Answers.{noRoom, Answered, unknown, yesNo}
+use Rattle.definitions.specs.Checking.{checkAnswer}
 use Rattle.checking.proofs.OperationLaws.{turned-away}
-use Rattle.chains.specs.Kinds.{allKinds, ownAnswer}
-use Rattle.chains.specs.Reach.{leans}
-use Rattle.chains.specs.Places.{placeOf, allKindsWords}
-use Rattle.chains.specs.Answers.{Answered, unknown, yesNo}
+use Rattle.definitions.specs.Kinds.{allKinds, ownAnswer}
+use Rattle.definitions.specs.Lean.{leans}
+use Rattle.definitions.specs.Places.{placeOf, allKindsWords}
 use Rattle.chains.specs.AllKinds.{IsPack, Counted, Named}
-use Rattle.kinds.specs.Operations.{kindsOfAnswer, leanAnswer, allKindsAnswer, allKindsBuffer}
+use Rattle.definitions.specs.Operations.{kindsOfAnswer, leanAnswer, allKindsAnswer, allKindsBuffer}
 use Rattle.kinds.specs.Parts.{OwnPlace, Leaning, KindsLeft}
 use Rattle.chains.proofs.KindLaws.{words-count}
 use Rattle.chains.proofs.AnswerLaws.{made-refused, made-room, made-done}

@@ -4,11 +4,12 @@ use native.Mathlib.Omega.{arith}
 use mathlib.Core.Path.{_≡_, refl, ap, sym, _∙_}
 use mathlib.Core.List.{List, [], _∷_, map}
 use lib.ListN.{length, getD}
-use Rattle.pack.specs.Pack.{Relation, Pack, yes, read}
-use Rattle.chains.specs.Kinds.{declared, ownAnswer}
-use Rattle.chains.specs.Places.{placeOf, allKindsWords}
+use Rattle.definitions.specs.Records.{Relation, Pack}
+use Rattle.definitions.specs.Pack.{yes, read}
+use Rattle.definitions.specs.Kinds.{declared, ownAnswer}
+use Rattle.definitions.specs.Places.{placeOf, allKindsWords}
 use Rattle.records.specs.declared.directory.Layout.{Layout}
-use Rattle.chains.specs.ByName.{tableFrom}
+use Rattle.definitions.specs.Answers.{tableFrom}
 use Rattle.chains.specs.Entry.{declarationsIn, namesIn}
 use Rattle.chains.specs.Settle.{Walkable, WalkedHere, Placeable}
 use Rattle.chains.specs.AllKinds.{IsDirectory, KindsMarked, Lent}

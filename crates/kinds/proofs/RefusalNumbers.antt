@@ -5,16 +5,16 @@ use mathlib.Core.List.{List}
 use mathlib.Core.Bool.{Bool, true, false}
 use mathlib.Core.Logic.{_⊎_, inl, inr}
 use lib.Dec.{ltb}
-use Rattle.pack.specs.declared.answer.Refusal.{Refusal}
-use Rattle.pack.specs.declared.answer.Answer.{Answer}
-use Rattle.pack.specs.declared.answer.Answer.the-variants.{Given, Refused}
-use Rattle.pack.specs.Table.{pick}
+use Rattle.definitions.specs.declared.answer.Refusal.{Refusal}
+use Rattle.definitions.specs.declared.answer.Answer.{Answer}
+use Rattle.definitions.specs.declared.answer.Answer.the-variants.{Given, Refused}
+use Rattle.definitions.specs.Table.{pick}
 use Rattle.pack.proofs.Refusals.{CheckRefuses}
-use Rattle.chains.specs.Kinds.{allKinds, ownAnswer}
-use Rattle.chains.specs.Reach.{leans}
-use Rattle.chains.specs.Places.{placeOf, allKindsWords}
-use Rattle.chains.specs.Answers.{writeAnswer, unknown, yesNo}
-use Rattle.kinds.specs.Operations.{allKindsAnswer, kindsOfAnswer, leanAnswer}
+use Rattle.definitions.specs.Kinds.{allKinds, ownAnswer}
+use Rattle.definitions.specs.Lean.{leans}
+use Rattle.definitions.specs.Places.{placeOf, allKindsWords}
+use Rattle.definitions.specs.Answers.{writeAnswer, unknown, yesNo}
+use Rattle.definitions.specs.Operations.{allKindsAnswer, kindsOfAnswer, leanAnswer}
 use Rattle.chains.proofs.RefusalNumbers.{no-given, refuses, NoRoom, writing-refuses}
 
 -- ---- words are written: 16

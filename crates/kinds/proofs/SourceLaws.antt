@@ -8,11 +8,12 @@ use mathlib.Core.Option.{Option, none, some}
 use lib.ListN.{getD}
 use lib.Dec.{eqb}
 use borrow.Author.Tests.{eq-eqb, ne-eqb}
-use Rattle.pack.specs.Table.{pick}
-use Rattle.pack.specs.Table as table
-use Rattle.pack.specs.Pack.{Derivation, Relation, Pack, WellFormed, words}
-use Rattle.chains.specs.Kinds.{find}
-use Rattle.chains.specs.Reach.{leadsWithin, sourceOf, sourceAt, sources, leans}
+use Rattle.definitions.specs.Table.{pick}
+use Rattle.definitions.specs.Table as table
+use Rattle.definitions.specs.Records.{Derivation, Relation, Pack}
+use Rattle.definitions.specs.Pack.{WellFormed, words}
+use Rattle.definitions.specs.Kinds.{find}
+use Rattle.definitions.specs.Lean.{leadsWithin, sourceOf, sourceAt, sources, leans}
 use Rattle.records.specs.declared.directory.Layout.{Layout}
 use Rattle.chains.specs.Entry.{Reaches, startsIn}
 use Rattle.chains.specs.AllKinds.{IsPack, Counted, recordOf, Noted, IsDirectory}

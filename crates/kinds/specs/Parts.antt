@@ -4,10 +4,11 @@ use mathlib.Core.Path.{_≡_}
 use mathlib.Core.List.{List}
 use mathlib.Core.Bool.{Bool}
 use lib.ListN.{getD}
-use Rattle.pack.specs.Pack.{Pack, yes, read}
-use Rattle.chains.specs.Kinds.{allKinds, ownAnswer}
-use Rattle.chains.specs.Reach.{leans}
-use Rattle.chains.specs.Places.{placeOf, allKindsWords}
+use Rattle.definitions.specs.Records.{Pack}
+use Rattle.definitions.specs.Pack.{yes, read}
+use Rattle.definitions.specs.Kinds.{allKinds, ownAnswer}
+use Rattle.definitions.specs.Lean.{leans}
+use Rattle.definitions.specs.Places.{placeOf, allKindsWords}
 
 -- the settled place of the relation with a number
 unfoldable pub placeAt : List ℕ → List ℕ → ℕ → ℕ

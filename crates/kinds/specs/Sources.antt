@@ -3,8 +3,8 @@ use Prim.Native.Nat.{ℕ, _+_, _-_, _<_, _≤_}
 use mathlib.Core.List.{List, [], _∷_}
 use lib.ListN.{getD}
 use lib.Dec.{eqb}
-use Rattle.pack.specs.Table.{pick}
-use Rattle.pack.specs.Table as table
+use Rattle.definitions.specs.Table.{pick}
+use Rattle.definitions.specs.Table as table
 use Rattle.chains.specs.Record.{valueAt, kindCount, flagAt}
 use Rattle.chains.specs.Entry.{Reaches, startsIn}
 

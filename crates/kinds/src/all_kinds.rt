@@ -6,21 +6,20 @@ use checking::check::answer;
 use checking::check::check_directory;
 use checking::check::names_said;
 use checking::check::refuse;
-use pack::answer::Answer;
-use pack::answer::Number;
+use definitions::answer::Answer;
+use definitions::answer::Number;
 use pack::kinds::Pack;
 use records::directory::Directory;
 use records::directory::Laid;
 ghost use mathlib.Core.Path.{_≡_};
 ghost use Prim.Native.Nat.{_≤_};
 ghost use lib.ListN.{length};
-ghost use Rattle.chains.specs.ByName.{tableFrom};
+ghost use Rattle.definitions.specs.Answers.{tableFrom, Answered};
 ghost use Rattle.chains.specs.Entry.{namesIn};
 ghost use Rattle.chains.specs.Settle.{Placeable};
 ghost use Rattle.chains.specs.AllKinds.{Room};
-ghost use Rattle.chains.specs.Answers.{Answered};
 ghost use Rattle.kinds.specs.Parts.{placeAt};
-ghost use Rattle.kinds.specs.Operations.{allKindsAnswer, allKindsBuffer};
+ghost use Rattle.definitions.specs.Operations.{allKindsAnswer, allKindsBuffer};
 
 // The place of each relation's list in record order, for as many as there is room.
 fn places(dir: &[u32], marks: &[u32], out: &mut [u32])

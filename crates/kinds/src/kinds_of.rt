@@ -4,13 +4,13 @@ use chains::unknown::unknown_name;
 use checking::check::answer;
 use checking::check::check_directory;
 use checking::check::names_said;
-use pack::answer::Answer;
+use definitions::answer::Answer;
 use pack::kinds::Pack;
 use records::directory::Directory;
 use records::directory::Laid;
 ghost use mathlib.Core.Path.{_≡_};
 ghost use Rattle.chains.specs.AllKinds.{Room};
-ghost use Rattle.kinds.specs.Operations.{kindsOfAnswer};
+ghost use Rattle.definitions.specs.Operations.{kindsOfAnswer};
 
 // The place of a name's list, by a directory and marks that are lent.
 fn place_in(pack: &[u32], name: u32, dir: &mut [u32], marks: &mut [u32]) -> Answer

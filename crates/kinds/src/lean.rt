@@ -4,13 +4,13 @@ use chains::unknown::unknown_name;
 use checking::check::answer;
 use checking::check::check_directory;
 use checking::check::names_said;
-use pack::answer::Answer;
+use definitions::answer::Answer;
 use records::directory::Directory;
 use records::directory::Laid;
 ghost use mathlib.Core.Path.{_≡_};
 ghost use Rattle.records.specs.Directory.{Clear};
 ghost use Rattle.checking.specs.Checked.{namesSaid};
-ghost use Rattle.kinds.specs.Operations.{leanAnswer};
+ghost use Rattle.definitions.specs.Operations.{leanAnswer};
 
 // Whether a name leans on another, by a directory that is lent.
 fn lean_in(pack: &[u32], a: u32, b: u32, dir: &mut [u32]) -> Answer

@@ -8,7 +8,7 @@ ghost use mathlib.Core.Path.{_≡_};
 ghost use Prim.Native.Nat.{_≤_};
 ghost use Rattle.chains.specs.Entry.{startsIn};
 ghost use Rattle.kinds.specs.Sources.{sourceIn, sourcesIn, Sourced};
-ghost use Rattle.chains.specs.Reach.{leadsWithin};
+ghost use Rattle.definitions.specs.Lean.{leadsWithin};
 
 // The source of the relation whose record starts at a place: the name and one, 0 for none. At 0 there is none.
 fn source_at(pack: &[u32], start: usize) -> u32

@@ -8,30 +8,30 @@ use mathlib.Core.Option.{none}
 use lib.ListN.{length, length-map}
 use lib.Dec.{leb, ltb}
 use borrow.Author.Tests.{leb-true}
-use Rattle.pack.specs.declared.answer.Answer.{Answer}
-use Rattle.pack.specs.declared.answer.Answer.the-variants.{Given}
-use Rattle.pack.specs.Table.{pick}
-use Rattle.pack.specs.Form.{among}
-use Rattle.pack.specs.Pack.{Relation, Pack, WellFormed, Reading, yes, refuse, read, total, words}
-use Rattle.pack.specs.Operations.{answer, noRoom, checkAnswer, rewriteAnswer}
+use Rattle.definitions.specs.declared.answer.Answer.{Answer}
+use Rattle.definitions.specs.declared.answer.Answer.the-variants.{Given}
+use Rattle.definitions.specs.Table.{pick}
+use Rattle.definitions.specs.Form.{among}
+use Rattle.definitions.specs.Records.{Relation, Pack}
+use Rattle.definitions.specs.Pack.{WellFormed, Reading, yes, refuse, read, total, words}
+use Rattle.definitions.specs.Answers.{answer, noRoom, writeAnswer, unknown, yesNo}
+use Rattle.definitions.specs.Checking.{checkAnswer, rewriteAnswer}
 use Rattle.pack.proofs.PackLaws.{words-read}
 use Rattle.pack.proofs.Refusals.{read-numbers}
-use Rattle.chains.specs.Chain.{Step, end, next, same, withNext, outside}
-use Rattle.chains.specs.Kinds as kinds
-use Rattle.chains.specs.Kinds.{kindStep, declared, ownAnswer, allKinds}
-use Rattle.chains.specs.Places.{placeOf, allKindsWords}
-use Rattle.chains.specs.Answers.{writeAnswer, unknown, yesNo}
-use Rattle.kinds.specs.Operations.{allKindsAnswer, kindsOfAnswer, leanAnswer}
-use Rattle.filtered.specs.FilteredTables.{filterWords, filterAnswer}
-use Rattle.chains.specs.Reach.{leans}
-use Rattle.filtered.specs.declared.filtered.Filter.{Filter}
+use Rattle.definitions.specs.Chain.{Step, end, next, same, withNext, outside}
+use Rattle.definitions.specs.Kinds as kinds
+use Rattle.definitions.specs.Kinds.{kindStep, declared, ownAnswer, allKinds}
+use Rattle.definitions.specs.Places.{placeOf, allKindsWords}
+use Rattle.definitions.specs.Operations.{allKindsAnswer, kindsOfAnswer, leanAnswer, filterAnswer, givenOut, resolveAnswer}
+use Rattle.definitions.specs.Filtered.{filterWords}
+use Rattle.definitions.specs.Lean.{leans}
+use Rattle.definitions.specs.declared.operation.Filter.{Filter}
 use Rattle.chains.proofs.KindLaws.{kinds-steps, distinct-names}
 use Rattle.chains.proofs.PackIndex.{parts}
 use Rattle.chains.proofs.PlaceBounds.{end-small}
 use Rattle.chains.proofs.ListAt.{own-holds}
-use Rattle.directions.specs.Turning.{Outcome, done, refused}
-use Rattle.directions.specs.Resolving.{resolved}
-use Rattle.resolve.specs.Operations.{givenOut, resolveAnswer}
+use Rattle.definitions.specs.Turning.{Outcome, done, refused}
+use Rattle.definitions.specs.Resolving.{resolved}
 use Rattle.directions.proofs.Numbers.{refused-number}
 use Rattle.resolve.proofs.RefusalNames.{Told, resolved-told}
 use Rattle.wire.proofs.Faithful.{FitsBits}

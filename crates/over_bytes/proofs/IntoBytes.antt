@@ -5,15 +5,16 @@ use mathlib.Core.Path.{_≡_, refl, ap, sym, _∙_, subst}
 use mathlib.Core.List.{List, _++_}
 use lib.ListN.{length, take, drop, replicate, length-replicate, getD-replicate}
 use lib.Seq.{length-take-le}
-use Rattle.pack.specs.declared.answer.Answer.{Answer}
-use Rattle.pack.specs.declared.answer.Answer.the-variants.{Given, Refused}
-use Rattle.resolve.specs.Operations.{resolveAnswer, resolveBuffer}
+use Rattle.definitions.specs.declared.answer.Answer.{Answer}
+use Rattle.definitions.specs.declared.answer.Answer.the-variants.{Given, Refused}
+use Rattle.definitions.specs.Operations.{resolveAnswer, resolveBuffer}
 use Rattle.resolve.specs.Finish.{RoomFor, frontOf, Into}
 use Rattle.resolve.proofs.ResolveLaws.{answer-within}
-use Rattle.wire.specs.Bytes.{wordsOf, bytesOf, encode, loadedOf, Loaded, outAfter, Tried, Fits}
+use Rattle.definitions.specs.Bytes.{wordsOf, bytesOf, encode, outAfter}
+use Rattle.wire.specs.Loading.{loadedOf, Loaded, Tried, Fits}
 use Rattle.wire.proofs.ByteLaws.{words-length}
 use Rattle.over_bytes.specs.Operations.{RoomIn}
-use Rattle.over_bytes.specs.declared.operations.Writing.the-variants.{Resolve}
+use Rattle.definitions.specs.declared.operation.Writing.the-variants.{Resolve}
 use Rattle.over_bytes.proofs.Writes.{writes}
 
 after-front : (a : Answer) (x y out : List ℕ) → frontOf a x ≡ frontOf a y → outAfter a x out ≡ outAfter a y out

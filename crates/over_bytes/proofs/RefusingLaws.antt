@@ -8,32 +8,31 @@ use mathlib.Core.Logic.{_⊎_, inl, inr}
 use lib.ListN.{length, drop}
 use lib.Dec.{eqb, leb, ltb}
 use borrow.Author.Tests.{eqb-true, eqb-false, ltb-true}
-use Rattle.pack.specs.declared.answer.Refusal.{Refusal}
-use Rattle.pack.specs.declared.answer.Answer.{Answer}
-use Rattle.pack.specs.declared.answer.Answer.the-variants.{Given, Refused}
-use Rattle.pack.specs.Table.{pick}
-use Rattle.pack.specs.Form.{among}
-use Rattle.pack.specs.Pack.{Pack, Reading, yes, refuse, read, total, words}
-use Rattle.pack.specs.Operations.{answer, buffer, noRoom, rewriteAnswer, rewriteBuffer}
+use Rattle.definitions.specs.declared.answer.Refusal.{Refusal}
+use Rattle.definitions.specs.declared.answer.Answer.{Answer}
+use Rattle.definitions.specs.declared.answer.Answer.the-variants.{Given, Refused}
+use Rattle.definitions.specs.Table.{pick}
+use Rattle.definitions.specs.Form.{among}
+use Rattle.definitions.specs.Records.{Pack}
+use Rattle.definitions.specs.Pack.{Reading, yes, refuse, read, total, words}
+use Rattle.definitions.specs.Answers.{answer, buffer, noRoom, writeAnswer, writeBuffer, unknown}
+use Rattle.definitions.specs.Checking.{rewriteAnswer, rewriteBuffer}
 use Rattle.pack.proofs.Refusals.{CheckRefuses, check-numbers, rewrite-numbers}
-use Rattle.chains.specs.Kinds.{allKinds}
-use Rattle.chains.specs.Places.{allKindsWords}
-use Rattle.chains.specs.Answers.{writeAnswer, writeBuffer, unknown}
+use Rattle.definitions.specs.Kinds.{allKinds}
+use Rattle.definitions.specs.Places.{allKindsWords}
 use Rattle.chains.proofs.RefusalNumbers.{no-given, NoRoom}
-use Rattle.kinds.specs.Operations.{allKindsAnswer, allKindsBuffer}
+use Rattle.definitions.specs.Operations.{allKindsAnswer, allKindsBuffer, filterAnswer, filterBuffer, givenOut, writtenOut, resolveAnswer, resolveBuffer, answerTo, answerOf, bufferOf}
 use Rattle.kinds.proofs.RefusalNumbers.{all-kinds-numbers, kinds-of-numbers, lean-numbers}
-use Rattle.filtered.specs.FilteredTables.{filterWords, filterAnswer, filterBuffer}
+use Rattle.definitions.specs.Filtered.{filterWords}
 use Rattle.filtered.proofs.FilterLaws.{filter-numbers}
-use Rattle.directions.specs.Turning.{Outcome, done, refused}
-use Rattle.directions.specs.Resolving.{resolved}
-use Rattle.resolve.specs.Operations.{givenOut, writtenOut, resolveAnswer, resolveBuffer}
+use Rattle.definitions.specs.Turning.{Outcome, done, refused}
+use Rattle.definitions.specs.Resolving.{resolved}
 use Rattle.resolve.proofs.ResolveNumbers.{ResolveRefuses, checks, equal-kinds, open-direction, no-room, resolve-numbers}
-use Rattle.wire.specs.Bytes.{wordsOf, encode, areWords, notWords, overBytes, outAfter, inRoom}
-use Rattle.over_bytes.specs.declared.operations.Question.{Question}
-use Rattle.over_bytes.specs.declared.operations.Question.the-variants.{Check, KindsOf, Lean}
-use Rattle.over_bytes.specs.declared.operations.Writing.{Writing}
-use Rattle.over_bytes.specs.declared.operations.Writing.the-variants.{Rewrite, AllKinds, Filtered, Resolve}
-use Rattle.over_bytes.specs.Operations.{answerTo, answerOf, bufferOf}
+use Rattle.definitions.specs.Bytes.{wordsOf, encode, areWords, notWords, overBytes, outAfter, inRoom}
+use Rattle.definitions.specs.declared.operation.Question.{Question}
+use Rattle.definitions.specs.declared.operation.Question.the-variants.{Check, KindsOf, Lean}
+use Rattle.definitions.specs.declared.operation.Writing.{Writing}
+use Rattle.definitions.specs.declared.operation.Writing.the-variants.{Rewrite, AllKinds, Filtered, Resolve}
 use Rattle.over_bytes.specs.Refusing.{checkNumbers, numbersTo, numbersOf, Among, numberIn, NoneOrAmong, QuestionRefuses, WritingRefuses}
 
 -- ---- numbers among numbers

@@ -7,31 +7,30 @@ use mathlib.Core.List.{List, []}
 use lib.ListN.{length, length-map}
 use lib.Dec.{leb}
 use borrow.Author.Tests.{leb-true}
-use Rattle.pack.specs.declared.answer.Answer.{Answer}
-use Rattle.pack.specs.declared.answer.Answer.the-variants.{Given}
-use Rattle.pack.specs.Table.{pick}
-use Rattle.pack.specs.Pack.{Pack, Reading, yes, refuse, read, total, words}
-use Rattle.pack.specs.Operations.{answer, buffer, noRoom, checkAnswer, rewriteAnswer, rewriteBuffer}
+use Rattle.definitions.specs.declared.answer.Answer.{Answer}
+use Rattle.definitions.specs.declared.answer.Answer.the-variants.{Given}
+use Rattle.definitions.specs.Table.{pick}
+use Rattle.definitions.specs.Records.{Pack}
+use Rattle.definitions.specs.Pack.{Reading, yes, refuse, read, total, words}
+use Rattle.definitions.specs.Answers.{answer, buffer, noRoom, writeAnswer, writeBuffer}
+use Rattle.definitions.specs.Checking.{checkAnswer, rewriteAnswer, rewriteBuffer}
 use Rattle.pack.proofs.PackLaws.{words-length, words-read}
-use Rattle.chains.specs.Kinds.{allKinds}
-use Rattle.chains.specs.Answers.{writeAnswer, writeBuffer}
-use Rattle.chains.specs.Places.{allKindsWords}
-use Rattle.kinds.specs.Operations.{allKindsAnswer, allKindsBuffer, kindsOfAnswer, leanAnswer}
-use Rattle.filtered.specs.FilteredTables.{says, filterWords, filterAnswer, filterBuffer}
-use Rattle.filtered.specs.declared.filtered.Filter.{Filter}
+use Rattle.definitions.specs.Kinds.{allKinds}
+use Rattle.definitions.specs.Places.{allKindsWords}
+use Rattle.definitions.specs.Operations.{allKindsAnswer, allKindsBuffer, kindsOfAnswer, leanAnswer, filterAnswer, filterBuffer, givenOut, writtenOut, resolveAnswer, resolveBuffer, answerTo, answerOf, bufferOf}
+use Rattle.definitions.specs.Filtered.{says, filterWords}
+use Rattle.definitions.specs.declared.operation.Filter.{Filter}
 use Rattle.chains.proofs.PackIndex.{parts}
 use Rattle.chains.proofs.FillLaws.{table-length}
-use Rattle.directions.specs.Turning.{Outcome, done, refused}
-use Rattle.directions.specs.Resolving.{resolved}
-use Rattle.resolve.specs.Operations.{givenOut, writtenOut, resolveAnswer, resolveBuffer}
+use Rattle.definitions.specs.Turning.{Outcome, done, refused}
+use Rattle.definitions.specs.Resolving.{resolved}
 use Rattle.resolve.proofs.ResolveLaws.{given-enough}
-use Rattle.wire.specs.Bytes.{notWords, outAfter}
+use Rattle.definitions.specs.Bytes.{notWords, outAfter}
 use Rattle.wire.proofs.Room.{Within, Writes, leb-min, leb-more, tested-more, tested-own, after-refusal}
-use Rattle.over_bytes.specs.declared.operations.Question.{Question}
-use Rattle.over_bytes.specs.declared.operations.Question.the-variants.{Check, KindsOf, Lean}
-use Rattle.over_bytes.specs.declared.operations.Writing.{Writing}
-use Rattle.over_bytes.specs.declared.operations.Writing.the-variants.{Rewrite, AllKinds, Filtered, Resolve}
-use Rattle.over_bytes.specs.Operations.{answerTo, answerOf, bufferOf}
+use Rattle.definitions.specs.declared.operation.Question.{Question}
+use Rattle.definitions.specs.declared.operation.Question.the-variants.{Check, KindsOf, Lean}
+use Rattle.definitions.specs.declared.operation.Writing.{Writing}
+use Rattle.definitions.specs.declared.operation.Writing.the-variants.{Rewrite, AllKinds, Filtered, Resolve}
 
 -- every operation reads the pack first
 pub none-refused : (f : Pack → Answer) → answer (read []) f ≡ notWords

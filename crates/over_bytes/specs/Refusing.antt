@@ -6,15 +6,15 @@ use mathlib.Core.Bool.{true}
 use mathlib.Core.List.{List, [], _∷_, _++_}
 use mathlib.Core.Logic.{_⊎_}
 use lib.ListN.{length}
-use Rattle.pack.specs.declared.answer.Refusal.{Refusal}
-use Rattle.pack.specs.declared.answer.Answer.the-variants.{Refused}
-use Rattle.pack.specs.Form.{among}
-use Rattle.wire.specs.Bytes.{encode, overBytes, inRoom, Gives}
-use Rattle.over_bytes.specs.declared.operations.Question.{Question}
-use Rattle.over_bytes.specs.declared.operations.Question.the-variants.{Check, KindsOf, Lean}
-use Rattle.over_bytes.specs.declared.operations.Writing.{Writing}
-use Rattle.over_bytes.specs.declared.operations.Writing.the-variants.{Rewrite, AllKinds, Filtered, Resolve}
-use Rattle.over_bytes.specs.Operations.{answerTo, answerOf, bufferOf}
+use Rattle.definitions.specs.declared.answer.Refusal.{Refusal}
+use Rattle.definitions.specs.declared.answer.Answer.the-variants.{Refused}
+use Rattle.definitions.specs.Form.{among}
+use Rattle.definitions.specs.Bytes.{encode, overBytes, inRoom, Gives}
+use Rattle.definitions.specs.declared.operation.Question.{Question}
+use Rattle.definitions.specs.declared.operation.Question.the-variants.{Check, KindsOf, Lean}
+use Rattle.definitions.specs.declared.operation.Writing.{Writing}
+use Rattle.definitions.specs.declared.operation.Writing.the-variants.{Rewrite, AllKinds, Filtered, Resolve}
+use Rattle.definitions.specs.Operations.{answerTo, answerOf, bufferOf}
 
 -- ---- the numbers of 01, operation by operation
 

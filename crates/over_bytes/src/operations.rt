@@ -2,13 +2,15 @@
 // than the work on a small pack: it has small ones.
 use checking::check::check;
 use checking::rewrite::rewrite;
-use filtered::filtered::Filter;
+use definitions::operation::Filter;
+use definitions::operation::Question;
+use definitions::operation::Writing;
 use filtered::filtered::filtered;
 use kinds::all_kinds::all_kinds;
 use kinds::kinds_of::kinds_of;
 use kinds::lean::lean;
-use pack::answer::Answer;
-use pack::answer::Number;
+use definitions::answer::Answer;
+use definitions::answer::Number;
 use pack::kinds::Pack;
 use resolve::resolve::resolve_into;
 use wire::answer::encode;
@@ -17,24 +19,10 @@ use wire::bytes::load;
 use wire::bytes::room;
 ghost use mathlib.Core.Path.{_≡_};
 ghost use lib.ListN.{length};
-ghost use Rattle.wire.specs.Bytes.{encode, overBytes, Gives, Holds, Tried};
-ghost use Rattle.resolve.specs.Operations.{resolveAnswer, resolveBuffer};
-ghost use Rattle.over_bytes.specs.Operations.{answerTo, answerOf, bufferOf, asWriting, Ran, RoomIn};
-
-// The operations that only answer.
-pub enum Question {
-    Check,
-    KindsOf(u32),
-    Lean(u32, u32),
-}
-
-// The operations that write words.
-pub enum Writing {
-    Rewrite,
-    AllKinds,
-    Filtered(Filter),
-    Resolve,
-}
+ghost use Rattle.definitions.specs.Bytes.{encode, overBytes, Gives};
+ghost use Rattle.wire.specs.Loading.{Holds, Tried};
+ghost use Rattle.definitions.specs.Operations.{resolveAnswer, resolveBuffer, answerTo, answerOf, bufferOf};
+ghost use Rattle.over_bytes.specs.Operations.{asWriting, Ran, RoomIn};
 
 // Those of them that leave their slice alone where they refuse.
 pub enum Plain {

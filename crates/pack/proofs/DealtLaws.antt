@@ -8,12 +8,15 @@ use mathlib.Core.Option.{Option, none, some}
 use lib.ListN.{length, length-append, getD}
 use lib.Dec.{eqb}
 use borrow.Author.Tests.{ne-eqb, eqb-false, not-true}
-use Rattle.pack.specs.declared.answer.Answer.the-variants.{Given}
-use Rattle.pack.specs.Table.{wordOf, entryOf}
-use Rattle.pack.specs.Form.{Form, field, _▹_, countedFrom, counted, Holder, list, listOrNone, Suits, count, items, says, among, wordsAll, FineAll, wordsBy, Fine}
-use Rattle.pack.specs.Pack.{Item, Block, Relation, Rule, Edition, firstKind, Pack, newName, relation, nextUsed, relations, rule, rules, item, blockItems, block, blocks, defaulted, records, inner, layout, Reading, yes, refuse, toRow, read, total, words, WellFormed}
-use Rattle.pack.specs.Operations.{answer, checkAnswer}
-use Rattle.pack.specs.Dealt.{Checked, Shuffled, nil, cons, swap, trans, InAnyOrder, SameItems, noSequence, sequence, SameBlock, Dealt}
+use Rattle.definitions.specs.declared.answer.Answer.the-variants.{Given}
+use Rattle.definitions.specs.Table.{wordOf, entryOf}
+use Rattle.definitions.specs.Form.{Form, field, _▹_, countedFrom, counted, Holder, list, listOrNone, Suits, count, items, says, among, wordsAll, FineAll, wordsBy, Fine}
+use Rattle.definitions.specs.Records.{Item, Block, Relation, Rule, Edition, Pack}
+use Rattle.definitions.specs.Rows.{toRow}
+use Rattle.definitions.specs.Pack.{firstKind, newName, relation, nextUsed, relations, rule, rules, item, blockItems, block, blocks, defaulted, records, inner, layout, Reading, yes, refuse, read, total, words, WellFormed}
+use Rattle.definitions.specs.Answers.{answer}
+use Rattle.definitions.specs.Checking.{checkAnswer}
+use Rattle.definitions.specs.Dealt.{Checked, Shuffled, nil, cons, swap, trans, InAnyOrder, SameItems, noSequence, sequence, SameBlock, Dealt}
 use Rattle.pack.proofs.PackLaws.{Rewrites, words-length, read-words, words-read}
 
 -- the counts stay

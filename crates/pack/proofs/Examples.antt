@@ -3,13 +3,14 @@ use Prim.Native.Nat.{ℕ}
 use mathlib.Core.Path.{_≡_, refl}
 use mathlib.Core.List.{List, [], _∷_, _++_}
 use lib.ListN.{replicate}
-use Rattle.pack.specs.declared.answer.Answer.{Answer}
-use Rattle.pack.specs.declared.answer.Answer.the-variants.{Given, Refused}
-use Rattle.pack.specs.Table.{wordOf, none, table, entryOf, fieldsOf, childrenOf}
-use Rattle.pack.specs.Form.{allowedHere, says, whole, readBy}
-use Rattle.pack.specs.Tree.{heads, fields, follow, tree, root}
-use Rattle.pack.specs.Pack.{defaultedName, defaulted, nameList, hop, path, chain, member, derivation, optionalDerivation, relationTail, newName, relation, relations, body, bodies, rule, rules, item, block, blockItems, blocks, records, inner, layout, undated, yes, read}
-use Rattle.pack.specs.Operations.{checkAnswer}
+use Rattle.definitions.specs.declared.answer.Answer.{Answer}
+use Rattle.definitions.specs.declared.answer.Answer.the-variants.{Given, Refused}
+use Rattle.definitions.specs.Table.{wordOf, none, table, entryOf, fieldsOf, childrenOf}
+use Rattle.definitions.specs.Form.{allowedHere, says, whole, readBy}
+use Rattle.definitions.specs.Tree.{heads, fields, follow, tree, root}
+use Rattle.definitions.specs.Records.{undated}
+use Rattle.definitions.specs.Pack.{defaultedName, defaulted, nameList, hop, path, chain, member, derivation, optionalDerivation, relationTail, newName, relation, relations, body, bodies, rule, rules, item, block, blockItems, blocks, records, inner, layout, yes, read}
+use Rattle.definitions.specs.Checking.{checkAnswer}
 
 abbrev w : ℕ → ℕ → ℕ
 w kind value = wordOf kind value

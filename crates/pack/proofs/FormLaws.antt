@@ -9,12 +9,11 @@ use mathlib.Core.Option.{none, some}
 use lib.ListN.{length, length-append}
 use lib.Dec.{leb, eqb}
 use borrow.Author.Tests.{eq-eqb, ne-eqb, eqb-true, leb-true}
-use Rattle.pack.specs.declared.answer.Refusal.{Refusal}
-use Rattle.pack.specs.declared.table.Rule.{Rule}
-use Rattle.pack.specs.declared.table.Rule.the-variants.{FromOne}
-use Rattle.pack.specs.Table.{pick, kindOf, valueOf, wordOf, allowed, entryOf}
-use Rattle.pack.specs.Form.{Read, got, refused, bind, mapRead, allowedHere, readWord, only, readField, readAll, wordsAll, FineAll, readEach, wordsEach, FineEach}
-use Rattle.pack.specs.Form.{Holder, list, listOrNone, option, count, items, says, first, whole, Suits, Form, field, word, empty, each, guarded, _▹_, countedFrom, oneAndMore, via, wordsBy, Fits, Fine, readBy}
+use Rattle.definitions.specs.declared.answer.Refusal.{Refusal}
+use Rattle.definitions.specs.declared.table.Rule.{Rule}
+use Rattle.definitions.specs.declared.table.Rule.the-variants.{FromOne}
+use Rattle.definitions.specs.Table.{pick, kindOf, valueOf, wordOf, allowed, entryOf}
+use Rattle.definitions.specs.Form.{Read, got, refused, bind, mapRead, allowedHere, readWord, only, readField, readAll, wordsAll, FineAll, readEach, wordsEach, FineEach, Holder, list, listOrNone, option, count, items, says, first, whole, Suits, Form, field, word, empty, each, guarded, _▹_, countedFrom, oneAndMore, via, wordsBy, Fits, Fine, readBy}
 
 -- a value that was read: it keeps to the form, its words stood there, and the place moved past them
 pub record Took {A : Type 0} (W : A → List ℕ) (P : A → Type 0) (at : ℕ) (ws : List ℕ) (a : A) (at′ : ℕ) (rest : List ℕ) : Type 0 where

@@ -7,10 +7,12 @@ use mathlib.Core.Bool.{Bool, true, false, _&&_}
 use lib.ListN.{length}
 use lib.Dec.{leb, eqb}
 use borrow.Author.Tests.{eq-eqb, eqb-true, le-leb, leb-true}
-use Rattle.pack.specs.declared.answer.Refusal.{Refusal}
-use Rattle.pack.specs.Table.{pick, wordOf, table, entryOf}
-use Rattle.pack.specs.Form.{Read, got, refused, allowedHere, readBy, wordsBy, Fine}
-use Rattle.pack.specs.Pack.{Edition, undated, firstKind, editionOf, Pack, Records, inner, layout, Reading, yes, refuse, ofRow, toRow, complete, read, total, words, WellFormed}
+use Rattle.definitions.specs.declared.answer.Refusal.{Refusal}
+use Rattle.definitions.specs.Table.{pick, wordOf, table, entryOf}
+use Rattle.definitions.specs.Form.{Read, got, refused, allowedHere, readBy, wordsBy, Fine}
+use Rattle.definitions.specs.Records.{Edition, undated, Pack}
+use Rattle.definitions.specs.Rows.{Records, ofRow, toRow}
+use Rattle.definitions.specs.Pack.{firstKind, editionOf, inner, layout, Reading, yes, refuse, complete, read, total, words, WellFormed}
 use Rattle.pack.proofs.FormLaws.{Took, lawful}
 
 -- a pack is as long as its first word says

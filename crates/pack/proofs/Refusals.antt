@@ -8,13 +8,15 @@ use lib.ListN.{length, length-append}
 use mathlib.Core.Logic.{_⊎_, inl, inr}
 use lib.Dec.{leb, eqb}
 use borrow.Author.Tests.{eqb-false, leb-true}
-use Rattle.pack.specs.declared.answer.Refusal.{Refusal}
-use Rattle.pack.specs.declared.answer.Answer.the-variants.{Given, Refused}
-use Rattle.pack.specs.Table.{pick, kindOf, valueOf, entryOf, judgment}
-use Rattle.pack.specs.Form.{Read, got, refused, because, bind, mapRead, allowedHere, readWord, among, only, readField, readAll, readEach, Holder, says, whole, Suits, Form, field, word, empty, each, guarded, _▹_, countedFrom, oneAndMore, via, wordsBy, Fine, readBy}
-use Rattle.pack.specs.Tree.{heads, fields, follow, tree, root}
-use Rattle.pack.specs.Pack.{defaultedName, defaulted, nameList, hop, path, chain, member, derivation, optionalDerivation, relationTail, newName, relation, relations, body, bodies, rule, rules, item, blockItems, block, blocks, records, inner, layout, Edition, Reading, yes, refuse, complete, editionOf, read, words}
-use Rattle.pack.specs.Operations.{answer, noRoom, checkAnswer, rewriteAnswer}
+use Rattle.definitions.specs.declared.answer.Refusal.{Refusal}
+use Rattle.definitions.specs.declared.answer.Answer.the-variants.{Given, Refused}
+use Rattle.definitions.specs.Table.{pick, kindOf, valueOf, entryOf, judgment}
+use Rattle.definitions.specs.Form.{Read, got, refused, because, bind, mapRead, allowedHere, readWord, among, only, readField, readAll, readEach, Holder, says, whole, Suits, Form, field, word, empty, each, guarded, _▹_, countedFrom, oneAndMore, via, wordsBy, Fine, readBy}
+use Rattle.definitions.specs.Tree.{heads, fields, follow, tree, root}
+use Rattle.definitions.specs.Records.{Edition}
+use Rattle.definitions.specs.Pack.{defaultedName, defaulted, nameList, hop, path, chain, member, derivation, optionalDerivation, relationTail, newName, relation, relations, body, bodies, rule, rules, item, blockItems, block, blocks, records, inner, layout, Reading, yes, refuse, complete, editionOf, read, words}
+use Rattle.definitions.specs.Answers.{answer, noRoom}
+use Rattle.definitions.specs.Checking.{checkAnswer, rewriteAnswer}
 use Rattle.pack.proofs.FormLaws.{lawful}
 
 -- A refusal by one of the numbers from 1 to 8, of words that end before the place `end`. By 1 its place is 0, by 3 that end, by 2 and 4 to 8 a word's.

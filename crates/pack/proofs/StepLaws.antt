@@ -9,14 +9,13 @@ use lib.ListN.{length, drop, getD, drop-of-length-le, replicate}
 use lib.Seq.{drop-cons, drop-drop, drop-append-seam}
 use lib.Dec.{leb}
 use borrow.Author.Tests.{ne-eqb, leb-true}
-use Rattle.pack.specs.declared.answer.Refusal.{Refusal}
+use Rattle.definitions.specs.declared.answer.Refusal.{Refusal}
 use Rattle.pack.specs.declared.cursor.Cursor.{Cursor}
 use Rattle.pack.specs.declared.cursor.Step.{Step}
 use Rattle.pack.specs.declared.cursor.Step.the-variants.{On, Refused}
-use Rattle.pack.specs.declared.table.Rule.the-variants.{AtMost, FromOne}
-use Rattle.pack.specs.Table.{kindOf, valueOf, entryOf}
-use Rattle.pack.specs.Form.{Read, got, refused, bind, mapRead, allowedHere, readWord, only, readField, readAll, readEach}
-use Rattle.pack.specs.Form.{Holder, option, says, whole, Suits, Form, field, word, each, guarded, _▹_, countedFrom, oneAndMore, via, wordsBy, Fine, readBy}
+use Rattle.definitions.specs.declared.table.Rule.the-variants.{AtMost, FromOne}
+use Rattle.definitions.specs.Table.{kindOf, valueOf, entryOf}
+use Rattle.definitions.specs.Form.{Read, got, refused, bind, mapRead, allowedHere, readWord, only, readField, readAll, readEach, Holder, option, says, whole, Suits, Form, field, word, each, guarded, _▹_, countedFrom, oneAndMore, via, wordsBy, Fine, readBy}
 use Rattle.pack.specs.Steps.{stepBy, stepOf, walk, same, fieldStep, nextWord, wordStep, walkAll}
 use Rattle.pack.proofs.FormLaws.{lawful}
 

@@ -5,13 +5,13 @@ use mathlib.Core.Bool.{Bool, true, false}
 use mathlib.Core.List.{List}
 use lib.ListN.{length, getD}
 use lib.Dec.{eqb, leb}
-use Rattle.pack.specs.declared.table.Entry.{Entry}
-use Rattle.pack.specs.declared.table.Rule.{Rule}
-use Rattle.pack.specs.declared.table.Rule.the-variants.{Unused, Any, AtMost, FromOne, AtMostOrNone, Total, Name, NameOrNone}
-use Rattle.pack.specs.declared.table.Follows.{Follows}
-use Rattle.pack.specs.declared.table.Follows.the-variants.{Nothing, Counted, OneScalar, TwoScalars, Scalars, Patterns, Periods, OneJudgment, Judgments, Choice, Aggregate, OnlyRelated, Slots, Atom, Exists}
-use Rattle.pack.specs.Table.{pick, kindOf, entryOf}
-use Rattle.pack.specs.Form.{allowedHere}
+use Rattle.definitions.specs.declared.table.Entry.{Entry}
+use Rattle.definitions.specs.declared.table.Rule.{Rule}
+use Rattle.definitions.specs.declared.table.Rule.the-variants.{Unused, Any, AtMost, FromOne, AtMostOrNone, Total, Name, NameOrNone}
+use Rattle.definitions.specs.declared.table.Follows.{Follows}
+use Rattle.definitions.specs.declared.table.Follows.the-variants.{Nothing, Counted, OneScalar, TwoScalars, Scalars, Patterns, Periods, OneJudgment, Judgments, Choice, Aggregate, OnlyRelated, Slots, Atom, Exists}
+use Rattle.definitions.specs.Table.{pick, kindOf, entryOf}
+use Rattle.definitions.specs.Form.{allowedHere}
 
 abbrev pub ruleFrom : ℕ → Rule
 ruleFrom x =

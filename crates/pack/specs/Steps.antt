@@ -6,9 +6,9 @@ use lib.ListN.{drop, getD}
 use lib.Dec.{ltb, eqb}
 use Rattle.pack.specs.declared.cursor.Step.{Step}
 use Rattle.pack.specs.declared.cursor.Step.the-variants.{On, Refused}
-use Rattle.pack.specs.Table.{pick, wordOf}
-use Rattle.pack.specs.Form.{Read, got, refused, Form, field, readAll, readBy}
-use Rattle.pack.specs.Pack.{Relation}
+use Rattle.definitions.specs.Table.{pick, wordOf}
+use Rattle.definitions.specs.Form.{Read, got, refused, Form, field, readAll, readBy}
+use Rattle.definitions.specs.Records.{Relation}
 
 -- the number that is kept of a value, and the place after it; or the refusal
 abbrev pub stepBy : {A : Type 0} → (A → ℕ) → Read A → Step

@@ -1,13 +1,13 @@
 // The reading place, and the words that are read there.
-use crate::answer::Number;
-use crate::answer::Refusal;
+use definitions::answer::Number;
+use definitions::answer::Refusal;
 use crate::kinds::Pack;
-use crate::table::Rule;
+use definitions::table::Rule;
 use crate::table::allows;
 ghost use mathlib.Core.Path.{_≡_};
 ghost use Rattle.pack.specs.Packed.{Ruled};
 ghost use mathlib.Core.List.{[], _∷_};
-ghost use Rattle.pack.specs.Form.{field, word, only};
+ghost use Rattle.definitions.specs.Form.{field, word, only};
 ghost use Rattle.pack.specs.Steps.{wordStep, fieldStep, walk};
 
 // A place of the pack. It starts at word 0 and moves on by whole words.

@@ -7,10 +7,10 @@ use mathlib.Core.Bool.{Bool, true, false}
 use lib.ListN.{length, getD}
 use lib.Dec.{eqb}
 use borrow.Author.Tests.{eqb-true}
-use Rattle.pack.specs.declared.table.Entry.{Entry}
-use Rattle.pack.specs.declared.table.Rule.{Rule}
-use Rattle.pack.specs.declared.table.Rule.the-variants.{Unused, Any, AtMost, FromOne, AtMostOrNone, Total, Name, NameOrNone}
-use Rattle.pack.specs.Table.{pick, entryOf, table}
+use Rattle.definitions.specs.declared.table.Entry.{Entry}
+use Rattle.definitions.specs.declared.table.Rule.{Rule}
+use Rattle.definitions.specs.declared.table.Rule.the-variants.{Unused, Any, AtMost, FromOne, AtMostOrNone, Total, Name, NameOrNone}
+use Rattle.definitions.specs.Table.{pick, entryOf, table}
 use Rattle.pack.specs.Packed.{ruleFrom, Tabled, boundOf, Bounded}
 use Rattle.reading.specs.Noting.{Ready, ReadyFor}
 

@@ -7,14 +7,14 @@ use mathlib.Core.Bool.{Bool, true, false, _||_}
 use lib.ListN.{length, drop, getD, set, length-append, length-map, length-set}
 use lib.Seq.{sets, getD-set-same, set-set, set-comm}
 use lib.Dec.{eqb}
-use Rattle.pack.specs.declared.table.Follows.{Follows}
-use Rattle.pack.specs.declared.table.Follows.the-variants.{Nothing, Counted, OneScalar, TwoScalars, Scalars, Patterns, Periods, OneJudgment, Judgments, Choice, Aggregate, OnlyRelated, Slots, Atom, Exists}
-use Rattle.pack.specs.Table.{pick, entryOf, fieldsOf, childrenOf}
-use Rattle.pack.specs.Form.{word, only, FineEach, Fine}
+use Rattle.definitions.specs.declared.table.Follows.{Follows}
+use Rattle.definitions.specs.declared.table.Follows.the-variants.{Nothing, Counted, OneScalar, TwoScalars, Scalars, Patterns, Periods, OneJudgment, Judgments, Choice, Aggregate, OnlyRelated, Slots, Atom, Exists}
+use Rattle.definitions.specs.Table.{pick, entryOf, fieldsOf, childrenOf}
+use Rattle.definitions.specs.Form.{word, only, FineEach, Fine}
 use Rattle.pack.proofs.FormLaws.{lawful}
-use Rattle.pack.specs.Tree.{Tree, Forest, node, more, ofForest, heads, lastField, fields, follow, tree}
-use Rattle.pack.specs.Tree as trees
-use Rattle.reading.specs.Notes.{lookBy, lookOf, noted, Note, note, within, contextOf, noteCode, size, sizes, notesOf, notesIn}
+use Rattle.definitions.specs.Tree.{Tree, Forest, node, more, ofForest, heads, lastField, fields, follow, tree, size, sizes}
+use Rattle.definitions.specs.Tree as trees
+use Rattle.reading.specs.Notes.{lookBy, lookOf, noted, Note, note, within, contextOf, noteCode, notesOf, notesIn}
 use Rattle.reading.specs.Noting.{State, losing, push, nextNote, inNext, past, childIn, noteTree, noteForest, Came, pushAll, Left}
 
 -- ---- numbers noted one after the other

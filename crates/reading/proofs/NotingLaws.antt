@@ -5,12 +5,12 @@ use mathlib.Core.Path.{_≡_, refl, ap, sym, _∙_, subst}
 use mathlib.Core.List.{List, [], _∷_}
 use mathlib.Core.Bool.{Bool, true, false}
 use lib.ListN.{length, drop, getD, replicate}
-use Rattle.pack.specs.declared.table.Follows.{Follows}
-use Rattle.pack.specs.declared.table.Follows.the-variants.{Nothing, Counted, OneScalar, TwoScalars, Scalars, Patterns, Periods, OneJudgment, Judgments, Choice, Aggregate, OnlyRelated, Slots, Atom, Exists}
+use Rattle.definitions.specs.declared.table.Follows.{Follows}
+use Rattle.definitions.specs.declared.table.Follows.the-variants.{Nothing, Counted, OneScalar, TwoScalars, Scalars, Patterns, Periods, OneJudgment, Judgments, Choice, Aggregate, OnlyRelated, Slots, Atom, Exists}
 use Rattle.pack.specs.declared.cursor.Step.the-variants.{On}
-use Rattle.pack.specs.Table.{pick, kindOf, valueOf, entryOf, table, fieldsOf, childrenOf, howMany, judgment}
-use Rattle.pack.specs.Form.{Read, got, refused, mapRead, Form, word, each, _▹_, via, only, wordsBy, Fine, readBy}
-use Rattle.pack.specs.Tree.{Tree, toForest, toTree, heads, lastField, fields, follow, tree}
+use Rattle.definitions.specs.Table.{pick, kindOf, valueOf, entryOf, table, fieldsOf, childrenOf, howMany, judgment}
+use Rattle.definitions.specs.Form.{Read, got, refused, mapRead, Form, word, each, _▹_, via, only, wordsBy, Fine, readBy}
+use Rattle.definitions.specs.Tree.{Tree, toForest, toTree, heads, lastField, fields, follow, tree}
 use Rattle.pack.specs.Steps.{stepOf, walk, coded}
 use Rattle.pack.proofs.FormLaws.{lawful, clash}
 use Rattle.pack.proofs.StepLaws.{went, by-each, each-last}

@@ -9,12 +9,12 @@ use lib.ListN.{length, take, drop, replicate, length-drop}
 use lib.Seq.{drop-drop}
 use lib.Dec.{eqb}
 use borrow.Rule.Slice.PartAt.{part-to-end}
-use Rattle.pack.specs.declared.answer.Refusal.{Refusal}
-use Rattle.pack.specs.declared.table.Follows.{Follows}
-use Rattle.pack.specs.Table.{pick, kindOf, valueOf, entryOf, fieldsOf, childrenOf}
-use Rattle.pack.specs.Form.{Read, got, refused, because, bind, mapRead, allowedHere, only, Form, word, empty, each, _▹_, via, readBy}
-use Rattle.pack.specs.Tree.{Tree, Forest, node, more, toForest, toTree, ofTree, to-of, of-to, heads, lastField, fields, follow, tree}
-use Rattle.pack.specs.Tree as trees
+use Rattle.definitions.specs.declared.answer.Refusal.{Refusal}
+use Rattle.definitions.specs.declared.table.Follows.{Follows}
+use Rattle.definitions.specs.Table.{pick, kindOf, valueOf, entryOf, fieldsOf, childrenOf}
+use Rattle.definitions.specs.Form.{Read, got, refused, because, bind, mapRead, allowedHere, only, Form, word, empty, each, _▹_, via, readBy}
+use Rattle.definitions.specs.Tree.{Tree, Forest, node, more, toForest, toTree, ofTree, to-of, of-to, heads, lastField, fields, follow, tree}
+use Rattle.definitions.specs.Tree as trees
 use Rattle.pack.specs.Steps.{stepBy, stepOf, walk, coded}
 use Rattle.pack.proofs.FormLaws.{clash}
 use Rattle.reading.specs.Notes.{lookBy, noted}

@@ -7,15 +7,15 @@ use mathlib.Core.Bool.{Bool, true, false}
 use lib.ListN.{length, getD, replicate}
 use lib.Dec.{ltb}
 use borrow.Author.Tests.{ltb-true, ltb-false}
-use Rattle.pack.specs.declared.table.Follows.the-variants.{Aggregate, Exists}
-use Rattle.pack.specs.declared.answer.Refusal.{Refusal}
+use Rattle.definitions.specs.declared.table.Follows.the-variants.{Aggregate, Exists}
+use Rattle.definitions.specs.declared.answer.Refusal.{Refusal}
 use Rattle.pack.specs.declared.cursor.Cursor.{Cursor}
 use Rattle.pack.specs.declared.cursor.Step.{Step}
 use Rattle.pack.specs.declared.cursor.Step.the-variants.{On, Refused}
-use Rattle.pack.specs.Table.{kindOf, valueOf, entryOf, table, howMany, fieldsOf, childrenOf, scalar, judgment}
+use Rattle.definitions.specs.Table.{kindOf, valueOf, entryOf, table, howMany, fieldsOf, childrenOf, scalar, judgment}
 use Rattle.pack.specs.Packed.{Compares}
-use Rattle.pack.specs.Form.{Form, word, only, each, allowedHere}
-use Rattle.pack.specs.Tree.{toForest, heads, fields, follow, tree, root}
+use Rattle.definitions.specs.Form.{Form, word, only, each, allowedHere}
+use Rattle.definitions.specs.Tree.{toForest, heads, fields, follow, tree, root}
 use Rattle.pack.specs.Steps.{walk, coded, fault, decoded}
 use Rattle.reading.specs.Notes.{noted}
 use Rattle.reading.specs.Noting.{State, push, inNext, noteTree, noteForest, Came, Noted, NotedStep, Sorted, Rows, Shape, After}

@@ -4,11 +4,11 @@ use mathlib.Core.List.{List, [], _∷_, _++_}
 use mathlib.Core.Bool.{Bool, true, false, _||_}
 use lib.ListN.{length}
 use lib.Dec.{eqb}
-use Rattle.pack.specs.declared.table.Follows.{Follows}
-use Rattle.pack.specs.declared.table.Follows.the-variants.{Nothing, Counted, OneScalar, TwoScalars, Scalars, Patterns, Periods, OneJudgment, Judgments, Choice, Aggregate, OnlyRelated, Slots, Atom, Exists}
-use Rattle.pack.specs.Table.{pick, entryOf}
-use Rattle.pack.specs.Tree.{Tree, Forest, node, more}
-use Rattle.pack.specs.Tree as trees
+use Rattle.definitions.specs.declared.table.Follows.{Follows}
+use Rattle.definitions.specs.declared.table.Follows.the-variants.{Nothing, Counted, OneScalar, TwoScalars, Scalars, Patterns, Periods, OneJudgment, Judgments, Choice, Aggregate, OnlyRelated, Slots, Atom, Exists}
+use Rattle.definitions.specs.Table.{pick, entryOf}
+use Rattle.definitions.specs.Tree.{Tree, Forest, node, more, size}
+use Rattle.definitions.specs.Tree as trees
 
 -- ---- which nodes are noted
 
@@ -65,15 +65,6 @@ note at inside lost = record { place = at; inside = inside; lost = lost }
 -- inside which note the children of a node stand that is the i-th
 abbrev pub within : ℕ → ℕ → ℕ → ℕ
 within k i inside = pick (lookOf k .opens) i inside
-
--- the words of a tree
-unfoldable mutual
-  pub size : Tree → ℕ
-  size (node k v fs f) = 1 + length fs + sizes f
-
-  pub sizes : Forest → ℕ
-  sizes trees.none = 0
-  sizes (more t f) = size t + sizes f
 
 -- The notes of a tree whose root stands at a place, and of the children of a node from a place on: the next note is the i-th.
 unfoldable mutual

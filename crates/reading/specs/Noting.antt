@@ -7,14 +7,14 @@ use lib.ListN.{length, getD, set, drop, replicate}
 use Rattle.pack.specs.declared.cursor.Cursor.{Cursor}
 use Rattle.pack.specs.declared.cursor.Step.{Step}
 use Rattle.pack.specs.declared.cursor.Step.the-variants.{On}
-use Rattle.pack.specs.declared.table.Follows.{Follows}
-use Rattle.pack.specs.Table.{pick, kindOf, valueOf, entryOf, fieldsOf}
+use Rattle.definitions.specs.declared.table.Follows.{Follows}
+use Rattle.definitions.specs.Table.{pick, kindOf, valueOf, entryOf, fieldsOf}
 use Rattle.pack.specs.Packed.{Tabled, boundOf, Bounded}
-use Rattle.pack.specs.Form.{got, Form, each, readBy}
-use Rattle.pack.specs.Tree.{Tree, Forest, node, more, toForest, follow, tree}
-use Rattle.pack.specs.Tree as trees
+use Rattle.definitions.specs.Form.{got, Form, each, readBy}
+use Rattle.definitions.specs.Tree.{Tree, Forest, node, more, toForest, follow, tree, size}
+use Rattle.definitions.specs.Tree as trees
 use Rattle.pack.specs.Steps.{walk, coded}
-use Rattle.reading.specs.Notes.{lookBy, noted, size, notesOf, noteCode}
+use Rattle.reading.specs.Notes.{lookBy, noted, notesOf, noteCode}
 
 -- what is lent to the readers of trees: words, of which there are no more than a pack may have, and a table with the bound of names
 pub record Ready (ws t : List ℕ) : Type 0 where

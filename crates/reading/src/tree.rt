@@ -1,11 +1,11 @@
 // Trees: scalar and judgment walkers, which call each other. With each level the number of levels left falls.
 // They answer a plain number: the place after the tree, or a refusal's code. On their way they note the nodes that resolving looks at.
-use pack::answer::Number;
+use definitions::answer::Number;
 use pack::cursor::Cursor;
 use pack::cursor::Step;
 use pack::cursor::stop;
 use pack::kinds::Pack;
-use pack::table::Rule;
+use definitions::table::Rule;
 use pack::table::allows_head;
 use pack::table::bound;
 use pack::table::children;
@@ -18,11 +18,11 @@ ghost use mathlib.Core.List.{[], _∷_};
 ghost use mathlib.Core.Bool.{true, false};
 ghost use lib.ListN.{length, getD, set, replicate};
 ghost use Rattle.pack.specs.declared.cursor.Step.the-variants.{Refused};
-ghost use Rattle.pack.specs.declared.table.Follows.the-variants.{Aggregate, OnlyRelated, Slots, Atom, Exists};
-ghost use Rattle.pack.specs.Table.{scalar, judgment, kindOf, valueOf, entryOf, howMany, fieldsOf};
+ghost use Rattle.definitions.specs.declared.table.Follows.the-variants.{Aggregate, OnlyRelated, Slots, Atom, Exists};
+ghost use Rattle.definitions.specs.Table.{scalar, judgment, kindOf, valueOf, entryOf, howMany, fieldsOf};
 ghost use Rattle.pack.specs.Packed.{Tabled, boundOf, Bounded, UpTo, Compares};
-ghost use Rattle.pack.specs.Form.{word, only};
-ghost use Rattle.pack.specs.Tree.{heads, fields, root};
+ghost use Rattle.definitions.specs.Form.{word, only};
+ghost use Rattle.definitions.specs.Tree.{heads, fields, root};
 ghost use Rattle.pack.specs.Steps.{walk, coded, fault, decoded};
 ghost use Rattle.reading.specs.Notes.{contextOf, noteCode, note};
 ghost use Rattle.reading.specs.Noting.{nextNote, Ready, Based, Context, losing, push, inNext, noteTree, NotedStep, Sorted, Rows, Shape, After};

@@ -9,18 +9,19 @@ use lib.ListN.{length, getD, set, drop, length-set, length-append}
 use lib.Seq.{getD-set-same, getD-set-other}
 use lib.Dec.{eqb, leb, ltb}
 use borrow.Author.Tests.{eq-eqb, ne-eqb, eqb-true, eqb-false, leb-true, ltb-true, lt-ltb}
-use Rattle.pack.specs.declared.answer.Refusal.{Refusal}
+use Rattle.definitions.specs.declared.answer.Refusal.{Refusal}
 use Rattle.pack.specs.declared.cursor.Cursor.{Cursor}
 use Rattle.pack.specs.declared.cursor.Step.{Step}
 use Rattle.pack.specs.declared.cursor.Step.the-variants.{On, Refused}
-use Rattle.pack.specs.Table.{pick, entryOf, table}
-use Rattle.pack.specs.Table as tables
-use Rattle.pack.specs.Form.{Read, got, refused, bind, allowedHere, among, readField, wordsAll, list, listOrNone, option, count, items, says, Form, field, Fine, wordsBy, readBy}
+use Rattle.definitions.specs.Table.{pick, entryOf, table}
+use Rattle.definitions.specs.Table as tables
+use Rattle.definitions.specs.Form.{Read, got, refused, bind, allowedHere, among, readField, wordsAll, list, listOrNone, option, count, items, says, Form, field, Fine, wordsBy, readBy}
 use Rattle.records.specs.declared.directory.Laid.{Laid}
 use Rattle.records.specs.declared.directory.Laid.the-variants.{Yes, No}
 use Rattle.pack.proofs.FormLaws.{clash}
-use Rattle.pack.specs.Pack.{defaulted, relations, rules, blocks, records, Records, undated, nextUsed}
-use Rattle.pack.specs.Pack.{Hop, Derivation, Relation, Chain, Member, RelationTail, toDerivation, hop, path, chain, member, nameList, derivation, optionalDerivation, newName, relationTail, relation}
+use Rattle.definitions.specs.Records.{undated, Hop, Derivation, Relation}
+use Rattle.definitions.specs.Rows.{Records, Chain, Member, RelationTail, toDerivation}
+use Rattle.definitions.specs.Pack.{defaulted, relations, rules, blocks, records, nextUsed, hop, path, chain, member, nameList, derivation, optionalDerivation, newName, relationTail, relation}
 use Rattle.pack.specs.Steps.{stepOf, walk, same, nameOf, fieldStep}
 use Rattle.pack.proofs.StepLaws.{at-most, field-fine, step-no}
 use Rattle.records.specs.Directory.{Noted, hops, leadOf, leadIn, chainLead, entities, derivedBy, noteIn, tailNote, entered, entry, noteRelation, Clear, relationWords, noteRelations, notesAll, relationsAt, rulesAt, blocksAt, layoutOf, directoryOf, stepIn, refusal}

@@ -5,13 +5,13 @@ use mathlib.Core.Path.{_≡_, refl, ap, sym, _∙_, subst}
 use mathlib.Core.List.{List, [], _∷_, _++_}
 use mathlib.Core.Option.{Option, none, some}
 use lib.ListN.{length, drop, length-append, length-drop}
-use Rattle.pack.specs.declared.answer.Refusal.{Refusal}
+use Rattle.definitions.specs.declared.answer.Refusal.{Refusal}
 use Rattle.pack.specs.declared.cursor.Cursor.{Cursor}
 use Rattle.pack.specs.declared.cursor.Step.{Step}
 use Rattle.pack.specs.declared.cursor.Step.the-variants.{On, Refused}
-use Rattle.pack.specs.declared.table.Rule.the-variants.{AtMost, FromOne}
-use Rattle.pack.specs.Table.{wordOf, entryOf}
-use Rattle.pack.specs.Form.{Read, got, refused, bind, mapRead, readField, readAll, Holder, list, option, count, says, whole, Suits, Form, field, _▹_, via, countedFrom, oneAndMore, wordsBy, Fine, readBy}
+use Rattle.definitions.specs.declared.table.Rule.the-variants.{AtMost, FromOne}
+use Rattle.definitions.specs.Table.{wordOf, entryOf}
+use Rattle.definitions.specs.Form.{Read, got, refused, bind, mapRead, readField, readAll, Holder, list, option, count, says, whole, Suits, Form, field, _▹_, via, countedFrom, oneAndMore, wordsBy, Fine, readBy}
 use Rattle.pack.specs.Steps.{stepBy, stepOf, walk, same, fieldStep, walkAll}
 use Rattle.pack.proofs.FormLaws.{lawful, clash, bind-got, map-got}
 use Rattle.pack.proofs.StepLaws.{went, went-same, step-no, by-via, by-left, by-more, all-next, all-done, field-fine, at-most}

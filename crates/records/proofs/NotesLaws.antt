@@ -8,9 +8,11 @@ use lib.ListN.{length, set}
 use Rattle.pack.specs.declared.cursor.Cursor.{Cursor}
 use Rattle.pack.specs.declared.cursor.Step.{Step}
 use Rattle.pack.specs.declared.cursor.Step.the-variants.{On, Refused}
-use Rattle.pack.specs.Form.{list, count, items, wordsAll, Form, field, wordsBy}
-use Rattle.pack.specs.Tree.{Tree, root}
-use Rattle.pack.specs.Pack.{Body, Derivation, Relation, Chain, Member, RelationTail, toBody, toDerivation, toRelation, toRule, body, bodies, rule, nameList, chain, member, derivation, optionalDerivation, relationTail, newName, relation}
+use Rattle.definitions.specs.Form.{list, count, items, wordsAll, Form, field, wordsBy}
+use Rattle.definitions.specs.Tree.{Tree, root}
+use Rattle.definitions.specs.Records.{Body, Derivation, Relation}
+use Rattle.definitions.specs.Rows.{Chain, Member, RelationTail, toBody, toDerivation, toRelation, toRule}
+use Rattle.definitions.specs.Pack.{body, bodies, rule, nameList, chain, member, derivation, optionalDerivation, relationTail, newName, relation}
 use Rattle.pack.specs.Packed.{boundOf}
 use Rattle.pack.specs.Steps.{stepOf, walk, same, nameOf, fieldStep}
 use Rattle.reading.specs.Noting.{ReadyFor, Context, noteTree, NotedStep}

@@ -11,10 +11,12 @@ use Rattle.pack.specs.declared.cursor.Step.the-variants.{On, Refused}
 use Rattle.records.specs.declared.directory.Laid.{Laid}
 use Rattle.records.specs.declared.directory.Laid.the-variants.{Yes, No}
 use Rattle.records.specs.declared.directory.Layout.{Layout}
-use Rattle.pack.specs.Table.{pick}
-use Rattle.pack.specs.Table as table
-use Rattle.pack.specs.Form.{Read, got, refused, Form, wordsBy, readBy}
-use Rattle.pack.specs.Pack.{Hop, Derivation, Relation, Chain, Member, RelationTail, Records, defaulted, relation, relations, rules}
+use Rattle.definitions.specs.Table.{pick}
+use Rattle.definitions.specs.Table as table
+use Rattle.definitions.specs.Form.{Read, got, refused, Form, wordsBy, readBy}
+use Rattle.definitions.specs.Records.{Hop, Derivation, Relation}
+use Rattle.definitions.specs.Rows.{Chain, Member, RelationTail, Records}
+use Rattle.definitions.specs.Pack.{defaulted, relation, relations, rules}
 use Rattle.pack.specs.Steps.{stepOf}
 
 -- ---- readers that note

@@ -7,9 +7,11 @@ use mathlib.Core.Path.{_≡_}
 use lib.ListN.{length, getD, drop}
 use Rattle.records.specs.declared.directory.Laid.{Laid}
 use Rattle.records.specs.declared.directory.Laid.the-variants.{Yes}
-use Rattle.pack.specs.Form.{got, wordsBy, readBy}
+use Rattle.definitions.specs.Form.{got, wordsBy, readBy}
 use Rattle.pack.specs.Steps.{walk}
-use Rattle.pack.specs.Pack.{Body, Rule, Derivation, Relation, Member, RelationTail, Records, undated, body, rule, records}
+use Rattle.definitions.specs.Records.{Body, Rule, Derivation, Relation, undated}
+use Rattle.definitions.specs.Rows.{Member, RelationTail, Records}
+use Rattle.definitions.specs.Pack.{body, rule, records}
 use Rattle.reading.specs.Notes.{note, contextOf, noteCode}
 use Rattle.reading.specs.Noting.{push, nextNote, noteTree}
 use Rattle.records.specs.Directory.{hops, notesAll, relationWords, noteRelation, relationsAt, rulesAt, layoutOf, directoryOf, stepIn}

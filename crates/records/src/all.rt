@@ -5,7 +5,7 @@ use crate::directory::Laid;
 use crate::directory::Layout;
 use crate::relation::relations;
 use crate::rule::rules;
-use pack::answer::Refusal;
+use definitions::answer::Refusal;
 use pack::cursor::Cursor;
 use pack::cursor::Step;
 use reading::tree::count;

@@ -1,5 +1,5 @@
 // The directory that reading writes on its way, and the layout that it answers.
-use pack::answer::Refusal;
+use definitions::answer::Refusal;
 use pack::kinds::Pack;
 
 // First the names of the relations in record order. Then a word for each name, 0 where no relation has it: the place of

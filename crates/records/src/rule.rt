@@ -2,13 +2,13 @@
 use pack::cursor::Cursor;
 use pack::cursor::Step;
 use pack::kinds::Pack;
-use pack::table::Rule;
+use definitions::table::Rule;
 use reading::tree::judgment;
 use reading::tree::open;
 use reading::tree::scalar;
 ghost use Prim.Native.Nat.{ℕ};
-ghost use Rattle.pack.specs.Form.{count, list};
-ghost use Rattle.pack.specs.Pack.{body, bodies, rule, rules};
+ghost use Rattle.definitions.specs.Form.{count, list};
+ghost use Rattle.definitions.specs.Pack.{body, bodies, rule, rules};
 ghost use Rattle.reading.specs.Noting.{ReadyFor, Context};
 ghost use Rattle.records.specs.Directory.{Noted};
 ghost use Rattle.records.specs.Notes.{noteBody, noteBodies, noteRule, noteRules};

@@ -4,12 +4,13 @@ use native.Mathlib.Omega.{arith}
 use mathlib.Core.Path.{_≡_, refl, ap, sym, _∙_, subst}
 use mathlib.Core.List.{List, [], _∷_, map}
 use mathlib.Core.Option.{Option, none, some, Option·map}
-use Rattle.pack.specs.Pack.{Relation, Rule, Block, Pack, WellFormed}
-use Rattle.pack.specs.Dealt.{Shuffled, nil, cons, swap, trans, InAnyOrder, SameBlock, Dealt}
-use Rattle.chains.specs.Places.{firstRelation}
-use Rattle.directions.specs.Tables.{tables}
-use Rattle.directions.specs.Turning.{Outcome, done, refused, andThen, mapDone, result}
-use Rattle.directions.specs.Resolving.{defaultedEqual, equalRefusal, resolveRules, resolveRelation, resolveRelations, stamp, firstRule, resolveRecords, resolved}
+use Rattle.definitions.specs.Records.{Relation, Rule, Block, Pack}
+use Rattle.definitions.specs.Pack.{WellFormed}
+use Rattle.definitions.specs.Dealt.{Shuffled, nil, cons, swap, trans, InAnyOrder, SameBlock, Dealt}
+use Rattle.definitions.specs.Places.{firstRelation}
+use Rattle.definitions.specs.Tables.{tables}
+use Rattle.definitions.specs.Turning.{Outcome, done, refused, andThen, mapDone, result}
+use Rattle.definitions.specs.Resolving.{defaultedEqual, equalRefusal, resolveRules, resolveRelation, resolveRelations, stamp, firstRule, resolveRecords, resolved}
 use Rattle.resolve.specs.Demand3.{relationOut, ruleOut, Each, ComesOut, beside, SameBlocks, SameOut}
 use Rattle.resolve.specs.Demand3 as demand
 use Rattle.resolve.proofs.OutcomeLaws.{bound, allDone, Alike, all-dealt}

@@ -4,19 +4,20 @@ use mathlib.Core.Path.{_≡_, refl, ap, sym, _∙_, fun-ext}
 use mathlib.Core.List.{List}
 use lib.ListN.{length}
 use borrow.Author.Tests.{le-leb}
-use Rattle.pack.specs.declared.answer.Answer.the-variants.{Given}
-use Rattle.pack.specs.Pack.{Pack, yes, read}
-use Rattle.pack.specs.Dealt.{Dealt}
+use Rattle.definitions.specs.declared.answer.Answer.the-variants.{Given}
+use Rattle.definitions.specs.Records.{Pack}
+use Rattle.definitions.specs.Pack.{yes, read}
+use Rattle.definitions.specs.Dealt.{Dealt}
 use Rattle.pack.proofs.PackLaws.{words-read}
 use Rattle.pack.proofs.DealtLaws.{shuffled-length}
-use Rattle.chains.specs.Kinds.{declared, undeclaredSources, ownAnswer, kindsOf}
-use Rattle.chains.specs.Places.{placeOf, namesAt, allKindsWords}
-use Rattle.kinds.specs.Operations.{allKindsAnswer, leanAnswer}
-use Rattle.chains.specs.ByName.{tableFrom}
-use Rattle.filtered.specs.FilteredTables.{says, filterWords, filterAnswer, filterBuffer}
-use Rattle.filtered.specs.declared.filtered.Filter.{Filter}
-use Rattle.filtered.specs.declared.filtered.Filter.the-variants.{Direct, Innermost, Alias, Unresolved}
-use Rattle.chains.specs.Chain.{Distinct}
+use Rattle.definitions.specs.Kinds.{declared, undeclaredSources, ownAnswer, kindsOf}
+use Rattle.definitions.specs.Places.{placeOf, namesAt, allKindsWords}
+use Rattle.definitions.specs.Operations.{allKindsAnswer, leanAnswer, filterAnswer, filterBuffer}
+use Rattle.definitions.specs.Answers.{tableFrom}
+use Rattle.definitions.specs.Filtered.{says, filterWords}
+use Rattle.definitions.specs.declared.operation.Filter.{Filter}
+use Rattle.definitions.specs.declared.operation.Filter.the-variants.{Direct, Innermost, Alias, Unresolved}
+use Rattle.definitions.specs.Chain.{Distinct}
 use Rattle.kinds.proofs.LeanLaws.{leans-dealt}
 use Rattle.filtered.proofs.FilteredLaws.{filtered-dealt}
 use Rattle.chains.proofs.ListAt.{place-holds}

@@ -6,20 +6,21 @@ use mathlib.Core.List.{List, map}
 use mathlib.Core.Bool.{Bool, _||_, _&&_}
 use mathlib.Core.Option.{Option, none, some, Option·map}
 use lib.Dec.{ltb}
-use Rattle.pack.specs.declared.answer.Refusal.{Refusal}
-use Rattle.pack.specs.Table.{pick}
-use Rattle.pack.specs.Pack.{Derivation, Relation, Rule, Pack, WellFormed}
-use Rattle.pack.specs.Dealt.{InAnyOrder, Dealt}
-use Rattle.chains.specs.Chain.{Distinct}
-use Rattle.chains.specs.Kinds.{find, declared, kindsOf}
-use Rattle.chains.specs.Reach.{any}
-use Rattle.chains.specs.Places.{firstRelation}
+use Rattle.definitions.specs.declared.answer.Refusal.{Refusal}
+use Rattle.definitions.specs.Table.{pick}
+use Rattle.definitions.specs.Records.{Derivation, Relation, Rule, Pack}
+use Rattle.definitions.specs.Pack.{WellFormed}
+use Rattle.definitions.specs.Dealt.{InAnyOrder, Dealt}
+use Rattle.definitions.specs.Chain.{Distinct}
+use Rattle.definitions.specs.Kinds.{find, declared, kindsOf}
+use Rattle.definitions.specs.Lean.{any}
+use Rattle.definitions.specs.Places.{firstRelation}
 use Rattle.chains.proofs.Names.{shuffled-any, shuffled-map}
 use Rattle.chains.proofs.KindLaws.{kinds-dealt, distinct-names}
 use Rattle.filtered.proofs.FilteredLaws.{filtered-dealt}
-use Rattle.directions.specs.Tables.{derivedAt, typedAt, Tables, tables}
-use Rattle.directions.specs.Turning.{Outcome, done, refused, andThen, mapDone, Citing, InRange, result}
-use Rattle.directions.specs.Resolving.{cites, defaultedEqual, equalRefusal, ruleBy, resolveRule, resolveRules, predicateBy, withPredicate, resolveDerivation, resolveRelation, resolveRelations, holds, roleJudgment, atomOf, inDerivation, inRule, atomNames, empty, stampBy, stampDerived, stamp, firstRule, resolveRecords, resolved}
+use Rattle.definitions.specs.Tables.{derivedAt, typedAt, Tables, tables}
+use Rattle.definitions.specs.Turning.{Outcome, done, refused, andThen, mapDone, Citing, InRange, result}
+use Rattle.definitions.specs.Resolving.{cites, defaultedEqual, equalRefusal, ruleBy, resolveRule, resolveRules, predicateBy, withPredicate, resolveDerivation, resolveRelation, resolveRelations, holds, roleJudgment, atomOf, inDerivation, inRule, atomNames, empty, stampBy, stampDerived, stamp, firstRule, resolveRecords, resolved}
 use Rattle.resolve.proofs.OutcomeLaws.{result-map, allDone, Alike, all-dealt}
 use Rattle.resolve.proofs.PlaceFree.{rules-each, relations-each}
 use Rattle.directions.proofs.Numbers.{Numbered, rules-numbered, relations-numbered}

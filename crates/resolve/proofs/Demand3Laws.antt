@@ -7,22 +7,22 @@ use mathlib.Core.Bool.{Bool, true, false, _&&_}
 use lib.ListN.{length, drop}
 use lib.Dec.{leb}
 use borrow.Author.Tests.{le-leb, leb-true}
-use Rattle.pack.specs.declared.answer.Answer.the-variants.{Given}
-use Rattle.pack.specs.Table.{pick}
-use Rattle.pack.specs.Pack.{Relation, Pack, WellFormed, yes, read, words, total}
-use Rattle.pack.specs.Operations.{noRoom}
-use Rattle.pack.specs.Dealt.{Checked, Dealt}
+use Rattle.definitions.specs.declared.answer.Answer.the-variants.{Given}
+use Rattle.definitions.specs.Table.{pick}
+use Rattle.definitions.specs.Records.{Relation, Pack}
+use Rattle.definitions.specs.Pack.{WellFormed, yes, read, words, total}
+use Rattle.definitions.specs.Answers.{noRoom}
+use Rattle.definitions.specs.Dealt.{Checked, Dealt}
 use Rattle.pack.proofs.PackLaws.{words-read}
 use Rattle.pack.proofs.DealtLaws.{dealt-total, dealt-again, dealt-checked}
-use Rattle.chains.specs.Kinds.{allKinds, ownAnswer, kindsOf}
-use Rattle.chains.specs.Places.{placeOf, namesAt, allKindsWords, SettledAt}
-use Rattle.kinds.specs.Operations.{allKindsAnswer, allKindsBuffer}
+use Rattle.definitions.specs.Kinds.{allKinds, ownAnswer, kindsOf}
+use Rattle.definitions.specs.Places.{placeOf, namesAt, allKindsWords, SettledAt}
+use Rattle.definitions.specs.Operations.{allKindsAnswer, allKindsBuffer, givenOut, writtenOut, resolveAnswer, resolveBuffer}
 use Rattle.chains.proofs.KindLaws.{kinds-dealt, distinct-names, words-own, kinds-steps}
 use Rattle.chains.proofs.ListAt.{walk-end, place-holds}
 use Rattle.resolve.proofs.DealtChains.{chains-dealt}
-use Rattle.directions.specs.Turning.{Outcome, done, refused}
-use Rattle.directions.specs.Resolving.{resolved}
-use Rattle.resolve.specs.Operations.{givenOut, writtenOut, resolveAnswer, resolveBuffer}
+use Rattle.definitions.specs.Turning.{Outcome, done, refused}
+use Rattle.definitions.specs.Resolving.{resolved}
 use Rattle.resolve.specs.Demand3.{Left, ResolveAlike, bothResolve, bothEqual, bothRoom, bothOpen, KindsWritten, no-more, one-more, stepSum, StepsAreSum, Demand3}
 use Rattle.resolve.proofs.DealtResolving.{ResolvedAlike, bothDone, bothRefused, resolve-dealt}
 use Rattle.resolve.proofs.DealtResolving as dealing

@@ -9,25 +9,27 @@ use lib.Seq.{length-take-le, take-at, drop-at, take-append-add}
 use lib.Dec.{leb}
 use borrow.Author.Tests.{le-leb, lt-leb}
 use borrow.Rule.Slice.PartMut.{midOf, putMid, same-len-mid, mid-len}
-use Rattle.pack.specs.declared.answer.Answer.{Answer}
-use Rattle.pack.specs.declared.answer.Answer.the-variants.{Given}
-use Rattle.pack.specs.Table.{pick, wordOf}
-use Rattle.pack.specs.Form.{count, items, says, wordsBy, Fine}
-use Rattle.pack.specs.Pack.{Relation, Rule, Pack, WellFormed, yes, read, words, total, toRow, relations, rules, blocks, records, inner, rule}
-use Rattle.pack.specs.Operations.{noRoom}
+use Rattle.definitions.specs.declared.answer.Answer.{Answer}
+use Rattle.definitions.specs.declared.answer.Answer.the-variants.{Given}
+use Rattle.definitions.specs.Table.{pick, wordOf}
+use Rattle.definitions.specs.Form.{count, items, says, wordsBy, Fine}
+use Rattle.definitions.specs.Records.{Relation, Rule, Pack}
+use Rattle.definitions.specs.Rows.{toRow}
+use Rattle.definitions.specs.Pack.{WellFormed, yes, read, words, total, relations, rules, blocks, records, inner, rule}
+use Rattle.definitions.specs.Answers.{noRoom}
 use Rattle.pack.proofs.PackLaws.{words-read, words-length}
-use Rattle.chains.specs.Kinds.{allKinds}
-use Rattle.chains.specs.Places.{relationWords, firstRelation, relationsEnd}
+use Rattle.definitions.specs.Kinds.{allKinds}
+use Rattle.definitions.specs.Places.{relationWords, firstRelation, relationsEnd}
 use Rattle.chains.proofs.RelationScan.{RelationsFine}
 use Rattle.chains.proofs.PackIndex.{parts, all-found}
 use Rattle.chains.proofs.CheckedLaws.{same-pack}
-use Rattle.directions.specs.Turning.{Outcome, done, refused, andThen, mapDone}
-use Rattle.directions.specs.Resolving.{stamp, ruleWords, resolveRule, resolveRules, resolveRelation, resolveRelations, firstRule}
+use Rattle.definitions.specs.Turning.{Outcome, done, refused, andThen, mapDone}
+use Rattle.definitions.specs.Resolving.{stamp, ruleWords, resolveRule, resolveRules, resolveRelation, resolveRelations, firstRule}
 use Rattle.chains.specs.Record.{Recorded}
 use Rattle.stamping.specs.Stamping.{listsFor, addedBy, Listed}
 use Rattle.resolve.specs.Writing.{sums, lengths, beginnings, otherPieces, piecesOf, Stamped, WriteAsked, WriteCame}
 use Rattle.directions.specs.Records.{placesFrom, wordsOf, runBy, RelationKeeps, withRecords, turned, placesIn, Tabled}
-use Rattle.resolve.specs.Operations.{givenOut, writtenOut}
+use Rattle.definitions.specs.Operations.{givenOut, writtenOut}
 use Rattle.resolve.specs.Finish.{stampAll, AskedOf, ClearFor, FinishAsked, FinishCame}
 use Rattle.directions.proofs.KeepsForm.{Good}
 use Rattle.directions.proofs.ResolvedFine.{RulesFine, rules-good}

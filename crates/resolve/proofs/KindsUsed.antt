@@ -8,29 +8,30 @@ use mathlib.Core.Logic.{_⊎_, inl, inr}
 use mathlib.Core.Option.{Option, none, some, Option·map}
 use lib.Dec.{eqb, leb}
 use borrow.Author.Tests.{eq-eqb, ne-eqb, eqb-true, not-true}
-use Rattle.pack.specs.declared.answer.Refusal.{Refusal}
-use Rattle.pack.specs.declared.answer.Answer.the-variants.{Given, Refused}
-use Rattle.pack.specs.Table.{pick}
-use Rattle.pack.specs.Table as table
-use Rattle.pack.specs.Form.{among}
-use Rattle.pack.specs.Pack.{Derivation, Relation, Rule, Pack, WellFormed, yes, read, total}
-use Rattle.pack.specs.Tree.{Tree}
-use Rattle.pack.specs.Operations.{noRoom}
+use Rattle.definitions.specs.declared.answer.Refusal.{Refusal}
+use Rattle.definitions.specs.declared.answer.Answer.the-variants.{Given, Refused}
+use Rattle.definitions.specs.Table.{pick}
+use Rattle.definitions.specs.Table as table
+use Rattle.definitions.specs.Form.{among}
+use Rattle.definitions.specs.Records.{Derivation, Relation, Rule, Pack}
+use Rattle.definitions.specs.Pack.{WellFormed, yes, read, total}
+use Rattle.definitions.specs.Tree.{Tree}
+use Rattle.definitions.specs.Answers.{noRoom}
 use Rattle.pack.proofs.PackLaws.{words-read}
-use Rattle.chains.specs.Chain.{end, same}
-use Rattle.chains.specs.Kinds.{list9, list21, declares, listOf, find, kindStep, declared, allKinds, ownAnswer, namesOf, kindsOf}
-use Rattle.chains.specs.Reach.{any}
-use Rattle.chains.specs.Places.{firstRelation}
+use Rattle.definitions.specs.Chain.{end, same}
+use Rattle.definitions.specs.Kinds.{list9, list21, declares, listOf, find, kindStep, declared, allKinds, ownAnswer, namesOf, kindsOf}
+use Rattle.definitions.specs.Lean.{any}
+use Rattle.definitions.specs.Places.{firstRelation}
 use Rattle.chains.proofs.Names.{apart, or-cases, or-left, or-right, among-append, any-of, of-any}
 use Rattle.chains.proofs.ChainLaws.{own-end}
 use Rattle.chains.proofs.KindLaws.{kind-leads}
 use Rattle.chains.proofs.PackIndex.{parts, find-name, EachFound, all-found}
-use Rattle.filtered.specs.Filtered.{kindAt, listed, entityIs, takes, takenFrom, taken, single, direct}
-use Rattle.directions.specs.Tables.{Derived, Tables, derivedBy, derivedAt, pair, typedBy, typedAt, tables}
-use Rattle.directions.specs.Turning.{Outcome, done, refused, andThen, mapDone, result}
-use Rattle.directions.specs.Resolving.{sameKind, equalKinds, defaultedEqual, equalRefusal, resolveRules, predicateBy, resolvePredicate, resolveDerivation, resolveRelation, withPredicate, resolveRelations, empty, unlike, passedOver, orKinds, stampedWith, stampBy, stampDerived, stamp, firstRule, resolveRecords, resolved}
+use Rattle.definitions.specs.Filtered.{kindAt, listed, entityIs, takes, takenFrom, taken, single, direct}
+use Rattle.definitions.specs.Tables.{Derived, Tables, derivedBy, derivedAt, pair, typedBy, typedAt, tables}
+use Rattle.definitions.specs.Turning.{Outcome, done, refused, andThen, mapDone, result}
+use Rattle.definitions.specs.Resolving.{sameKind, equalKinds, defaultedEqual, equalRefusal, resolveRules, predicateBy, resolvePredicate, resolveDerivation, resolveRelation, withPredicate, resolveRelations, empty, unlike, passedOver, orKinds, stampedWith, stampBy, stampDerived, stamp, firstRule, resolveRecords, resolved}
 use Rattle.directions.proofs.Numbers.{Numbered, rules-numbered, relations-numbered}
-use Rattle.resolve.specs.Operations.{givenOut, resolveAnswer}
+use Rattle.definitions.specs.Operations.{givenOut, resolveAnswer}
 use Rattle.resolve.specs.Demand3.{relationOut, DerivedRelation, TakesOne, EqualKinds, ListsLeft, as-they-stood, stamped, KindsUsed}
 use Rattle.resolve.proofs.ResolveLaws.{equal-named}
 

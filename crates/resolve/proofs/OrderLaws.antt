@@ -7,13 +7,14 @@ use mathlib.Core.Bool.{Bool, true, false, _||_}
 use lib.ListN.{length, getD, length-append, length-map}
 use lib.Dec.{eqb}
 use borrow.Author.Tests.{eq-eqb, ne-eqb, leb-true}
-use Rattle.pack.specs.Table.{pick, wordOf, table, entryOf}
-use Rattle.pack.specs.Form.{among, allowedHere, listOrNone, count, repeats, wordsBy, Fine}
-use Rattle.pack.specs.Pack.{Relation, Rule, Block, Pack, WellFormed, yes, read, inner, records, rules}
-use Rattle.pack.specs.Pack as forms
+use Rattle.definitions.specs.Table.{pick, wordOf, table, entryOf}
+use Rattle.definitions.specs.Form.{among, allowedHere, listOrNone, count, repeats, wordsBy, Fine}
+use Rattle.definitions.specs.Records.{Relation, Rule, Block, Pack}
+use Rattle.definitions.specs.Pack.{WellFormed, yes, read, inner, records, rules}
+use Rattle.definitions.specs.Pack as forms
 use Rattle.pack.proofs.PackLaws.{words-read}
-use Rattle.chains.specs.Kinds.{declared}
-use Rattle.chains.specs.Places.{relationWords, startOf, firstRelation, relationsEnd}
+use Rattle.definitions.specs.Kinds.{declared}
+use Rattle.definitions.specs.Places.{relationWords, startOf, firstRelation, relationsEnd}
 use Rattle.chains.specs.AllKinds.{RulesAt, BlocksAt}
 use Rattle.chains.specs.Entry.{Reaches, startsIn, namesIn}
 use Rattle.chains.specs.Record.{valueAt}
@@ -23,11 +24,11 @@ use Rattle.chains.proofs.EntryLaws.{name-here}
 use Rattle.chains.proofs.RecordLaws.{value-there}
 use Rattle.chains.proofs.EntryLaws.{reaches-one}
 use Rattle.filtered.proofs.TakingLaws.{name-low}
-use Rattle.inputs.specs.Inputs.{sequence}
+use Rattle.definitions.specs.Inputs.{sequence}
 use Rattle.inputs.proofs.InputRead.{itemsWords, blocksWords, BlockFits, BlocksFit, items-again, items-long}
 use Rattle.inputs.proofs.BlocksStand.{Stands, blocks-stand, block-words, blocks-words}
 use Rattle.kinds.proofs.PartLaws.{map-names, table-mapped}
-use Rattle.directions.specs.Resolving.{ruleWords, firstRule}
+use Rattle.definitions.specs.Resolving.{ruleWords, firstRule}
 use Rattle.directions.specs.Records.{placesFrom, placesIn, wordsOf, bodyWords, Tabled}
 use Rattle.chains.proofs.DeclarationLaws.{a-record}
 use Rattle.directions.proofs.TurnedPack.{front, front-long, front22, front22-long, pack-words-22, rulesOn}

@@ -4,15 +4,15 @@ use mathlib.Core.Path.{_≡_, refl, ap, sym, _∙_}
 use mathlib.Core.List.{List, [], _∷_}
 use mathlib.Core.Option.{Option, none, some, Option·map}
 use lib.ListN.{length}
-use Rattle.pack.specs.Table.{entryOf}
-use Rattle.pack.specs.Tree.{Tree, Forest, node, more}
-use Rattle.pack.specs.Tree as trees
-use Rattle.pack.specs.Pack.{Derivation, Relation, Body, Rule, Pack}
-use Rattle.chains.specs.Kinds.{kindsOf}
-use Rattle.chains.specs.Places.{relationWords}
-use Rattle.directions.specs.Direction.{Membership}
-use Rattle.directions.specs.Turning.{Outcome, andThen, mapDone, Citing, Step, goes, stops, stepBy, size, atNode, resolveTree, resolveForest, result}
-use Rattle.directions.specs.Resolving.{cites, predicatePlace, withPredicate, resolveBody, resolveBodies, bodySize, ruleBy, resolveRule, ruleWords, resolveRules, predicateBy, resolvePredicate, resolveDerivation, resolveRelation, resolveRelations}
+use Rattle.definitions.specs.Table.{entryOf}
+use Rattle.definitions.specs.Tree.{Tree, Forest, node, more, size}
+use Rattle.definitions.specs.Tree as trees
+use Rattle.definitions.specs.Records.{Derivation, Relation, Body, Rule, Pack}
+use Rattle.definitions.specs.Kinds.{kindsOf}
+use Rattle.definitions.specs.Places.{relationWords}
+use Rattle.definitions.specs.Direction.{Membership}
+use Rattle.definitions.specs.Turning.{Outcome, andThen, mapDone, Citing, Step, goes, stops, stepBy, atNode, resolveTree, resolveForest, result}
+use Rattle.definitions.specs.Resolving.{cites, predicatePlace, withPredicate, resolveBody, resolveBodies, bodySize, ruleBy, resolveRule, ruleWords, resolveRules, predicateBy, resolvePredicate, resolveDerivation, resolveRelation, resolveRelations}
 use Rattle.resolve.proofs.OutcomeLaws.{bound, result-map, result-then, allDone}
 
 -- mapped and bound results of outcomes that have the same result

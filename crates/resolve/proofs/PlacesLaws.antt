@@ -8,10 +8,11 @@ use lib.ListN.{length, getD, take, set, replicate, length-append, length-map, le
 use lib.Seq.{take-all, take-suc-set}
 use borrow.Author.Tests.{ne-eqb}
 use borrow.Rule.Slice.PartMut.{midOf, putMid, same-len-mid, mid-len}
-use Rattle.pack.specs.Pack.{Pack, WellFormed, yes, read, words}
-use Rattle.pack.specs.Table.{wordOf}
+use Rattle.definitions.specs.Records.{Pack}
+use Rattle.definitions.specs.Pack.{WellFormed, yes, read, words}
+use Rattle.definitions.specs.Table.{wordOf}
 use Rattle.pack.proofs.PackLaws.{words-read, words-length}
-use Rattle.chains.specs.Places.{relationWords}
+use Rattle.definitions.specs.Places.{relationWords}
 use Rattle.chains.specs.Entry.{startsIn, namesIn}
 use Rattle.chains.specs.Record.{valueAt}
 use Rattle.chains.proofs.FillLaws.{table-length}

@@ -7,22 +7,23 @@ use mathlib.Core.Bool.{true}
 use mathlib.Core.Option.{Option, none, some}
 use lib.ListN.{length, length-append}
 use borrow.Author.Tests.{ltb-true}
-use Rattle.pack.specs.Table.{table, entryOf, judgment, wordOf}
-use Rattle.pack.specs.Form.{allowedHere, wordsBy, Fine}
-use Rattle.pack.specs.Tree.{Tree, root, tree}
-use Rattle.pack.specs.Pack.{Derivation, Relation, Body, Rule, Pack, WellFormed, words, total, relationTail, body, rule, blocks}
+use Rattle.definitions.specs.Table.{table, entryOf, judgment, wordOf}
+use Rattle.definitions.specs.Form.{allowedHere, wordsBy, Fine}
+use Rattle.definitions.specs.Tree.{Tree, root, tree, treeWords, size}
+use Rattle.definitions.specs.Records.{Derivation, Relation, Body, Rule, Pack}
+use Rattle.definitions.specs.Pack.{WellFormed, words, total, relationTail, body, rule, blocks}
 use Rattle.pack.proofs.PackLaws.{words-length}
-use Rattle.chains.specs.Kinds.{list9, find, kindsOf}
-use Rattle.filtered.specs.Filtered.{kindAt}
-use Rattle.chains.specs.Places.{relationWords, startOf, firstRelation}
+use Rattle.definitions.specs.Kinds.{list9, find, kindsOf}
+use Rattle.definitions.specs.Filtered.{kindAt}
+use Rattle.definitions.specs.Places.{relationWords, startOf, firstRelation}
 use Rattle.filtered.proofs.KindBounds.{Below, BelowAll, tail-below, kinds-below}
 use Rattle.chains.proofs.RelationScan.{kept}
 use Rattle.chains.proofs.PackIndex.{parts, find-name, find-kept, start-within, opening, relationsPart, split, opening-length}
-use Rattle.directions.specs.Direction.{Membership, kindOrZero, membership}
-use Rattle.directions.specs.Tables.{Derived, derivedBy, derivedAt, pair, typedBy, typedAt, tables}
-use Rattle.directions.specs.Turning.{Outcome, done, refused, andThen, mapDone, Citing, treeWords, size, resolveTree}
-use Rattle.inputs.specs.Inputs.{input}
-use Rattle.directions.specs.Resolving.{cites, defaultedEqual, equalRefusal, resolveBody, resolveRule, ruleWords, resolveRules, predicatePlace, predicateBy, resolvePredicate, resolveDerivation, resolveRelation, resolveRelations, firstRule, resolveRecords, resolved}
+use Rattle.definitions.specs.Direction.{Membership, kindOrZero, membership}
+use Rattle.definitions.specs.Tables.{Derived, derivedBy, derivedAt, pair, typedBy, typedAt, tables}
+use Rattle.definitions.specs.Turning.{Outcome, done, refused, andThen, mapDone, Citing, resolveTree}
+use Rattle.definitions.specs.Inputs.{input}
+use Rattle.definitions.specs.Resolving.{cites, defaultedEqual, equalRefusal, resolveBody, resolveRule, ruleWords, resolveRules, predicatePlace, predicateBy, resolvePredicate, resolveDerivation, resolveRelation, resolveRelations, firstRule, resolveRecords, resolved}
 use Rattle.directions.specs.Records.{wordsOf, runBy, All, bodyWords, RelationKeeps}
 use Rattle.directions.proofs.Numbers.{OfInput, input-numbered}
 use Rattle.directions.proofs.TreeWords.{size-is}

@@ -9,18 +9,19 @@ use lib.ListN.{length, getD, take, drop, replicate, length-replicate, getD-repli
 use lib.Seq.{take-append-seam, take-append-le}
 use lib.Dec.{leb}
 use borrow.Author.Tests.{leb-true, leb-false, le-leb, lt-leb}
-use Rattle.pack.specs.declared.answer.Answer.{Answer}
-use Rattle.pack.specs.declared.answer.Answer.the-variants.{Given, Refused}
-use Rattle.pack.specs.declared.answer.Refusal.{Refusal}
-use Rattle.pack.specs.Table.{pick}
-use Rattle.pack.specs.Table as table
-use Rattle.pack.specs.Pack.{Relation, Rule, Pack, WellFormed, Reading, yes, refuse, read, words, total}
-use Rattle.pack.specs.Operations.{answer, buffer, wordsAndSteps, noRoom, writtenOf, checkAnswer}
+use Rattle.definitions.specs.declared.answer.Answer.{Answer}
+use Rattle.definitions.specs.declared.answer.Answer.the-variants.{Given, Refused}
+use Rattle.definitions.specs.declared.answer.Refusal.{Refusal}
+use Rattle.definitions.specs.Table.{pick}
+use Rattle.definitions.specs.Table as table
+use Rattle.definitions.specs.Records.{Relation, Rule, Pack}
+use Rattle.definitions.specs.Pack.{WellFormed, Reading, yes, refuse, read, words, total}
+use Rattle.definitions.specs.Answers.{answer, buffer, wordsAndSteps, noRoom, writtenOf, Answered}
+use Rattle.definitions.specs.Checking.{checkAnswer}
 use Rattle.checking.proofs.OperationLaws.{turned-away}
 use Rattle.pack.proofs.PackLaws.{words-read, words-length}
-use Rattle.chains.specs.Kinds.{find, kindsOf, allKinds}
-use Rattle.chains.specs.Places.{firstRelation, startOf}
-use Rattle.chains.specs.Answers.{Answered}
+use Rattle.definitions.specs.Kinds.{find, kindsOf, allKinds}
+use Rattle.definitions.specs.Places.{firstRelation, startOf}
 use Rattle.chains.specs.Entry.{Reaches, startsIn, namesIn}
 use Rattle.records.specs.declared.directory.Layout.{Layout}
 use Rattle.records.specs.declared.directory.Laid.{Laid}
@@ -36,10 +37,10 @@ use Rattle.chains.proofs.DeclarationLaws.{a-record}
 use Rattle.turning.proofs.LeftLaws.{noted-there}
 use Rattle.inputs.proofs.BlocksStand.{reads-inputs}
 use Rattle.chains.proofs.PackIndex.{parts, zero-at, find-name, find-kept}
-use Rattle.directions.specs.Tables.{Tables, derivedAt, tables}
-use Rattle.directions.specs.Turning.{Outcome, done, refused, andThen, mapDone}
-use Rattle.directions.specs.Resolving.{equalKinds, defaultedEqual, equalRefusal, resolveRules, resolveRelations, stamp, firstRule, resolveRecords, resolved}
-use Rattle.resolve.specs.Operations.{givenOut, writtenOut, resolveAnswer, resolveBuffer}
+use Rattle.definitions.specs.Tables.{Tables, derivedAt, tables}
+use Rattle.definitions.specs.Turning.{Outcome, done, refused, andThen, mapDone}
+use Rattle.definitions.specs.Resolving.{equalKinds, defaultedEqual, equalRefusal, resolveRules, resolveRelations, stamp, firstRule, resolveRecords, resolved}
+use Rattle.definitions.specs.Operations.{givenOut, writtenOut, resolveAnswer, resolveBuffer}
 use Rattle.directions.specs.Words.{derivedIn, tablesIn, firstEqual}
 use Rattle.chains.specs.Record.{valueAt}
 use Rattle.directions.specs.Records.{withRecords, turned, Tabled}

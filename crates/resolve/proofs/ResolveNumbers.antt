@@ -7,17 +7,18 @@ use mathlib.Core.Bool.{Bool, true, false, _&&_}
 use lib.ListN.{length}
 use lib.Dec.{eqb, leb}
 use borrow.Author.Tests.{eqb-true, eqb-false}
-use Rattle.pack.specs.declared.answer.Refusal.{Refusal}
-use Rattle.pack.specs.declared.answer.Answer.the-variants.{Given, Refused}
-use Rattle.pack.specs.Table.{pick}
-use Rattle.pack.specs.Pack.{Pack, Reading, yes, refuse, read, total}
-use Rattle.pack.specs.Operations.{answer, noRoom}
+use Rattle.definitions.specs.declared.answer.Refusal.{Refusal}
+use Rattle.definitions.specs.declared.answer.Answer.the-variants.{Given, Refused}
+use Rattle.definitions.specs.Table.{pick}
+use Rattle.definitions.specs.Records.{Pack}
+use Rattle.definitions.specs.Pack.{Reading, yes, refuse, read, total}
+use Rattle.definitions.specs.Answers.{answer, noRoom}
 use Rattle.pack.proofs.PackLaws.{words-length, words-read}
 use Rattle.pack.proofs.Refusals.{CheckRefuses, read-numbers}
-use Rattle.chains.specs.Kinds.{allKinds}
-use Rattle.directions.specs.Turning.{Outcome, done, refused, InRange}
-use Rattle.directions.specs.Resolving.{resolved}
-use Rattle.resolve.specs.Operations.{givenOut, resolveAnswer}
+use Rattle.definitions.specs.Kinds.{allKinds}
+use Rattle.definitions.specs.Turning.{Outcome, done, refused, InRange}
+use Rattle.definitions.specs.Resolving.{resolved}
+use Rattle.definitions.specs.Operations.{givenOut, resolveAnswer}
 use Rattle.directions.proofs.Numbers.{refused-number}
 use Rattle.resolve.proofs.RefusalNames.{Told, resolved-told}
 

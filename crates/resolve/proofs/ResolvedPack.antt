@@ -5,14 +5,16 @@ use mathlib.Core.Path.{_≡_, refl, _∙_, subst}
 use mathlib.Core.List.{List, [], map}
 use mathlib.Core.Option.{Option, none, some}
 use lib.ListN.{length, length-append, length-map}
-use Rattle.pack.specs.Form.{count, items, says, wordsBy, Fine}
-use Rattle.pack.specs.Pack.{Relation, Rule, Pack, WellFormed, yes, read, words, total, toRow, defaulted, relations, rules, blocks, records, inner}
+use Rattle.definitions.specs.Form.{count, items, says, wordsBy, Fine}
+use Rattle.definitions.specs.Records.{Relation, Rule, Pack}
+use Rattle.definitions.specs.Rows.{toRow}
+use Rattle.definitions.specs.Pack.{WellFormed, yes, read, words, total, defaulted, relations, rules, blocks, records, inner}
 use Rattle.pack.proofs.PackLaws.{read-words}
-use Rattle.chains.specs.Places.{firstRelation}
+use Rattle.definitions.specs.Places.{firstRelation}
 use Rattle.chains.proofs.RelationScan.{RelationsFine}
-use Rattle.directions.specs.Tables.{tables}
-use Rattle.directions.specs.Turning.{done, refused}
-use Rattle.directions.specs.Resolving.{defaultedEqual, resolveRules, resolveRelations, equalRefusal, stamp, firstRule, resolveRecords, resolved}
+use Rattle.definitions.specs.Tables.{tables}
+use Rattle.definitions.specs.Turning.{done, refused}
+use Rattle.definitions.specs.Resolving.{defaultedEqual, resolveRules, resolveRelations, equalRefusal, stamp, firstRule, resolveRecords, resolved}
 use Rattle.directions.proofs.KeepsForm.{Good, map-good, then-good}
 use Rattle.directions.proofs.ResolvedFine.{RulesFine, rules-good, relations-good}
 

@@ -8,15 +8,16 @@ use mathlib.Core.Option.{some}
 use lib.ListN.{length, getD, length-append}
 use lib.Dec.{eqb}
 use borrow.Author.Tests.{eq-eqb}
-use Rattle.pack.specs.Table.{pick}
-use Rattle.pack.specs.Form.{among, Fine}
-use Rattle.pack.specs.Pack.{Relation, Pack, WellFormed, yes, read, relation}
-use Rattle.chains.specs.Kinds.{find, declared, kindsOf}
-use Rattle.chains.specs.Places.{relationWords, startOf, firstRelation, namesAt}
+use Rattle.definitions.specs.Table.{pick}
+use Rattle.definitions.specs.Form.{among, Fine}
+use Rattle.definitions.specs.Records.{Relation, Pack}
+use Rattle.definitions.specs.Pack.{WellFormed, yes, read, relation}
+use Rattle.definitions.specs.Kinds.{find, declared, kindsOf}
+use Rattle.definitions.specs.Places.{relationWords, startOf, firstRelation, namesAt}
 use Rattle.chains.proofs.RelationScan.{RelationsFine, kept}
 use Rattle.chains.proofs.PackIndex.{EachFound, parts}
-use Rattle.directions.specs.Turning.{Outcome, done}
-use Rattle.directions.specs.Resolving.{atomNames, roleJudgment, inDerivation, stamp, resolveRelation}
+use Rattle.definitions.specs.Turning.{Outcome, done}
+use Rattle.definitions.specs.Resolving.{atomNames, roleJudgment, inDerivation, stamp, resolveRelation}
 use Rattle.stamping.specs.Stamping.{StampedBy, listFor, listsFor}
 use Rattle.resolve.specs.Writing.{lengths, Stamped, no-more, one-more}
 use Rattle.resolve.specs.Finish.{AskedOf}

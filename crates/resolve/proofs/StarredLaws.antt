@@ -1,19 +1,19 @@
 -- The worked cases hold, by computing the definitions.
 use mathlib.Core.Path.{refl}
-use Rattle.pack.specs.Table.{entryOf, table}
-use Rattle.pack.specs.Form.{wordsBy, count, items}
-use Rattle.pack.specs.Tree.{tree, root, follow, fields}
-use Rattle.pack.specs.Pack.{relation, newName, relationTail, nameList, optionalDerivation, derivation, chain, path, hop, member}
-use Rattle.chains.specs.Chain.{walk, own, walksFrom}
-use Rattle.chains.specs.Kinds.{find, kindStep, kindsOf}
-use Rattle.chains.specs.Places.{startOf}
-use Rattle.filtered.specs.Filtered.{taken, direct, innermost}
-use Rattle.directions.specs.Tables.{tables}
-use Rattle.directions.specs.Direction.{turn}
-use Rattle.directions.specs.Direction as direction
-use Rattle.inputs.specs.Inputs.{input}
-use Rattle.directions.specs.Turning.{stepBy, size, resolveTree}
-use Rattle.directions.specs.Resolving.{defaultedEqual, resolveBodies, ruleBy, resolveRules, predicateBy, resolveRelation, resolveRelations, holds, atomNames, stamp, resolved}
+use Rattle.definitions.specs.Table.{entryOf, table}
+use Rattle.definitions.specs.Form.{wordsBy, count, items}
+use Rattle.definitions.specs.Tree.{tree, root, follow, fields, size}
+use Rattle.definitions.specs.Pack.{relation, newName, relationTail, nameList, optionalDerivation, derivation, chain, path, hop, member}
+use Rattle.definitions.specs.Chain.{walk, own, walksFrom}
+use Rattle.definitions.specs.Kinds.{find, kindStep, kindsOf}
+use Rattle.definitions.specs.Places.{startOf}
+use Rattle.definitions.specs.Filtered.{taken, direct, innermost}
+use Rattle.definitions.specs.Tables.{tables}
+use Rattle.definitions.specs.Direction.{turn}
+use Rattle.definitions.specs.Direction as direction
+use Rattle.definitions.specs.Inputs.{input}
+use Rattle.definitions.specs.Turning.{stepBy, resolveTree}
+use Rattle.definitions.specs.Resolving.{defaultedEqual, resolveBodies, ruleBy, resolveRules, predicateBy, resolveRelation, resolveRelations, holds, atomNames, stamp, resolved}
 use Rattle.resolve.specs.Starred.{AllHold, cases}
 
 pub starred : AllHold cases

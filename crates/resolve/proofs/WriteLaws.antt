@@ -7,9 +7,9 @@ use lib.ListN.{length, getD, take, drop, set, length-append, length-map, length-
 use lib.Seq.{getD-at, getD-drop, drop-cons, drop-drop, drop-at, take-at, take-all, take-suc-set, length-take-le}
 use borrow.Rule.Slice.PartMut.{putMid, postOf, same-len-mid, mid-len}
 use borrow.Author.Tests.{ne-eqb}
-use Rattle.pack.specs.Table.{valueOf, wordOf}
-use Rattle.chains.specs.Places.{namesAt}
-use Rattle.chains.specs.ByName.{tableFrom}
+use Rattle.definitions.specs.Table.{valueOf, wordOf}
+use Rattle.definitions.specs.Places.{namesAt}
+use Rattle.definitions.specs.Answers.{tableFrom}
 use Rattle.chains.proofs.FillLaws.{Filling, done}
 use Rattle.chains.specs.Record.{valueAt, kindCount, slotsPlace}
 use Rattle.stamping.specs.Stamping.{namesOr, Lists}

@@ -9,15 +9,16 @@ use lib.ListN.{length, take, drop, set, replicate, length-append, length-map, le
 use lib.Seq.{take-at, drop-at, drop-append-le}
 use lib.Dec.{eqb}
 use borrow.Author.Tests.{ne-eqb}
-use Rattle.pack.specs.Table.{pick, wordOf}
-use Rattle.pack.specs.Form.{among, count, items, wordsAll, wordsBy, Fine}
-use Rattle.pack.specs.Pack.{Derivation, Relation, Block, Pack, newName, nameList, relationTail, relation, defaulted, block, blocks, total, words}
+use Rattle.definitions.specs.Table.{pick, wordOf}
+use Rattle.definitions.specs.Form.{among, count, items, wordsAll, wordsBy, Fine}
+use Rattle.definitions.specs.Records.{Derivation, Relation, Block, Pack}
+use Rattle.definitions.specs.Pack.{newName, nameList, relationTail, relation, defaulted, block, blocks, total, words}
 use Rattle.pack.proofs.PackLaws.{words-length}
-use Rattle.chains.specs.Places.{namesAt, relationWords}
+use Rattle.definitions.specs.Places.{namesAt, relationWords}
 use Rattle.chains.proofs.ListAt.{nameWords, list-words, early, late, option-words, InWords}
 use Rattle.chains.proofs.RelationScan.{RelationsFine}
 use Rattle.chains.proofs.PackIndex.{parts}
-use Rattle.directions.specs.Resolving.{ruleWords, orKinds, withEntities, stampedWith}
+use Rattle.definitions.specs.Resolving.{ruleWords, orKinds, withEntities, stampedWith}
 use Rattle.chains.specs.Record.{kindCount, slotsPlace}
 use Rattle.stamping.specs.Stamping.{StampedBy, as-it-is, with-kinds, addedFor, addedBy}
 use Rattle.resolve.specs.Writing.{Stamped, no-more, one-more, withRelations, joined, frontPiece, blockPiece, otherPieces, piecesOf, fromTo, listWords, putFor, Stampable, WriteAsked}

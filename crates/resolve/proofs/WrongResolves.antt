@@ -6,25 +6,26 @@ use mathlib.Core.Path.{_≡_, refl, ap, sym, _∙_, subst}
 use mathlib.Core.List.{List, [], _∷_, _++_}
 use mathlib.Core.Option.{none, some}
 use lib.ListN.{drop, getD}
-use Rattle.pack.specs.declared.answer.Refusal.{Refusal}
-use Rattle.pack.specs.declared.answer.Answer.{Answer}
-use Rattle.pack.specs.declared.answer.Answer.the-variants.{Given, Refused}
-use Rattle.pack.specs.Table.{wordOf, entryOf, table, fieldsOf, childrenOf}
+use Rattle.definitions.specs.declared.answer.Refusal.{Refusal}
+use Rattle.definitions.specs.declared.answer.Answer.{Answer}
+use Rattle.definitions.specs.declared.answer.Answer.the-variants.{Given, Refused}
+use Rattle.definitions.specs.Table.{wordOf, entryOf, table, fieldsOf, childrenOf}
 use Rattle.pack.specs.Table as tables256
-use Rattle.pack.specs.Form.{wordsBy, count, items}
-use Rattle.pack.specs.Tree.{tree, root, follow, fields, heads}
-use Rattle.pack.specs.Pack.{Relation, Rule, Block, Pack, words, total, layout, inner, records, defaulted, defaultedName, relations, relation, newName, relationTail, nameList, optionalDerivation, derivation, chain, path, hop, member, rules, rule, bodies, body, blocks, block, blockItems, item}
-use Rattle.pack.specs.Operations.{wordsAndSteps}
-use Rattle.chains.specs.Chain.{walk, own}
-use Rattle.chains.specs.Kinds.{find, kindStep, kindsOf}
-use Rattle.chains.specs.Places.{startOf}
-use Rattle.filtered.specs.Filtered.{taken, direct}
-use Rattle.directions.specs.Tables.{tables}
-use Rattle.directions.specs.Direction.{turn}
-use Rattle.directions.specs.Direction as direction
-use Rattle.inputs.specs.Inputs.{input}
-use Rattle.directions.specs.Turning.{done, stepBy, size, resolveTree}
-use Rattle.directions.specs.Resolving.{defaultedEqual, resolveBodies, ruleBy, resolveRules, predicateBy, resolveRelation, resolveRelations, holds, atomNames, stamp, resolved}
+use Rattle.definitions.specs.Form.{wordsBy, count, items}
+use Rattle.definitions.specs.Tree.{tree, root, follow, fields, heads, size}
+use Rattle.definitions.specs.Records.{Relation, Rule, Block, Pack}
+use Rattle.definitions.specs.Pack.{words, total, layout, inner, records, defaulted, defaultedName, relations, relation, newName, relationTail, nameList, optionalDerivation, derivation, chain, path, hop, member, rules, rule, bodies, body, blocks, block, blockItems, item}
+use Rattle.definitions.specs.Answers.{wordsAndSteps}
+use Rattle.definitions.specs.Chain.{walk, own}
+use Rattle.definitions.specs.Kinds.{find, kindStep, kindsOf}
+use Rattle.definitions.specs.Places.{startOf}
+use Rattle.definitions.specs.Filtered.{taken, direct}
+use Rattle.definitions.specs.Tables.{tables}
+use Rattle.definitions.specs.Direction.{turn}
+use Rattle.definitions.specs.Direction as direction
+use Rattle.definitions.specs.Inputs.{input}
+use Rattle.definitions.specs.Turning.{done, stepBy, resolveTree}
+use Rattle.definitions.specs.Resolving.{defaultedEqual, resolveBodies, ruleBy, resolveRules, predicateBy, resolveRelation, resolveRelations, holds, atomNames, stamp, resolved}
 use Rattle.resolve.specs.Demand3.{Left, ResolveAlike, bothResolve, bothEqual, bothRoom, bothOpen, DerivedRelation, KindsUsed}
 use Rattle.resolve.specs.Starred.{withoutDerivation, saysNothing, counting, withDerivation, ruled, packed}
 use Rattle.resolve.proofs.ComingOut.{comes-out, comes-one}

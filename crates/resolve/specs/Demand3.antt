@@ -6,22 +6,22 @@ use mathlib.Core.List.{List, [], _∷_, _++_}
 use mathlib.Core.Bool.{true}
 use mathlib.Core.Option.{Option, none, some, Option·map}
 use lib.ListN.{length, drop}
-use Rattle.pack.specs.declared.answer.Refusal.{Refusal}
-use Rattle.pack.specs.declared.answer.Answer.{Answer}
-use Rattle.pack.specs.declared.answer.Answer.the-variants.{Refused}
-use Rattle.pack.specs.Form.{among}
-use Rattle.pack.specs.Pack.{Derivation, Relation, Rule, Block, Pack, total, words}
-use Rattle.pack.specs.Operations.{wordsAndSteps}
-use Rattle.pack.specs.Dealt.{Checked, Shuffled, InAnyOrder, SameBlock}
-use Rattle.chains.specs.Kinds.{list21, listOf, find, undeclaredSources, ownAnswer, kindsOf}
-use Rattle.chains.specs.Places.{namesAt, SettledAt}
-use Rattle.kinds.specs.Operations.{allKindsAnswer, allKindsBuffer}
-use Rattle.filtered.specs.Filtered.{kindAt}
-use Rattle.directions.specs.Tables.{Derived, tables}
-use Rattle.directions.specs.Direction.{kindOrZero, membership}
-use Rattle.directions.specs.Turning.{InRange, result, resolveTree}
-use Rattle.directions.specs.Resolving.{cites, resolveRule, predicatePlace, resolvePredicate, resolveRelation, orKinds, stamp}
-use Rattle.resolve.specs.Operations.{resolveAnswer, resolveBuffer}
+use Rattle.definitions.specs.declared.answer.Refusal.{Refusal}
+use Rattle.definitions.specs.declared.answer.Answer.{Answer}
+use Rattle.definitions.specs.declared.answer.Answer.the-variants.{Refused}
+use Rattle.definitions.specs.Form.{among}
+use Rattle.definitions.specs.Records.{Derivation, Relation, Rule, Block, Pack}
+use Rattle.definitions.specs.Pack.{total, words}
+use Rattle.definitions.specs.Answers.{wordsAndSteps}
+use Rattle.definitions.specs.Dealt.{Checked, Shuffled, InAnyOrder, SameBlock}
+use Rattle.definitions.specs.Kinds.{list21, listOf, find, undeclaredSources, ownAnswer, kindsOf}
+use Rattle.definitions.specs.Places.{namesAt, SettledAt}
+use Rattle.definitions.specs.Operations.{allKindsAnswer, allKindsBuffer, resolveAnswer, resolveBuffer}
+use Rattle.definitions.specs.Filtered.{kindAt}
+use Rattle.definitions.specs.Tables.{Derived, tables}
+use Rattle.definitions.specs.Direction.{kindOrZero, membership}
+use Rattle.definitions.specs.Turning.{InRange, result, resolveTree}
+use Rattle.definitions.specs.Resolving.{cites, resolveRule, predicatePlace, resolvePredicate, resolveRelation, orKinds, stamp}
 
 -- ---- what comes out
 

@@ -6,24 +6,25 @@ use mathlib.Core.Bool.{_||_}
 use mathlib.Core.Option.{none, some}
 use lib.ListN.{length, getD, take, replicate}
 use lib.Dec.{eqb}
-use Rattle.pack.specs.declared.answer.Answer.{Answer}
-use Rattle.pack.specs.declared.answer.Answer.the-variants.{Given, Refused}
-use Rattle.pack.specs.Table.{pick}
-use Rattle.pack.specs.Form.{repeats}
-use Rattle.pack.specs.Pack.{Relation, Pack, yes, read, words}
-use Rattle.chains.specs.Kinds.{find, allKinds}
+use Rattle.definitions.specs.declared.answer.Answer.{Answer}
+use Rattle.definitions.specs.declared.answer.Answer.the-variants.{Given, Refused}
+use Rattle.definitions.specs.Table.{pick}
+use Rattle.definitions.specs.Form.{repeats}
+use Rattle.definitions.specs.Records.{Relation, Pack}
+use Rattle.definitions.specs.Pack.{yes, read, words}
+use Rattle.definitions.specs.Kinds.{find, allKinds}
 use Rattle.records.specs.declared.directory.Layout.{Layout}
 use Rattle.records.specs.Directory.{Clear}
 use Rattle.checking.specs.Checked.{namesSaid}
 use Rattle.chains.specs.AllKinds.{Lent, IsDirectory}
-use Rattle.chains.specs.ByName.{tableFrom}
+use Rattle.definitions.specs.Answers.{tableFrom}
 use Rattle.chains.specs.Record.{valueAt}
 use Rattle.chains.specs.Entry.{Reaches, startsIn, namesIn}
 use Rattle.filtered.specs.Taking.{NamesLow, Filled}
-use Rattle.directions.specs.Turning.{Outcome, done, refused}
-use Rattle.directions.specs.Tables.{tables}
-use Rattle.directions.specs.Resolving.{defaultedEqual, equalRefusal, stamp, atomNames, inDerivation, roleJudgment}
-use Rattle.resolve.specs.Operations.{givenOut, writtenOut, resolveAnswer, resolveBuffer}
+use Rattle.definitions.specs.Turning.{Outcome, done, refused}
+use Rattle.definitions.specs.Tables.{tables}
+use Rattle.definitions.specs.Resolving.{defaultedEqual, equalRefusal, stamp, atomNames, inDerivation, roleJudgment}
+use Rattle.definitions.specs.Operations.{givenOut, writtenOut, resolveAnswer, resolveBuffer}
 use Rattle.resolve.specs.Writing.{beginnings, piecesOf, withRelations}
 use Rattle.directions.specs.Records.{turned, Tabled}
 use Rattle.turning.specs.declared.turns.Ended.{Ended}
@@ -33,7 +34,7 @@ use Rattle.turning.specs.Asked.{InWords}
 use Rattle.turning.specs.Steps.{TurnedAs, PackAsked}
 use Rattle.turning.specs.Asked.{NotesMarked}
 use Rattle.directions.specs.Words.{firstEqual}
-use Rattle.pack.specs.Table as table
+use Rattle.definitions.specs.Table as table
 use Rattle.resolve.specs.declared.finish.Figures.{Figures}
 
 -- ---- the first three steps of Resolving

@@ -1,4 +1,3 @@
-pub mod Operations
 pub mod Demand3
 pub mod Writing
 pub mod Finish

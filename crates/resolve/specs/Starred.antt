@@ -3,15 +3,15 @@ use Prim.Native.Nat.{ℕ}
 use mathlib.Core.Path.{_≡_}
 use mathlib.Core.List.{List, [], _∷_, map}
 use mathlib.Core.Option.{Option, none, some}
-use Rattle.pack.specs.Table as table
-use Rattle.pack.specs.Tree.{Tree, node}
-use Rattle.pack.specs.Tree as trees
-use Rattle.pack.specs.Pack.{Hop, Relation, Rule, Pack, undated}
-use Rattle.chains.specs.Kinds.{namesOf, allKinds, kindsOf}
-use Rattle.chains.specs.Places.{settledOf}
-use Rattle.filtered.specs.Filtered.{direct, innermost}
-use Rattle.directions.specs.Turning.{Outcome, done, refused}
-use Rattle.directions.specs.Resolving.{resolved}
+use Rattle.definitions.specs.Table as table
+use Rattle.definitions.specs.Tree.{Tree, node}
+use Rattle.definitions.specs.Tree as trees
+use Rattle.definitions.specs.Records.{Hop, Relation, Rule, Pack, undated}
+use Rattle.definitions.specs.Kinds.{namesOf, allKinds, kindsOf}
+use Rattle.definitions.specs.Places.{settledOf}
+use Rattle.definitions.specs.Filtered.{direct, innermost}
+use Rattle.definitions.specs.Turning.{Outcome, done, refused}
+use Rattle.definitions.specs.Resolving.{resolved}
 
 -- ---- what the cases are made of
 

@@ -5,12 +5,13 @@ use mathlib.Core.Path.{_≡_}
 use mathlib.Core.List.{List, [], _∷_, _++_, map}
 use lib.ListN.{length, take, drop, replicate}
 use lib.Dec.{eqb}
-use Rattle.pack.specs.Table.{pick, wordOf}
-use Rattle.pack.specs.Form.{wordsBy}
-use Rattle.pack.specs.Pack.{Relation, Block, Pack, WellFormed, defaulted, block, total, words}
-use Rattle.chains.specs.Places.{namesAt, relationWords}
+use Rattle.definitions.specs.Table.{pick, wordOf}
+use Rattle.definitions.specs.Form.{wordsBy}
+use Rattle.definitions.specs.Records.{Relation, Block, Pack}
+use Rattle.definitions.specs.Pack.{WellFormed, defaulted, block, total, words}
+use Rattle.definitions.specs.Places.{namesAt, relationWords}
 use Rattle.chains.specs.Record.{kindCount, slotsPlace}
-use Rattle.directions.specs.Resolving.{ruleWords}
+use Rattle.definitions.specs.Resolving.{ruleWords}
 use Rattle.stamping.specs.Stamping.{StampedBy, namesOr}
 
 -- relations, and in the same order as they come out with their lists stamped

@@ -2,8 +2,8 @@
 use crate::order::Places;
 use crate::write::write;
 use checking::check::refuse;
-use pack::answer::Answer;
-use pack::answer::Number;
+use definitions::answer::Answer;
+use definitions::answer::Number;
 use pack::kinds::Pack;
 use stamping::lists::lists;
 use turning::turns::Counts;

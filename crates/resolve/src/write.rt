@@ -9,8 +9,8 @@ ghost use mathlib.Core.Path.{_≡_};
 ghost use mathlib.Core.List.{_++_, map};
 ghost use Prim.Native.Nat.{_+_, _≤_, _<_};
 ghost use lib.ListN.{length, getD};
-ghost use Rattle.pack.specs.Table.{wordOf};
-ghost use Rattle.chains.specs.Places.{namesAt};
+ghost use Rattle.definitions.specs.Table.{wordOf};
+ghost use Rattle.definitions.specs.Places.{namesAt};
 ghost use Rattle.stamping.specs.Stamping.{namesOr, Lists};
 ghost use Rattle.resolve.specs.Writing.{listWords, putFor, pieceOut, Stampable, Put, Room, WriteAsked, WriteCame};
 

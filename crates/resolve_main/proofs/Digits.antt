@@ -3,7 +3,7 @@ use Prim.Native.Nat.{ℕ, _+_, _<_, _≤_}
 use mathlib.Core.Path.{_≡_, ap, sym}
 use mathlib.Core.Bool.{Bool}
 use borrow.Author.Tests.{lt-ltb, le-ltb}
-use Rattle.pack.specs.Table.{pick}
+use Rattle.definitions.specs.Table.{pick}
 use Rattle.resolve_main.specs.Text.{digitOf}
 
 pub decimal : (d : ℕ) → d < 10 → 48 + d ≡ digitOf d

@@ -8,8 +8,8 @@ use lib.ListN.{length, getD, take, drop, set, length-map, length-take, length-dr
 use lib.Seq.{take-all, take-suc, take-suc-set, length-take-le}
 use lib.Dec.{eqb}
 use borrow.Author.Tests.{eq-eqb, ne-eqb, lt-ltb, le-ltb}
-use Rattle.pack.specs.Table.{valueOf}
-use Rattle.chains.specs.Places.{namesAt}
+use Rattle.definitions.specs.Table.{valueOf}
+use Rattle.definitions.specs.Places.{namesAt}
 use Rattle.filtered.specs.declared.taking.Kind.{Kind}
 use Rattle.filtered.specs.declared.taking.Kind.the-variants as kind
 use Rattle.filtered.specs.Taking.{KindFound}

@@ -8,17 +8,17 @@ use mathlib.Core.Option.{Option, none, some}
 use lib.ListN.{length, getD}
 use lib.Dec.{eqb}
 use borrow.Author.Tests.{ne-eqb, lt-ltb, le-ltb}
-use Rattle.pack.specs.Table.{pick}
-use Rattle.pack.specs.Form.{wordsBy}
-use Rattle.pack.specs.Pack.{Derivation, Relation, Pack, newName, relation, derivation}
-use Rattle.chains.specs.Kinds.{kindsOf}
-use Rattle.filtered.specs.Filtered.{kindAt}
-use Rattle.chains.specs.Places.{namesAt}
+use Rattle.definitions.specs.Table.{pick}
+use Rattle.definitions.specs.Form.{wordsBy}
+use Rattle.definitions.specs.Records.{Derivation, Relation, Pack}
+use Rattle.definitions.specs.Pack.{newName, relation, derivation}
+use Rattle.definitions.specs.Kinds.{kindsOf}
+use Rattle.definitions.specs.Filtered.{kindAt}
+use Rattle.definitions.specs.Places.{namesAt, hops}
 use Rattle.chains.proofs.RelationScan.{kept}
 use Rattle.chains.proofs.ListAt.{InWords}
-use Rattle.directions.specs.Resolving.{holds, roleJudgment, inDerivation, atomNames, empty, unlike, stampedWith, stampBy, stampDerived, stamp}
+use Rattle.definitions.specs.Resolving.{holds, roleJudgment, inDerivation, atomNames, empty, unlike, stampedWith, stampBy, stampDerived, stamp}
 use Rattle.stamping.specs.Stamping.{StampedBy, as-it-is, with-kinds, unstamped, passedIn, unlikeIn, listBy, listFor}
-use Rattle.chains.specs.Places.{hops}
 use Rattle.chains.specs.Record.{valueAt, slotsPlace, entityCount}
 use Rattle.filtered.specs.Acts.{actPart, actList, partAt}
 use Rattle.chains.proofs.RecordLaws.{value-there, counted, slots-at, current-there, related-there, entities-there}

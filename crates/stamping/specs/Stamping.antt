@@ -6,13 +6,13 @@ use mathlib.Core.Bool.{Bool, false, _&&_}
 use mathlib.Core.Option.{Option, none, some}
 use lib.ListN.{length, getD}
 use lib.Dec.{eqb, ltb}
-use Rattle.pack.specs.Table.{pick}
-use Rattle.pack.specs.Pack.{Derivation, Relation}
-use Rattle.filtered.specs.Filtered.{kindAt}
-use Rattle.chains.specs.Places.{namesAt}
+use Rattle.definitions.specs.Table.{pick}
+use Rattle.definitions.specs.Records.{Derivation, Relation}
+use Rattle.definitions.specs.Filtered.{kindAt}
+use Rattle.definitions.specs.Places.{namesAt}
 use Rattle.chains.specs.Record.{valueAt, kindCount}
 use Rattle.filtered.specs.Acts.{actPart, actList}
-use Rattle.directions.specs.Resolving.{unlike, stampedWith}
+use Rattle.definitions.specs.Resolving.{unlike, stampedWith}
 
 pub data StampedBy (ws : List ℕ) (list : ℕ) (r : Relation) : Relation → Type 0 where
   as-it-is : list ≡ 0 → StampedBy ws list r r

@@ -8,14 +8,14 @@ use mathlib.Core.Option.{none}
 use lib.ListN.{length, length-append}
 use lib.Dec.{leb, ltb}
 use borrow.Author.Tests.{ltb-true, ltb-false, lt-leb, ne-eqb}
-use Rattle.pack.specs.Table.{pick, wordOf, table, entryOf}
-use Rattle.pack.specs.Form.{Fine}
-use Rattle.pack.specs.Tree.{Tree, Forest, node, more, tree}
-use Rattle.pack.specs.Tree as trees
-use Rattle.pack.specs.Pack.{Body, body}
-use Rattle.chains.specs.Reach.{any}
-use Rattle.directions.specs.Turning.{fieldWords, treeWords, forestWords, size}
-use Rattle.directions.specs.Resolving.{holds, held, roleJudgment, atomOf}
+use Rattle.definitions.specs.Table.{pick, wordOf, table, entryOf}
+use Rattle.definitions.specs.Form.{Fine}
+use Rattle.definitions.specs.Tree.{Tree, Forest, node, more, tree, fieldWords, treeWords, forestWords, size}
+use Rattle.definitions.specs.Tree as trees
+use Rattle.definitions.specs.Records.{Body}
+use Rattle.definitions.specs.Pack.{body}
+use Rattle.definitions.specs.Lean.{any}
+use Rattle.definitions.specs.Resolving.{holds, held, roleJudgment, atomOf}
 use Rattle.directions.proofs.TreeWords.{size-is, fields-length}
 use Rattle.directions.specs.Records.{wordsOf, All, bodyWords}
 use Rattle.directions.proofs.TurnedPack.{front}

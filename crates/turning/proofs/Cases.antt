@@ -5,14 +5,14 @@ use mathlib.Core.List.{List, [], _∷_}
 use mathlib.Core.Bool.{true, false}
 use mathlib.Core.Option.{Option, none, some}
 use lib.Dec.{eqb}
-use Rattle.pack.specs.Table.{pick, wordOf, table, entryOf, fieldsOf}
-use Rattle.pack.specs.Table as table
-use Rattle.pack.specs.Tree.{Tree, Forest, node, more}
-use Rattle.pack.specs.Tree as trees
-use Rattle.pack.specs.Pack.{Derivation, Relation, Rule}
-use Rattle.directions.specs.Tables.{Derived}
-use Rattle.directions.specs.Direction.{turn, member}
-use Rattle.directions.specs.Turning.{done, refused, stepBy, treeWords, size}
+use Rattle.definitions.specs.Table.{pick, wordOf, table, entryOf, fieldsOf}
+use Rattle.definitions.specs.Table as table
+use Rattle.definitions.specs.Tree.{Tree, Forest, node, more, treeWords, size}
+use Rattle.definitions.specs.Tree as trees
+use Rattle.definitions.specs.Records.{Derivation, Relation, Rule}
+use Rattle.definitions.specs.Tables.{Derived}
+use Rattle.definitions.specs.Direction.{turn, member}
+use Rattle.definitions.specs.Turning.{done, refused, stepBy}
 use Rattle.turning.specs.Notes.{Note, note, lookBy, noted, notesOf, notesRun, ruleNotes, relationNotes}
 use Rattle.turning.specs.Turns.{Known, Root, work, nowhere, openRoot, stepAt, turnNode, turnNote, turnNotes}
 

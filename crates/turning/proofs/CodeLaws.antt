@@ -4,7 +4,7 @@ use native.Mathlib.Omega.{arith}
 use mathlib.Core.Path.{_≡_, refl, ap, sym, _∙_}
 use mathlib.Core.Bool.{Bool, true, false}
 use lib.Dec.{eqb}
-use Rattle.pack.specs.Table.{pick}
+use Rattle.definitions.specs.Table.{pick}
 use Rattle.turning.specs.Notes.{Note, noteCode}
 use Rattle.turning.specs.Turns.{fieldOf, lostOf, insideOf}
 

@@ -9,16 +9,16 @@ use lib.ListN.{length, getD, set, take, drop, length-append, length-set}
 use lib.Seq.{sets, getD-at, getD-set-same, getD-set-other, set-at, drop-append-add}
 use lib.Dec.{eqb}
 use borrow.Author.Tests.{ne-eqb}
-use Rattle.pack.specs.declared.table.Follows.{Follows}
-use Rattle.pack.specs.declared.table.Follows.the-variants.{Nothing, Counted, OneScalar, TwoScalars, Scalars, Patterns, Periods, OneJudgment, Judgments, Choice, Aggregate, OnlyRelated, Slots, Atom, Exists}
-use Rattle.pack.specs.Table.{pick, kindOf, valueOf, wordOf, entryOf, fieldsOf}
-use Rattle.pack.specs.Tree.{Tree, Forest, node, more}
-use Rattle.pack.specs.Tree as trees
-use Rattle.directions.specs.declared.direction.Direction.{Direction}
-use Rattle.directions.specs.declared.direction.Direction.the-variants.{Turned, Open}
-use Rattle.directions.specs.Direction.{turn, Membership}
-use Rattle.directions.specs.Direction as direction
-use Rattle.directions.specs.Turning.{Outcome, done, refused, andThen, mapDone, Citing, Fields, currentOf, relatedOf, withSlots, valueOfNode, Step, goes, stops, aggregate, allowedInput, onlyRelated, membershipTest, stepBy, fieldWords, treeWords, forestWords, size, sizes, atNode, resolveTree, resolveForest}
+use Rattle.definitions.specs.declared.table.Follows.{Follows}
+use Rattle.definitions.specs.declared.table.Follows.the-variants.{Nothing, Counted, OneScalar, TwoScalars, Scalars, Patterns, Periods, OneJudgment, Judgments, Choice, Aggregate, OnlyRelated, Slots, Atom, Exists}
+use Rattle.definitions.specs.Table.{pick, kindOf, valueOf, wordOf, entryOf, fieldsOf}
+use Rattle.definitions.specs.Tree.{Tree, Forest, node, more, Fields, fieldWords, treeWords, forestWords, size, sizes}
+use Rattle.definitions.specs.Tree as trees
+use Rattle.definitions.specs.declared.direction.Direction.{Direction}
+use Rattle.definitions.specs.declared.direction.Direction.the-variants.{Turned, Open}
+use Rattle.definitions.specs.Direction.{turn, Membership}
+use Rattle.definitions.specs.Direction as direction
+use Rattle.definitions.specs.Turning.{Outcome, done, refused, andThen, mapDone, Citing, currentOf, relatedOf, withSlots, valueOfNode, Step, goes, stops, aggregate, allowedInput, onlyRelated, membershipTest, stepBy, atNode, resolveTree, resolveForest}
 use Rattle.directions.proofs.TreeWords.{size-is, fields-length}
 use Rattle.turning.specs.Notes.{Note, lookBy, lookOf, noted, within, notesOf, notesIn}
 use Rattle.turning.specs.Turns.{Known, Root, citing, Work, work, held, fieldsAt, stepAt, turnedBy, turnNode, turnNote, turnNotes}

@@ -8,14 +8,15 @@ use mathlib.Core.Option.{Option, none, some}
 use lib.ListN.{length}
 use lib.Dec.{eqb}
 use borrow.Author.Tests.{eqb-true, eqb-false}
-use Rattle.pack.specs.Pack.{Pack, WellFormed, yes, read, words}
+use Rattle.definitions.specs.Records.{Pack}
+use Rattle.definitions.specs.Pack.{WellFormed, yes, read, words}
 use Rattle.chains.specs.AllKinds.{BlocksAt}
 use Rattle.filtered.specs.Acts.{ActsOf}
 use Rattle.chains.specs.Record.{valueAt}
 use Rattle.filtered.specs.Taking as taking
-use Rattle.directions.specs.Tables.{tables}
+use Rattle.definitions.specs.Tables.{tables}
 use Rattle.directions.specs.Words.{tablesIn}
-use Rattle.inputs.specs.Inputs.{input}
+use Rattle.definitions.specs.Inputs.{input}
 use Rattle.inputs.specs.Blocks.{inputIn}
 use Rattle.inputs.proofs.InputRead.{numberOf}
 use Rattle.inputs.proofs.BlocksStand.{reads-inputs}

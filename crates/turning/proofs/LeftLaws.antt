@@ -7,10 +7,12 @@ use mathlib.Core.Bool.{false}
 use mathlib.Core.Option.{Option, none, some}
 use lib.ListN.{length, getD, set, replicate, length-append, length-map, length-set}
 use lib.Seq.{sets, getD-set-same, getD-set-other}
-use Rattle.pack.specs.Table.{judgment}
-use Rattle.pack.specs.Form.{Fine, wordsBy}
-use Rattle.pack.specs.Tree.{Tree, root, tree}
-use Rattle.pack.specs.Pack.{Derivation, Relation, Body, Rule, Pack, WellFormed, yes, read, total, body, rule, toRow}
+use Rattle.definitions.specs.Table.{judgment}
+use Rattle.definitions.specs.Form.{Fine, wordsBy}
+use Rattle.definitions.specs.Tree.{Tree, root, tree}
+use Rattle.definitions.specs.Records.{Derivation, Relation, Body, Rule, Pack}
+use Rattle.definitions.specs.Rows.{toRow}
+use Rattle.definitions.specs.Pack.{WellFormed, yes, read, total, body, rule}
 use Rattle.pack.proofs.PackLaws.{words-read, words-length}
 use Rattle.reading.specs.Noting.{push, nextNote, noteTree, pushAll}
 use Rattle.reading.proofs.NotesLaws.{push-long, push-count, all-long, all-count, all-append, all-sets, shaped, noted-tree}
@@ -21,10 +23,10 @@ use Rattle.records.specs.declared.directory.Laid.the-variants.{Yes}
 use Rattle.checking.specs.Checked.{CheckedNotes}
 use Rattle.records.specs.Notes.{opened, inside, noteBody, bodyAt, noteBodies, noteRule, noteRules, noteOptional, notePredicate, notePredicates, relationsLeft, notesLeft}
 use Rattle.checking.proofs.CheckLaws.{clear-zeros}
-use Rattle.chains.specs.Places.{relationWords, firstRelation}
+use Rattle.definitions.specs.Places.{relationWords, firstRelation}
 use Rattle.chains.proofs.PackIndex.{parts}
 use Rattle.chains.proofs.EntryLaws.{rules-there}
-use Rattle.directions.specs.Resolving.{predicatePlace, ruleWords, firstRule}
+use Rattle.definitions.specs.Resolving.{predicatePlace, ruleWords, firstRule}
 use Rattle.directions.specs.Records.{All, bodyWords, RelationKeeps}
 use Rattle.directions.proofs.RuleLaws.{body-words, rule-parts}
 use Rattle.directions.proofs.RelationLaws.{predicate-kept}

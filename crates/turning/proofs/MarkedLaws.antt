@@ -9,17 +9,17 @@ use lib.ListN.{length, getD, set, length-append, length-set}
 use lib.Seq.{getD-set-same, getD-set-other}
 use lib.Dec.{eqb}
 use borrow.Author.Tests.{eq-eqb, ne-eqb, eqb-true, eqb-false}
-use Rattle.pack.specs.Table.{pick, judgment}
-use Rattle.pack.specs.Form.{wordsBy, Fine}
-use Rattle.pack.specs.Tree.{Tree, Forest, node, more, tree}
-use Rattle.pack.specs.Tree as trees
-use Rattle.pack.specs.Pack.{Derivation, Relation, Body, Rule, Pack, WellFormed, words, body, rule, blocks}
-use Rattle.chains.specs.Kinds.{find}
-use Rattle.chains.specs.Places.{relationWords, firstRelation}
-use Rattle.chains.specs.Reach.{any}
+use Rattle.definitions.specs.Table.{pick, judgment}
+use Rattle.definitions.specs.Form.{wordsBy, Fine}
+use Rattle.definitions.specs.Tree.{Tree, Forest, node, more, tree, treeWords}
+use Rattle.definitions.specs.Tree as trees
+use Rattle.definitions.specs.Records.{Derivation, Relation, Body, Rule, Pack}
+use Rattle.definitions.specs.Pack.{WellFormed, words, body, rule, blocks}
+use Rattle.definitions.specs.Kinds.{find}
+use Rattle.definitions.specs.Places.{relationWords, firstRelation}
+use Rattle.definitions.specs.Lean.{any}
 use Rattle.chains.proofs.PackIndex.{EachFound, all-found}
-use Rattle.directions.specs.Turning.{treeWords}
-use Rattle.directions.specs.Resolving.{holds, held, roleJudgment, atomOf, inDerivation, inRule, atomNames, ruleWords, predicatePlace, firstRule}
+use Rattle.definitions.specs.Resolving.{holds, held, roleJudgment, atomOf, inDerivation, inRule, atomNames, ruleWords, predicatePlace, firstRule}
 use Rattle.directions.specs.Records.{wordsOf, All, bodyWords, RelationKeeps}
 use Rattle.directions.proofs.RuleLaws.{bodiesOf, head, rule-parts}
 use Rattle.directions.proofs.RelationLaws.{lead, lead-words, lead-long, predicate-kept}

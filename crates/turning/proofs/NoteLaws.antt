@@ -9,9 +9,10 @@ use lib.ListN.{length, getD, set, take, length-set}
 use lib.Seq.{sets, length-sets, getD-set-other}
 use lib.Dec.{eqb}
 use borrow.Author.Tests.{eq-eqb, ne-eqb, eqb-true, eqb-false}
-use Rattle.pack.specs.Table.{pick, wordOf, entryOf, fieldsOf}
-use Rattle.directions.specs.Direction.{relatedKind, Membership}
-use Rattle.directions.specs.Turning.{Outcome, done, refused, Citing, Fields, currentOf, relatedOf, withSlots, Step, goes, stops, stepBy, fieldWords}
+use Rattle.definitions.specs.Table.{pick, wordOf, entryOf, fieldsOf}
+use Rattle.definitions.specs.Direction.{relatedKind, Membership}
+use Rattle.definitions.specs.Tree.{Fields, fieldWords}
+use Rattle.definitions.specs.Turning.{Outcome, done, refused, Citing, currentOf, relatedOf, withSlots, Step, goes, stops, stepBy}
 use Rattle.directions.specs.Words.{memberIn}
 use Rattle.turning.specs.declared.step.Out.{Out}
 use Rattle.turning.specs.declared.step.Out.the-variants.{Opens, Sets, Passes, Stops}

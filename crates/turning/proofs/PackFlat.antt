@@ -5,13 +5,14 @@ use native.Mathlib.Omega.{arith}
 use mathlib.Core.Path.{_≡_, refl, ap, sym, _∙_}
 use mathlib.Core.List.{List, [], _∷_, _++_, append-assoc}
 use lib.ListN.{length, length-append}
-use Rattle.pack.specs.Table.{wordOf}
-use Rattle.pack.specs.Form.{wordsBy, Fine}
-use Rattle.pack.specs.Pack.{Relation, Rule, Pack, WellFormed, words, rule, blocks}
-use Rattle.chains.specs.Places.{relationWords, firstRelation}
+use Rattle.definitions.specs.Table.{wordOf}
+use Rattle.definitions.specs.Form.{wordsBy, Fine}
+use Rattle.definitions.specs.Records.{Relation, Rule, Pack}
+use Rattle.definitions.specs.Pack.{WellFormed, words, rule, blocks}
+use Rattle.definitions.specs.Places.{relationWords, firstRelation}
 use Rattle.chains.proofs.PackIndex.{EachFound, all-found}
-use Rattle.directions.specs.Turning.{Outcome, done, refused, andThen, mapDone}
-use Rattle.directions.specs.Resolving.{ruleWords, resolveRule, resolveRelation, firstRule}
+use Rattle.definitions.specs.Turning.{Outcome, done, refused, andThen, mapDone}
+use Rattle.definitions.specs.Resolving.{ruleWords, resolveRule, resolveRelation, firstRule}
 use Rattle.directions.specs.Records.{wordsOf, runBy, All, RelationKeeps, withRecords, turned}
 use Rattle.directions.proofs.RunLaws.{run-length}
 use Rattle.directions.proofs.TurnedPack.{front, pack-words, front-long, front22, pack-words-22, front22-long, rules-run, relations-run, rules-keep, relations-keep, again-words}

@@ -6,19 +6,21 @@ use mathlib.Core.List.{List, [], _∷_, _++_}
 use mathlib.Core.Bool.{Bool, true, false, _||_}
 use mathlib.Core.Option.{Option, none, some}
 use lib.ListN.{length, getD, length-append}
-use Rattle.pack.specs.declared.answer.Refusal.{Refusal}
-use Rattle.pack.specs.Table.{pick, wordOf, judgment}
-use Rattle.pack.specs.Form.{wordsBy, Fine}
-use Rattle.pack.specs.Tree.{Tree, Forest, node, more, tree}
-use Rattle.pack.specs.Tree as trees
-use Rattle.pack.specs.Pack.{Derivation, Relation, Pack, WellFormed, words, blocks, total}
-use Rattle.pack.specs.Pack as pack
+use Rattle.definitions.specs.declared.answer.Refusal.{Refusal}
+use Rattle.definitions.specs.Table.{pick, wordOf, judgment}
+use Rattle.definitions.specs.Form.{wordsBy, Fine}
+use Rattle.definitions.specs.Tree.{Tree, Forest, node, more, tree, treeWords, size, sizes}
+use Rattle.definitions.specs.Tree as trees
+use Rattle.definitions.specs.Records.{Derivation, Relation, Pack}
+use Rattle.definitions.specs.Pack.{WellFormed, words, blocks, total}
+use Rattle.definitions.specs.Records as records
+use Rattle.definitions.specs.Pack as pack
 use Rattle.pack.proofs.PackLaws.{words-read, words-length}
 use Rattle.reading.proofs.NotesLaws.{few-tree}
-use Rattle.chains.specs.Places.{relationWords, firstRelation}
+use Rattle.definitions.specs.Places.{relationWords, firstRelation}
 use Rattle.chains.proofs.CheckedLaws.{same-pack}
-use Rattle.directions.specs.Turning.{Outcome, done, refused, andThen, treeWords, size, sizes}
-use Rattle.directions.specs.Resolving.{ruleWords, predicatePlace, firstRule}
+use Rattle.definitions.specs.Turning.{Outcome, done, refused, andThen}
+use Rattle.definitions.specs.Resolving.{ruleWords, predicatePlace, firstRule}
 use Rattle.directions.proofs.TreeWords.{size-is}
 use Rattle.directions.specs.Records.{wordsOf, All, bodyWords, RelationKeeps, turned}
 use Rattle.directions.proofs.RuleLaws.{bodiesOf, head, rule-parts}
@@ -42,7 +44,7 @@ run-few W N Keeps each (a ∷ l) h i at =
     let theirs : List Note = notesRun W N (i + length (N i at a)) (at + length (W a)) l in
     omega (arith, length-append (N i at a) theirs, length-append (W a) (wordsOf W l), each a (h .0) i at, run-few W N Keeps each l (h .1) (i + length (N i at a)) (at + length (W a)))
 
-rule-few : (n : ℕ) (r : pack.Rule) → Fine (pack.rule n) r → (i at : ℕ) → length (ruleNotes i at r) ≤ length (ruleWords n r)
+rule-few : (n : ℕ) (r : records.Rule) → Fine (pack.rule n) r → (i at : ℕ) → length (ruleNotes i at r) ≤ length (ruleWords n r)
 unfolding ruleNotes
 rule-few n r fine i at =
     let its = rule-parts n r fine in

@@ -8,23 +8,24 @@ use mathlib.Core.Option.{Option, none, some}
 use lib.ListN.{length, length-append}
 use lib.Dec.{ltb, leb}
 use borrow.Author.Tests.{ltb-true, ltb-false, lt-leb}
-use Rattle.pack.specs.declared.table.Rule.{Rule}
-use Rattle.pack.specs.declared.table.Rule.the-variants.{Name}
-use Rattle.pack.specs.declared.table.Follows.{Follows}
-use Rattle.pack.specs.declared.table.Follows.the-variants.{Nothing, Counted, OneScalar, TwoScalars, Scalars, Patterns, Periods, OneJudgment, Judgments, Choice, Aggregate, OnlyRelated, Slots, Atom, Exists}
-use Rattle.pack.specs.Table.{pick, wordOf, judgment, allowed, table, entryOf, fieldsOf, childrenOf}
-use Rattle.pack.specs.Form.{FineEach, allowedHere, Fine, wordsBy}
-use Rattle.pack.specs.Tree.{Tree, Forest, node, more, ofForest, lastField, root, tree}
-use Rattle.pack.specs.Tree as trees
-use Rattle.pack.specs.Pack.{Derivation, Relation, Body, Pack, WellFormed, words, body, blocks}
-use Rattle.pack.specs.Pack as pack
+use Rattle.definitions.specs.declared.table.Rule.{Rule}
+use Rattle.definitions.specs.declared.table.Rule.the-variants.{Name}
+use Rattle.definitions.specs.declared.table.Follows.{Follows}
+use Rattle.definitions.specs.declared.table.Follows.the-variants.{Nothing, Counted, OneScalar, TwoScalars, Scalars, Patterns, Periods, OneJudgment, Judgments, Choice, Aggregate, OnlyRelated, Slots, Atom, Exists}
+use Rattle.definitions.specs.Table.{pick, wordOf, judgment, allowed, table, entryOf, fieldsOf, childrenOf}
+use Rattle.definitions.specs.Form.{FineEach, allowedHere, Fine, wordsBy}
+use Rattle.definitions.specs.Tree.{Tree, Forest, node, more, ofForest, lastField, root, tree, Fields, fieldWords, treeWords, forestWords, size}
+use Rattle.definitions.specs.Tree as trees
+use Rattle.definitions.specs.Records.{Derivation, Relation, Body, Pack}
+use Rattle.definitions.specs.Pack.{WellFormed, words, body, blocks}
+use Rattle.definitions.specs.Records as records
+use Rattle.definitions.specs.Pack as pack
 use Rattle.pack.proofs.Listed.{in-range}
 use Rattle.pack.proofs.PackLaws.{words-length}
-use Rattle.chains.specs.Places.{relationWords, firstRelation}
+use Rattle.definitions.specs.Places.{relationWords, firstRelation}
 use Rattle.chains.proofs.RelationScan.{kept}
 use Rattle.chains.proofs.PackIndex.{parts}
-use Rattle.directions.specs.Turning.{Fields, fieldWords, treeWords, forestWords, size}
-use Rattle.directions.specs.Resolving.{ruleWords, predicatePlace, firstRule}
+use Rattle.definitions.specs.Resolving.{ruleWords, predicatePlace, firstRule}
 use Rattle.directions.proofs.KeepsForm.{FieldsFine, only-one, open-node, no-level, head-fine}
 use Rattle.directions.proofs.TreeWords.{fields-count, size-is, fields-length}
 use Rattle.directions.specs.Records.{wordsOf, All, bodyWords, RelationKeeps}
@@ -205,7 +206,7 @@ module _ (ws : List ℕ) (short : length ws ≤ 8192) (n : ℕ) (most : n ≤ 40
   root-placed : (i at : ℕ) → 1 ≤ i → RootStands ws at → Stands ws i (note at 0 false)
   root-placed i at l s = record { within = omega arith; near = let f = s .fields in omega arith; root = λ e. s; node = λ e. absurd (e refl) }
 
-  rule-placed : (r : pack.Rule) → Fine (pack.rule n) r → PlacedAt 1 (ruleWords n) ruleNotes r
+  rule-placed : (r : records.Rule) → Fine (pack.rule n) r → PlacedAt 1 (ruleWords n) ruleNotes r
   unfolding ruleNotes
   rule-placed r fine front back i at s e b l =
       let its = rule-parts n r fine in

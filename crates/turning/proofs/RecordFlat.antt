@@ -7,20 +7,21 @@ use mathlib.Core.Option.{Option, none, some}
 use mathlib.Core.Bool.{false}
 use lib.ListN.{length, getD, set, length-append, length-set}
 use lib.Seq.{getD-at, getD-set-same}
-use Rattle.pack.specs.Table.{kindOf, valueOf, wordOf, judgment, entryOf, fieldsOf, childrenOf}
-use Rattle.pack.specs.Form.{FineEach, Fine}
-use Rattle.pack.specs.Tree.{Tree, Forest, node, more, ofForest, lastField, root, tree}
-use Rattle.pack.specs.Tree as trees
-use Rattle.pack.specs.Pack.{Derivation, Relation, Body, Rule, Pack, WellFormed, body, rule, relationTail, optionalDerivation}
-use Rattle.chains.specs.Kinds.{find, kindsOf}
-use Rattle.chains.specs.Places.{relationWords}
+use Rattle.definitions.specs.Table.{kindOf, valueOf, wordOf, judgment, entryOf, fieldsOf, childrenOf}
+use Rattle.definitions.specs.Form.{FineEach, Fine}
+use Rattle.definitions.specs.Tree.{Tree, Forest, node, more, ofForest, lastField, root, tree, Fields, treeWords, size}
+use Rattle.definitions.specs.Tree as trees
+use Rattle.definitions.specs.Records.{Derivation, Relation, Body, Rule, Pack}
+use Rattle.definitions.specs.Pack.{WellFormed, body, rule, relationTail, optionalDerivation}
+use Rattle.definitions.specs.Kinds.{find, kindsOf}
+use Rattle.definitions.specs.Places.{relationWords}
 use Rattle.chains.proofs.RelationScan.{kept}
 use Rattle.chains.proofs.PackIndex.{parts}
-use Rattle.filtered.specs.Filtered.{kindAt}
-use Rattle.directions.specs.Tables.{tables}
-use Rattle.directions.specs.Direction.{membership, kindOrZero}
-use Rattle.directions.specs.Turning.{Outcome, done, refused, mapDone, Fields, treeWords, size, resolveTree}
-use Rattle.directions.specs.Resolving.{cites, resolveBody, resolveRule, ruleWords, predicatePlace, withPredicate, predicateBy, resolveDerivation, resolveRelation}
+use Rattle.definitions.specs.Filtered.{kindAt}
+use Rattle.definitions.specs.Tables.{tables}
+use Rattle.definitions.specs.Direction.{membership, kindOrZero}
+use Rattle.definitions.specs.Turning.{Outcome, done, refused, mapDone, resolveTree}
+use Rattle.definitions.specs.Resolving.{cites, resolveBody, resolveRule, ruleWords, predicatePlace, withPredicate, predicateBy, resolveDerivation, resolveRelation}
 use Rattle.directions.proofs.KeepsForm.{Good, FieldsFine, open-node, no-level, tree-good, head-fine}
 use Rattle.directions.proofs.TreeWords.{fields-count, size-is}
 use Rattle.directions.proofs.ResolvedFine.{rule-good, tail-derivation, tables-fit}

@@ -4,8 +4,8 @@ use mathlib.Core.Path.{_≡_, ap, sym, _∙_}
 use mathlib.Core.List.{List}
 use mathlib.Core.Option.{none}
 use lib.ListN.{getD}
-use Rattle.pack.specs.Table.{kindOf, valueOf}
-use Rattle.directions.specs.Direction.{relatedKind, memberKinds}
+use Rattle.definitions.specs.Table.{kindOf, valueOf}
+use Rattle.definitions.specs.Direction.{relatedKind, memberKinds}
 use Rattle.directions.specs.Words.{derivedIn, tablesIn, memberIn}
 use Rattle.turning.specs.Turns.{valueIn}
 use Rattle.turning.specs.Steps.{RootOpened}

@@ -9,15 +9,16 @@ use lib.ListN.{length, getD, set}
 use lib.Seq.{sets, drop-cons}
 use lib.Dec.{eqb, ltb}
 use borrow.Author.Tests.{eq-eqb, ne-eqb, eqb-true, eqb-false, ltb-true, ltb-false}
-use Rattle.pack.specs.declared.table.Follows.{Follows}
-use Rattle.pack.specs.declared.table.Follows.the-variants.{Nothing, Counted, OneScalar, TwoScalars, Scalars, Patterns, Periods, OneJudgment, Judgments, Choice, Aggregate, OnlyRelated, Slots, Atom, Exists}
-use Rattle.pack.specs.Table.{pick, kindOf, valueOf, entryOf, table, fieldsOf}
+use Rattle.definitions.specs.declared.table.Follows.{Follows}
+use Rattle.definitions.specs.declared.table.Follows.the-variants.{Nothing, Counted, OneScalar, TwoScalars, Scalars, Patterns, Periods, OneJudgment, Judgments, Choice, Aggregate, OnlyRelated, Slots, Atom, Exists}
+use Rattle.definitions.specs.Table.{pick, kindOf, valueOf, entryOf, table, fieldsOf}
 use Rattle.pack.proofs.Listed.{in-range}
-use Rattle.directions.specs.declared.direction.Direction.{Direction}
-use Rattle.directions.specs.declared.direction.Direction.the-variants.{Turned, Open}
-use Rattle.directions.specs.Direction.{Membership}
-use Rattle.directions.specs.Direction as direction
-use Rattle.directions.specs.Turning.{Fields, withSlots, stops, aggregate, allowedInput, onlyRelated, membershipTest, stepBy}
+use Rattle.definitions.specs.declared.direction.Direction.{Direction}
+use Rattle.definitions.specs.declared.direction.Direction.the-variants.{Turned, Open}
+use Rattle.definitions.specs.Direction.{Membership}
+use Rattle.definitions.specs.Direction as direction
+use Rattle.definitions.specs.Tree.{Fields}
+use Rattle.definitions.specs.Turning.{withSlots, stops, aggregate, allowedInput, onlyRelated, membershipTest, stepBy}
 use Rattle.directions.specs.Words.{derivedIn, tablesIn, memberIn, MemberTurned, SlotsFit}
 use Rattle.inputs.specs.Blocks.{inputIn}
 use Rattle.directions.proofs.SlotLaws.{member-fits-code}

@@ -5,8 +5,8 @@ use native.Mathlib.Numerals.{add-one}
 use mathlib.Core.Path.{_≡_, refl, ap, sym, _∙_}
 use mathlib.Core.List.{List, [], _∷_}
 use lib.ListN.{length, getD}
-use Rattle.pack.specs.declared.answer.Refusal.{Refusal}
-use Rattle.directions.specs.Turning.{Outcome, done, refused, andThen}
+use Rattle.definitions.specs.declared.answer.Refusal.{Refusal}
+use Rattle.definitions.specs.Turning.{Outcome, done, refused, andThen}
 use Rattle.turning.specs.declared.root.Root as code
 use Rattle.turning.specs.declared.turns.Next.{Next}
 use Rattle.turning.specs.declared.turns.Next.the-variants as next

@@ -5,9 +5,9 @@ use mathlib.Core.List.{List, [], _∷_}
 use mathlib.Core.Bool.{Bool, _||_}
 use lib.ListN.{length, set}
 use lib.Dec.{eqb}
-use Rattle.pack.specs.Table.{pick}
-use Rattle.chains.specs.Reach.{any}
-use Rattle.directions.specs.Resolving.{roleJudgment, atomOf}
+use Rattle.definitions.specs.Table.{pick}
+use Rattle.definitions.specs.Lean.{any}
+use Rattle.definitions.specs.Resolving.{roleJudgment, atomOf}
 use Rattle.turning.specs.Notes.{Note, noteCode, Held}
 use Rattle.turning.specs.Turns.{valueIn, kindIn}
 

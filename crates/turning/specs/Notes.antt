@@ -5,12 +5,13 @@ use mathlib.Core.List.{List, [], _∷_, _++_}
 use mathlib.Core.Bool.{false}
 use mathlib.Core.Option.{Option, none, some}
 use lib.ListN.{length, getD}
-use Rattle.pack.specs.Pack.{Derivation, Relation, Body, Rule, Pack}
-use Rattle.chains.specs.Places.{relationWords, firstRelation}
-use Rattle.directions.specs.Resolving.{predicatePlace, ruleWords, firstRule}
+use Rattle.definitions.specs.Records.{Derivation, Relation, Body, Rule, Pack}
+use Rattle.definitions.specs.Places.{relationWords, firstRelation}
+use Rattle.definitions.specs.Resolving.{predicatePlace, ruleWords, firstRule}
 use Rattle.directions.specs.Records.{bodyWords}
 pub use Rattle.reading.specs.Notes.{Look, lookOf, Note, note, within, contextOf, noteCode}
-unfoldable pub use Rattle.reading.specs.Notes.{lookBy, noted, size, notesOf, notesIn}
+unfoldable pub use Rattle.definitions.specs.Tree.{size}
+unfoldable pub use Rattle.reading.specs.Notes.{lookBy, noted, notesOf, notesIn}
 
 -- those of a run of records, one after the other from a place on
 unfoldable pub notesRun : {A : Type 0} → (A → List ℕ) → (ℕ → ℕ → A → List Note) → ℕ → ℕ → List A → List Note

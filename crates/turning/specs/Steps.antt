@@ -5,15 +5,16 @@ use mathlib.Core.List.{List, [], _∷_}
 use mathlib.Core.Bool.{Bool, true, false}
 use lib.ListN.{length, getD}
 use lib.Dec.{eqb}
-use Rattle.pack.specs.Table.{pick, kindOf, valueOf, entryOf, fieldsOf}
-use Rattle.pack.specs.Pack.{Pack, yes, read, words}
+use Rattle.definitions.specs.Table.{pick, kindOf, valueOf, entryOf, fieldsOf}
+use Rattle.definitions.specs.Records.{Pack}
+use Rattle.definitions.specs.Pack.{yes, read, words}
 use Rattle.inputs.specs.Blocks.{inputIn}
-use Rattle.directions.specs.declared.direction.Direction.{Direction}
-use Rattle.directions.specs.declared.direction.Direction.the-variants.{Turned, Open}
-use Rattle.directions.specs.Tables.{Tables}
-use Rattle.directions.specs.Direction.{turn, Membership, relatedKind}
+use Rattle.definitions.specs.declared.direction.Direction.{Direction}
+use Rattle.definitions.specs.declared.direction.Direction.the-variants.{Turned, Open}
+use Rattle.definitions.specs.Tables.{Tables}
+use Rattle.definitions.specs.Direction.{turn, Membership, relatedKind}
 use mathlib.Core.Option.{Option, none, some}
-use Rattle.directions.specs.Turning.{Outcome, done, refused, Citing, currentOf, relatedOf, Step, goes, stops}
+use Rattle.definitions.specs.Turning.{Outcome, done, refused, Citing, currentOf, relatedOf, Step, goes, stops}
 use Rattle.directions.specs.Words.{tablesIn, memberIn}
 use Rattle.directions.specs.Records.{turned}
 use Rattle.turning.specs.declared.step.Out.{Out}

@@ -7,13 +7,15 @@ use mathlib.Core.Option.{Option, none, some}
 use lib.ListN.{length, getD, set, take, drop}
 use lib.Seq.{sets}
 use lib.Dec.{eqb}
-use Rattle.pack.specs.Table.{pick, kindOf, valueOf, entryOf, fieldsOf}
-use Rattle.pack.specs.Pack.{Pack, words}
-use Rattle.filtered.specs.Filtered.{kindAt}
-use Rattle.inputs.specs.Inputs.{input}
-use Rattle.directions.specs.Tables.{Derived, Tables, tables}
-use Rattle.directions.specs.Direction.{Membership, relatedKind, memberKinds}
-use Rattle.directions.specs.Turning.{Outcome, done, refused, andThen, Citing, Fields, Step, goes, stops, stepBy, fieldWords}
+use Rattle.definitions.specs.Table.{pick, kindOf, valueOf, entryOf, fieldsOf}
+use Rattle.definitions.specs.Records.{Pack}
+use Rattle.definitions.specs.Pack.{words}
+use Rattle.definitions.specs.Filtered.{kindAt}
+use Rattle.definitions.specs.Inputs.{input}
+use Rattle.definitions.specs.Tables.{Derived, Tables, tables}
+use Rattle.definitions.specs.Direction.{Membership, relatedKind, memberKinds}
+use Rattle.definitions.specs.Tree.{Fields, fieldWords}
+use Rattle.definitions.specs.Turning.{Outcome, done, refused, andThen, Citing, Step, goes, stops, stepBy}
 use Rattle.turning.specs.Notes.{Note, lookOf}
 
 -- ---- a note taken out of its number

@@ -6,7 +6,7 @@ use mathlib.Core.Path.{_≡_, refl, ap, sym, _∙_}
 use mathlib.Core.List.{List, [], _∷_, _++_, append-nil}
 use lib.ListN.{length, take, drop, getD, set, length-drop}
 use lib.Seq.{drop-cons, drop-drop, take-suc, take-suc-set, append-snoc, sets-eq, take-at, drop-append-add, length-take-le}
-use Rattle.wire.specs.Bytes.{wordFrom, wordsOf, bytesOf}
+use Rattle.definitions.specs.Bytes.{wordFrom, wordsOf, bytesOf}
 
 -- fewer than four bytes are no word
 pub words-short : (bytes : List ℕ) → length bytes < 4 → wordsOf bytes ≡ []

@@ -2,8 +2,8 @@
 use Prim.Native.Nat.{_+_, _*_, _^_}
 use mathlib.Core.Path.{_≡_, refl}
 use mathlib.Core.List.{[], _∷_}
-use Rattle.pack.specs.declared.answer.Answer.the-variants.{Given, Refused}
-use Rattle.wire.specs.Bytes.{wordsOf, bytesOf, encode, outAfter}
+use Rattle.definitions.specs.declared.answer.Answer.the-variants.{Given, Refused}
+use Rattle.definitions.specs.Bytes.{wordsOf, bytesOf, encode, outAfter}
 
 -- "For 01000006 02000001 .. (hexadecimal)", low byte first
 words : wordsOf (0x06 ∷ 0x00 ∷ 0x00 ∷ 0x01 ∷ 0x01 ∷ 0x00 ∷ 0x00 ∷ 0x02 ∷ []) ≡ 0x01000006 ∷ 0x02000001 ∷ []

@@ -8,10 +8,11 @@ use lib.ListN.{length, take, drop, length-append}
 use lib.Seq.{take-append-le, length-take-le}
 use lib.Dec.{eqb, leb}
 use borrow.Author.Tests.{leb-true, not-true, not-false}
-use Rattle.pack.specs.declared.answer.Answer.{Answer}
-use Rattle.pack.specs.declared.answer.Answer.the-variants.{Given, Refused}
-use Rattle.pack.specs.Table.{pick}
-use Rattle.wire.specs.Bytes.{wordsOf, encode, areWords, notWords, overBytes, outAfter, outBytes, Gives, loadedOf, Loaded, Holds, Tried, Fits}
+use Rattle.definitions.specs.declared.answer.Answer.{Answer}
+use Rattle.definitions.specs.declared.answer.Answer.the-variants.{Given, Refused}
+use Rattle.definitions.specs.Table.{pick}
+use Rattle.definitions.specs.Bytes.{wordsOf, encode, areWords, notWords, overBytes, outAfter, outBytes, Gives}
+use Rattle.wire.specs.Loading.{loadedOf, Loaded, Holds, Tried, Fits}
 use Rattle.wire.proofs.ByteLaws.{words-length}
 use Rattle.wire.proofs.Room.{Within, Writes}
 

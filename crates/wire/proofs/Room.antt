@@ -9,12 +9,12 @@ use lib.ListN.{length, take, drop}
 use lib.Seq.{take-append-seam}
 use lib.Dec.{leb}
 use borrow.Author.Tests.{leb-true, leb-false, le-leb, lt-leb}
-use Rattle.pack.specs.declared.answer.Answer.{Answer}
-use Rattle.pack.specs.declared.answer.Answer.the-variants.{Given, Refused}
-use Rattle.pack.specs.declared.answer.Refusal.{Refusal}
-use Rattle.pack.specs.Table.{pick}
-use Rattle.pack.specs.Operations.{noRoom}
-use Rattle.wire.specs.Bytes.{notWords, outAfter}
+use Rattle.definitions.specs.declared.answer.Answer.{Answer}
+use Rattle.definitions.specs.declared.answer.Answer.the-variants.{Given, Refused}
+use Rattle.definitions.specs.declared.answer.Refusal.{Refusal}
+use Rattle.definitions.specs.Table.{pick}
+use Rattle.definitions.specs.Answers.{noRoom}
+use Rattle.definitions.specs.Bytes.{notWords, outAfter}
 
 -- an answer that says no more words than so many
 abbrev pub Within : Answer → ℕ → Type 0

@@ -1,9 +1,10 @@
 // Answers as one number.
 use crate::bytes::store;
-use pack::answer::Answer;
+use definitions::answer::Answer;
 ghost use mathlib.Core.Path.{_≡_};
 ghost use lib.ListN.{length};
-ghost use Rattle.wire.specs.Bytes.{inBits, encode, outAfter, Fits};
+ghost use Rattle.definitions.specs.Bytes.{inBits, encode, outAfter};
+ghost use Rattle.wire.specs.Loading.{Fits};
 
 // The fields of an answer's number, the lowest first: how many values each has, and what one of it counts.
 pub struct Field {}

@@ -4,7 +4,8 @@ ghost use mathlib.Core.Path.{_≡_};
 ghost use mathlib.Core.List.{_++_, [], _∷_};
 ghost use Prim.Native.Nat.{_+_, _*_, _/_, _≤_, min};
 ghost use lib.ListN.{length, take, drop};
-ghost use Rattle.wire.specs.Bytes.{wordFrom, bytesOf, areWords, Holds, Loaded};
+ghost use Rattle.definitions.specs.Bytes.{wordFrom, bytesOf, areWords};
+ghost use Rattle.wire.specs.Loading.{Holds, Loaded};
 
 // How many values a byte has, and what one of each byte of a word but the first counts.
 struct Byte {}

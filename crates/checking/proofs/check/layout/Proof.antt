@@ -1,8 +1,8 @@
 -- `checking::check::layout` meets its contract.
 use mathlib.Core.Path.{refl}
 use native.Mathlib.Omega.{arith}
-use Rattle.pack.specs.Pack.{layout, inner}
-use Rattle.pack.specs.Table.{entryOf, table}
+use Rattle.definitions.specs.Pack.{layout, inner}
+use Rattle.definitions.specs.Table.{entryOf, table}
 use Rattle.pack.proofs.StepLaws.{walks}
 use Rattle.reading.proofs.BoundLaws.{ready-for}
 use Rattle.checking.proofs.CheckLaws.{from-start, names-most, clear-read, whole-no, whole-on}

@@ -3,7 +3,7 @@ use Prim.Native.Nat.{_+_, _-_}
 use native.Mathlib.Omega.{arith}
 use mathlib.Core.Path.{sym, subst}
 use lib.ListN.{length}
-use Rattle.chains.specs.ByName.{tableFrom}
+use Rattle.definitions.specs.Answers.{tableFrom}
 use Rattle.chains.specs.Entry.{Reaches, declarationsIn}
 use Rattle.filtered.specs.Said.{plainly}
 use Rattle.chains.proofs.FillLaws.{table-length}

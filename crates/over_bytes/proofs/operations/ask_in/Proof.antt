@@ -2,7 +2,7 @@
 use borrow.Author.Needs.{needs}
 use mathlib.Core.Path.{sym}
 use lib.Seq.{length-take-le}
-use Rattle.over_bytes.specs.Operations.{answerTo}
+use Rattle.definitions.specs.Operations.{answerTo}
 use Rattle.over_bytes.proofs.Writes.{asks-none}
 use Rattle.wire.proofs.OverBytes.{answered}
 use Rattle.over_bytes.proofs.operations.ask_in.Statement.{statement}

@@ -3,7 +3,7 @@ use mathlib.Core.Path.{_≡_, refl, ap, _∙_}
 use mathlib.Core.Logic.{⊎-elim}
 use native.Mathlib.Omega.{arith}
 use lib.ListN.{length}
-use Rattle.over_bytes.specs.declared.operations.Writing.the-variants.{Resolve}
+use Rattle.definitions.specs.declared.operation.Writing.the-variants.{Resolve}
 use Rattle.over_bytes.proofs.Writes.{writes}
 use Rattle.over_bytes.proofs.IntoBytes.{made-room}
 use Rattle.wire.proofs.OverBytes.{given-short, given-long, kept-out}

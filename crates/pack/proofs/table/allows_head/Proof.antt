@@ -8,11 +8,11 @@ use lib.Dec.{ltb, leb, eqb}
 use lib.ListN.{getD}
 use borrow.Author.Needs.{needs}
 use borrow.Author.Tests.{lt-ltb, ne-eqb, ltb-true, ltb-false}
-use Rattle.pack.specs.declared.table.Entry.{Entry}
-use Rattle.pack.specs.declared.table.Rule.{Rule}
-use Rattle.pack.specs.declared.table.Rule.the-variants.{Unused, Any, AtMost, FromOne, AtMostOrNone, Total, Name, NameOrNone}
-use Rattle.pack.specs.Table.{pick, allowed, entryOf, table}
-use Rattle.pack.specs.Form.{allowedHere}
+use Rattle.definitions.specs.declared.table.Entry.{Entry}
+use Rattle.definitions.specs.declared.table.Rule.{Rule}
+use Rattle.definitions.specs.declared.table.Rule.the-variants.{Unused, Any, AtMost, FromOne, AtMostOrNone, Total, Name, NameOrNone}
+use Rattle.definitions.specs.Table.{pick, allowed, entryOf, table}
+use Rattle.definitions.specs.Form.{allowedHere}
 use Rattle.pack.specs.Packed.{ruleFrom, Tabled, Bounded}
 use Rattle.pack.proofs.Listed.{in-range}
 use Rattle.pack.proofs.table.allows_head.Statement.{statement}

@@ -1,7 +1,7 @@
 -- `pack::table::sort_of` meets its contract.
 use mathlib.Core.Path.{ap}
 use borrow.Author.Needs.{needs}
-use Rattle.pack.specs.declared.table.Entry.{Entry}
+use Rattle.definitions.specs.declared.table.Entry.{Entry}
 use Rattle.pack.specs.Packed.{Tabled}
 use Rattle.pack.proofs.table.sort_of.Statement.{statement}
 use Rattle.pack.proofs.table.sort_of.Tie as tie

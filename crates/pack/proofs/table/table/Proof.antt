@@ -4,7 +4,7 @@ use mathlib.Core.List.{List}
 use Prim.Native.Nat.{ℕ}
 use native.Mathlib.Omega.{arith}
 use lib.ListN.{getD}
-use Rattle.pack.specs.Table.{table, entryOf}
+use Rattle.definitions.specs.Table.{table, entryOf}
 use Rattle.pack.specs.Packed.{entryFrom, Tabled}
 use Rattle.pack.proofs.Listed.{listed, agree}
 use Rattle.pack.proofs.table.table.Statement.{statement}

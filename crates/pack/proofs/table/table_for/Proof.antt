@@ -9,10 +9,10 @@ use lib.Seq.{getD-set-same, getD-set-other}
 use lib.Dec.{eqb, ltb}
 use borrow.Author.Needs.{needs}
 use borrow.Author.Tests.{eqb-true, eqb-false, ltb-true, ltb-false}
-use Rattle.pack.specs.declared.table.Entry.{Entry}
-use Rattle.pack.specs.declared.table.Rule.{Rule}
-use Rattle.pack.specs.declared.table.Rule.the-variants.{Unused, Any, AtMost, FromOne, AtMostOrNone, Total, Name, NameOrNone}
-use Rattle.pack.specs.Table.{table, entryOf}
+use Rattle.definitions.specs.declared.table.Entry.{Entry}
+use Rattle.definitions.specs.declared.table.Rule.{Rule}
+use Rattle.definitions.specs.declared.table.Rule.the-variants.{Unused, Any, AtMost, FromOne, AtMostOrNone, Total, Name, NameOrNone}
+use Rattle.definitions.specs.Table.{table, entryOf}
 use Rattle.pack.specs.Packed.{ruleFrom, entryFrom, Tabled, Bounded}
 use Rattle.pack.proofs.Listed.{in-range}
 use Rattle.pack.proofs.table.table_for.Statement.{statement}

@@ -8,11 +8,10 @@ use lib.ListN.{length, getD}
 use borrow.Author.Needs.{needs}
 use borrow.Rule.Slice.PartAt.{part-to-end}
 use borrow.Author.Tests.{leb-true}
-use Rattle.pack.specs.declared.table.Follows.the-variants.{Patterns, Periods, Choice, Aggregate, OnlyRelated, Slots, Atom, Exists}
-use Rattle.pack.specs.Table.{kindOf, valueOf, entryOf, table, fieldsOf, childrenOf, howMany}
-use Rattle.pack.specs.Table.{scalar as scalar-sort, judgment as judgment-sort}
+use Rattle.definitions.specs.declared.table.Follows.the-variants.{Patterns, Periods, Choice, Aggregate, OnlyRelated, Slots, Atom, Exists}
+use Rattle.definitions.specs.Table.{kindOf, valueOf, entryOf, table, fieldsOf, childrenOf, howMany, scalar as scalar-sort, judgment as judgment-sort}
 use Rattle.pack.specs.Packed.{boundOf}
-use Rattle.pack.specs.Tree.{fields, follow}
+use Rattle.definitions.specs.Tree.{fields, follow}
 use Rattle.reading.specs.Notes.{lookBy, noted}
 use Rattle.reading.proofs.TreeLaws.{aggregate-kind, scalars-in-row, judgments-in-row, scalar-row, comparison-row, judgment-row, above, leaf-past, leaf-low, leaf-last, leaf-between, compared, scalar-kind, judgment-kind}
 use Rattle.reading.proofs.CodeLaws.{code-within, passed, fault-code, fault-large, first-code, next-code, last-code, then-code, up-to-any, up-to-most, row-small}

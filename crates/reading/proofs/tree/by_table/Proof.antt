@@ -1,8 +1,8 @@
 -- `reading::tree::by_table` meets its contract.
 use mathlib.Core.Path.{ap, _∙_}
 use borrow.Author.Needs.{needs}
-use Rattle.pack.specs.declared.table.Entry.{Entry}
-use Rattle.pack.specs.Table.{howMany}
+use Rattle.definitions.specs.declared.table.Entry.{Entry}
+use Rattle.definitions.specs.Table.{howMany}
 use Rattle.reading.proofs.tree.by_table.Statement.{statement}
 use Rattle.reading.proofs.tree.by_table.Tie as tie
 

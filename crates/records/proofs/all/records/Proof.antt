@@ -1,5 +1,5 @@
 -- `records::all::records` meets its contract.
-use Rattle.pack.specs.Pack.{records}
+use Rattle.definitions.specs.Pack.{records}
 use Rattle.pack.proofs.StepLaws.{by-then, then-stop}
 use Rattle.records.proofs.DirectoryLaws.{laid-no, laid-yes}
 use borrow.Author.Needs.{needs}

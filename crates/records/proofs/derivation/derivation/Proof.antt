@@ -1,7 +1,7 @@
 -- `records::derivation::derivation` meets its contract.
 use mathlib.Core.Path.{_≡_, refl}
 use native.Mathlib.Omega.{arith}
-use Rattle.pack.specs.Pack.{derivation}
+use Rattle.definitions.specs.Pack.{derivation}
 use Rattle.pack.proofs.StepLaws.{by-via, by-then, then-stop, last-stop}
 use Rattle.records.proofs.KeptLaws.{noted-no}
 use Rattle.records.proofs.DirectoryLaws.{chain-read}

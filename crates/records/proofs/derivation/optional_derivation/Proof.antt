@@ -2,8 +2,8 @@
 use Prim.Native.Nat.{ℕ, _+_}
 use native.Mathlib.Omega.{arith}
 use mathlib.Core.Path.{_≡_, refl, sym, ap}
-use Rattle.pack.specs.Pack.{optionalDerivation}
-use Rattle.pack.specs.Table.{entryOf, table}
+use Rattle.definitions.specs.Pack.{optionalDerivation}
+use Rattle.definitions.specs.Table.{entryOf, table}
 use Rattle.pack.proofs.StepLaws.{walks, last-stop}
 use Rattle.records.specs.Directory.{noteIn}
 use Rattle.records.specs.Notes.{noteDerivation}

@@ -3,8 +3,8 @@ use mathlib.Core.Path.{ap, refl}
 use native.Mathlib.Omega.{arith}
 use mathlib.Core.Bool.{not}
 use borrow.Author.Tests.{lt-ltb, le-ltb}
-use Rattle.pack.specs.Pack.{newName}
-use Rattle.pack.specs.Table.{entryOf, table}
+use Rattle.definitions.specs.Pack.{newName}
+use Rattle.definitions.specs.Table.{entryOf, table}
 use Rattle.pack.proofs.StepLaws.{guarded-stop, guarded-no, guarded-on}
 use Rattle.records.specs.Directory.{entered}
 use Rattle.records.proofs.RecordLaws.{name-below}

@@ -2,7 +2,7 @@
 use lib.ListN.{length-set}
 use mathlib.Core.Path.{refl}
 use native.Mathlib.Omega.{arith}
-use Rattle.pack.specs.Pack.{relation}
+use Rattle.definitions.specs.Pack.{relation}
 use Rattle.pack.proofs.StepLaws.{walks, by-via, by-then, last-stop}
 use Rattle.records.specs.Directory.{noteRelation}
 use Rattle.records.specs.Notes.{notePredicate, noteBoth}

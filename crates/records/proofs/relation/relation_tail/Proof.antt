@@ -1,8 +1,8 @@
 -- `records::relation::relation_tail` meets its contract.
 use mathlib.Core.Path.{refl}
 use native.Mathlib.Omega.{arith}
-use Rattle.pack.specs.Pack.{relationTail}
-use Rattle.pack.specs.Table.{entryOf, table}
+use Rattle.definitions.specs.Pack.{relationTail}
+use Rattle.definitions.specs.Table.{entryOf, table}
 use Rattle.pack.proofs.StepLaws.{by-then, then-stop, last-stop}
 use Rattle.records.proofs.KeptLaws.{noted-no, there}
 use Rattle.records.proofs.DirectoryLaws.{list-few}

@@ -2,9 +2,9 @@
 use Prim.Native.Nat.{ℕ}
 use mathlib.Core.Path.{_≡_, refl, _∙_}
 use native.Mathlib.Omega.{arith}
-use Rattle.pack.specs.Pack.{relations}
-use Rattle.pack.specs.Form.{says}
-use Rattle.pack.specs.Table.{entryOf, table}
+use Rattle.definitions.specs.Pack.{relations}
+use Rattle.definitions.specs.Form.{says}
+use Rattle.definitions.specs.Table.{entryOf, table}
 use Rattle.pack.proofs.StepLaws.{walks, last-stop, by-left, by-inv, all-stop}
 use Rattle.records.proofs.KeptLaws.{noted-no, noted-all}
 use Rattle.records.proofs.DirectoryLaws.{Relating, relating, relating-on, count-read, noted-used}

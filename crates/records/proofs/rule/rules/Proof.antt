@@ -1,9 +1,9 @@
 -- `records::rule::rules` meets its contract.
 use mathlib.Core.Path.{_≡_, refl, _∙_}
 use native.Mathlib.Omega.{arith}
-use Rattle.pack.specs.Pack.{rules, rule}
-use Rattle.pack.specs.Form.{says}
-use Rattle.pack.specs.Table.{entryOf, table}
+use Rattle.definitions.specs.Pack.{rules, rule}
+use Rattle.definitions.specs.Form.{says}
+use Rattle.definitions.specs.Table.{entryOf, table}
 use Rattle.pack.proofs.StepLaws.{walks, last-stop, by-left, by-inv, all-stop}
 use Rattle.records.specs.Notes.{noteRule}
 use Rattle.records.proofs.KeptLaws.{noted-no, noted-all, Noting, noting, noting-on}

@@ -2,7 +2,7 @@
 use native.Mathlib.Omega.{arith}
 use mathlib.Core.Path.{_∙_}
 use lib.ListN.{length-set}
-use Rattle.pack.specs.Table.{wordOf}
+use Rattle.definitions.specs.Table.{wordOf}
 use Rattle.resolve.proofs.WriteLaws.{room-first, list-room, list-long, list-put}
 use borrow.Author.Needs.{needs}
 use Rattle.resolve.proofs.write.put_list.Statement.{statement}

@@ -1,6 +1,6 @@
 -- `turning::turns::set_slots` meets its contract.
 use Rattle.turning.proofs.StepLaws.{two-sets}
-use Rattle.pack.specs.Table.{wordOf}
+use Rattle.definitions.specs.Table.{wordOf}
 use borrow.Author.Needs.{needs}
 use Rattle.turning.proofs.turns.set_slots.Statement.{statement}
 use Rattle.turning.proofs.turns.set_slots.Tie as tie

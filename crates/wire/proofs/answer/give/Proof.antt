@@ -1,6 +1,6 @@
 -- `wire::answer::give` meets its contract, by the two kinds of answers.
 use borrow.Author.Needs.{needs}
-use Rattle.wire.specs.Bytes.{outAfter}
+use Rattle.definitions.specs.Bytes.{outAfter}
 use Rattle.wire.proofs.answer.give.Statement.{statement}
 use Rattle.wire.proofs.answer.give.Tie as tie
 

@@ -5,7 +5,7 @@ use Prim.Native.Nat.{ℕ, _*_, _-_, _≤_}
 use mathlib.Core.Path.{_≡_, refl, sym, _∙_}
 use mathlib.Core.List.{List, _++_}
 use lib.ListN.{length, take, drop, length-set}
-use Rattle.wire.specs.Bytes.{wordsOf}
+use Rattle.definitions.specs.Bytes.{wordsOf}
 use Rattle.wire.proofs.ByteLaws.{load-turn, load-done}
 use Rattle.wire.proofs.OverBytes.{few, none-loaded, all-loaded}
 use Rattle.wire.proofs.bytes.load.Statement.{statement}

@@ -4,7 +4,7 @@ use Prim.Native.Nat.{ℕ, _*_, _-_, _≤_}
 use mathlib.Core.Path.{_≡_, refl, _∙_}
 use mathlib.Core.List.{List, _++_}
 use lib.ListN.{length, take, drop}
-use Rattle.wire.specs.Bytes.{bytesOf}
+use Rattle.definitions.specs.Bytes.{bytesOf}
 use Rattle.wire.proofs.ByteLaws.{store-turn}
 use Rattle.wire.proofs.bytes.store.Statement.{statement}
 use Rattle.wire.proofs.bytes.store.Tie as tie

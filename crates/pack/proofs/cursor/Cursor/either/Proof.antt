@@ -4,7 +4,7 @@ use native.Mathlib.Omega.{arith}
 use mathlib.Core.Logic.{⊎-elim}
 use Rattle.pack.proofs.StepLaws.{word-stop, word-turned, word-value, word-on}
 use Rattle.pack.proofs.FormLaws.{either-other, either-first, either-second}
-use Rattle.pack.specs.Form.{allowedHere}
+use Rattle.definitions.specs.Form.{allowedHere}
 use borrow.Author.Needs.{needs}
 use Rattle.pack.proofs.cursor.Cursor.either.Statement.{statement}
 use Rattle.pack.proofs.cursor.Cursor.either.Tie as tie

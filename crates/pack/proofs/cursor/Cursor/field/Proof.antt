@@ -3,7 +3,7 @@ use mathlib.Core.Path.{refl, sym, _∙_}
 use native.Mathlib.Omega.{arith}
 use Rattle.pack.proofs.StepLaws.{word-stop, word-turned, word-value, word-on, field-word}
 use Rattle.pack.proofs.FormLaws.{only-same, only-other}
-use Rattle.pack.specs.Form.{allowedHere}
+use Rattle.definitions.specs.Form.{allowedHere}
 use borrow.Author.Needs.{needs}
 use Rattle.pack.proofs.cursor.Cursor.field.Statement.{statement}
 use Rattle.pack.proofs.cursor.Cursor.field.Tie as tie

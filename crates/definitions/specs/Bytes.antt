@@ -5,9 +5,9 @@ use mathlib.Core.Bool.{Bool, _&&_}
 use mathlib.Core.List.{List, [], _∷_, _++_}
 use lib.ListN.{length, take, drop}
 use lib.Dec.{eqb, leb}
-use Rattle.pack.specs.declared.answer.Answer.{Answer}
-use Rattle.pack.specs.declared.answer.Answer.the-variants.{Given, Refused}
-use Rattle.pack.specs.Table.{pick}
+use Rattle.definitions.specs.declared.answer.Answer.{Answer}
+use Rattle.definitions.specs.declared.answer.Answer.the-variants.{Given, Refused}
+use Rattle.definitions.specs.Table.{pick}
 
 -- "A host in Rust hands over the pack as bytes, four a word, low byte first."
 abbrev pub wordFrom : ℕ → ℕ → ℕ → ℕ → ℕ
@@ -62,28 +62,3 @@ outBytes answer buffer bytes out = outAfter (inRoom answer (length out) bytes) (
 pub record Gives (answer : List ℕ → ℕ → Answer) (buffer : List ℕ → List ℕ → List ℕ) (bytes out : List ℕ) (r : ℕ) (after : List ℕ) : Type 0 where
   pub answers : r ≡ encode (inRoom answer (length out) bytes)
   pub leaves : after ≡ outBytes answer buffer bytes out
-
--- Below: what the parts of the host's functions promise each other.
-
--- the words that are loaded: none where the bytes are no words
-unfoldable pub loadedOf : List ℕ → List ℕ
-loadedOf bytes = pick (areWords (length bytes)) (wordsOf bytes) []
-
--- they stand at the front of a slice
-pub record Loaded (bytes : List ℕ) (n : ℕ) (words : List ℕ) : Type 0 where
-  pub front : take n words ≡ loadedOf bytes
-  pub fits : n ≤ length words
-
--- a slice that has room for the words of so many bytes; more than 32,768 are none
-abbrev pub Holds : ℕ → ℕ → Type 0
-Holds bytes words = min bytes 32768 ≤ 4 * words
-
--- an operation that writes into a slice of so many words, of which the output is then given those that it answers
-pub record Tried (answer : List ℕ → ℕ → Answer) (buffer : List ℕ → List ℕ → List ℕ) (bytes : List ℕ) (most : ℕ) (out : List ℕ) (r : ℕ) (after : List ℕ) : Type 0 where
-  pub answers : r ≡ encode (answer (loadedOf bytes) (min (length out / 4) most))
-  pub leaves : after ≡ outAfter (answer (loadedOf bytes) (min (length out / 4) most)) (buffer (loadedOf bytes) (wordsOf out)) out
-
--- as many words as an answer says are there, and their bytes fit the output
-abbrev pub Fits : Answer → ℕ → ℕ → Type 0
-Fits (Given n steps) words bytes = (n ≤ words) × (4 * n ≤ bytes)
-Fits (Refused r) words bytes = Unit {0}

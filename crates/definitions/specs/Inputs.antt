@@ -5,9 +5,9 @@ use mathlib.Core.List.{List, [], _∷_, _++_}
 use mathlib.Core.Bool.{Bool, true, false, _||_, not}
 use mathlib.Core.Option.{Option, none, some}
 use lib.Dec.{eqb}
-use Rattle.pack.specs.Table.{pick}
-use Rattle.pack.specs.Pack.{Item, Block}
-use Rattle.chains.specs.Reach.{any}
+use Rattle.definitions.specs.Table.{pick}
+use Rattle.definitions.specs.Records.{Item, Block}
+use Rattle.definitions.specs.Lean.{any}
 
 -- the blocks of an origin
 abbrev pub ofOrigin : ℕ → List Block → List Block

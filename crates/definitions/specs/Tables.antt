@@ -2,9 +2,9 @@
 use Prim.Native.Nat.{ℕ}
 use mathlib.Core.List.{List, [], _∷_}
 use mathlib.Core.Option.{Option, none, some}
-use Rattle.pack.specs.Pack.{Derivation, Relation}
-use Rattle.chains.specs.Kinds.{find, kindsOf}
-use Rattle.filtered.specs.Filtered.{direct}
+use Rattle.definitions.specs.Records.{Derivation, Relation}
+use Rattle.definitions.specs.Kinds.{find, kindsOf}
+use Rattle.definitions.specs.Filtered.{direct}
 
 -- "Derived: slots and effective kinds."
 pub record Derived : Type 0 where

@@ -6,11 +6,12 @@ use mathlib.Core.Bool.{false}
 use mathlib.Core.Option.{Option, none, some}
 use lib.ListN.{length, getD, take, drop}
 use lib.Dec.{eqb}
-use Rattle.pack.specs.Table.{pick, valueOf, wordOf}
-use Rattle.pack.specs.Form.{wordsBy}
-use Rattle.pack.specs.Pack.{Hop, Relation, relation, Pack}
-use Rattle.chains.specs.Kinds.{Which, list9, list21, countKind, Source, find, allKinds, ownAnswer, listOf}
-use Rattle.chains.specs.Kinds as kinds
+use Rattle.definitions.specs.Table.{pick, valueOf, wordOf}
+use Rattle.definitions.specs.Form.{wordsBy}
+use Rattle.definitions.specs.Records.{Hop, Relation, Pack}
+use Rattle.definitions.specs.Pack.{relation}
+use Rattle.definitions.specs.Kinds.{Which, list9, list21, countKind, Source, find, allKinds, ownAnswer, listOf}
+use Rattle.definitions.specs.Kinds as kinds
 
 -- the words of a relation
 abbrev pub relationWords : ℕ → Relation → List ℕ

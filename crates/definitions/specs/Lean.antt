@@ -6,11 +6,11 @@ use mathlib.Core.Bool.{Bool, true, false, _||_}
 use mathlib.Core.Option.{Option, none, some}
 use lib.ListN.{length}
 use lib.Dec.{eqb}
-use Rattle.pack.specs.Table.{pick}
-use Rattle.pack.specs.Table as table
-use Rattle.pack.specs.Form.{among}
-use Rattle.pack.specs.Pack.{Derivation, Relation}
-use Rattle.chains.specs.Kinds.{find}
+use Rattle.definitions.specs.Table.{pick}
+use Rattle.definitions.specs.Table as table
+use Rattle.definitions.specs.Form.{among}
+use Rattle.definitions.specs.Records.{Derivation, Relation}
+use Rattle.definitions.specs.Kinds.{find}
 
 abbrev pub any : {A : Type 0} → (A → Bool) → List A → Bool
 any f [] = false

@@ -5,20 +5,21 @@ use mathlib.Core.Bool.{Bool, true, false, _||_, _&&_, not}
 use mathlib.Core.Option.{Option, none, some}
 use lib.ListN.{length}
 use lib.Dec.{eqb, leb}
-use Rattle.pack.specs.declared.answer.Refusal.{Refusal}
-use Rattle.pack.specs.Table.{pick}
-use Rattle.pack.specs.Form.{wordsBy}
-use Rattle.pack.specs.Tree.{Tree, Forest, node, more}
-use Rattle.pack.specs.Tree as trees
-use Rattle.pack.specs.Pack.{Derivation, Relation, Body, Rule, Pack, rule}
-use Rattle.chains.specs.Kinds.{kindsOf}
-use Rattle.filtered.specs.Filtered.{kindAt}
-use Rattle.chains.specs.Reach.{any}
-use Rattle.chains.specs.Places.{relationWords, startOf, firstRelation, relationsEnd, hops}
-use Rattle.directions.specs.Tables.{Derived, Tables, tables}
-use Rattle.directions.specs.Direction.{kindOrZero, membership}
-use Rattle.inputs.specs.Inputs.{input}
-use Rattle.directions.specs.Turning.{Outcome, done, refused, andThen, mapDone, Citing, size, resolveTree}
+use Rattle.definitions.specs.declared.answer.Refusal.{Refusal}
+use Rattle.definitions.specs.Table.{pick}
+use Rattle.definitions.specs.Form.{wordsBy}
+use Rattle.definitions.specs.Tree.{Tree, Forest, node, more, size}
+use Rattle.definitions.specs.Tree as trees
+use Rattle.definitions.specs.Records.{Derivation, Relation, Body, Rule, Pack}
+use Rattle.definitions.specs.Pack.{rule}
+use Rattle.definitions.specs.Kinds.{kindsOf}
+use Rattle.definitions.specs.Filtered.{kindAt}
+use Rattle.definitions.specs.Lean.{any}
+use Rattle.definitions.specs.Places.{relationWords, startOf, firstRelation, relationsEnd, hops}
+use Rattle.definitions.specs.Tables.{Derived, Tables, tables}
+use Rattle.definitions.specs.Direction.{kindOrZero, membership}
+use Rattle.definitions.specs.Inputs.{input}
+use Rattle.definitions.specs.Turning.{Outcome, done, refused, andThen, mapDone, Citing, resolveTree}
 
 -- a rule or relation of a name and an origin, in a pack
 abbrev pub cites : Pack → ℕ → ℕ → Citing

@@ -1,4 +1,4 @@
--- The pack: its records, and 01's "Pack words" as one description.
+-- The pack as words: 01's "Pack words" as one description, and the reading of a slice.
 use Prim.Native.Nat.{ℕ, suc, _+_, _≤_}
 use mathlib.Core.Path.{refl}
 use mathlib.Core.List.{List, [], _∷_}
@@ -6,135 +6,19 @@ use mathlib.Core.Bool.{Bool, _&&_, not}
 use mathlib.Core.Option.{Option}
 use lib.ListN.{length}
 use lib.Dec.{leb}
-use Rattle.pack.specs.declared.answer.Refusal.{Refusal}
-use Rattle.pack.specs.Table.{pick, judgment, table, entryOf}
-use Rattle.pack.specs.Form.{Read, got, refused, Form, field, guarded, _▹_, via, list, listOrNone, option, countedFrom, counted, oneAndMore, among, readBy, wordsBy, Fine}
-use Rattle.pack.specs.Tree.{Tree, root}
-
--- "each step 14 relation, 15 and 16 slots"
-pub record Hop : Type 0 where
-  pub relation : ℕ
-  pub current : ℕ
-  pub related : ℕ
-
-pub record Derivation : Type 0 where
-  pub source : ℕ
-  pub path : Option (List Hop)
-  pub current : ℕ
-  pub related : ℕ
-  pub entity : ℕ
-  pub member : ℕ
-  pub slotEntities : List ℕ
-  pub predicate : Tree
-
-pub record Relation : Type 0 where
-  pub name : ℕ
-  pub origin : ℕ
-  pub arity : ℕ
-  pub slotKinds : List ℕ
-  pub derivation : Option Derivation
-
--- the sort of a body's tree, 0 scalar or 1 judgment, and the tree
-pub record Body : Type 0 where
-  pub sort : ℕ
-  pub tree : Tree
-
--- "The first body is `semantics`, the others the versions."
-pub record Rule : Type 0 where
-  pub citing : ℕ
-  pub origin : ℕ
-  pub entity : ℕ
-  pub semantics : Body
-  pub versions : List Body
-
-pub record Item : Type 0 where
-  pub name : ℕ
-  pub boolean : ℕ
-  pub entity : ℕ
-
-pub record Block : Type 0 where
-  pub origin : ℕ
-  pub items : Option (List Item)
+use Rattle.definitions.specs.declared.answer.Refusal.{Refusal}
+use Rattle.definitions.specs.Table.{pick, judgment, table, entryOf}
+use Rattle.definitions.specs.Form.{Read, got, refused, Form, field, guarded, _▹_, via, list, listOrNone, option, countedFrom, counted, oneAndMore, among, readBy, wordsBy, Fine}
+use Rattle.definitions.specs.Tree.{Tree, root}
+use Rattle.definitions.specs.Records.{Hop, Derivation, Relation, Body, Rule, Item, Block, Edition, undated, Pack}
+use Rattle.definitions.specs.Rows.{toHop, ofHop, Chain, Member, toDerivation, ofDerivation, RelationTail, toRelation, ofRelation, toBody, ofBody, toRule, ofRule, toItem, ofItem, toBlock, ofBlock, Records, ofRow, toRow}
 
 -- the layouts, one for each kind of first word
-pub data Edition : Type 0 where
-  undated : Edition
-
 abbrev pub firstKind : Edition → ℕ
 firstKind undated = 1
 
 abbrev pub editionOf : List ℕ → Edition
 editionOf ws = undated
-
-pub record Pack : Type 0 where
-  pub edition : Edition
-  pub names : ℕ
-  pub defaulted : List ℕ
-  pub relations : List Relation
-  pub rules : List Rule
-  pub blocks : List Block
-
--- the records as their fields in a row
-abbrev pub toHop : ℕ × (ℕ × ℕ) → Hop
-toHop t = record { relation = t .0; current = t .1 .0; related = t .1 .1 }
-
-abbrev pub ofHop : Hop → ℕ × (ℕ × ℕ)
-ofHop h = (h .relation, (h .current, h .related))
-
-abbrev pub Chain : Type 0
-Chain = ℕ × (Option (List Hop) × (ℕ × ℕ))
-
-abbrev pub Member : Type 0
-Member = ℕ × (ℕ × (List ℕ × Tree))
-
-abbrev pub toDerivation : Chain × Member → Derivation
-toDerivation t =
-    record {
-      source = t .0 .0;
-      path = t .0 .1 .0;
-      current = t .0 .1 .1 .0;
-      related = t .0 .1 .1 .1;
-      entity = t .1 .0;
-      member = t .1 .1 .0;
-      slotEntities = t .1 .1 .1 .0;
-      predicate = t .1 .1 .1 .1;
-    }
-
-abbrev pub ofDerivation : Derivation → Chain × Member
-ofDerivation d = ((d .source, (d .path, (d .current, d .related))), (d .entity, (d .member, (d .slotEntities, d .predicate))))
-
-abbrev pub RelationTail : Type 0
-RelationTail = ℕ × (ℕ × (List ℕ × Option Derivation))
-
-abbrev pub toRelation : ℕ × RelationTail → Relation
-toRelation t = record { name = t .0; origin = t .1 .0; arity = t .1 .1 .0; slotKinds = t .1 .1 .1 .0; derivation = t .1 .1 .1 .1 }
-
-abbrev pub ofRelation : Relation → ℕ × RelationTail
-ofRelation r = (r .name, (r .origin, (r .arity, (r .slotKinds, r .derivation))))
-
-abbrev pub toBody : ℕ × Tree → Body
-toBody t = record { sort = t .0; tree = t .1 }
-
-abbrev pub ofBody : Body → ℕ × Tree
-ofBody b = (b .sort, b .tree)
-
-abbrev pub toRule : ℕ × (ℕ × (ℕ × (Body × List Body))) → Rule
-toRule t = record { citing = t .0; origin = t .1 .0; entity = t .1 .1 .0; semantics = t .1 .1 .1 .0; versions = t .1 .1 .1 .1 }
-
-abbrev pub ofRule : Rule → ℕ × (ℕ × (ℕ × (Body × List Body)))
-ofRule r = (r .citing, (r .origin, (r .entity, (r .semantics, r .versions))))
-
-abbrev pub toItem : ℕ × (ℕ × ℕ) → Item
-toItem t = record { name = t .0; boolean = t .1 .0; entity = t .1 .1 }
-
-abbrev pub ofItem : Item → ℕ × (ℕ × ℕ)
-ofItem i = (i .name, (i .boolean, i .entity))
-
-abbrev pub toBlock : ℕ × Option (List Item) → Block
-toBlock t = record { origin = t .0; items = t .1 }
-
-abbrev pub ofBlock : Block → ℕ × Option (List Item)
-ofBlock b = (b .origin, b .items)
 
 -- "3 count to 512 of defaulted names, each a 4, rising": `low` is one more than the name before; else 6
 unfoldable pub defaultedName : ℕ → ℕ → Form ℕ
@@ -226,9 +110,6 @@ block n = via toBlock ofBlock (λ _. refl) (λ _. refl) (field n 29 ▹ λ _. bl
 unfoldable pub blocks : ℕ → Form (List Block)
 blocks n = counted list n 28 tt (block n)
 
-abbrev pub Records : Type 0
-Records = List ℕ × (List Relation × (List Rule × List Block))
-
 unfoldable pub records : Edition → ℕ → Form Records
 records e n = defaulted n ▹ λ _. relations n ▹ λ _. rules n ▹ λ _. blocks n
 
@@ -244,12 +125,6 @@ layout e len = field len (firstKind e) ▹ λ _. inner e
 pub data Reading : Type 0 where
   yes : Pack → Reading
   refuse : Refusal → Reading
-
-abbrev pub ofRow : Edition → ℕ × Records → Pack
-ofRow e t = record { edition = e; names = t .0; defaulted = t .1 .0; relations = t .1 .1 .0; rules = t .1 .1 .1 .0; blocks = t .1 .1 .1 .1 }
-
-abbrev pub toRow : Pack → ℕ × Records
-toRow p = (p .names, (p .defaulted, (p .relations, (p .rules, p .blocks))))
 
 -- "After the last block: 8 words left over (place the first)."
 abbrev pub complete : Edition → Read (ℕ × (ℕ × Records)) → Reading

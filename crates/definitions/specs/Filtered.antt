@@ -5,12 +5,15 @@ use mathlib.Core.Bool.{Bool, true, false, _&&_, not}
 use mathlib.Core.Option.{Option, none, some}
 use lib.ListN.{length, getD}
 use lib.Dec.{ltb, eqb}
-use Rattle.pack.specs.Table.{pick}
-use Rattle.pack.specs.Table as table
-use Rattle.pack.specs.Pack.{Derivation, Relation}
-use Rattle.chains.specs.Chain.{Step, end, next, own, same}
-use Rattle.chains.specs.Kinds.{kindsOf}
-use Rattle.chains.specs.Reach.{any}
+use Rattle.definitions.specs.Table.{pick}
+use Rattle.definitions.specs.Table as table
+use Rattle.definitions.specs.declared.operation.Filter.{Filter}
+use Rattle.definitions.specs.declared.operation.Filter.the-variants.{Direct, Innermost, Alias, Unresolved}
+use Rattle.definitions.specs.Records.{Derivation, Relation, Pack}
+use Rattle.definitions.specs.Answers.{yesNo, tableFrom}
+use Rattle.definitions.specs.Chain.{Step, end, next, own, same}
+use Rattle.definitions.specs.Kinds.{kindsOf}
+use Rattle.definitions.specs.Lean.{any}
 
 -- the kind at a slot, where in range
 abbrev pub kindAt : Option (List ℕ) → ℕ → Option ℕ
@@ -82,3 +85,19 @@ innermostBy d names e = elim (d e) [ none ↦ none | some m ↦ own none same (i
 
 unfoldable pub innermost : List Relation → ℕ → ℕ → Option ℕ
 innermost rs names e = innermostBy (direct rs) names e
+
+-- ---- the four tables, a word for each name
+
+abbrev pub orNone : Option ℕ → ℕ
+orNone none = table.none
+orNone (some n) = n
+
+-- the filtered tables: what each says of a name
+abbrev pub says : Filter → Pack → ℕ → ℕ
+says Direct p e = orNone (direct (p .relations) e)
+says Innermost p e = orNone (innermost (p .relations) (p .names) e)
+says Alias p e = yesNo (alias (p .relations) e)
+says Unresolved p e = yesNo (unresolved (p .relations) e)
+
+abbrev pub filterWords : Filter → Pack → List ℕ
+filterWords f p = tableFrom (says f p) 0 (p .names)

@@ -6,11 +6,11 @@ use mathlib.Core.Bool.{Bool, true, false, _||_}
 use mathlib.Core.Option.{Option, none, some}
 use lib.ListN.{length}
 use lib.Dec.{eqb}
-use Rattle.pack.specs.declared.answer.Refusal.{Refusal}
-use Rattle.pack.specs.declared.table.Rule.{Rule}
-use Rattle.pack.specs.declared.table.Rule.the-variants.{AtMost, FromOne}
-use Rattle.pack.specs.Table.{pick, kindOf, valueOf, wordOf, allowed, entryOf}
-use Rattle.pack.specs.Table as table
+use Rattle.definitions.specs.declared.answer.Refusal.{Refusal}
+use Rattle.definitions.specs.declared.table.Rule.{Rule}
+use Rattle.definitions.specs.declared.table.Rule.the-variants.{AtMost, FromOne}
+use Rattle.definitions.specs.Table.{pick, kindOf, valueOf, wordOf, allowed, entryOf}
+use Rattle.definitions.specs.Table as table
 
 -- what a reader finds: a value, the place after it and the words left; or a refusal
 pub data Read (A : Type 0) : Type 0 where

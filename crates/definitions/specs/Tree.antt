@@ -1,11 +1,12 @@
 -- Trees. 01: "Trees are in prefix order; each node's kind decides what follows it, and a scalar tree may hold judgments and a judgment tree scalars."
-use Prim.Native.Nat.{ℕ, zero, suc}
+use Prim.Native.Nat.{ℕ, zero, suc, _+_}
 use mathlib.Core.Path.{_≡_, refl, ap}
-use mathlib.Core.List.{List, [], _∷_}
+use mathlib.Core.List.{List, [], _∷_, _++_}
 use lib.Dec.{eqb}
-use Rattle.pack.specs.declared.table.Follows.{Follows}
-use Rattle.pack.specs.Table.{pick, entryOf, fieldsOf, childrenOf}
-use Rattle.pack.specs.Form.{Form, word, empty, each, _▹_, via, only}
+use lib.ListN.{length}
+use Rattle.definitions.specs.declared.table.Follows.{Follows}
+use Rattle.definitions.specs.Table.{pick, wordOf, entryOf, fieldsOf, childrenOf}
+use Rattle.definitions.specs.Form.{Form, word, empty, each, _▹_, via, only}
 
 -- a node: its kind and value, its fields (kind and value of each), its children
 mutual
@@ -15,6 +16,32 @@ mutual
   pub data Forest : Type 0 where
     none : Forest
     more : Tree → Forest → Forest
+
+-- the fields of a node: kind and value of each
+abbrev pub Fields : Type 0
+Fields = List (ℕ × ℕ)
+
+-- the words of a tree: its head, its fields, its children
+abbrev pub fieldWords : Fields → List ℕ
+fieldWords [] = []
+fieldWords (f ∷ fs) = wordOf (f .0) (f .1) ∷ fieldWords fs
+
+unfoldable mutual
+  pub treeWords : Tree → List ℕ
+  treeWords (node k v fs f) = wordOf k v ∷ (fieldWords fs ++ forestWords f)
+
+  pub forestWords : Forest → List ℕ
+  forestWords none = []
+  forestWords (more t f) = treeWords t ++ forestWords f
+
+-- how many there are
+unfoldable mutual
+  pub size : Tree → ℕ
+  size (node k v fs f) = 1 + length fs + sizes f
+
+  pub sizes : Forest → ℕ
+  sizes none = 0
+  sizes (more t f) = size t + sizes f
 
 abbrev pub toForest : List Tree → Forest
 toForest [] = none

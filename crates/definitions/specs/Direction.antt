@@ -4,11 +4,11 @@ use mathlib.Core.List.{List, [], _∷_}
 use mathlib.Core.Bool.{Bool, true, _&&_}
 use mathlib.Core.Option.{Option, none, some}
 use lib.Dec.{eqb}
-use Rattle.pack.specs.Table.{pick}
-use Rattle.filtered.specs.Filtered.{kindAt}
-use Rattle.directions.specs.declared.direction.Direction.{Direction}
-use Rattle.directions.specs.declared.direction.Direction.the-variants.{Turned, Open}
-use Rattle.directions.specs.Tables.{Derived, Tables}
+use Rattle.definitions.specs.Table.{pick}
+use Rattle.definitions.specs.Filtered.{kindAt}
+use Rattle.definitions.specs.declared.direction.Direction.{Direction}
+use Rattle.definitions.specs.declared.direction.Direction.the-variants.{Turned, Open}
+use Rattle.definitions.specs.Tables.{Derived, Tables}
 
 -- the slots that bear a kind, from a slot on
 abbrev pub bearing : ℕ → ℕ → List ℕ → List ℕ

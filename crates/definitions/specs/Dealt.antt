@@ -3,8 +3,9 @@ use Prim.Native.Nat.{ℕ}
 use mathlib.Core.Path.{_≡_}
 use mathlib.Core.List.{List, [], _∷_}
 use mathlib.Core.Option.{Option, none, some}
-use Rattle.pack.specs.Pack.{Item, Block, Pack}
-use Rattle.pack.specs.Operations.{saysYes, checkAnswer}
+use Rattle.definitions.specs.Records.{Item, Block, Pack}
+use Rattle.definitions.specs.Answers.{saysYes}
+use Rattle.definitions.specs.Checking.{checkAnswer}
 
 -- "a pack is checked when Check answers yes."
 abbrev pub Checked : List ℕ → Type 0

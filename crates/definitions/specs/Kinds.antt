@@ -3,10 +3,10 @@ use Prim.Native.Nat.{ℕ}
 use mathlib.Core.List.{List, [], _∷_, map}
 use mathlib.Core.Option.{Option, none, some}
 use lib.Dec.{eqb}
-use Rattle.pack.specs.Table.{pick}
-use Rattle.pack.specs.Table as table
-use Rattle.pack.specs.Pack.{Hop, Derivation, Relation}
-use Rattle.chains.specs.Chain.{Step, end, next, nothing, All, walkAll, own, outside, same}
+use Rattle.definitions.specs.Table.{pick}
+use Rattle.definitions.specs.Table as table
+use Rattle.definitions.specs.Records.{Hop, Derivation, Relation}
+use Rattle.definitions.specs.Chain.{Step, end, next, nothing, All, walkAll, own, outside, same}
 
 -- the list that settles a relation: list 9 or list 21 of its owner
 pub data Which : Type 0 where

@@ -4,17 +4,16 @@ use mathlib.Core.List.{List, [], _∷_, _++_}
 use mathlib.Core.Option.{Option, none, some}
 use lib.ListN.{length}
 use lib.Dec.{eqb}
-use Rattle.pack.specs.declared.answer.Refusal.{Refusal}
-use Rattle.pack.specs.declared.table.Follows.{Follows}
-use Rattle.pack.specs.declared.table.Follows.the-variants.{Nothing, Counted, OneScalar, TwoScalars, Scalars, Patterns, Periods, OneJudgment, Judgments, Choice, Aggregate, OnlyRelated, Slots, Atom, Exists}
-use Rattle.pack.specs.Table.{pick, wordOf, entryOf}
-use Rattle.pack.specs.Tree.{Tree, Forest, node, more}
-use Rattle.pack.specs.Tree as trees
-use Rattle.directions.specs.declared.direction.Direction.{Direction}
-use Rattle.directions.specs.declared.direction.Direction.the-variants.{Turned, Open}
-use Rattle.directions.specs.Tables.{Tables}
-use Rattle.directions.specs.Direction.{turn, Membership, member}
-unfoldable pub use Rattle.reading.specs.Notes.{size, sizes}
+use Rattle.definitions.specs.declared.answer.Refusal.{Refusal}
+use Rattle.definitions.specs.declared.table.Follows.{Follows}
+use Rattle.definitions.specs.declared.table.Follows.the-variants.{Nothing, Counted, OneScalar, TwoScalars, Scalars, Patterns, Periods, OneJudgment, Judgments, Choice, Aggregate, OnlyRelated, Slots, Atom, Exists}
+use Rattle.definitions.specs.Table.{pick, wordOf, entryOf}
+use Rattle.definitions.specs.Tree.{Tree, Forest, node, more, Fields, size}
+use Rattle.definitions.specs.Tree as trees
+use Rattle.definitions.specs.declared.direction.Direction.{Direction}
+use Rattle.definitions.specs.declared.direction.Direction.the-variants.{Turned, Open}
+use Rattle.definitions.specs.Tables.{Tables}
+use Rattle.definitions.specs.Direction.{turn, Membership, member}
 
 -- what resolving something comes to
 pub data Outcome (A : Type 0) : Type 0 where
@@ -43,9 +42,6 @@ pub record Citing : Type 0 where
   pub tables : Tables
   pub name : ℕ
   pub input : ℕ → ℕ → Option ℕ
-
-abbrev pub Fields : Type 0
-Fields = List (ℕ × ℕ)
 
 -- the slots of a node are its first two fields
 abbrev pub currentOf : Fields → ℕ
@@ -110,19 +106,6 @@ stepBy C entity m OnlyRelated v fs = onlyRelated (C .input) fs (turn (C .tables)
 stepBy C entity m Slots v fs = membershipTest fs entity m (member (C .tables) v m (currentOf fs) (relatedOf fs))
 stepBy C entity m Atom v fs = goes fs entity m m
 stepBy C entity m Exists v fs = goes fs entity m m
-
--- the words of a tree: its head, its fields, its children
-abbrev pub fieldWords : Fields → List ℕ
-fieldWords [] = []
-fieldWords (f ∷ fs) = wordOf (f .0) (f .1) ∷ fieldWords fs
-
-unfoldable mutual
-  pub treeWords : Tree → List ℕ
-  treeWords (node k v fs f) = wordOf k v ∷ (fieldWords fs ++ forestWords f)
-
-  pub forestWords : Forest → List ℕ
-  forestWords trees.none = []
-  forestWords (more t f) = treeWords t ++ forestWords f
 
 -- a node at a place that goes on, or that stops there: "place the node, name the citing rule or relation, other the entity", or "the input or derived name"
 abbrev pub atNode : Citing → ℕ → Step → (Fields → ℕ → Membership → Membership → Outcome Tree) → Outcome Tree

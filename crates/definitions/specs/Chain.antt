@@ -6,8 +6,8 @@ use mathlib.Core.Bool.{true, false, _||_}
 use mathlib.Core.Option.{Option, none, some}
 use lib.ListN.{length}
 use lib.Dec.{eqb}
-use Rattle.pack.specs.Table.{pick}
-use Rattle.pack.specs.Form.{among}
+use Rattle.definitions.specs.Table.{pick}
+use Rattle.definitions.specs.Form.{among}
 
 -- what one declaration read says: the chain ends here with an answer, or it leads on to a name
 pub data Step (R : Type 0) : Type 0 where
