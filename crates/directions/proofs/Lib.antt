@@ -7,7 +7,6 @@ pub mod KeepsForm
 pub mod TreeWords
 pub mod ResolvedFine
 pub mod Numbers
-pub mod CitingNames
 pub mod SmallKinds
 pub mod RefusalBounds
 pub mod SlotLaws

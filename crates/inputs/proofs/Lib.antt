@@ -1,4 +1,3 @@
-pub mod InputLaws
 pub mod InputRead
 pub mod InputWords
 pub mod BlocksStand

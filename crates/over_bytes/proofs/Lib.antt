@@ -1,5 +1,2 @@
 pub mod Writes
-pub mod Bits
-pub mod RefusingLaws
-pub mod Cases
 pub mod IntoBytes

@@ -1,4 +1,3 @@
-pub mod Cases
 pub mod CodeLaws
 pub mod FlatLaws
 pub mod RunFlat

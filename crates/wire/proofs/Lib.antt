@@ -1,5 +1,3 @@
 pub mod ByteLaws
 pub mod Room
 pub mod OverBytes
-pub mod Faithful
-pub mod Cases

@@ -21,10 +21,10 @@ use Rattle.filtered.proofs.FilteredLaws.{filtered-dealt}
 use Rattle.definitions.specs.Tables.{derivedAt, typedAt, Tables, tables}
 use Rattle.definitions.specs.Turning.{Outcome, done, refused, andThen, mapDone, Citing, InRange, result}
 use Rattle.definitions.specs.Resolving.{cites, defaultedEqual, equalRefusal, ruleBy, resolveRule, resolveRules, predicateBy, withPredicate, resolveDerivation, resolveRelation, resolveRelations, holds, roleJudgment, atomOf, inDerivation, inRule, atomNames, empty, stampBy, stampDerived, stamp, firstRule, resolveRecords, resolved}
-use Rattle.resolve.proofs.OutcomeLaws.{result-map, allDone, Alike, all-dealt}
-use Rattle.resolve.proofs.PlaceFree.{rules-each, relations-each}
+use Rattle.theorems.proofs.OutcomeLaws.{result-map, allDone, Alike, all-dealt}
+use Rattle.theorems.proofs.PlaceFree.{rules-each, relations-each}
 use Rattle.directions.proofs.Numbers.{Numbered, rules-numbered, relations-numbered}
-use Rattle.inputs.proofs.InputLaws.{input-dealt}
+use Rattle.theorems.proofs.InputsDealt.{input-dealt}
 
 tables-dealt : {rs rs′ : List Relation} → InAnyOrder rs rs′ → Distinct (declared rs) → tables rs ≡ tables rs′
 unfolding tables

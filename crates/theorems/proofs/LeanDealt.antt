@@ -13,7 +13,7 @@ use Rattle.definitions.specs.Table.{pick}
 use Rattle.definitions.specs.Form.{among}
 use Rattle.definitions.specs.Records.{Relation}
 use Rattle.definitions.specs.Dealt.{InAnyOrder}
-use Rattle.pack.proofs.DealtLaws.{shuffled-length}
+use Rattle.theorems.proofs.DealtLaws.{shuffled-length}
 use Rattle.definitions.specs.Chain.{Distinct}
 use Rattle.definitions.specs.Kinds.{find, declared}
 use Rattle.definitions.specs.Lean.{Leads, straight, onward, leadsWithin, sourceAt, sources, leans}

@@ -14,20 +14,20 @@ use Rattle.definitions.specs.Pack.{WellFormed, yes, read, words, total}
 use Rattle.definitions.specs.Answers.{noRoom}
 use Rattle.definitions.specs.Dealt.{Checked, Dealt}
 use Rattle.pack.proofs.PackLaws.{words-read}
-use Rattle.pack.proofs.DealtLaws.{dealt-total, dealt-again, dealt-checked}
+use Rattle.theorems.proofs.DealtLaws.{dealt-total, dealt-again, dealt-checked}
 use Rattle.definitions.specs.Kinds.{allKinds, ownAnswer, kindsOf}
 use Rattle.definitions.specs.Places.{placeOf, namesAt, allKindsWords, SettledAt}
 use Rattle.definitions.specs.Operations.{allKindsAnswer, allKindsBuffer, givenOut, writtenOut, resolveAnswer, resolveBuffer}
 use Rattle.chains.proofs.KindLaws.{kinds-dealt, distinct-names, words-own, kinds-steps}
 use Rattle.chains.proofs.ListAt.{walk-end, place-holds}
-use Rattle.resolve.proofs.DealtChains.{chains-dealt}
+use Rattle.theorems.proofs.DealtChains.{chains-dealt}
 use Rattle.definitions.specs.Turning.{Outcome, done, refused}
 use Rattle.definitions.specs.Resolving.{resolved}
-use Rattle.resolve.specs.Demand3.{Left, ResolveAlike, bothResolve, bothEqual, bothRoom, bothOpen, KindsWritten, no-more, one-more, stepSum, StepsAreSum, Demand3}
-use Rattle.resolve.proofs.DealtResolving.{ResolvedAlike, bothDone, bothRefused, resolve-dealt}
-use Rattle.resolve.proofs.DealtResolving as dealing
-use Rattle.resolve.proofs.ComingOut.{comes-out, same-out}
-use Rattle.resolve.proofs.KindsUsed.{kinds-used}
+use Rattle.theorems.specs.Demand3.{Left, ResolveAlike, bothResolve, bothEqual, bothRoom, bothOpen, KindsWritten, no-more, one-more, stepSum, StepsAreSum, Demand3}
+use Rattle.theorems.proofs.DealtResolving.{ResolvedAlike, bothDone, bothRefused, resolve-dealt}
+use Rattle.theorems.proofs.DealtResolving as dealing
+use Rattle.theorems.proofs.ComingOut.{comes-out, same-out}
+use Rattle.theorems.proofs.KindsUsed.{kinds-used}
 
 -- ---- answers and buffers
 

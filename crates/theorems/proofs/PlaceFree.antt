@@ -13,7 +13,7 @@ use Rattle.definitions.specs.Places.{relationWords}
 use Rattle.definitions.specs.Direction.{Membership}
 use Rattle.definitions.specs.Turning.{Outcome, andThen, mapDone, Citing, Step, goes, stops, stepBy, atNode, resolveTree, resolveForest, result}
 use Rattle.definitions.specs.Resolving.{cites, predicatePlace, withPredicate, resolveBody, resolveBodies, bodySize, ruleBy, resolveRule, ruleWords, resolveRules, predicateBy, resolvePredicate, resolveDerivation, resolveRelation, resolveRelations}
-use Rattle.resolve.proofs.OutcomeLaws.{bound, result-map, result-then, allDone}
+use Rattle.theorems.proofs.OutcomeLaws.{bound, result-map, result-then, allDone}
 
 -- mapped and bound results of outcomes that have the same result
 map-free : {A B : Type 0} (f : A → B) (o o′ : Outcome A) → result o ≡ result o′ → result (mapDone f o) ≡ result (mapDone f o′)

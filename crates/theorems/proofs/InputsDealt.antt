@@ -11,7 +11,7 @@ use Rattle.definitions.specs.Table.{pick}
 use Rattle.definitions.specs.Records.{Item, Block}
 use Rattle.definitions.specs.Dealt.{Shuffled, nil, cons, swap, trans, InAnyOrder, SameItems, SameBlock}
 use Rattle.definitions.specs.Dealt as dealt
-use Rattle.pack.proofs.DealtLaws.{shuffled-length}
+use Rattle.theorems.proofs.DealtLaws.{shuffled-length}
 use Rattle.definitions.specs.Lean.{any}
 use Rattle.chains.proofs.Names.{or-swap, shuffled-same, shuffled-after, shuffled-rows}
 use Rattle.definitions.specs.Inputs.{ofOrigin, noSequence, named, sequence, declarations, owned, input}

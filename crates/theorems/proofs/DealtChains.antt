@@ -9,7 +9,7 @@ use Rattle.definitions.specs.Records.{Pack}
 use Rattle.definitions.specs.Pack.{yes, read}
 use Rattle.definitions.specs.Dealt.{Dealt}
 use Rattle.pack.proofs.PackLaws.{words-read}
-use Rattle.pack.proofs.DealtLaws.{shuffled-length}
+use Rattle.theorems.proofs.DealtLaws.{shuffled-length}
 use Rattle.definitions.specs.Kinds.{declared, undeclaredSources, ownAnswer, kindsOf}
 use Rattle.definitions.specs.Places.{placeOf, namesAt, allKindsWords}
 use Rattle.definitions.specs.Operations.{allKindsAnswer, leanAnswer, filterAnswer, filterBuffer}
@@ -18,7 +18,7 @@ use Rattle.definitions.specs.Filtered.{says, filterWords}
 use Rattle.definitions.specs.declared.operation.Filter.{Filter}
 use Rattle.definitions.specs.declared.operation.Filter.the-variants.{Direct, Innermost, Alias, Unresolved}
 use Rattle.definitions.specs.Chain.{Distinct}
-use Rattle.kinds.proofs.LeanLaws.{leans-dealt}
+use Rattle.theorems.proofs.LeanDealt.{leans-dealt}
 use Rattle.filtered.proofs.FilteredLaws.{filtered-dealt}
 use Rattle.chains.proofs.ListAt.{place-holds}
 use Rattle.chains.proofs.KindLaws.{kinds-dealt, kinds-steps, distinct-names, words-count}

@@ -11,11 +11,11 @@ use Rattle.definitions.specs.Places.{firstRelation}
 use Rattle.definitions.specs.Tables.{tables}
 use Rattle.definitions.specs.Turning.{Outcome, done, refused, andThen, mapDone, result}
 use Rattle.definitions.specs.Resolving.{defaultedEqual, equalRefusal, resolveRules, resolveRelation, resolveRelations, stamp, firstRule, resolveRecords, resolved}
-use Rattle.resolve.specs.Demand3.{relationOut, ruleOut, Each, ComesOut, beside, SameBlocks, SameOut}
-use Rattle.resolve.specs.Demand3 as demand
-use Rattle.resolve.proofs.OutcomeLaws.{bound, allDone, Alike, all-dealt}
-use Rattle.resolve.proofs.PlaceFree.{rules-each, relations-each}
-use Rattle.resolve.proofs.DealtResolving.{relation-alike, rule-alike, stamp-alike}
+use Rattle.theorems.specs.Demand3.{relationOut, ruleOut, Each, ComesOut, beside, SameBlocks, SameOut}
+use Rattle.theorems.specs.Demand3 as demand
+use Rattle.theorems.proofs.OutcomeLaws.{bound, allDone, Alike, all-dealt}
+use Rattle.theorems.proofs.PlaceFree.{rules-each, relations-each}
+use Rattle.theorems.proofs.DealtResolving.{relation-alike, rule-alike, stamp-alike}
 
 -- ---- each of a list
 

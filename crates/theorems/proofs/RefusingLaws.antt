@@ -22,18 +22,18 @@ use Rattle.definitions.specs.Kinds.{allKinds}
 use Rattle.definitions.specs.Places.{allKindsWords}
 use Rattle.chains.proofs.RefusalNumbers.{no-given, NoRoom}
 use Rattle.definitions.specs.Operations.{allKindsAnswer, allKindsBuffer, filterAnswer, filterBuffer, givenOut, writtenOut, resolveAnswer, resolveBuffer, answerTo, answerOf, bufferOf}
-use Rattle.kinds.proofs.RefusalNumbers.{all-kinds-numbers, kinds-of-numbers, lean-numbers}
+use Rattle.theorems.proofs.KindsNumbers.{all-kinds-numbers, kinds-of-numbers, lean-numbers}
 use Rattle.definitions.specs.Filtered.{filterWords}
 use Rattle.filtered.proofs.FilterLaws.{filter-numbers}
 use Rattle.definitions.specs.Turning.{Outcome, done, refused}
 use Rattle.definitions.specs.Resolving.{resolved}
-use Rattle.resolve.proofs.ResolveNumbers.{ResolveRefuses, checks, equal-kinds, open-direction, no-room, resolve-numbers}
+use Rattle.theorems.proofs.ResolveNumbers.{ResolveRefuses, checks, equal-kinds, open-direction, no-room, resolve-numbers}
 use Rattle.definitions.specs.Bytes.{wordsOf, encode, areWords, notWords, overBytes, outAfter, inRoom}
 use Rattle.definitions.specs.declared.operation.Question.{Question}
 use Rattle.definitions.specs.declared.operation.Question.the-variants.{Check, KindsOf, Lean}
 use Rattle.definitions.specs.declared.operation.Writing.{Writing}
 use Rattle.definitions.specs.declared.operation.Writing.the-variants.{Rewrite, AllKinds, Filtered, Resolve}
-use Rattle.over_bytes.specs.Refusing.{checkNumbers, numbersTo, numbersOf, Among, numberIn, NoneOrAmong, QuestionRefuses, WritingRefuses}
+use Rattle.theorems.specs.Refusing.{checkNumbers, numbersTo, numbersOf, Among, numberIn, NoneOrAmong, QuestionRefuses, WritingRefuses}
 
 -- ---- numbers among numbers
 

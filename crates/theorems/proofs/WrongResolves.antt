@@ -26,9 +26,9 @@ use Rattle.definitions.specs.Direction as direction
 use Rattle.definitions.specs.Inputs.{input}
 use Rattle.definitions.specs.Turning.{done, stepBy, resolveTree}
 use Rattle.definitions.specs.Resolving.{defaultedEqual, resolveBodies, ruleBy, resolveRules, predicateBy, resolveRelation, resolveRelations, holds, atomNames, stamp, resolved}
-use Rattle.resolve.specs.Demand3.{Left, ResolveAlike, bothResolve, bothEqual, bothRoom, bothOpen, DerivedRelation, KindsUsed}
-use Rattle.resolve.specs.Starred.{withoutDerivation, saysNothing, counting, withDerivation, ruled, packed}
-use Rattle.resolve.proofs.ComingOut.{comes-out, comes-one}
+use Rattle.theorems.specs.Demand3.{Left, ResolveAlike, bothResolve, bothEqual, bothRoom, bothOpen, DerivedRelation, KindsUsed}
+use Rattle.theorems.specs.Starred.{withoutDerivation, saysNothing, counting, withDerivation, ruled, packed}
+use Rattle.theorems.proofs.ComingOut.{comes-out, comes-one}
 
 -- ---- nothing else is left
 

@@ -33,9 +33,9 @@ use Rattle.chains.proofs.ListAt.{own-holds}
 use Rattle.definitions.specs.Turning.{Outcome, done, refused}
 use Rattle.definitions.specs.Resolving.{resolved}
 use Rattle.directions.proofs.Numbers.{refused-number}
-use Rattle.resolve.proofs.RefusalNames.{Told, resolved-told}
-use Rattle.wire.proofs.Faithful.{FitsBits}
+use Rattle.theorems.proofs.RefusalNames.{Told, resolved-told}
+use Rattle.theorems.proofs.Faithful.{FitsBits}
 use Rattle.over_bytes.proofs.Writes.{few-words, few-places, few-names}
 
 -- Check's refusals, and what is answered for a pack
 reads : (ws : List ℕ) (f : Pack → Answer) → ((p : Pack) → read ws ≡ yes p → FitsBits (f p)) → FitsBits (answer (read ws) f)

@@ -32,8 +32,8 @@ use Rattle.definitions.specs.Turning.{Outcome, done, refused, andThen, mapDone,
 use Rattle.definitions.specs.Resolving.{sameKind, equalKinds, defaultedEqual, equalRefusal, resolveRules, predicateBy, resolvePredicate, resolveDerivation, resolveRelation, withPredicate, resolveRelations, empty, unlike, passedOver, orKinds, stampedWith, stampBy, stampDerived, stamp, firstRule, resolveRecords, resolved}
 use Rattle.directions.proofs.Numbers.{Numbered, rules-numbered, relations-numbered}
 use Rattle.definitions.specs.Operations.{givenOut, resolveAnswer}
-use Rattle.resolve.specs.Demand3.{relationOut, DerivedRelation, TakesOne, EqualKinds, ListsLeft, as-they-stood, stamped, KindsUsed}
+use Rattle.theorems.specs.Demand3.{relationOut, DerivedRelation, TakesOne, EqualKinds, ListsLeft, as-they-stood, stamped, KindsUsed}
 use Rattle.resolve.proofs.ResolveLaws.{equal-named}
 
 -- ---- the table of typed relations
 
