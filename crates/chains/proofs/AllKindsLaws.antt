@@ -11,10 +11,10 @@ use borrow.Author.Tests.{ltb-false}
 use Rattle.definitions.specs.Table.{pick}
 use Rattle.definitions.specs.Form.{among}
 use Rattle.definitions.specs.Records.{Relation, Pack}
-use Rattle.definitions.specs.Chain.{Settled, nothing, own, All, walkAll, same}
+use Rattle.definitions.specs.Chain.{Settled, nothing, own, AllWalked, walkAll, same}
 use Rattle.definitions.specs.Kinds.{declared, kindStep, allKinds, ownAnswer}
 use Rattle.definitions.specs.Places.{placeOf}
-use Rattle.chains.specs.Settle.{stepAt, settledIn, walkIn, walksIn, SettledAll}
+use Rattle.chains.specs.Settle.{linkAt, settledIn, walkIn, walksIn, SettledAll}
 use Rattle.chains.proofs.MappedLaws.{AnswersMapped, answers-mapped}
 use Rattle.chains.proofs.KindLaws.{kinds-own}
 use Rattle.chains.proofs.PlaceBounds.{Indexes}
@@ -47,8 +47,8 @@ module _ (p : Pack) (index : List ℕ) (indexed : Indexes p index) where
   unfolding placeOf
   place-none = refl
 
-  over-index : AnswersMapped (placeOf p) none same (kindStep rs) 0 same (stepAt index) (declared rs) (declared rs)
-  over-index = answers-mapped (placeOf p) none 0 place-none same same (λ r. refl) (kindStep rs) (stepAt index) (indexed .says) (declared rs) (declared rs)
+  over-index : AnswersMapped (placeOf p) none same (kindStep rs) 0 same (linkAt index) (declared rs) (declared rs)
+  over-index = answers-mapped (placeOf p) none 0 place-none same same (λ r. refl) (kindStep rs) (linkAt index) (indexed .says) (declared rs) (declared rs)
 
   -- one name's own walk
   pub own-found : (marks₀ : List ℕ) → ((m : ℕ) → getD marks₀ m 0 ≡ 0) → (n : ℕ) → walkIn index (suc (length (declared rs))) (settledIn marks₀) [] n .answer ≡ placeOf p (ownAnswer rs n)
@@ -58,11 +58,11 @@ module _ (p : Pack) (index : List ℕ) (indexed : Indexes p index) where
   pub kinds-found : {marks₀ : List ℕ} → ((m : ℕ) → getD marks₀ m 0 ≡ 0) → (marks : List ℕ) (steps : ℕ) → SettledAll index marks₀ (declared rs) 0 (suc (length (declared rs))) marks steps → KindsFound p marks steps
   kinds-found {marks₀} clear marks steps s =
       record {
-        counts = s .counts ∙ ap (λ (a : All ℕ). a .steps) over ∙ over-index .steps;
+        counts = s .counts ∙ ap (λ (a : AllWalked ℕ). a .steps) over ∙ over-index .steps;
         marked = λ n i.
             settled-mark marks n (placeOf p (ownAnswer rs n))
-            (ap (λ (t : Settled ℕ). t n) (s .settles ∙ ap (λ (a : All ℕ). a .settled) over) ∙ over-index .settled n ∙ ap (Option·map (placeOf p)) (kinds-own rs .each n i));
+            (ap (λ (t : Settled ℕ). t n) (s .settles ∙ ap (λ (a : AllWalked ℕ). a .settled) over) ∙ over-index .settled n ∙ ap (Option·map (placeOf p)) (kinds-own rs .each n i));
       }
     where
-      over : walksIn index (suc (length (declared rs))) (declared rs) (settledIn marks₀) 0 ≡ walkAll 0 same (stepAt index) (declared rs) (declared rs) nothing 0
-      over = ap (λ (t : Settled ℕ). walkAll 0 same (stepAt index) (declared rs) (declared rs) t 0) (clear-nothing marks₀ clear)
+      over : walksIn index (suc (length (declared rs))) (declared rs) (settledIn marks₀) 0 ≡ walkAll 0 same (linkAt index) (declared rs) (declared rs) nothing 0
+      over = ap (λ (t : Settled ℕ). walkAll 0 same (linkAt index) (declared rs) (declared rs) t 0) (clear-nothing marks₀ clear)

@@ -15,7 +15,7 @@ use Rattle.definitions.specs.Pack.{read}
 use Rattle.definitions.specs.Answers.{answer, buffer, noRoom, writeAnswer, writeBuffer, Answered}
 use Rattle.definitions.specs.Checking.{checkAnswer}
 use Rattle.checking.proofs.OperationLaws.{accepted, turned-away}
-use Rattle.chains.specs.AllKinds.{IsPack}
+use Rattle.chains.specs.PackDirectory.{IsPack}
 
 -- an answer of Check's
 pub checked : (ws : List ℕ) {a : Answer} {v s : ℕ} → a ≡ checkAnswer ws → a ≡ Given v s → IsPack ws

@@ -10,17 +10,17 @@ use lib.ListN.{length, length-append}
 use Rattle.definitions.specs.Table.{pick}
 use Rattle.definitions.specs.Form.{among}
 use Rattle.definitions.specs.Dealt.{InAnyOrder}
-use Rattle.definitions.specs.Chain.{Step, end, next, nothing, own, All, walkAll, Distinct, OnlyDeclaredLead, outside}
+use Rattle.definitions.specs.Chain.{Link, end, next, nothing, own, AllWalked, walkAll, Distinct, OnlyDeclaredLead, outside}
 use Rattle.chains.proofs.Names.{shuffled-among, apart, or-cases, or-left, both-ways, false-of, among-append, distinct-append, same-number}
 use Rattle.chains.proofs.Outside.{Outside, outside-is}
 use Rattle.chains.proofs.Walks.{answer-end, answer-back, answer-alike, Entry, Kept, Read, reads, own-answer}
 
 -- each start is settled with its own walk's answer, and so is whatever else is settled
-pub record SettledOwn {R : Type 0} (stuck : R) (along : R → R) (step : ℕ → Step R) (declared starts : List ℕ) : Type 0 where
+pub record SettledOwn {R : Type 0} (stuck : R) (along : R → R) (step : ℕ → Link R) (declared starts : List ℕ) : Type 0 where
   pub each : (s : ℕ) → among s starts ≡ true → walkAll stuck along step declared starts nothing 0 .settled s ≡ some (own stuck along step declared s)
   pub whatever : (n : ℕ) (r : R) → walkAll stuck along step declared starts nothing 0 .settled n ≡ some r → r ≡ own stuck along step declared n
 
-module _ {R : Type 0} (stuck : R) (along : R → R) (back : along stuck ≡ stuck) (step : ℕ → Step R) (declared : List ℕ) (leads : OnlyDeclaredLead step declared) where
+module _ {R : Type 0} (stuck : R) (along : R → R) (back : along stuck ≡ stuck) (step : ℕ → Link R) (declared : List ℕ) (leads : OnlyDeclaredLead step declared) where
   abbrev ownOf : ℕ → R
   ownOf = own stuck along step declared
 
@@ -31,7 +31,7 @@ module _ {R : Type 0} (stuck : R) (along : R → R) (back : along stuck ≡ stuc
   pub own-next : (n m : ℕ) → step n ≡ next m → ownOf n ≡ along (ownOf m)
   own-next n m e = answer-alike along step (own-answer stuck along step back declared leads n) (answer-back along step stuck back e (own-answer stuck along step back declared leads m))
 
-  abbrev all : List ℕ → All R
+  abbrev all : List ℕ → AllWalked R
   all starts = walkAll stuck along step declared starts nothing 0
 
   -- what is settled after all walks, by the names read
@@ -92,19 +92,19 @@ module _ {R : Type 0} (stuck : R) (along : R → R) (back : along stuck ≡ stuc
       found n (inr i) = let l = o .led n i in read declared .closed (l .0) n (l .2) (read declared .begun (l .0) (or-left false (l .1)))
 
 -- what two walks have in common
-pub record WalksAlike {R : Type 0} (stuck : R) (along : R → R) (step step′ : ℕ → Step R) (declared declared′ starts starts′ : List ℕ) : Type 0 where
+pub record WalksAlike {R : Type 0} (stuck : R) (along : R → R) (step step′ : ℕ → Link R) (declared declared′ starts starts′ : List ℕ) : Type 0 where
   pub settled : (n : ℕ) → walkAll stuck along step declared starts nothing 0 .settled n ≡ walkAll stuck along step′ declared′ starts′ nothing 0 .settled n
   pub steps : walkAll stuck along step declared starts nothing 0 .steps ≡ walkAll stuck along step′ declared′ starts′ nothing 0 .steps
   pub own-walks : (n : ℕ) → own stuck along step declared n ≡ own stuck along step′ declared′ n
 
 module _ {R : Type 0} (stuck : R) (along : R → R) (back : along stuck ≡ stuck) where
   -- a name's own walk goes by no list: any that holds all names that lead on will do
-  pub own-alike : (step : ℕ → Step R) (declared declared′ : List ℕ) → OnlyDeclaredLead step declared → OnlyDeclaredLead step declared′ → (n : ℕ) → own stuck along step declared n ≡ own stuck along step declared′ n
+  pub own-alike : (step : ℕ → Link R) (declared declared′ : List ℕ) → OnlyDeclaredLead step declared → OnlyDeclaredLead step declared′ → (n : ℕ) → own stuck along step declared n ≡ own stuck along step declared′ n
   own-alike step declared declared′ leads leads′ n =
       answer-alike along step (own-answer stuck along step back declared leads n) (own-answer stuck along step back declared′ leads′ n)
 
   -- nor do all walks by the order of the starts
-  module _ (step : ℕ → Step R) (declared declared′ : List ℕ) (leads : OnlyDeclaredLead step declared) (leads′ : OnlyDeclaredLead step declared′) (starts starts′ : List ℕ) (same : (n : ℕ) → among n starts ≡ among n starts′) where
+  module _ (step : ℕ → Link R) (declared declared′ : List ℕ) (leads : OnlyDeclaredLead step declared) (leads′ : OnlyDeclaredLead step declared′) (starts starts′ : List ℕ) (same : (n : ℕ) → among n starts ≡ among n starts′) where
     names-alike : (n : ℕ) → among n (read stuck along back step declared leads starts .names) ≡ among n (read stuck along back step declared′ leads′ starts′ .names)
     names-alike n =
         let r = read stuck along back step declared leads starts in
@@ -128,7 +128,7 @@ module _ {R : Type 0} (stuck : R) (along : R → R) (back : along stuck ≡ stuc
         }
 
   -- steps that agree at each name, any lists that hold what leads on, and the same starts
-  pub walks-alike : (step step′ : ℕ → Step R) → ((n : ℕ) → step n ≡ step′ n) → (declared declared′ : List ℕ) → OnlyDeclaredLead step declared → OnlyDeclaredLead step′ declared′
+  pub walks-alike : (step step′ : ℕ → Link R) → ((n : ℕ) → step n ≡ step′ n) → (declared declared′ : List ℕ) → OnlyDeclaredLead step declared → OnlyDeclaredLead step′ declared′
       → (starts starts′ : List ℕ) → ((n : ℕ) → among n starts ≡ among n starts′) → WalksAlike stuck along step step′ declared declared′ starts starts′
   walks-alike step step′ alike declared declared′ leads leads′ starts starts′ same =
       let e : step ≡ step′ = fun-ext alike in
@@ -136,7 +136,7 @@ module _ {R : Type 0} (stuck : R) (along : R → R) (back : along stuck ≡ stuc
       (starts-alike step declared declared′ leads (λ n m f. leads′ n m (sym (alike n) ∙ f)) starts starts′ same)
 
   -- the same in any order
-  pub walks-shuffled : (step step′ : ℕ → Step R) → ((n : ℕ) → step n ≡ step′ n) → (declared declared′ : List ℕ) → OnlyDeclaredLead step declared → InAnyOrder declared declared′
+  pub walks-shuffled : (step step′ : ℕ → Link R) → ((n : ℕ) → step n ≡ step′ n) → (declared declared′ : List ℕ) → OnlyDeclaredLead step declared → InAnyOrder declared declared′
       → (starts starts′ : List ℕ) → InAnyOrder starts starts′ → WalksAlike stuck along step step′ declared declared′ starts starts′
   walks-shuffled step step′ alike declared declared′ leads p starts starts′ q =
       walks-alike step step′ alike declared declared′ leads (λ n m f. sym (shuffled-among p n) ∙ leads n m (alike n ∙ f)) starts starts′ (shuffled-among q)

@@ -21,9 +21,9 @@ use Rattle.chains.specs.Entry.{declarationsIn, namesIn}
 use Rattle.chains.specs.Settle.{Leading, Marked, OnPath, Settleable, SettledAll, Placeable}
 use Rattle.records.specs.declared.directory.Layout.{Layout}
 use Rattle.checking.specs.Checked.{namesSaid}
-use Rattle.chains.specs.AllKinds.{IsPack, Counted, Named, IsDirectory, KindsMarked, Lent}
-use Rattle.chains.proofs.RelationScan.{RelationsFine, kept}
-use Rattle.chains.proofs.PackIndex.{parts, split, opening, opening-length, relationsPart}
+use Rattle.chains.specs.PackDirectory.{IsPack, Counted, Named, IsDirectory, KindsMarked, ClearTable}
+use Rattle.chains.proofs.RelationForm.{RelationsFine, kept}
+use Rattle.chains.proofs.PackParts.{parts, split, opening, opening-length, relationsPart}
 use Rattle.chains.proofs.Names.{or-left, or-right}
 use Rattle.chains.proofs.PlaceBounds.{Indexes, indexes}
 use Rattle.chains.proofs.AllKindsLaws.{KindsFound, kinds-found}
@@ -73,7 +73,7 @@ names-below n m used (r ∷ rs) f zero = kept n (λ v. among v used) r (f .0) .b
 names-below n m used (r ∷ rs) f (suc j) = names-below n m (r .name ∷ used) rs (f .1) j
 
 -- what walks with nothing settled ask for
-pub settleable-clear : {names : ℕ} (table : List ℕ) {marks : List ℕ} (starts : List ℕ) (fuel : ℕ) → Lent names marks → ((j : ℕ) → getD starts j 0 < names) → Leading names table → length starts ≤ 4096 → fuel ≤ 4097
+pub settleable-clear : {names : ℕ} (table : List ℕ) {marks : List ℕ} (starts : List ℕ) (fuel : ℕ) → ClearTable names marks → ((j : ℕ) → getD starts j 0 < names) → Leading names table → length starts ≤ 4096 → fuel ≤ 4097
     → Settleable table marks starts 0 fuel
 unfolding Marked OnPath Leading
 settleable-clear table starts fuel lent names leading h l =
@@ -85,7 +85,7 @@ settleable-clear table starts fuel lent names leading h l =
       room = let m : length starts * fuel ≤ 4096 * fuel = mul-le-mul-right fuel h in omega arith;
     }
 
-pub settleable-pack : (p : Pack) → WellFormed p → (table : List ℕ) → Indexes p table → {marks : List ℕ} → Lent (p .names) marks → Settleable table marks (declared (p .relations)) 0 (suc (length (declared (p .relations))))
+pub settleable-pack : (p : Pack) → WellFormed p → (table : List ℕ) → Indexes p table → {marks : List ℕ} → ClearTable (p .names) marks → Settleable table marks (declared (p .relations)) 0 (suc (length (declared (p .relations))))
 settleable-pack p w table says lent =
     let h = parts p w in
     let l : length (declared (p .relations)) ≡ length (p .relations) = length-map (p .relations) (λ (r : Relation). r .name) in
@@ -127,17 +127,17 @@ module _ {ws : List ℕ} {l : Layout} {dir : List ℕ} (d : IsDirectory ws l dir
   pub few-relations : l .relations ≤ 512
   few-relations = omega (arith, its-count, parts p fine .few-relations)
 
-  its-most : {t : List ℕ} → Lent (l .names) t → Lent (p .names) t
-  its-most {t} lent = subst (λ (n : ℕ). Lent n t) (d .named .names p (d .checked .reads)) lent
+  its-most : {t : List ℕ} → ClearTable (l .names) t → ClearTable (p .names) t
+  its-most {t} lent = subst (λ (n : ℕ). ClearTable n t) (d .named .names p (d .checked .reads)) lent
 
-  pub settleable : {marks : List ℕ} → Lent (l .names) marks → Settleable table marks names 0 (l .relations + 1)
+  pub settleable : {marks : List ℕ} → ClearTable (l .names) marks → Settleable table marks names 0 (l .relations + 1)
   settleable lent = rw (its-fuel, its-names) (settleable-pack p fine table its-index (its-most lent))
 
   -- the names of the relations are among N
   pub its-low : (j : ℕ) → getD names j 0 < l .names
   its-low j = rw its-names (omega (arith, d .named .names p (d .checked .reads), names-below (p .names) (parts p fine .least) [] rs (parts p fine .relations-fine) j))
 
-  pub kinds-marked : {marks₀ : List ℕ} → Lent (l .names) marks₀ → {marks : List ℕ} {steps : ℕ} → SettledAll table marks₀ names 0 (l .relations + 1) marks steps → KindsMarked ws steps names marks
+  pub kinds-marked : {marks₀ : List ℕ} → ClearTable (l .names) marks₀ → {marks : List ℕ} {steps : ℕ} → SettledAll table marks₀ names 0 (l .relations + 1) marks steps → KindsMarked ws steps names marks
   kinds-marked lent {marks} {steps} s =
       let found : KindsFound p marks steps = kinds-found p table its-index (lent .clear) marks steps (rw (its-fuel, its-names) at s) in
       let it : (q : Pack) → read ws ≡ yes q → p ≡ q = λ q h. same-pack ws (d .checked .reads) h in

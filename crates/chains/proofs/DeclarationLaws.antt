@@ -9,8 +9,8 @@ use Rattle.definitions.specs.Records.{Relation, Pack}
 use Rattle.definitions.specs.Pack.{WellFormed, words}
 use Rattle.definitions.specs.Kinds.{find}
 use Rattle.definitions.specs.Places.{startOf, firstRelation}
-use Rattle.chains.specs.AllKinds.{placeIn, recordOf}
-use Rattle.chains.proofs.PackIndex.{parts, find-name, find-kept, start-least}
+use Rattle.chains.specs.PackDirectory.{placeIn, recordOf}
+use Rattle.chains.proofs.PackParts.{parts, find-name, find-kept, start-least}
 use Rattle.chains.proofs.ListAt.{InWords, in-pack}
 
 -- ---- a checked pack whose records start where a table says

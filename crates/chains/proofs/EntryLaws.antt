@@ -19,22 +19,22 @@ use Rattle.definitions.specs.Pack.{WellFormed, yes, read, newName, relation, re
 use Rattle.records.specs.declared.directory.Layout.{Layout}
 use Rattle.records.specs.declared.directory.Laid.{Laid}
 use Rattle.records.specs.declared.directory.Laid.the-variants.{Yes, No}
-use Rattle.records.specs.Directory.{notesAll, noteRelation, noteRelations, directoryOf, layoutOf, relationsAt, rulesAt, blocksAt, relationWords, entry, derivedBy, noteIn, leadOf, hops, Clear}
-use Rattle.checking.specs.Checked.{namesSaid, Checked, answerIn}
+use Rattle.records.specs.Directory.{notesAll, noteRelation, noteRelations, directoryOf, layoutOf, relationsAt, rulesAt, blocksAt, entry, derivedNote, noteIn, leadOf, Clear}
+use Rattle.checking.specs.Checked.{namesSaid, DirectoryChecked, answerIn}
 use Rattle.definitions.specs.Chain.{mapped, end, next}
 use Rattle.definitions.specs.Kinds.{list21, inherits, plain, derived, declares, declared, find, readAt, kindStep}
-use Rattle.definitions.specs.Places.{startOf, firstRelation, relationsEnd, countPlace, placeOf}
+use Rattle.definitions.specs.Places.{startOf, firstRelation, relationsEnd, countPlace, placeOf, relationWords, hops}
 use Rattle.definitions.specs.Places as places
-use Rattle.chains.specs.Declaration.{coded, placed, declarationAt}
+use Rattle.chains.specs.Declaration.{codedLink, placed, declarationAt}
 use Rattle.definitions.specs.Answers.{tableFrom}
 use Rattle.chains.specs.Settle.{ReadOne}
 use Rattle.chains.specs.Entry.{Reaches, wordIn, startBy, slotsBy, declaredBy, startIn, slotIn, declaredIn, startsIn, slotsIn, declarationsIn, namesIn}
-use Rattle.chains.specs.AllKinds.{placeIn, recordOf, slotsFor, slotsOf, IsPack, Lent, Room, IsDirectory}
+use Rattle.chains.specs.PackDirectory.{placeIn, recordOf, slotsFor, slotsOf, IsPack, ClearTable, DirectoryRoom, IsDirectory}
 use Rattle.pack.proofs.PackLaws.{words-read}
 use Rattle.checking.proofs.CheckLaws.{clear-zeros, said-most}
 use Rattle.chains.proofs.FillLaws.{whole-at, whole-past, table-length}
-use Rattle.chains.proofs.RelationScan.{RelationsFine, relationsWords, kept}
-use Rattle.chains.proofs.PackIndex.{zero-at, parts, opening-length, mapped-alike, find-name, find-kept, not-again, start-within, relations-room}
+use Rattle.chains.proofs.RelationForm.{RelationsFine, relationsWords, kept}
+use Rattle.chains.proofs.PackParts.{zero-at, parts, opening-length, mapped-alike, find-name, find-kept, not-again, start-within, relations-room}
 use Rattle.chains.proofs.PlaceBounds.{found-small}
 use Rattle.chains.proofs.CheckedLaws.{same-pack, said-names}
 use Rattle.chains.proofs.AnswerLaws.{checked}
@@ -164,27 +164,27 @@ module _ (start : ℕ) (low : start < 8192) where
   hops-same none = refl
   hops-same (some l) = refl
 
-  pub declared-said : (r : Relation) → length (r .slotKinds) ≤ 8 → ((d : Derivation) → r .derivation ≡ some d → places.hops (d .path) ≤ 8) → declaredBy (entry start r) ≡ coded (declarationAt start r)
+  pub declared-said : (r : Relation) → length (r .slotKinds) ≤ 8 → ((d : Derivation) → r .derivation ≡ some d → places.hops (d .path) ≤ 8) → declaredBy (entry start r) ≡ codedLink (declarationAt start r)
   unfolding declarationAt noteIn leadOf
   declared-said r few short = go (r .derivation) refl
     where
-      plainly : (ks : List ℕ) → declaredBy (start + 8192 * pick (eqb (length ks) 0) 0 3) ≡ coded (mapped (placed start r) (plain (r .name) ks))
+      plainly : (ks : List ℕ) → declaredBy (start + 8192 * pick (eqb (length ks) 0) 0 3) ≡ codedLink (mapped (placed start r) (plain (r .name) ks))
       plainly [] = unlisted 0
       plainly (k ∷ ks) = rw (filled k ks 0 3) (listed 3 0 (omega arith) (omega arith))
 
       leading : (slots s : ℕ) (b : Bool) → slots < 64
-          → declaredBy (start + 8192 * pick (eqb (pick b 0 (s + 1)) 0) (64 * slots) (64 * (63 + pick b 0 (s + 1)))) ≡ coded (mapped (placed start r) (pick b (end none) (next s)))
+          → declaredBy (start + 8192 * pick (eqb (pick b 0 (s + 1)) 0) (64 * slots) (64 * (63 + pick b 0 (s + 1)))) ≡ codedLink (mapped (placed start r) (pick b (end none) (next s)))
       leading slots s true h = unlisted slots ∙ rw (lt-ltb slots 64 h) refl
       leading slots s false h =
           let q : 63 + (s + 1) - 64 ≡ s = omega arith in
           rw (ne-eqb (s + 1) 0 (λ z. omega arith)) (unlisted (63 + (s + 1)) ∙ rw (le-ltb (63 + (s + 1)) 64 (omega arith), q) refl)
 
       pathed : (slots s : ℕ) (q : Option (List Hop)) → slots < 64
-          → declaredBy (start + 8192 * pick (eqb (leadOf s q) 0) (64 * slots) (64 * (63 + leadOf s q))) ≡ coded (mapped (placed start r) (inherits s q))
+          → declaredBy (start + 8192 * pick (eqb (leadOf s q) 0) (64 * slots) (64 * (63 + leadOf s q))) ≡ codedLink (mapped (placed start r) (inherits s q))
       pathed slots s none h = leading slots s (eqb s tables.none) h
       pathed slots s (some l) h = unlisted slots ∙ rw (lt-ltb slots 64 h) refl
 
-      go : (o : Option Derivation) → r .derivation ≡ o → declaredBy (start + 8192 * noteIn (length (r .slotKinds)) o) ≡ coded (mapped (placed start r) (declares (r .name) (r .slotKinds) o))
+      go : (o : Option Derivation) → r .derivation ≡ o → declaredBy (start + 8192 * noteIn (length (r .slotKinds)) o) ≡ codedLink (mapped (placed start r) (declares (r .name) (r .slotKinds) o))
       go none e = plainly (r .slotKinds)
       go (some d) e = by-lists (d .slotEntities) (r .slotKinds)
         where
@@ -197,7 +197,7 @@ module _ (start : ℕ) (low : start < 8192) where
           at-21 : start + (slots + 4) ≡ start + countPlace list21 r
           at-21 = rw e (omega (arith, hops-same (d .path)))
 
-          by-lists : (es ks : List ℕ) → declaredBy (start + 8192 * derivedBy (length ks) slots (length es) (leadOf (d .source) (d .path))) ≡ coded (mapped (placed start r) (derived (r .name) d es ks))
+          by-lists : (es ks : List ℕ) → declaredBy (start + 8192 * derivedNote (length ks) slots (length es) (leadOf (d .source) (d .path))) ≡ codedLink (mapped (placed start r) (derived (r .name) d es ks))
           by-lists (x ∷ es) ks = rw (filled x es (pick (eqb (length ks) 0) (pick (eqb (leadOf (d .source) (d .path)) 0) (64 * slots) (64 * (63 + leadOf (d .source) (d .path)))) (3 + 64 * slots)) (slots + 4 + 64 * slots)) (listed (slots + 4) slots (omega arith) (omega (arith, small)) ∙ at-21)
           by-lists [] (x ∷ ks) = rw (filled x ks (pick (eqb (leadOf (d .source) (d .path)) 0) (64 * slots) (64 * (63 + leadOf (d .source) (d .path)))) (3 + 64 * slots)) (listed 3 slots (omega arith) (omega arith))
           by-lists [] [] = pathed slots (d .source) (d .path) (omega (arith, small))
@@ -232,7 +232,7 @@ module _ (start : ℕ) (low : start < 8192) where
           ends = omega (arith, hops-same (d .path))
 
           by-lists : (es k : ℕ) → length (r .slotKinds) ≡ k → (q : Option (List Hop)) → d .path ≡ q
-              → slotsBy (start + 8192 * derivedBy (length (r .slotKinds)) slots es (leadOf (d .source) (d .path))) ≡ start + 7 + length (r .slotKinds) + 3 * places.hops (d .path)
+              → slotsBy (start + 8192 * derivedNote (length (r .slotKinds)) slots es (leadOf (d .source) (d .path))) ≡ start + 7 + length (r .slotKinds) + 3 * places.hops (d .path)
           by-lists (suc es) k g q y = rw (ne-eqb (suc es) 0 (λ z. omega arith)) (slots-behind (slots + 4) slots (omega (arith, small)) (omega arith) (omega (arith, small)) ∙ ends)
           by-lists zero (suc k) g q y = rw (ne-eqb (length (r .slotKinds)) 0 (λ z. omega arith)) (slots-behind 3 slots (omega arith) (omega arith) (omega (arith, small)) ∙ ends)
           by-lists zero zero g (some l) y =
@@ -313,11 +313,11 @@ module _ (p : Pack) (w : WellFormed p) (d : List ℕ) (clear : Clear (p .names) 
       go m none e = refl
       go m (some r) e = let b = found-small n m [] rs r (parts p w .relations-fine) e in slots-said (startsAt m) (start-low m) r (b .few) (b .short)
 
-  pub says-there : (m : ℕ) → getD (declarationsIn the-directory) m 0 ≡ coded (mapped (placeOf p) (kindStep rs m))
+  pub says-there : (m : ℕ) → getD (declarationsIn the-directory) m 0 ≡ codedLink (mapped (placeOf p) (kindStep rs m))
   unfolding declarationsIn declaredIn kindStep placeOf declarationAt
-  says-there m = by-name (declaredIn the-directory) (λ m o. coded (mapped (placeOf p) (readAt o))) (λ m. ap declaredBy (word-of m) ∙ go m (find m rs) refl) (λ m. refl) m
+  says-there m = by-name (declaredIn the-directory) (λ m o. codedLink (mapped (placeOf p) (readAt o))) (λ m. ap declaredBy (word-of m) ∙ go m (find m rs) refl) (λ m. refl) m
     where
-      go : (m : ℕ) (o : Option Relation) → find m rs ≡ o → declaredBy (said n 0 (startsAt m) o) ≡ coded (mapped (placeOf p) (readAt o))
+      go : (m : ℕ) (o : Option Relation) → find m rs ≡ o → declaredBy (said n 0 (startsAt m) o) ≡ codedLink (mapped (placeOf p) (readAt o))
       go m none e = refl
       go m (some r) e =
           let q : m ≡ r .name = find-name rs m r e in
@@ -325,7 +325,7 @@ module _ (p : Pack) (w : WellFormed p) (d : List ℕ) (clear : Clear (p .names) 
           let s : startsAt m ≡ startsAt (r .name) = ap startsAt q in
           let b = found-small n m [] rs r (parts p w .relations-fine) e in
           declared-said (startsAt m) (start-low m) r (b .few) (b .short)
-          ∙ ap coded (mapped-alike (placed (startsAt m) r) (placeOf p) (r .name) refl (λ c. rw (f, s) refl) (r .slotKinds) (r .derivation))
+          ∙ ap codedLink (mapped-alike (placed (startsAt m) r) (placeOf p) (r .name) refl (λ c. rw (f, s) refl) (r .slotKinds) (r .derivation))
 
 -- one name read
 pub read-one : (dir : List ℕ) {n steps : ℕ} → Reaches dir (n + 1) → {r : ℕ} → r ≡ declaredIn dir n → ReadOne (declarationsIn dir) n steps r (steps + 1)
@@ -338,7 +338,7 @@ reaches-one r h = record { most = omega (arith, r .most); long = omega (arith, r
 
 -- ---- what Check gives
 
-module _ {ws d : List ℕ} (clear : Clear (namesSaid ws) d) {r : Laid} {d′ : List ℕ} (c : Checked ws d r d′) {l : Layout} (o : r ≡ Yes l) where
+module _ {ws d : List ℕ} (clear : Clear (namesSaid ws) d) {r : Laid} {d′ : List ℕ} (c : DirectoryChecked ws d r d′) {l : Layout} (o : r ≡ Yes l) where
   it : IsPack ws
   it = checked ws (c .answers) (ap answerIn o)
 
@@ -390,7 +390,7 @@ module _ {ws d : List ℕ} (clear : Clear (namesSaid ws) d) {r : Laid} {d′ : L
             };
         slotted = of-any (λ q. (m : ℕ) → getD (slotsIn d′) m 0 ≡ slotsOf q m)
             (λ m. ap (λ (x : List ℕ). getD (slotsIn x) m 0) same-directory ∙ slots-there p fine d clear-names m);
-        says = of-any (λ q. (m : ℕ) → getD (declarationsIn d′) m 0 ≡ coded (mapped (placeOf q) (kindStep (q .relations) m)))
+        says = of-any (λ q. (m : ℕ) → getD (declarationsIn d′) m 0 ≡ codedLink (mapped (placeOf q) (kindStep (q .relations) m)))
             (λ m. ap (λ (x : List ℕ). getD (declarationsIn x) m 0) same-directory ∙ says-there p fine d clear-names m);
       }
 
@@ -400,7 +400,7 @@ clear-all ws = clear-zeros (namesSaid ws) 4608 (omega (arith, said-most ws))
 
 -- ---- tables as long as the words ask
 
-pub room-for : {ws : List ℕ} {n : ℕ} (k : ℕ) → n ≡ namesSaid ws → n ≤ k → k ≤ 4096 → Room ws (replicate (512 + k) 0) (replicate k 0)
+pub room-for : {ws : List ℕ} {n : ℕ} (k : ℕ) → n ≡ namesSaid ws → n ≤ k → k ≤ 4096 → DirectoryRoom ws (replicate (512 + k) 0) (replicate k 0)
 room-for {ws} k e h m =
     record {
       clear = clear-zeros (namesSaid ws) (512 + k) (omega arith);
@@ -408,12 +408,12 @@ room-for {ws} k e h m =
       reaches = record { most = omega (arith, length-replicate {A = ℕ} k 0); long = omega (arith, length-replicate {A = ℕ} k 0, length-replicate {A = ℕ} (512 + k) 0) };
     }
 
-pub room-all : (ws : List ℕ) → Room ws (replicate 4608 0) (replicate 4096 0)
+pub room-all : (ws : List ℕ) → DirectoryRoom ws (replicate 4608 0) (replicate 4096 0)
 room-all ws = room-for {n = namesSaid ws} 4096 refl (said-most ws) (omega arith)
 
 -- of a checked pack they are as long as N asks
-pub lent-said : {ws dir t : List ℕ} {l : Layout} → IsDirectory ws l dir → Lent (namesSaid ws) t → Lent (l .names) t
-lent-said {ws} {t = t} d lent = subst (λ (n : ℕ). Lent n t) (said-names ws (d .checked) ∙ sym (d .named .names (d .checked .pack) (d .checked .reads))) lent
+pub lent-said : {ws dir t : List ℕ} {l : Layout} → IsDirectory ws l dir → ClearTable (namesSaid ws) t → ClearTable (l .names) t
+lent-said {ws} {t = t} d lent = subst (λ (n : ℕ). ClearTable n t) (said-names ws (d .checked) ∙ sym (d .named .names (d .checked .pack) (d .checked .reads))) lent
 
 pub reaches-kept : {d d′ : List ℕ} {n : ℕ} → length d′ ≡ length d → Reaches d n → Reaches d′ n
 reaches-kept e r = record { most = r .most; long = omega (arith, r .long) }

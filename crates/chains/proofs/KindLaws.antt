@@ -14,7 +14,7 @@ use Rattle.definitions.specs.Records.{Relation, Pack}
 use Rattle.definitions.specs.Pack.{WellFormed, newName, relation, nextUsed, relations, records, inner}
 use Rattle.definitions.specs.Dealt.{nil, cons, swap, trans, InAnyOrder}
 use Rattle.definitions.specs.Chain.{next, Distinct, OnlyDeclaredLead, same}
-use Rattle.definitions.specs.Kinds.{find, readAt, kindStep, declared, Answer, allKinds, ownAnswer, undeclaredSources, listIn, namesOf, kindsOf}
+use Rattle.definitions.specs.Kinds.{find, readAt, kindStep, declared, KindsFound, allKinds, ownAnswer, undeclaredSources, listIn, namesOf, kindsOf}
 use Rattle.chains.proofs.Names.{apart, or-left, or-right, shuffled-map, shuffled-distinct}
 use Rattle.definitions.specs.Places.{placeOf, settledOf, allKindsWords}
 use Rattle.chains.proofs.Outside.{outside-is}
@@ -34,7 +34,7 @@ kind-leads (r ∷ rs) n m e = go (eqb n (r .name)) e (kind-leads rs n m)
 pub record KindsOwn (rs : List Relation) : Type 0 where
   pub each : (n : ℕ) → among n (declared rs) ≡ true → allKinds rs .settled n ≡ some (ownAnswer rs n)
   pub in-order : map (λ (r : Relation). allKinds rs .settled (r .name)) rs ≡ map (λ (r : Relation). some (ownAnswer rs (r .name))) rs
-  pub whatever : (n : ℕ) (a : Answer) → allKinds rs .settled n ≡ some a → a ≡ ownAnswer rs n
+  pub whatever : (n : ℕ) (a : KindsFound) → allKinds rs .settled n ≡ some a → a ≡ ownAnswer rs n
 
 -- what is alike for the names of all relations is alike in a row
 pub in-row : {B : Type 0} (f g : ℕ → B) (rs : List Relation) → ((n : ℕ) → among n (declared rs) ≡ true → f n ≡ g n)
@@ -106,7 +106,7 @@ kinds-dealt {rs} {rs′} p d =
       steps = w .steps;
     }
   where
-    names-alike : ((n : ℕ) → find n rs ≡ find n rs′) → (a : Answer) → namesOf rs a ≡ namesOf rs′ a
+    names-alike : ((n : ℕ) → find n rs ≡ find n rs′) → (a : KindsFound) → namesOf rs a ≡ namesOf rs′ a
     names-alike f none = refl
     names-alike f (some s) = ap (λ o. some (listIn o (s .which))) (f (s .owner))
 

@@ -4,8 +4,8 @@ pub mod Outside
 pub mod ChainLaws
 pub mod MappedLaws
 pub mod KindLaws
-pub mod RelationScan
-pub mod PackIndex
+pub mod RelationForm
+pub mod PackParts
 pub mod SettleLaws
 pub mod AheadLaws
 pub mod PlaceBounds

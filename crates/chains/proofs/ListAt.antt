@@ -13,16 +13,16 @@ use Rattle.definitions.specs.Form.{among, wordsAll, FineAll, Fits, wordsBy, Fin
 use Rattle.definitions.specs.Records.{Hop, Derivation, Relation, Pack}
 use Rattle.definitions.specs.Pack.{WellFormed, newName, nameList, hop, path, chain, member, derivation, optionalDerivation, relationTail, relation, words}
 use Rattle.definitions.specs.Tree.{root}
-use Rattle.definitions.specs.Chain.{Step, end, next, nothing, walk, own, same}
-use Rattle.definitions.specs.Kinds.{Which, list9, list21, countKind, Source, Answer, find, readAt, kindStep, declared, ownAnswer, listOf, namesOf, kindsOf}
+use Rattle.definitions.specs.Chain.{Link, end, next, nothing, walk, own, same}
+use Rattle.definitions.specs.Kinds.{Which, list9, list21, countKind, SettledBy, KindsFound, find, readAt, kindStep, declared, ownAnswer, listOf, namesOf, kindsOf}
 use Rattle.definitions.specs.Places.{relationWords, startOf, firstRelation, hops, countPlace, placeOf, namesAt, OwnersList, allKindsWords, SettledAt, AllSettledAt}
 use Rattle.chains.proofs.KindLaws.{in-row, words-own}
-use Rattle.chains.proofs.RelationScan.{relationsWords, RelationsFine}
-use Rattle.chains.proofs.PackIndex.{parts, split, opening, opening-length, relationsPart, find-name, each-way-listed}
+use Rattle.chains.proofs.RelationForm.{relationsWords, RelationsFine}
+use Rattle.chains.proofs.PackParts.{parts, split, opening, opening-length, relationsPart, find-name, each-way-listed}
 
 -- ---- what holds of every end holds of every own walk
 
-module _ {R : Type 0} (P : R → Type 0) (stuck : R) (p-stuck : P stuck) (along : R → R) (p-along : (r : R) → P r → P (along r)) (step : ℕ → Step R) (p-end : (n : ℕ) (r : R) → step n ≡ end r → P r) where
+module _ {R : Type 0} (P : R → Type 0) (stuck : R) (p-stuck : P stuck) (along : R → R) (p-along : (r : R) → P r → P (along r)) (step : ℕ → Link R) (p-end : (n : ℕ) (r : R) → step n ≡ end r → P r) where
   walk-holds : (fuel : ℕ) (path : List ℕ) (n : ℕ) → P (walk stuck along step fuel nothing path n .answer)
   unfolding walk
   walk-holds zero path n = p-stuck
@@ -31,7 +31,7 @@ module _ {R : Type 0} (P : R → Type 0) (stuck : R) (p-stuck : P stuck) (along 
       Rest : Type 0
       Rest = (m : ℕ) → P (walk stuck along step fuel nothing (n ∷ path) m .answer)
 
-      at-step : among n path ≡ false → (s : Step R) → step n ≡ s → Rest → P (walk stuck along step (suc fuel) nothing path n .answer)
+      at-step : among n path ≡ false → (s : Link R) → step n ≡ s → Rest → P (walk stuck along step (suc fuel) nothing path n .answer)
       at-step o (end r) e rest = rw (o, e, walk) (p-end n r e)
       at-step o (next m) e rest = rw (o, e, walk) (p-along _ (rest m))
 
@@ -218,7 +218,7 @@ in-words n name pre rest used (s ∷ rs) r f e =
         (subst (λ (l : List ℕ). InWords l (startOf n name (length (pre ++ relationWords n s)) rs) n r) onward (ih e))
 
 -- the owner's list there
-owners-list : (rs : List Relation) (s : Source) (r : Relation) {ws : List ℕ} {start n : ℕ} → find (s .owner) rs ≡ some r → InWords ws start n r → InRelation n r (s .which) (listOf (s .which) r)
+owners-list : (rs : List Relation) (s : SettledBy) (r : Relation) {ws : List ℕ} {start n : ℕ} → find (s .owner) rs ≡ some r → InWords ws start n r → InRelation n r (s .which) (listOf (s .which) r)
     → 0 < countPlace (s .which) r → 0 < length (listOf (s .which) r) → OwnersList ws rs (start + countPlace (s .which) r) s
 owners-list rs s r {ws} {start} {n} found i j h full =
     let ks : List ℕ = listOf (s .which) r in
@@ -249,7 +249,7 @@ module _ (p : Pack) (w : WellFormed p) where
   abbrev rs : List Relation
   rs = p .relations
 
-  abbrev Holds : Answer → Type 0
+  abbrev Holds : KindsFound → Type 0
   Holds a = SettledAt (words p) rs a (placeOf p a)
 
   none-holds : Holds none
@@ -283,7 +283,7 @@ module _ (p : Pack) (w : WellFormed p) where
       let k : 0 < countPlace list21 r = rw g (omega arith) in
       rw e (owners-list rs (record { owner = r .name; which = list21 }) r e i (subst (InRelation (p .names) r list21) l (twenty-one-in (p .names) (i .used) r d g (i .fine))) k (rw (← l) full))
 
-  abbrev EndHolds : Step Answer → Type 0
+  abbrev EndHolds : Link KindsFound → Type 0
   EndHolds (end a) = Holds a
   EndHolds (next n) = Unit {0}
 
@@ -297,7 +297,7 @@ module _ (p : Pack) (w : WellFormed p) where
           let f : find (r .name) rs ≡ some r = ap (λ (v : ℕ). find v rs) (sym (find-name rs n r e)) ∙ e in
           each-way-listed EndHolds (r .name) none-holds (r .slotKinds) (r .derivation) (nine-holds r f) (twenty-one-holds r f) (λ d g z. tt)
 
-  end-holds : (n : ℕ) (a : Answer) → kindStep rs n ≡ end a → Holds a
+  end-holds : (n : ℕ) (a : KindsFound) → kindStep rs n ≡ end a → Holds a
   end-holds n a e = subst EndHolds e (step-holds n)
 
   -- so it is where any name's own walk ends
@@ -305,7 +305,7 @@ module _ (p : Pack) (w : WellFormed p) where
   walk-end n = own-holds Holds none none-holds same (λ a h. h) (kindStep rs) end-holds (declared rs) n
 
   -- at the place of a name's kinds stands the owner's own list
-  pub settled-place : (n : ℕ) (s : Source) → ownAnswer rs n ≡ some s → OwnersList (words p) rs (placeOf p (some s)) s
+  pub settled-place : (n : ℕ) (s : SettledBy) → ownAnswer rs n ≡ some s → OwnersList (words p) rs (placeOf p (some s)) s
   settled-place n s e = subst Holds e (walk-end n)
 
   -- in record order: so it is at each place that All kinds writes
@@ -321,7 +321,7 @@ module _ (p : Pack) (w : WellFormed p) where
   unfolding kindsOf
   place-holds n = go (ownAnswer rs n) (walk-end n)
     where
-      go : (a : Answer) → Holds a → namesAt (words p) (placeOf p a) ≡ namesOf rs a
+      go : (a : KindsFound) → Holds a → namesAt (words p) (placeOf p a) ≡ namesOf rs a
       go none h = none-there
       go (some s) h = h .names ∙ rw (h .found) refl
 

@@ -8,7 +8,7 @@ use lib.ListN.{length}
 use lib.Dec.{eqb}
 use Rattle.definitions.specs.Table.{pick}
 use Rattle.definitions.specs.Form.{among}
-use Rattle.definitions.specs.Chain.{Step, end, next, mapped, Settled, nothing, put, Walked, walk, own, All, walkAll, walksFrom}
+use Rattle.definitions.specs.Chain.{Link, end, next, mapped, Settled, nothing, put, Walked, walk, own, AllWalked, walkAll, walksFrom}
 
 module _ {R S : Type 0} (g : R → S) where
   abbrev mappedSettled : Settled R → Settled S
@@ -17,7 +17,7 @@ module _ {R S : Type 0} (g : R → S) where
   abbrev mappedWalk : Walked R → Walked S
   mappedWalk w = record { answer = g (w .answer); settled = mappedSettled (w .settled); steps = w .steps }
 
-  abbrev mappedAll : All R → All S
+  abbrev mappedAll : AllWalked R → AllWalked S
   mappedAll a = record { settled = mappedSettled (a .settled); steps = a .steps }
 
   put-mapped : (n : ℕ) (r : R) (t : Settled R) → put n (g r) (mappedSettled t) ≡ mappedSettled (put n r t)
@@ -27,8 +27,8 @@ module _ {R S : Type 0} (g : R → S) where
       go o true = refl
       go o false = refl
 
-  module _ (stuck : R) (along : R → R) (along′ : S → S) (links : (r : R) → g (along r) ≡ along′ (g r)) (step : ℕ → Step R) where
-    abbrev step′ : ℕ → Step S
+  module _ (stuck : R) (along : R → R) (along′ : S → S) (links : (r : R) → g (along r) ≡ along′ (g r)) (step : ℕ → Link R) where
+    abbrev step′ : ℕ → Link S
     step′ n = mapped g (step n)
 
     walk-mapped : (fuel : ℕ) (t : Settled R) (p : List ℕ) (n : ℕ) → walk (g stuck) along′ step′ fuel (mappedSettled t) p n ≡ mappedWalk (walk stuck along step fuel t p n)
@@ -42,7 +42,7 @@ module _ {R S : Type 0} (g : R → S) where
         Rest : Type 0
         Rest = (m : ℕ) → walk (g stuck) along′ step′ fuel (mappedSettled t) (n ∷ p) m ≡ mappedWalk (walk stuck along step fuel t (n ∷ p) m)
 
-        at-step : t n ≡ none → among n p ≡ false → (s : Step R) → step n ≡ s → Rest → Goal
+        at-step : t n ≡ none → among n p ≡ false → (s : Link R) → step n ≡ s → Rest → Goal
         at-step e o (end r) f rest = rw (e, o, f, walk) (λ i. record { answer = g r; settled = put-mapped n r t i; steps = 1 })
         at-step e o (next m) f rest =
             let w : Walked R = walk stuck along step fuel t (n ∷ p) m in
@@ -65,13 +65,13 @@ module _ {R S : Type 0} (g : R → S) where
         rw (walk-mapped (suc (length declared)) t [] s) (all-mapped declared starts (w .settled) (k + w .steps))
 
 -- the walks of the mapped steps give the mapped answers, and read as many names
-pub record AnswersMapped {R S : Type 0} (g : R → S) (stuck : R) (along : R → R) (step : ℕ → Step R) (stuck′ : S) (along′ : S → S) (step′ : ℕ → Step S) (declared starts : List ℕ) : Type 0 where
+pub record AnswersMapped {R S : Type 0} (g : R → S) (stuck : R) (along : R → R) (step : ℕ → Link R) (stuck′ : S) (along′ : S → S) (step′ : ℕ → Link S) (declared starts : List ℕ) : Type 0 where
   pub own-walks : (n : ℕ) → own stuck′ along′ step′ declared n ≡ g (own stuck along step declared n)
   pub settled : (n : ℕ) → walkAll stuck′ along′ step′ declared starts nothing 0 .settled n ≡ Option·map g (walkAll stuck along step declared starts nothing 0 .settled n)
   pub steps : walkAll stuck′ along′ step′ declared starts nothing 0 .steps ≡ walkAll stuck along step declared starts nothing 0 .steps
 
 pub answers-mapped : {R S : Type 0} (g : R → S) (stuck : R) (stuck′ : S) → g stuck ≡ stuck′ → (along : R → R) (along′ : S → S) → ((r : R) → g (along r) ≡ along′ (g r))
-    → (step : ℕ → Step R) (step′ : ℕ → Step S) → ((n : ℕ) → mapped g (step n) ≡ step′ n) → (declared starts : List ℕ) → AnswersMapped g stuck along step stuck′ along′ step′ declared starts
+    → (step : ℕ → Link R) (step′ : ℕ → Link S) → ((n : ℕ) → mapped g (step n) ≡ step′ n) → (declared starts : List ℕ) → AnswersMapped g stuck along step stuck′ along′ step′ declared starts
 unfolding own
 answers-mapped {S = S} g stuck stuck′ e along along′ links step step′ h declared starts =
     let all = all-mapped g stuck along along′ links step declared starts nothing 0 in
@@ -79,6 +79,6 @@ answers-mapped {S = S} g stuck stuck′ e along along′ links step step′ h de
     (subst (λ u. AnswersMapped g stuck along step (g stuck) along′ u declared starts) (fun-ext h)
     (record {
       own-walks = λ n. ap (λ (w : Walked S). w .answer) (walk-mapped g stuck along along′ links step (suc (length declared)) nothing [] n);
-      settled = λ n. ap (λ (a : All S). a .settled n) all;
-      steps = ap (λ (a : All S). a .steps) all;
+      settled = λ n. ap (λ (a : AllWalked S). a .settled n) all;
+      steps = ap (λ (a : AllWalked S). a .steps) all;
     }))

@@ -13,14 +13,14 @@ use Rattle.definitions.specs.Table as table
 use Rattle.definitions.specs.Form.{among, allowedHere, says, count, items, Fine}
 use Rattle.definitions.specs.Records.{Hop, Derivation, Relation, Pack}
 use Rattle.definitions.specs.Pack.{WellFormed, nameList, path, chain, derivation, optionalDerivation, relationTail, relation}
-use Rattle.definitions.specs.Chain.{Step, end, next, mapped}
-use Rattle.definitions.specs.Kinds.{Which, list9, list21, Answer, from, find, readAt, kindStep}
+use Rattle.definitions.specs.Chain.{Link, end, next, mapped}
+use Rattle.definitions.specs.Kinds.{Which, list9, list21, KindsFound, from, find, readAt, kindStep}
 use Rattle.definitions.specs.Places.{firstRelation, hops, countPlace, placeOf}
-use Rattle.chains.specs.Declaration.{coded}
-use Rattle.chains.specs.Settle.{stepAt, Leading}
+use Rattle.chains.specs.Declaration.{codedLink}
+use Rattle.chains.specs.Settle.{linkAt, Leading}
 use Rattle.chains.proofs.Names.{apart}
-use Rattle.chains.proofs.RelationScan.{RelationsFine, short-path}
-use Rattle.chains.proofs.PackIndex.{parts, find-name, relations-room, each-way, start-within}
+use Rattle.chains.proofs.RelationForm.{RelationsFine, short-path}
+use Rattle.chains.proofs.PackParts.{parts, find-name, relations-room, each-way, start-within}
 
 -- ---- what the table allows
 
@@ -96,7 +96,7 @@ found-small n name used (s ∷ rs) r f e = go (eqb name (s .name)) e (found-smal
 
 -- ---- every step
 
-abbrev Decodes : ℕ → Step ℕ → Type 0
+abbrev Decodes : ℕ → Link ℕ → Type 0
 Decodes names (end place) = place < 65536
 Decodes names (next name) = name < names
 
@@ -117,11 +117,11 @@ step-small p w m = go (find m (p .relations)) refl
         each-way (λ s. Decodes (p .names) (mapped (placeOf p) s)) (r .name) (omega arith) (here list9) (r .slotKinds) (r .derivation) (λ d g. here list21)
         (λ d g z. omega (arith, s .leads d g z))
 
-pub end-small : (p : Pack) → WellFormed p → (m : ℕ) (a : Answer) → kindStep (p .relations) m ≡ end a → placeOf p a < 65536
-end-small p w m a e = subst (λ (s : Step Answer). Decodes (p .names) (mapped (placeOf p) s)) e (step-small p w m)
+pub end-small : (p : Pack) → WellFormed p → (m : ℕ) (a : KindsFound) → kindStep (p .relations) m ≡ end a → placeOf p a < 65536
+end-small p w m a e = subst (λ (s : Link KindsFound). Decodes (p .names) (mapped (placeOf p) s)) e (step-small p w m)
 
-decoded : (names : ℕ) (table : List ℕ) (n : ℕ) (s : Step ℕ) → getD table n 0 ≡ coded s → Decodes names s → (stepAt table n ≡ s) × (getD table n 0 < 65536 + names)
-unfolding stepAt
+decoded : (names : ℕ) (table : List ℕ) (n : ℕ) (s : Link ℕ) → getD table n 0 ≡ codedLink s → Decodes names s → (linkAt table n ≡ s) × (getD table n 0 < 65536 + names)
+unfolding linkAt
 decoded names table n (end x) e h = (rw (e, lt-ltb x 65536 h) refl, omega arith)
 decoded names table n (next m) e h =
     let k : 65536 + m - 65536 ≡ m = omega arith in
@@ -129,11 +129,11 @@ decoded names table n (next m) e h =
 
 -- a table that says at each name what one declaration read there says
 pub record Indexes (p : Pack) (table : List ℕ) : Type 0 where
-  pub says : (m : ℕ) → mapped (placeOf p) (kindStep (p .relations) m) ≡ stepAt table m
+  pub says : (m : ℕ) → mapped (placeOf p) (kindStep (p .relations) m) ≡ linkAt table m
   pub leading : Leading (p .names) table
 
-pub indexes : (p : Pack) → WellFormed p → (t : List ℕ) → ((m : ℕ) → getD t m 0 ≡ coded (mapped (placeOf p) (kindStep (p .relations) m))) → Indexes p t
+pub indexes : (p : Pack) → WellFormed p → (t : List ℕ) → ((m : ℕ) → getD t m 0 ≡ codedLink (mapped (placeOf p) (kindStep (p .relations) m))) → Indexes p t
 unfolding Leading
 indexes p w t e =
-    let d : (m : ℕ) → (stepAt t m ≡ mapped (placeOf p) (kindStep (p .relations) m)) × (getD t m 0 < 65536 + p .names) = λ m. decoded (p .names) t m (mapped (placeOf p) (kindStep (p .relations) m)) (e m) (step-small p w m) in
+    let d : (m : ℕ) → (linkAt t m ≡ mapped (placeOf p) (kindStep (p .relations) m)) × (getD t m 0 < 65536 + p .names) = λ m. decoded (p .names) t m (mapped (placeOf p) (kindStep (p .relations) m)) (e m) (step-small p w m) in
     record { says = λ m. sym (d m .0); leading = λ m. d m .1 }

@@ -13,7 +13,7 @@ use Rattle.definitions.specs.Records.{Hop, Derivation, Relation}
 use Rattle.definitions.specs.Pack.{relation, newName, relationTail, nameList, optionalDerivation, path, derivation, member}
 use Rattle.definitions.specs.Places.{hops}
 use Rattle.chains.specs.Record.{valueAt, kindCount, flagAt, slotsPlace, entityCount}
-use Rattle.chains.proofs.RelationScan.{Fitting, Kept, kept}
+use Rattle.chains.proofs.RelationForm.{Fitting, Kept, kept}
 use Rattle.chains.proofs.ListAt.{nameWords, list-words, path-words, early, late, option-words, InWords}
 
 -- ---- what is read, in each way out

@@ -13,8 +13,8 @@ use lib.Dec.{ltb, eqb}
 use borrow.Author.Tests.{eq-eqb, ne-eqb, eqb-true, eqb-false, lt-ltb, le-ltb}
 use Rattle.definitions.specs.Table.{pick}
 use Rattle.definitions.specs.Form.{among}
-use Rattle.definitions.specs.Chain.{Settled, put, Walked, walk, All, walksFrom}
-use Rattle.chains.specs.Settle.{stepAt, Leading, settledIn, OnPath, walkIn, Marked, Walkable, WalkedHere, walksIn, Settleable, SettledAll}
+use Rattle.definitions.specs.Chain.{Settled, put, Walked, walk, AllWalked, walksFrom}
+use Rattle.chains.specs.Settle.{linkAt, Leading, settledIn, OnPath, walkIn, Marked, Walkable, WalkedHere, walksIn, Settleable, SettledAll}
 
 -- a store at a name, by the name that is looked at
 module _ (l : List ℕ) (n x : ℕ) (inside : n < length l) where
@@ -117,7 +117,7 @@ module _ (table marks : List ℕ) (steps n : ℕ) (marked : Marked marks) where
         go false e = h m ∙ ap (λ (k : ℕ). eqb k 1) (getD-set-other marks n m 1 0 (eqb-false m n e))
 
     pub at-end : (fuel : ℕ) → (fuel ≡ 0 → ⊥) → getD table n 0 < 65536 → WalkedHere table marks steps n fuel (getD table n 0) (set (set marks n 1) n (2 + getD table n 0)) (steps + 1)
-    unfolding walk stepAt
+    unfolding walk linkAt
     at-end zero z l = absurd (z refl)
     at-end (suc f) z l =
         let x : ℕ = getD table n 0 in
@@ -138,7 +138,7 @@ module _ (table marks : List ℕ) (steps n : ℕ) (marked : Marked marks) where
 
     pub at-next : (fuel : ℕ) → (fuel ≡ 0 → ⊥) → 65536 ≤ getD table n 0 → {r : ℕ} {marks′ : List ℕ} {steps′ : ℕ}
         → WalkedHere table (set marks n 1) (steps + 1) (getD table n 0 - 65536) (fuel - 1) r marks′ steps′ → WalkedHere table marks steps n fuel r (set marks′ n (2 + r)) steps′
-    unfolding walk stepAt
+    unfolding walk linkAt
     at-next zero z l w = absurd (z refl)
     at-next (suc f) z l {r} {marks′} {steps′} w =
         let m : suc f - 1 ≡ f = omega arith in
@@ -183,7 +183,7 @@ leads-too table e h = subst (λ (n : ℕ). Leading n table) (sym e) h
 -- ---- all starts
 
 module _ (table marks₀ starts : List ℕ) (steps₀ fuel : ℕ) where
-  abbrev goal : All ℕ
+  abbrev goal : AllWalked ℕ
   goal = walksIn table fuel starts (settledIn marks₀) steps₀
 
   pub record Settling (marks : List ℕ) (steps j : ℕ) : Type 0 where
@@ -235,4 +235,4 @@ module _ (table marks₀ starts : List ℕ) (steps₀ fuel : ℕ) where
       unfolding walksFrom
       all-settled h =
           let e : goal ≡ walksIn table fuel [] (settledIn marks) steps = s .todo ∙ rw (drop-of-length-le starts h) refl in
-          record { settles = sym (ap (λ (a : All ℕ). a .settled) e); counts = sym (ap (λ (a : All ℕ). a .steps) e); marked = s .marked; long = s .long }
+          record { settles = sym (ap (λ (a : AllWalked ℕ). a .settled) e); counts = sym (ap (λ (a : AllWalked ℕ). a .steps) e); marked = s .marked; long = s .long }

@@ -11,7 +11,7 @@ use lib.Dec.{eqb}
 use borrow.Author.Tests.{eqb-true, eqb-false, eq-eqb, ne-eqb}
 use Rattle.definitions.specs.Table.{pick}
 use Rattle.definitions.specs.Form.{among}
-use Rattle.definitions.specs.Chain.{Step, end, next, Settled, nothing, put, Walked, walk, own, All, walkAll, Distinct, OnlyDeclaredLead, walksFrom}
+use Rattle.definitions.specs.Chain.{Link, end, next, Settled, nothing, put, Walked, walk, own, AllWalked, walkAll, Distinct, OnlyDeclaredLead, walksFrom}
 use Rattle.chains.proofs.Names.{apart, or-cases, or-left, or-right, nor-right, or-swap, false-of, among-append}
 
 -- how many names of a list are not on a path: with more fuel than that a walk goes on
@@ -40,7 +40,7 @@ unseen-falls n p (x ∷ ns) = go (eqb x n) (among x p) refl refl (unseen-falls n
         (omega arith, λ o i. (let s = h .1 o (subst (λ b. (b || among n ns) ≡ true) (ne-eqb n x (λ q. eqb-false x n e (sym q))) i) in omega arith))
 
 -- the answers that names have
-module _ {R : Type 0} (along : R → R) (step : ℕ → Step R) where
+module _ {R : Type 0} (along : R → R) (step : ℕ → Link R) where
   -- the chain from a name ends, and its answer comes back along each link
   pub data Ends : ℕ → R → Type 0 where
     here : {n : ℕ} {r : R} → step n ≡ end r → Ends n r
@@ -101,10 +101,10 @@ module _ {R : Type 0} (along : R → R) (step : ℕ → Step R) where
       none-ends s (further {m = k} {r = u} f d _) = let i : k ≡ m = cc in h u (subst (λ x. Ends x u) i d)
 
 -- a test that goes along with every step
-abbrev pub Kept : {R : Type 0} → (ℕ → Step R) → (ℕ → Bool) → Type 0
+abbrev pub Kept : {R : Type 0} → (ℕ → Link R) → (ℕ → Bool) → Type 0
 Kept step P = (n m : ℕ) → step n ≡ next m → P n ≡ true → P m ≡ true
 
-module _ {R : Type 0} (stuck : R) (along : R → R) (step : ℕ → Step R) where
+module _ {R : Type 0} (stuck : R) (along : R → R) (step : ℕ → Link R) where
   -- what is settled for a name: its answer where it was read, else nothing
   abbrev pub Entry : ℕ → Bool → Option R → Type 0
   Entry n true o = (r : R) × (o ≡ some r) × Answer along step stuck n r
@@ -189,7 +189,7 @@ module _ {R : Type 0} (stuck : R) (along : R → R) (step : ℕ → Step R) wher
         stays : (r : R) → Answer along step stuck n r → (among n p || among n ns) ≡ true → Went ns p n (record { answer = r; settled = t; steps = 0 })
         stays r a i = record { read = []; trail = no-trail ns p n once; counts = refl; answers = a; holds = held; found = i }
 
-        at-step : t n ≡ none → among n ns ≡ false → among n p ≡ false → (s : Step R) → step n ≡ s → Rest → Goal
+        at-step : t n ≡ none → among n ns ≡ false → among n p ≡ false → (s : Link R) → step n ≡ s → Rest → Goal
         at-step e u o (end r) f rest =
             rw (e, o, f, walk)
             (record {
@@ -230,7 +230,7 @@ module _ {R : Type 0} (stuck : R) (along : R → R) (step : ℕ → Step R) wher
         at-settled o e rest = at-names o e (among n ns) refl (held n) rest
 
   -- What all walks give from some starts on, with the names ns settled before them: the names read are those that the starts lead to.
-  pub record Read (ns starts : List ℕ) (a : All R) : Type 0 where
+  pub record Read (ns starts : List ℕ) (a : AllWalked R) : Type 0 where
     pub names : List ℕ
     pub distinct : Distinct names
     pub counts : a .steps ≡ length names

@@ -2,4 +2,4 @@ pub mod Entry
 pub mod Record
 pub mod Declaration
 pub mod Settle
-pub mod AllKinds
+pub mod PackDirectory

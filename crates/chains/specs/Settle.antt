@@ -7,11 +7,11 @@ use lib.ListN.{length, getD, set}
 use lib.Dec.{ltb, eqb}
 use Rattle.definitions.specs.Table.{pick}
 use Rattle.definitions.specs.Form.{among}
-use Rattle.definitions.specs.Chain.{Step, end, next, Settled, Walked, walk, All, walksFrom, same}
+use Rattle.definitions.specs.Chain.{Link, end, next, Settled, Walked, walk, AllWalked, walksFrom, same}
 
 -- what one entry of the table says
-unfoldable pub stepAt : List ℕ → ℕ → Step ℕ
-stepAt table n = pick (ltb (getD table n 0) 65536) (end (getD table n 0)) (next (getD table n 0 - 65536))
+unfoldable pub linkAt : List ℕ → ℕ → Link ℕ
+linkAt table n = pick (ltb (getD table n 0) 65536) (end (getD table n 0)) (next (getD table n 0 - 65536))
 
 -- every entry is a place or leads to one of so many names
 unfoldable pub Leading : ℕ → List ℕ → Type 0
@@ -27,7 +27,7 @@ OnPath marks path = (n : ℕ) → among n path ≡ eqb (getD marks n 0) 1
 
 -- a walk in which every name's answer is a place, 0 in a ring
 abbrev pub walkIn : List ℕ → ℕ → Settled ℕ → List ℕ → ℕ → Walked ℕ
-walkIn table fuel t path n = walk 0 same (stepAt table) fuel t path n
+walkIn table fuel t path n = walk 0 same (linkAt table) fuel t path n
 
 -- one name read adds one to the steps
 pub record ReadOne (table : List ℕ) (n steps r steps′ : ℕ) : Type 0 where
@@ -71,8 +71,8 @@ pub record WentAhead (table marks : List ℕ) (steps n fuel r : ℕ) (marks′ :
   pub more : steps ≤ steps′
   pub long : length marks′ ≡ length marks
 
-abbrev pub walksIn : List ℕ → ℕ → List ℕ → Settled ℕ → ℕ → All ℕ
-walksIn table fuel starts t k = walksFrom 0 same (stepAt table) fuel starts t k
+abbrev pub walksIn : List ℕ → ℕ → List ℕ → Settled ℕ → ℕ → AllWalked ℕ
+walksIn table fuel starts t k = walksFrom 0 same (linkAt table) fuel starts t k
 
 -- what walks from all starts ask for
 pub record Settleable (table marks starts : List ℕ) (steps fuel : ℕ) : Type 0 where

@@ -18,7 +18,7 @@ use Rattle.definitions.specs.Form.{Form, Read, mapRead, field, got, readBy, wor
 use Rattle.definitions.specs.Records.{undated, Pack}
 use Rattle.definitions.specs.Rows.{Records, ofRow, toRow}
 use Rattle.definitions.specs.Pack.{Reading, yes, layout, inner, records, complete, read}
-use Rattle.pack.specs.Steps.{stepOf, walk, same, fieldStep}
+use Rattle.pack.specs.Readers.{stepOf, skipOver, itself, fieldStep}
 use Rattle.definitions.specs.Answers.{answer}
 use Rattle.definitions.specs.Checking.{checkAnswer}
 use Rattle.pack.proofs.FormLaws.{clash, map-got}
@@ -26,15 +26,15 @@ use Rattle.records.specs.declared.directory.Layout.{Layout}
 use Rattle.records.specs.declared.directory.Laid.{Laid}
 use Rattle.records.specs.declared.directory.Laid.the-variants.{Yes}
 use Rattle.records.specs.declared.directory.Laid.the-variants.{No as Out}
-use Rattle.records.specs.Directory.{Clear, stepIn, refusal, layoutOf, directoryOf}
+use Rattle.records.specs.Directory.{Clear, stepIn, refusedLayout, layoutOf, directoryOf}
 use Rattle.records.specs.Notes.{relationsLeft, notesLeft, LaidOut}
 use Rattle.records.proofs.KeptLaws.{There, there, within}
-use Rattle.checking.specs.Checked.{namesSaid, LaidWhole, answerIn, CheckedNotes, Checked}
+use Rattle.checking.specs.Checked.{namesSaid, LaidWhole, answerIn, CheckedNotes, DirectoryChecked}
 use Rattle.pack.proofs.StepLaws.{went, went-same, by-then, by-value, step-no, field-fine, from-one}
 
 -- reading that starts at word 0
-pub from-start : {A : Type 0} (F : Form A) (ws : List ℕ) {at : ℕ} {x : Step} → at ≡ 0 → x ≡ walk F ws at → x ≡ walk F ws 0
-from-start F ws z h = h ∙ ap (λ (a : ℕ). walk F ws a) z
+pub from-start : {A : Type 0} (F : Form A) (ws : List ℕ) {at : ℕ} {x : Step} → at ≡ 0 → x ≡ skipOver F ws at → x ≡ skipOver F ws 0
+from-start F ws z h = h ∙ ap (λ (a : ℕ). skipOver F ws a) z
 
 -- the number of names that was read
 pub names-most : (n : ℕ) (ws : List ℕ) (at : ℕ) {x : Step} {v : ℕ} {k : Cursor} → x ≡ fieldStep n 2 ws at → x ≡ On v k → v ≤ 4096
@@ -51,7 +51,7 @@ module _ (ws : List ℕ) where
     unfolding checkAnswer read
     check-long h = sym (simp (le-leb 6 (length ws) lo, lt-leb (length ws) 8192 h))
 
-    module _ (hi : length ws ≤ 8192) {x : Step} (e : x ≡ walk (layout undated (length ws)) ws 0) where
+    module _ (hi : length ws ≤ 8192) {x : Step} (e : x ≡ skipOver (layout undated (length ws)) ws 0) where
       sized : checkAnswer ws ≡ answer (complete undated (readBy (layout undated (length ws)) 0 ws)) (λ p. Given 1 0)
       unfolding checkAnswer read
       sized = simp (le-leb 6 (length ws) lo, le-leb (length ws) 8192 hi)
@@ -96,14 +96,14 @@ said-most ws = go (leb (valueOf (getD ws 1 0)) 4096) refl
 names-said : (ws : List ℕ) {x : Step} {v : ℕ} {k : Cursor} → x ≡ fieldStep 0 2 ws 1 → x ≡ On v k → namesSaid ws ≡ v
 unfolding namesSaid wordsBy
 names-said ws {v = v} e o =
-    let t = there same (field 0 2) ws 1 e o in
+    let t = there itself (field 0 2) ws 1 e o in
     let m = names-most 0 ws 1 e o in
     let g : getD ws 1 0 ≡ wordOf 2 (t .value) = sym (getD-drop 1 ws 0 0) ∙ ap (λ (l : List ℕ). getD l 0 0) (t .stood) in
     let w : valueOf (getD ws 1 0) ≡ v = omega (arith, g, t .kept) in
     rw (w, le-leb v 4096 m) refl
 
 -- so there is room for as many names
-pub clear-read : (len : ℕ) (ws : List ℕ) {at : ℕ} → at ≡ 0 → {x y : Step} {u v : ℕ} {k j : Cursor} → x ≡ walk (field len 1) ws at → x ≡ On u k → y ≡ fieldStep 0 2 ws (k .at) → y ≡ On v j → {d : List ℕ}
+pub clear-read : (len : ℕ) (ws : List ℕ) {at : ℕ} → at ≡ 0 → {x y : Step} {u v : ℕ} {k j : Cursor} → x ≡ skipOver (field len 1) ws at → x ≡ On u k → y ≡ fieldStep 0 2 ws (k .at) → y ≡ On v j → {d : List ℕ}
     → Clear (namesSaid ws) d → Clear v d
 unfolding wordsBy
 clear-read len ws {at} z {y = y} {k = k} e₁ o₁ e₂ o₂ {d} c =
@@ -131,33 +131,33 @@ module _ {ws d e : List ℕ} {d′ e′ : List ℕ} where
     pub checked-yes : {r : Laid} → LaidWhole (length ws) ws d e r d′ e′ → {l : Layout} → r ≡ Yes l → length ws ≤ l .end → CheckedNotes ws d e (Yes l) d′ e′
     unfolding read
     checked-yes {r} w {l} q h =
-        let s : On 0 (record { at = l .end }) ≡ walk (layout undated (length ws)) ws 0 = sym (ap stepIn q) ∙ w .answers in
+        let s : On 0 (record { at = l .end }) ≡ skipOver (layout undated (length ws)) ws 0 = sym (ap stepIn q) ∙ w .answers in
         let t = there (λ a. 0) (layout undated (length ws)) ws 0 s refl in
         let n : l .end ≡ length ws = omega (arith, within (λ a. 0) (layout undated (length ws)) ws 0 s refl (whole-long (length ws))) in
         let f : read ws ≡ yes (ofRow undated (t .value .1)) = simp (le-leb 6 (length ws) lo, le-leb (length ws) 8192 hi, t .found, drop-of-length-le ws h) in
-        let same : (p : Pack) → read ws ≡ yes p → ofRow undated (t .value .1) ≡ p = λ p k. cc (f, k) in
+        let itself : (p : Pack) → read ws ≡ yes p → ofRow undated (t .value .1) ≡ p = λ p k. cc (f, k) in
         record {
           answers = check-yes ws lo hi s refl h;
-          lays = λ p k. subst (λ (p : Pack). Yes l ≡ Yes (layoutOf (p .names) 2 (length ws) (toRow p .1) (getD (relationsLeft (p .names) 2 (toRow p .1) e) 0 0) (getD (notesLeft (p .names) 2 (toRow p .1) e) 0 0))) (same p k)
+          lays = λ p k. subst (λ (p : Pack). Yes l ≡ Yes (layoutOf (p .names) 2 (length ws) (toRow p .1) (getD (relationsLeft (p .names) 2 (toRow p .1) e) 0 0) (getD (notesLeft (p .names) 2 (toRow p .1) e) 0 0))) (itself p k)
               (sym q ∙ w .lays (t .value) (l .end) (drop (l .end) ws) (t .found)
               ∙ ap (λ (x : ℕ). Yes (layoutOf (t .value .1 .0) 2 x (t .value .1 .1) (getD (relationsLeft (t .value .1 .0) 2 (t .value .1 .1) e) 0 0) (getD (notesLeft (t .value .1 .0) 2 (t .value .1 .1) e) 0 0))) n);
-          enters = λ p k. subst (λ (p : Pack). d′ ≡ directoryOf (p .names) 2 (toRow p .1) d) (same p k) (w .enters (t .value) (l .end) (drop (l .end) ws) (t .found));
-          notes = λ p k. subst (λ (p : Pack). e′ ≡ notesLeft (p .names) 2 (toRow p .1) e) (same p k) (w .notes (t .value) (l .end) (drop (l .end) ws) (t .found));
+          enters = λ p k. subst (λ (p : Pack). d′ ≡ directoryOf (p .names) 2 (toRow p .1) d) (itself p k) (w .enters (t .value) (l .end) (drop (l .end) ws) (t .found));
+          notes = λ p k. subst (λ (p : Pack). e′ ≡ notesLeft (p .names) 2 (toRow p .1) e) (itself p k) (w .notes (t .value) (l .end) (drop (l .end) ws) (t .found));
         }
 
-  pub without-notes : {r : Laid} → CheckedNotes ws d e r d′ e′ → Checked ws d r d′
+  pub without-notes : {r : Laid} → CheckedNotes ws d e r d′ e′ → DirectoryChecked ws d r d′
   without-notes c = record { answers = c .answers; lays = λ p h. (_, _, c .lays p h); enters = c .enters }
 
 -- the total and the number of names, and then the records
 module _ (len : ℕ) (ws d e : List ℕ) {d′ e′ : List ℕ} where
-  pub whole-no : {x : Step} {w : Refusal} {r : Laid} → x ≡ walk (layout undated len) ws 0 → x ≡ Refused w → r ≡ refusal x → LaidWhole len ws d e r d′ e′
+  pub whole-no : {x : Step} {w : Refusal} {r : Laid} → x ≡ skipOver (layout undated len) ws 0 → x ≡ Refused w → r ≡ refusedLayout x → LaidWhole len ws d e r d′ e′
   unfolding stepOf
   whole-no {x} {w} {r} y o q =
-      let s : r ≡ Out w = q ∙ ap refusal o in
+      let s : r ≡ Out w = q ∙ ap refusedLayout o in
       let no = step-no (λ a. 0) (readBy (layout undated len) 0 ws) (sym y ∙ o) in
       record { answers = ap stepIn s ∙ sym o ∙ y; lays = λ t next rest h. absurd (clash (sym no ∙ h)); enters = λ t next rest h. absurd (clash (sym no ∙ h)); notes = λ t next rest h. absurd (clash (sym no ∙ h)) }
 
-  pub whole-on : {at : ℕ} → at ≡ 0 → {x y : Step} {v n : ℕ} {k j : Cursor} → x ≡ walk (field len 1) ws at → x ≡ On v k → y ≡ fieldStep 0 2 ws (k .at) → y ≡ On n j → {r : Laid}
+  pub whole-on : {at : ℕ} → at ≡ 0 → {x y : Step} {v n : ℕ} {k j : Cursor} → x ≡ skipOver (field len 1) ws at → x ≡ On v k → y ≡ fieldStep 0 2 ws (k .at) → y ≡ On n j → {r : Laid}
       → LaidOut n ws (j .at) d e r d′ e′ → LaidWhole len ws d e r d′ e′
   unfolding layout inner readBy stepOf wordsBy
   whole-on {at} z {x = x} {v = v} {n = n} {k = k} {j = j} e₁ o₁ e₂ o₂ {r} l =
@@ -168,14 +168,14 @@ module _ (len : ℕ) (ws d e : List ℕ) {d′ e′ : List ℕ} where
         notes = λ t next rest h. (let u = apart t next rest h in rw (← m, ← u .2) (l .notes (u .0) next rest (u .1)));
       }
     where
-      s : x ≡ walk (field len 1) ws 0
+      s : x ≡ skipOver (field len 1) ws 0
       s = from-start (field len 1) ws z e₁
 
       a : There (λ v. 0) (field len 1) ws 0 v k
       a = there (λ v. 0) (field len 1) ws 0 s o₁
 
-      b : There same (field 0 2) ws (k .at) n j
-      b = there same (field 0 2) ws (k .at) e₂ o₂
+      b : There itself (field 0 2) ws (k .at) n j
+      b = there itself (field 0 2) ws (k .at) e₂ o₂
 
       m : j .at ≡ 2
       m = omega (arith, a .on, b .on)

@@ -11,7 +11,7 @@ use Rattle.definitions.specs.Form.{got, readBy}
 use Rattle.definitions.specs.Records.{undated, Pack}
 use Rattle.definitions.specs.Rows.{Records, toRow}
 use Rattle.definitions.specs.Pack.{layout, yes, read}
-use Rattle.pack.specs.Steps.{walk}
+use Rattle.pack.specs.Readers.{skipOver}
 use Rattle.definitions.specs.Answers.{saysYes}
 use Rattle.definitions.specs.Checking.{checkAnswer}
 use Rattle.records.specs.declared.directory.Laid.{Laid}
@@ -25,7 +25,7 @@ namesSaid ws = pick (leb (valueOf (getD ws 1 0)) 4096) (valueOf (getD ws 1 0)) 0
 
 -- all the words of a slice of so many, of which the records start at word 2
 pub record LaidWhole (len : ℕ) (ws d e : List ℕ) (r : Laid) (d′ e′ : List ℕ) : Type 0 where
-  pub answers : stepIn r ≡ walk (layout undated len) ws 0
+  pub answers : stepIn r ≡ skipOver (layout undated len) ws 0
   pub lays : (t : ℕ × (ℕ × Records)) (next : ℕ) (rest : List ℕ) → readBy (layout undated len) 0 ws ≡ got t next rest
       → r ≡ Yes (layoutOf (t .1 .0) 2 next (t .1 .1) (getD (relationsLeft (t .1 .0) 2 (t .1 .1) e) 0 0) (getD (notesLeft (t .1 .0) 2 (t .1 .1) e) 0 0))
   pub enters : (t : ℕ × (ℕ × Records)) (next : ℕ) (rest : List ℕ) → readBy (layout undated len) 0 ws ≡ got t next rest → d′ ≡ directoryOf (t .1 .0) 2 (t .1 .1) d
@@ -44,7 +44,7 @@ pub record CheckedNotes (ws d e : List ℕ) (r : Laid) (d′ e′ : List ℕ) : 
   pub notes : (p : Pack) → read ws ≡ yes p → e′ ≡ notesLeft (p .names) 2 (toRow p .1) e
 
 -- the same without the notes
-pub record Checked (ws d : List ℕ) (r : Laid) (d′ : List ℕ) : Type 0 where
+pub record DirectoryChecked (ws d : List ℕ) (r : Laid) (d′ : List ℕ) : Type 0 where
   pub answers : answerIn r ≡ checkAnswer ws
   pub lays : (p : Pack) → read ws ≡ yes p → (first : ℕ) × (all : ℕ) × (r ≡ Yes (layoutOf (p .names) 2 (length ws) (toRow p .1) first all))
   pub enters : (p : Pack) → read ws ≡ yes p → d′ ≡ directoryOf (p .names) 2 (toRow p .1) d

@@ -4,7 +4,7 @@ use definitions::answer::Number;
 use definitions::answer::Refusal;
 use pack::cursor::Step;
 use pack::kinds::Pack;
-use definitions::table::Rule;
+use definitions::table::Values;
 use pack::table::table_for;
 use records::all::records;
 use records::all::refused;
@@ -14,7 +14,7 @@ ghost use mathlib.Core.Path.{_≡_};
 ghost use Prim.Native.Nat.{_≤_};
 ghost use lib.ListN.{length};
 ghost use Rattle.records.specs.Directory.{Clear};
-ghost use Rattle.checking.specs.Checked.{namesSaid, LaidWhole, answerIn, CheckedNotes, Checked};
+ghost use Rattle.checking.specs.Checked.{namesSaid, LaidWhole, answerIn, CheckedNotes, DirectoryChecked};
 ghost use Rattle.definitions.specs.Checking.{checkAnswer};
 
 pub fn refuse(number: u32, place: usize) -> Answer
@@ -45,11 +45,11 @@ fn layout(s: &[u32], len: u32, dir: &mut [u32], notes: &mut [u32]) -> Laid
     ensures { λ r. ⌜ LaidWhole len (now (s .entry)) (now (dir .entry)) (now (notes .entry)) r (now (dir .exit)) (now (notes .exit)) ⌝ }
 {
     let c = Pack::start();
-    let f1 = c.skip(s, len, Pack::TOTAL, Rule::Total);
+    let f1 = c.skip(s, len, Pack::TOTAL, Values::Total);
     let Step::On(_, c1) = f1 else {
         return refused(f1);
     };
-    let f2 = c1.field(s, 0, Pack::NAMES, Rule::FromOne(Pack::MOST_NAMES));
+    let f2 = c1.field(s, 0, Pack::NAMES, Values::FromOne(Pack::MOST_NAMES));
     let Step::On(n, c2) = f2 else {
         return refused(f2);
     };
@@ -84,7 +84,7 @@ pub fn check_notes(pack: &[u32], dir: &mut [u32], notes: &mut [u32]) -> Laid
 // The same without notes.
 pub fn check_directory(pack: &[u32], dir: &mut [u32]) -> Laid
     requires { ⌜ Clear (namesSaid (now pack)) (now dir) ⌝ }
-    ensures { λ r. ⌜ Checked (now (pack .entry)) (now (dir .entry)) r (now (dir .exit)) ⌝ }
+    ensures { λ r. ⌜ DirectoryChecked (now (pack .entry)) (now (dir .entry)) r (now (dir .exit)) ⌝ }
 {
     let mut none = [0u32; 1];
     check_notes(pack, dir, &mut none[0..0])

@@ -10,12 +10,12 @@ use Rattle.definitions.specs.Table.{pick}
 use Rattle.definitions.specs.Form.{among}
 
 -- what one declaration read says: the chain ends here with an answer, or it leads on to a name
-pub data Step (R : Type 0) : Type 0 where
-  end : R → Step R
-  next : ℕ → Step R
+pub data Link (R : Type 0) : Type 0 where
+  end : R → Link R
+  next : ℕ → Link R
 
 -- the same step with its answer turned into another
-abbrev pub mapped : {R S : Type 0} → (R → S) → Step R → Step S
+abbrev pub mapped : {R S : Type 0} → (R → S) → Link R → Link S
 mapped g (end r) = end (g r)
 mapped g (next n) = next n
 
@@ -44,7 +44,7 @@ abbrev pub settles : {R : Type 0} → ℕ → Walked R → Walked R
 settles n w = record { answer = w .answer; settled = put n (w .answer) (w .settled); steps = suc (w .steps) }
 
 -- `stuck` is the answer of a ring; an answer goes back over each link of the path through `along`, with along stuck ≡ stuck
-module _ {R : Type 0} (stuck : R) (along : R → R) (step : ℕ → Step R) where
+module _ {R : Type 0} (stuck : R) (along : R → R) (step : ℕ → Link R) where
   abbrev stop : R → Settled R → Walked R
   stop r t = record { answer = r; settled = t; steps = 0 }
 
@@ -71,20 +71,20 @@ module _ {R : Type 0} (stuck : R) (along : R → R) (step : ℕ → Step R) wher
   own declared n = walk (suc (length declared)) nothing [] n .answer
 
 -- what is settled after all walks, and how many names they read
-pub record All (R : Type 0) : Type 0 where
+pub record AllWalked (R : Type 0) : Type 0 where
   pub settled : Settled R
   pub steps : ℕ
 
 -- walks from each start in order, with so much fuel each
-module _ {R : Type 0} (stuck : R) (along : R → R) (step : ℕ → Step R) (fuel : ℕ) where
-  unfoldable pub walksFrom : List ℕ → Settled R → ℕ → All R
+module _ {R : Type 0} (stuck : R) (along : R → R) (step : ℕ → Link R) (fuel : ℕ) where
+  unfoldable pub walksFrom : List ℕ → Settled R → ℕ → AllWalked R
   walksFrom [] t k = record { settled = t; steps = k }
   walksFrom (n ∷ starts) t k =
       let w : Walked R = walk stuck along step fuel t [] n in
       walksFrom starts (w .settled) (k + w .steps)
 
 -- "All kinds starts at each relation in record order"
-abbrev pub walkAll : {R : Type 0} → R → (R → R) → (ℕ → Step R) → List ℕ → List ℕ → Settled R → ℕ → All R
+abbrev pub walkAll : {R : Type 0} → R → (R → R) → (ℕ → Link R) → List ℕ → List ℕ → Settled R → ℕ → AllWalked R
 walkAll stuck along step declared starts t k = walksFrom stuck along step (suc (length declared)) starts t k
 
 -- a list in which no name stands twice
@@ -93,11 +93,11 @@ Distinct [] = Unit {0}
 Distinct (n ∷ ns) = (among n ns ≡ false) × Distinct ns
 
 -- the name to which a step leads, put before some that are there, if it is neither declared nor among them
-abbrev pub withNext : {R : Type 0} → List ℕ → Step R → List ℕ → List ℕ
+abbrev pub withNext : {R : Type 0} → List ℕ → Link R → List ℕ → List ℕ
 withNext declared (end r) ms = ms
 withNext declared (next m) ms = pick (among m declared || among m ms) ms (m ∷ ms)
 
-module _ {R : Type 0} (step : ℕ → Step R) (declared : List ℕ) where
+module _ {R : Type 0} (step : ℕ → Link R) (declared : List ℕ) where
   -- only declared names lead on
   abbrev pub OnlyDeclaredLead : Type 0
   OnlyDeclaredLead = (n m : ℕ) → step n ≡ next m → among n declared ≡ true

@@ -7,7 +7,7 @@ use lib.Dec.{eqb}
 use Rattle.definitions.specs.Table.{pick}
 use Rattle.definitions.specs.Filtered.{kindAt}
 use Rattle.definitions.specs.declared.direction.Direction.{Direction}
-use Rattle.definitions.specs.declared.direction.Direction.the-variants.{Turned, Open}
+use Rattle.definitions.specs.declared.direction.Direction.the-variants.{Directed, Open}
 use Rattle.definitions.specs.Tables.{Derived, Tables}
 
 -- the slots that bear a kind, from a slot on
@@ -25,20 +25,20 @@ kindOrZero ks slot = orElse (kindAt ks slot) 0
 
 -- "one match sets current, related = 1 - current; two give 10; no match keeps the slots; the kind at the related slot or 0 results"
 abbrev pub matched : List ℕ → ℕ → ℕ → ℕ → List ℕ → Direction
-matched ks entity current related [] = Turned current related (kindOrZero (some ks) related)
-matched ks entity current related (slot ∷ []) = Turned slot (1 - slot) (kindOrZero (some ks) (1 - slot))
+matched ks entity current related [] = Directed current related (kindOrZero (some ks) related)
+matched ks entity current related (slot ∷ []) = Directed slot (1 - slot) (kindOrZero (some ks) (1 - slot))
 matched ks entity current related (slot ∷ more ∷ slots) = Open entity
 
 -- "A typed one is matched against direct(entity), or the entity itself"; "Any other keeps the slots, with 0."
 abbrev pub towards : (ℕ → Option ℕ) → Option (List ℕ) → ℕ → ℕ → ℕ → Direction
-towards direct none entity current related = Turned current related 0
+towards direct none entity current related = Directed current related 0
 towards direct (some ks) entity current related = matched ks entity current related (bearing (orElse (direct entity) entity) 0 ks)
 
 -- "Aggregates 74 to 78: a derived relation supplies both slots, and its related kind or 0."
 unfoldable pub turn : Tables → ℕ → ℕ → ℕ → ℕ → Direction
 turn T relation entity current related =
     elim (T .derived relation) [
-      | some d ↦ Turned (d .current) (d .related) (kindOrZero (d .kinds) (d .related))
+      | some d ↦ Directed (d .current) (d .related) (kindOrZero (d .kinds) (d .related))
       | none ↦ towards (T .direct) (T .typed relation) entity current related
     ]
 
@@ -66,28 +66,28 @@ all k (j ∷ ks) = eqb j k && all k ks
 
 -- "both set if each is borne by exactly one slot, else both kept"
 abbrev pub eachOnce : ℕ → ℕ → List ℕ → List ℕ → Direction
-eachOnce current related (c ∷ []) (r ∷ []) = Turned c r 0
-eachOnce current related (c ∷ []) (r ∷ s ∷ rs) = Turned current related 0
-eachOnce current related (c ∷ []) [] = Turned current related 0
-eachOnce current related (c ∷ d ∷ cs) rs = Turned current related 0
-eachOnce current related [] rs = Turned current related 0
+eachOnce current related (c ∷ []) (r ∷ []) = Directed c r 0
+eachOnce current related (c ∷ []) (r ∷ s ∷ rs) = Directed current related 0
+eachOnce current related (c ∷ []) [] = Directed current related 0
+eachOnce current related (c ∷ d ∷ cs) rs = Directed current related 0
+eachOnce current related [] rs = Directed current related 0
 
 -- "Equal kinds: 10 if both slots are that kind (other = it), else kept."
 abbrev pub between : List ℕ → ℕ × ℕ → ℕ → ℕ → Direction
 between ks m current related =
     pick (eqb (m .0) (m .1))
-    (pick (all (m .0) ks) (Open (m .0)) (Turned current related 0))
+    (pick (all (m .0) ks) (Open (m .0)) (Directed current related 0))
     (eachOnce current related (bearing (m .0) 0 ks) (bearing (m .1) 0 ks))
 
 abbrev pub tested : Option (List ℕ) → Membership → ℕ → ℕ → Direction
-tested none m current related = Turned current related 0
-tested (some ks) none current related = Turned current related 0
+tested none m current related = Directed current related 0
+tested (some ks) none current related = Directed current related 0
 tested (some ks) (some m) current related = between ks m current related
 
 -- "RelationMember: derived supplies slots; else both membership kinds and a typed relation are needed or slots stay."
-unfoldable pub member : Tables → ℕ → Membership → ℕ → ℕ → Direction
-member T relation m current related =
+unfoldable pub memberDirection : Tables → ℕ → Membership → ℕ → ℕ → Direction
+memberDirection T relation m current related =
     elim (T .derived relation) [
-      | some d ↦ Turned (d .current) (d .related) 0
+      | some d ↦ Directed (d .current) (d .related) 0
       | none ↦ tested (T .typed relation) m current related
     ]

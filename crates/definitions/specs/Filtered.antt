@@ -11,7 +11,7 @@ use Rattle.definitions.specs.declared.operation.Filter.{Filter}
 use Rattle.definitions.specs.declared.operation.Filter.the-variants.{Direct, Innermost, Alias, Unresolved}
 use Rattle.definitions.specs.Records.{Derivation, Relation, Pack}
 use Rattle.definitions.specs.Answers.{yesNo, tableFrom}
-use Rattle.definitions.specs.Chain.{Step, end, next, own, same}
+use Rattle.definitions.specs.Chain.{Link, end, next, own, same}
 use Rattle.definitions.specs.Kinds.{kindsOf}
 use Rattle.definitions.specs.Lean.{any}
 
@@ -67,7 +67,7 @@ unfoldable pub unresolved : List Relation → ℕ → Bool
 unresolved rs e = any (λ (r : Relation). namesEntity e (r .derivation)) rs && isNil (taken rs e)
 
 -- "a name that has direct follows it on, until a name without direct or one mapped to itself is met, which is its answer"
-abbrev pub innerAt : ℕ → Option ℕ → Step (Option ℕ)
+abbrev pub innerAt : ℕ → Option ℕ → Link (Option ℕ)
 innerAt n none = end (some n)
 innerAt n (some m) = pick (eqb m n) (end (some n)) (next m)
 
@@ -76,7 +76,7 @@ abbrev pub upTo : ℕ → List ℕ
 upTo zero = []
 upTo (suc n) = n ∷ upTo n
 
-abbrev pub innerStep : ℕ → (ℕ → Option ℕ) → ℕ → Step (Option ℕ)
+abbrev pub innerStep : ℕ → (ℕ → Option ℕ) → ℕ → Link (Option ℕ)
 innerStep names d n = pick (ltb n names) (innerAt n (d n)) (end none)
 
 -- "longer rings and all leading there are none; a name that itself has no direct gets none"
@@ -93,11 +93,11 @@ orNone none = table.none
 orNone (some n) = n
 
 -- the filtered tables: what each says of a name
-abbrev pub says : Filter → Pack → ℕ → ℕ
-says Direct p e = orNone (direct (p .relations) e)
-says Innermost p e = orNone (innermost (p .relations) (p .names) e)
-says Alias p e = yesNo (alias (p .relations) e)
-says Unresolved p e = yesNo (unresolved (p .relations) e)
+abbrev pub filterSays : Filter → Pack → ℕ → ℕ
+filterSays Direct p e = orNone (direct (p .relations) e)
+filterSays Innermost p e = orNone (innermost (p .relations) (p .names) e)
+filterSays Alias p e = yesNo (alias (p .relations) e)
+filterSays Unresolved p e = yesNo (unresolved (p .relations) e)
 
 abbrev pub filterWords : Filter → Pack → List ℕ
-filterWords f p = tableFrom (says f p) 0 (p .names)
+filterWords f p = tableFrom (filterSays f p) 0 (p .names)

@@ -7,8 +7,8 @@ use mathlib.Core.Option.{Option, none, some}
 use lib.ListN.{length}
 use lib.Dec.{eqb}
 use Rattle.definitions.specs.declared.answer.Refusal.{Refusal}
-use Rattle.definitions.specs.declared.table.Rule.{Rule}
-use Rattle.definitions.specs.declared.table.Rule.the-variants.{AtMost, FromOne}
+use Rattle.definitions.specs.declared.table.Values.{Values}
+use Rattle.definitions.specs.declared.table.Values.the-variants.{AtMost, FromOne}
 use Rattle.definitions.specs.Table.{pick, kindOf, valueOf, wordOf, allowed, entryOf}
 use Rattle.definitions.specs.Table as table
 
@@ -31,16 +31,16 @@ mapRead f (refused r) = refused r
 
 -- whether a word's value is one that the table allows its kind
 unfoldable pub allowedHere : ℕ → ℕ → ℕ → Bool
-allowedHere n kind v = allowed (entryOf kind .rule) n v
+allowedHere n kind v = allowed (entryOf kind .values) n v
 
 -- One word. 01: "at each word (place = it): 3 the pack has ended; 2 wrong kind; 5 a tree node at depth 33; 4 value not allowed".
--- `turned` gives the number by which a kind is turned away, 2 or 5, or 0.
+-- `rejects` gives the number by which a kind is rejected, 2 or 5, or 0.
 abbrev pub readWord : (ℕ → ℕ) → ℕ → ℕ → List ℕ → Read (ℕ × ℕ)
-readWord turned n at [] = because 3 at
-readWord turned n at (w ∷ ws) =
-    pick (eqb (turned (kindOf w)) 0)
+readWord rejects n at [] = because 3 at
+readWord rejects n at (w ∷ ws) =
+    pick (eqb (rejects (kindOf w)) 0)
     (pick (allowedHere n (kindOf w) (valueOf w)) (got (kindOf w, valueOf w) (at + 1) ws) (because 4 at))
-    (because (turned (kindOf w)) at)
+    (because (rejects (kindOf w)) at)
 
 -- none but the kinds of a list
 abbrev pub among : ℕ → List ℕ → Bool
@@ -123,10 +123,10 @@ whole listOrNone v l = pick (eqb v table.none) none (some l)
 whole option v l = first l
 
 -- the rule that a count word must have: of a flag, at most 1; of one and more, from 1
-abbrev pub isFlag : Rule → Type 0
+abbrev pub isFlag : Values → Type 0
 isFlag r = r ≡ AtMost 1
 
-abbrev pub Suits : {A C : Type 0} → Holder A C → Rule → Type 0
+abbrev pub Suits : {A C : Type 0} → Holder A C → Values → Type 0
 Suits list r = Unit {0}
 Suits listOrNone r = Unit {0}
 Suits option r = r ≡ AtMost 1
@@ -135,7 +135,7 @@ infixr 60 _▹_
 pub data Form : Type 0 → Type 1 where
   -- a word of this kind whose value the table allows
   field : ℕ → ℕ → Form ℕ
-  -- a word of a kind that is not turned away: its kind and value
+  -- a word of a kind that is not rejected: its kind and value
   word : (ℕ → ℕ) → ℕ → Form (ℕ × ℕ)
   -- no word
   empty : {A : Type 0} → A → Form A
@@ -146,20 +146,20 @@ pub data Form : Type 0 → Type 1 where
   -- one and then another, which may depend on the first one's value
   _▹_ : {A B : Type 0} → Form A → (A → Form B) → Form (A × B)
   -- as many as a count word of this kind says, with a state that each moves on
-  countedFrom : {S A C : Type 0} (H : Holder A C) → ℕ → (kind : ℕ) → Suits H (entryOf kind .rule) → (S → A → S) → (S → Form A) → S → Form C
+  countedFrom : {S A C : Type 0} (H : Holder A C) → ℕ → (kind : ℕ) → Suits H (entryOf kind .values) → (S → A → S) → (S → Form A) → S → Form C
   -- a count word of this kind, which counts one and more
-  oneAndMore : {A B : Type 0} → ℕ → (kind : ℕ) (most : ℕ) → entryOf kind .rule ≡ FromOne most → Form A → Form B → Form (A × List B)
+  oneAndMore : {A B : Type 0} → ℕ → (kind : ℕ) (most : ℕ) → entryOf kind .values ≡ FromOne most → Form A → Form B → Form (A × List B)
   -- the same words, as another type
   via : {A B : Type 0} (to : A → B) (from : B → A) → ((b : B) → to (from b) ≡ b) → ((a : A) → from (to a) ≡ a) → Form A → Form B
 
 -- no state
-abbrev pub counted : {A C : Type 0} (H : Holder A C) → ℕ → (kind : ℕ) → Suits H (entryOf kind .rule) → Form A → Form C
+abbrev pub counted : {A C : Type 0} (H : Holder A C) → ℕ → (kind : ℕ) → Suits H (entryOf kind .values) → Form A → Form C
 counted H n kind suits F = countedFrom {S = Unit {0}} H n kind suits (λ s a. s) (λ s. F) tt
 
 -- the words of a value
 unfoldable pub wordsBy : {A : Type 0} → Form A → A → List ℕ
 wordsBy (field n kind) v = wordOf kind v ∷ []
-wordsBy (word turned n) t = wordOf (t .0) (t .1) ∷ []
+wordsBy (word rejects n) t = wordOf (t .0) (t .1) ∷ []
 wordsBy (empty a) b = []
 wordsBy (each F xs) l = wordsEach (λ x a. wordsBy (F x) a) xs l
 wordsBy (guarded F test why) a = wordsBy F a
@@ -176,7 +176,7 @@ Fits n kind v = (v < 16777216) × (allowedHere n kind v ≡ true)
 -- whether the value keeps to the form
 unfoldable pub Fine : {A : Type 0} → Form A → A → Type 0
 Fine (field n kind) v = Fits n kind v
-Fine (word turned n) t = (turned (t .0) ≡ 0) × Fits n (t .0) (t .1)
+Fine (word rejects n) t = (rejects (t .0) ≡ 0) × Fits n (t .0) (t .1)
 Fine (empty a) b = a ≡ b
 Fine (each F xs) l = FineEach (λ x a. Fine (F x) a) xs l
 Fine (guarded F test why) a = Fine F a × (test a ≡ true)
@@ -188,7 +188,7 @@ Fine (via to from tf ft F) b = Fine F (from b)
 -- reading it
 unfoldable pub readBy : {A : Type 0} → Form A → ℕ → List ℕ → Read A
 readBy (field n kind) at ws = readField n kind at ws
-readBy (word turned n) at ws = readWord turned n at ws
+readBy (word rejects n) at ws = readWord rejects n at ws
 readBy (empty a) at ws = got a at ws
 readBy (each F xs) at ws = readEach (λ x b vs. readBy (F x) b vs) xs at ws
 readBy (guarded F test why) at ws = bind (readBy F at ws) (λ a at′ ws′. pick (test a) (got a at′ ws′) (refused (why at a)))

@@ -14,7 +14,7 @@ pub mod Filtered
 pub mod Inputs
 pub mod Tables
 pub mod Direction
-pub mod Turning
+pub mod ResolvingTrees
 pub mod Resolving
 pub mod Operations
 pub mod Bytes

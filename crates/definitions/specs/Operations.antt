@@ -20,7 +20,7 @@ use Rattle.definitions.specs.Kinds.{allKinds, ownAnswer}
 use Rattle.definitions.specs.Places.{placeOf, allKindsWords}
 use Rattle.definitions.specs.Lean.{leans}
 use Rattle.definitions.specs.Filtered.{filterWords}
-use Rattle.definitions.specs.Turning.{Outcome, done, refused}
+use Rattle.definitions.specs.ResolvingTrees.{Outcome, done, refused}
 use Rattle.definitions.specs.Resolving.{resolved}
 
 -- "All kinds gives Check's refusals, then 16 if the slice has fewer words than relations. It writes, per relation in record order, the place ..;

@@ -10,7 +10,7 @@ use Rattle.definitions.specs.Table.{pick, valueOf, wordOf}
 use Rattle.definitions.specs.Form.{wordsBy}
 use Rattle.definitions.specs.Records.{Hop, Relation, Pack}
 use Rattle.definitions.specs.Pack.{relation}
-use Rattle.definitions.specs.Kinds.{Which, list9, list21, countKind, Source, find, allKinds, ownAnswer, listOf}
+use Rattle.definitions.specs.Kinds.{Which, list9, list21, countKind, SettledBy, find, allKinds, ownAnswer, listOf}
 use Rattle.definitions.specs.Kinds as kinds
 
 -- the words of a relation
@@ -45,7 +45,7 @@ countIn none w = 0
 countIn (some r) w = countPlace w r
 
 -- "the place of the settled list's count word, or 0 for none"
-unfoldable pub placeOf : Pack → kinds.Answer → ℕ
+unfoldable pub placeOf : Pack → kinds.KindsFound → ℕ
 placeOf p none = 0
 placeOf p (some s) =
     startOf (p .names) (s .owner) (firstRelation p) (p .relations) + countIn (find (s .owner) (p .relations)) (s .which)
@@ -55,7 +55,7 @@ unfoldable pub namesAt : List ℕ → ℕ → Option (List ℕ)
 namesAt ws place = pick (eqb place 0) none (some (map valueOf (take (valueOf (getD ws place 0)) (drop (suc place) ws))))
 
 -- At a place stands the owner's own list: a count word of kind 9 or 21 within the words, and after it the names of that list, which has one at least.
-pub record OwnersList (ws : List ℕ) (rs : List Relation) (place : ℕ) (s : Source) : Type 0 where
+pub record OwnersList (ws : List ℕ) (rs : List Relation) (place : ℕ) (s : SettledBy) : Type 0 where
   pub owner : Relation
   pub found : find (s .owner) rs ≡ some owner
   pub inside : place < length ws
@@ -64,7 +64,7 @@ pub record OwnersList (ws : List ℕ) (rs : List Relation) (place : ℕ) (s : So
   pub not-empty : 0 < length (listOf (s .which) owner)
 
 -- what is settled for a name, in All kinds
-abbrev pub settledOf : Option kinds.Answer → kinds.Answer
+abbrev pub settledOf : Option kinds.KindsFound → kinds.KindsFound
 settledOf none = none
 settledOf (some a) = a
 
@@ -72,7 +72,7 @@ unfoldable pub allKindsWords : Pack → List ℕ
 allKindsWords p = map (λ (r : Relation). placeOf p (settledOf (allKinds (p .relations) .settled (r .name)))) (p .relations)
 
 -- "the place of the settled list's count word, or 0 for none": so stands at a place what an answer says
-abbrev pub SettledAt : List ℕ → List Relation → kinds.Answer → ℕ → Type 0
+abbrev pub SettledAt : List ℕ → List Relation → kinds.KindsFound → ℕ → Type 0
 SettledAt ws rs none place = place ≡ 0
 SettledAt ws rs (some s) place = OwnersList ws rs place s
 

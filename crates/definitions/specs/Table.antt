@@ -5,8 +5,8 @@ use mathlib.Core.Bool.{Bool, true, false, _&&_, _||_}
 use lib.Dec.{ltb, leb, eqb}
 use lib.ListN.{replicate}
 use Rattle.definitions.specs.declared.table.Entry.{Entry}
-use Rattle.definitions.specs.declared.table.Rule.{Rule}
-use Rattle.definitions.specs.declared.table.Rule.the-variants.{Unused, Any, AtMost, FromOne, AtMostOrNone, Total, Name, NameOrNone}
+use Rattle.definitions.specs.declared.table.Values.{Values}
+use Rattle.definitions.specs.declared.table.Values.the-variants.{Unused, Any, AtMost, FromOne, AtMostOrNone, Total, Name, NameOrNone}
 use Rattle.definitions.specs.declared.table.Follows.{Follows}
 use Rattle.definitions.specs.declared.table.Follows.the-variants.{Nothing, Counted, OneScalar, TwoScalars, Scalars, Patterns, Periods, OneJudgment, Judgments, Choice, Aggregate, OnlyRelated, Slots, Atom, Exists}
 
@@ -39,7 +39,7 @@ abbrev pub noTree : ℕ
 noTree = 2
 
 -- what a value may be; n is what it is held to: for the total the slice's length, for a name N
-abbrev pub allowed : Rule → ℕ → ℕ → Bool
+abbrev pub allowed : Values → ℕ → ℕ → Bool
 allowed Unused n v = false
 allowed Any n v = true
 allowed (AtMost m) n v = leb v m
@@ -55,23 +55,23 @@ pub record Row : Type 0 where
   pub last : ℕ
   pub entry : Entry
 
-abbrev entry : ℕ → Rule → Follows → Entry
-entry s r f = record { sort = s; rule = r; follows = f }
+abbrev entry : ℕ → Values → Follows → Entry
+entry s r f = record { sort = s; values = r; follows = f }
 
-abbrev rows : ℕ → ℕ → ℕ → Rule → Follows → Row
+abbrev rows : ℕ → ℕ → ℕ → Values → Follows → Row
 rows s a b r f = record { first = a; last = b; entry = entry s r f }
 
 -- a word of a record or of a node; the same where it counts what follows it
-abbrev word : ℕ → Rule → Row
+abbrev word : ℕ → Values → Row
 word k r = rows noTree k k r Nothing
 
-abbrev words : ℕ → ℕ → Rule → Row
+abbrev words : ℕ → ℕ → Values → Row
 words a b r = rows noTree a b r Nothing
 
-abbrev count : ℕ → Rule → Row
+abbrev count : ℕ → Values → Row
 count k r = rows noTree k k r Counted
 
-abbrev flag : Rule
+abbrev flag : Values
 flag = AtMost 1
 
 unfoldable pub table : List Row

@@ -75,7 +75,7 @@ to-of (node k v fs f) = ap (node k v fs) (to-of-forest f)
 pub of-to : (t : Parts) → ofTree (toTree t) ≡ t
 of-to t = ap (λ (l : List Tree). ((t .0 .0, t .0 .1), (t .1 .0, l))) (of-to-forest (t .1 .1))
 
--- the kinds that begin no tree of the sort are turned away by 2; with no level left, the others by 5
+-- the kinds that begin no tree of the sort are rejected by 2; with no level left, the others by 5
 unfoldable pub heads : ℕ → ℕ → ℕ → ℕ
 heads sort zero kind = pick (eqb (entryOf kind .sort) sort) 5 2
 heads sort (suc d) kind = pick (eqb (entryOf kind .sort) sort) 0 2

@@ -2,6 +2,6 @@
 
 // How a node comes out: its slots and the kind that results; or its direction is open, between slots of this kind or entity.
 pub enum Direction {
-    Turned(u32, u32, u32),
+    Directed(u32, u32, u32),
     Open(u32),
 }

@@ -1,7 +1,7 @@
 // What the table says of a kind of word: what its value may be, whether a tree begins with it, and what follows it.
 
 // What a word's value may be.
-pub enum Rule {
+pub enum Values {
     // No word has the kind.
     Unused,
     Any,
@@ -48,6 +48,6 @@ pub enum Follows {
 pub struct Entry {
     // The sort of tree that begins with the word, or NO_TREE.
     pub sort: u32,
-    pub rule: Rule,
+    pub values: Values,
     pub follows: Follows,
 }

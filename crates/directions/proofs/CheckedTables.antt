@@ -12,21 +12,21 @@ use Rattle.definitions.specs.Table.{pick}
 use Rattle.definitions.specs.Records.{Derivation, Relation, Pack}
 use Rattle.definitions.specs.Pack.{WellFormed, yes, read, words}
 use Rattle.pack.proofs.PackLaws.{words-read}
-use Rattle.definitions.specs.Chain.{Step, end, own, walk}
-use Rattle.definitions.specs.Kinds.{list9, Answer, from, find, kindStep, kindsOf, ownAnswer}
+use Rattle.definitions.specs.Chain.{Link, end, own, walk}
+use Rattle.definitions.specs.Kinds.{list9, KindsFound, from, find, kindStep, kindsOf, ownAnswer}
 use Rattle.definitions.specs.Places.{startOf, firstRelation, hops, placeOf, namesAt}
-use Rattle.chains.specs.AllKinds.{slotsOf}
+use Rattle.chains.specs.PackDirectory.{slotsOf}
 use Rattle.filtered.specs.Acts.{actPart, actList, partOf, ActsOf}
 use Rattle.definitions.specs.Filtered.{direct}
-use Rattle.filtered.specs.Taking.{Known}
+use Rattle.filtered.specs.Taking.{KnowsEntities}
 use Rattle.filtered.specs.Said.{directIn}
-use Rattle.chains.proofs.PackIndex.{parts, find-name}
+use Rattle.chains.proofs.PackParts.{parts, find-name}
 use Rattle.chains.proofs.ListAt.{InWords, in-pack, place-holds}
 use Rattle.filtered.proofs.ActLaws.{found-among}
 use Rattle.filtered.proofs.SaysLaws.{direct-in}
 use Rattle.definitions.specs.Tables.{derivedBy, derivedAt, typedBy, typedAt, Tables, tables}
 use Rattle.directions.specs.Words.{typedIn, derivedIn, tablesIn}
-use Rattle.directions.specs.Records.{KindsReady, Tabled}
+use Rattle.directions.specs.RecordRuns.{KindsReady, TablesFilled}
 use Rattle.directions.proofs.TablesLaws.{two-kinds, derived-there}
 
 one-or-none : (b : Bool) → pick b 1 0 < 2
@@ -35,7 +35,7 @@ one-or-none false = omega arith
 
 -- a relation without derivation and with kinds is settled by its list 9
 module _ (p : Pack) (m : ℕ) (r : Relation) (e : find m (p .relations) ≡ some r) (plain : r .derivation ≡ none) (k : ℕ) (ks : List ℕ) (has : r .slotKinds ≡ k ∷ ks) where
-  abbrev its : Answer
+  abbrev its : KindsFound
   its = some (record { owner = r .name; which = list9 })
 
   step-is : kindStep (p .relations) m ≡ from (r .name) list9
@@ -50,7 +50,7 @@ module _ (p : Pack) (m : ℕ) (r : Relation) (e : find m (p .relations) ≡ some
   unfolding placeOf
   own-list = ap (placeOf p) own-is ∙ rw (← find-name (p .relations) m r e, e) refl
 
-module _ (ws acts taken₀ : List ℕ) (p : Pack) (h : read ws ≡ yes p) (says : ActsOf ws acts) (knows : Known ws taken₀) where
+module _ (ws acts taken₀ : List ℕ) (p : Pack) (h : read ws ≡ yes p) (says : ActsOf ws acts) (knows : KnowsEntities ws taken₀) where
   abbrev rs : List Relation
   rs = p .relations
 
@@ -151,7 +151,7 @@ module _ (ws acts taken₀ : List ℕ) (p : Pack) (h : read ws ≡ yes p) (says 
       λ i. record { typed = typed i; derived = derived i; direct = directs i }
 
 -- the lists lead to the kinds of each declared name
-pub settled : {ws records acts taken : List ℕ} {steps : ℕ} → Tabled ws records acts taken steps → KindsReady ws acts
+pub settled : {ws records acts taken : List ℕ} {steps : ℕ} → TablesFilled ws records acts taken steps → KindsReady ws acts
 settled {ws} {acts = acts} a =
     record {
       kinds = λ q e m i.

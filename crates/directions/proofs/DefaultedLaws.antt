@@ -13,7 +13,7 @@ use Rattle.definitions.specs.Form.{Fine, FineAll, wordsAll, wordsBy}
 use Rattle.definitions.specs.Records.{Pack}
 use Rattle.definitions.specs.Pack.{yes, read, total, defaultedName, above}
 use Rattle.pack.proofs.PackLaws.{words-read}
-use Rattle.chains.proofs.PackIndex.{Parts, parts, split, relationsPart}
+use Rattle.chains.proofs.PackParts.{Parts, parts, split, relationsPart}
 use Rattle.definitions.specs.Tables.{Tables}
 use Rattle.definitions.specs.Resolving.{equalKinds, defaultedEqual}
 use Rattle.directions.specs.Words.{derivedIn, equalIn, firstEqual}

@@ -9,14 +9,14 @@ use Rattle.definitions.specs.Tree.{Tree, Forest, node, more, size}
 use Rattle.definitions.specs.Tree as trees
 use Rattle.definitions.specs.Records.{Derivation, Relation, Pack}
 use Rattle.definitions.specs.Direction.{Membership}
-use Rattle.definitions.specs.Turning.{done, mapDone, Citing, Step, goes, stops, stepBy, atNode, resolveTree, resolveForest}
+use Rattle.definitions.specs.ResolvingTrees.{done, mapDone, Citing, NodeStep, goes, stops, nodeStep, atNode, resolveTree, resolveForest}
 use Rattle.definitions.specs.Resolving.{holds, held, inDerivation, withPredicate, predicateBy, resolvePredicate, resolveDerivation, resolveRelation}
 use Rattle.filtered.specs.Acts.{partAt}
 use Rattle.directions.proofs.KeepsForm.{Good, map-good, then-good}
 
 module _ (is : ℕ → ℕ → Bool) where
   module _ (C : Citing) where
-    node-held : (at k v : ℕ) (f : Forest) (b : ℕ) (s : Step) → ((entity : ℕ) (first rest : Membership) → Good (λ f′. held is f′ ≡ held is f) (resolveForest C entity first rest b f))
+    node-held : (at k v : ℕ) (f : Forest) (b : ℕ) (s : NodeStep) → ((entity : ℕ) (first rest : Membership) → Good (λ f′. held is f′ ≡ held is f) (resolveForest C entity first rest b f))
         → Good (λ t. holds is t ≡ (is k v || held is f)) (atNode C at s (λ fs′ entity first rest. mapDone (node k v fs′) (resolveForest C entity first rest b f)))
     unfolding holds
     node-held at k v f b (stops number other) g = tt
@@ -27,7 +27,7 @@ module _ (is : ℕ → ℕ → Bool) where
       unfolding resolveTree holds
 
       pub holds-kept : (t : Tree) (entity : ℕ) (m : Membership) (at : ℕ) → Good (λ t′. holds is t′ ≡ holds is t) (resolveTree C entity m at t)
-      holds-kept (node k v fs f) entity m at = node-held at k v f (at + 1 + length fs) (stepBy C entity m (entryOf k .follows) v fs) (λ e first rest. held-kept f e first rest (at + 1 + length fs))
+      holds-kept (node k v fs f) entity m at = node-held at k v f (at + 1 + length fs) (nodeStep C entity m (entryOf k .follows) v fs) (λ e first rest. held-kept f e first rest (at + 1 + length fs))
 
       held-kept : (f : Forest) (entity : ℕ) (first rest : Membership) (at : ℕ) → Good (λ f′. held is f′ ≡ held is f) (resolveForest C entity first rest at f)
       held-kept trees.none entity first rest at = refl

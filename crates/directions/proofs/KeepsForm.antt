@@ -14,10 +14,10 @@ use Rattle.definitions.specs.Table.{pick, table, entryOf, fieldsOf, childrenOf}
 use Rattle.definitions.specs.Form.{only, allowedHere, FineEach, word, Fine}
 use Rattle.definitions.specs.Tree.{Tree, Forest, node, more, ofForest, heads, lastField, fields, follow, tree, Fields, size}
 use Rattle.definitions.specs.declared.direction.Direction.{Direction}
-use Rattle.definitions.specs.declared.direction.Direction.the-variants.{Turned, Open}
+use Rattle.definitions.specs.declared.direction.Direction.the-variants.{Directed, Open}
 use Rattle.definitions.specs.Tables.{Derived, Tables}
 use Rattle.definitions.specs.Direction.{bearing, orElse, kindOrZero, matched, towards, turn, Membership, all, eachOnce, between, tested}
-use Rattle.definitions.specs.Turning.{Outcome, done, refused, andThen, mapDone, Citing, currentOf, relatedOf, withSlots, valueOfNode, Step, goes, stops, aggregate, allowedInput, onlyRelated, membershipTest, stepBy, atNode, resolveTree, resolveForest}
+use Rattle.definitions.specs.ResolvingTrees.{Outcome, done, refused, andThen, mapDone, Citing, currentOf, relatedOf, withSlots, valueOfNode, NodeStep, goes, stops, aggregate, allowedInput, onlyRelated, membershipTest, nodeStep, atNode, resolveTree, resolveForest}
 use Rattle.definitions.specs.Tree as trees
 use Rattle.definitions.specs.Direction as direction
 
@@ -44,7 +44,7 @@ abbrev Slot : ℕ → Type 0
 Slot s = s < 16777216
 
 abbrev pub DirectionFits : Direction → Type 0
-DirectionFits (Turned c r k) = Slot c × Slot r
+DirectionFits (Directed c r k) = Slot c × Slot r
 DirectionFits (Open e) = Unit {0}
 
 -- tables whose slots are values
@@ -87,14 +87,14 @@ module _ (T : Tables) (fit : TablesFit T) where
   turn-fits n e c r hc hr = go (T .derived n) refl
     where
       go : (o : Option Derived) → T .derived n ≡ o
-          → DirectionFits (elim o [ some d ↦ Turned (d .current) (d .related) (kindOrZero (d .kinds) (d .related)) | none ↦ towards (T .direct) (T .typed n) e c r ])
+          → DirectionFits (elim o [ some d ↦ Directed (d .current) (d .related) (kindOrZero (d .kinds) (d .related)) | none ↦ towards (T .direct) (T .typed n) e c r ])
       go (some d) q = fit .slots n d q
       go none q = towards-fits n (T .typed n) refl e c r hc hr
 
   between-fits : (ks : List ℕ) → length ks ≤ 8 → (m : ℕ × ℕ) (c r : ℕ) → Slot c → Slot r → DirectionFits (between ks m c r)
   between-fits ks h m c r hc hr = go (eqb (m .0) (m .1)) (all (m .0) ks)
     where
-      go : (a b : Bool) → DirectionFits (pick a (pick b (Open (m .0)) (Turned c r 0)) (eachOnce c r (bearing (m .0) 0 ks) (bearing (m .1) 0 ks)))
+      go : (a b : Bool) → DirectionFits (pick a (pick b (Open (m .0)) (Directed c r 0)) (eachOnce c r (bearing (m .0) 0 ks) (bearing (m .1) 0 ks)))
       go true true = tt
       go true false = (hc, hr)
       go false b = once-fits c r (bearing (m .0) 0 ks) (bearing (m .1) 0 ks) hc hr (bearing-below (m .0) 0 ks 8 (omega arith)) (bearing-below (m .1) 0 ks 8 (omega arith))
@@ -104,11 +104,11 @@ module _ (T : Tables) (fit : TablesFit T) where
   tested-fits n (some ks) q none c r hc hr = (hc, hr)
   tested-fits n (some ks) q (some m) c r hc hr = between-fits ks (fit .few n ks q) m c r hc hr
 
-  pub member-fits : (n : ℕ) (m : Membership) (c r : ℕ) → Slot c → Slot r → DirectionFits (direction.member T n m c r)
-  unfolding direction.member
+  pub member-fits : (n : ℕ) (m : Membership) (c r : ℕ) → Slot c → Slot r → DirectionFits (direction.memberDirection T n m c r)
+  unfolding direction.memberDirection
   member-fits n m c r hc hr = go (T .derived n) refl
     where
-      go : (o : Option Derived) → T .derived n ≡ o → DirectionFits (elim o [ some d ↦ Turned (d .current) (d .related) 0 | none ↦ tested (T .typed n) m c r ])
+      go : (o : Option Derived) → T .derived n ≡ o → DirectionFits (elim o [ some d ↦ Directed (d .current) (d .related) 0 | none ↦ tested (T .typed n) m c r ])
       go (some d) q = fit .slots n d q
       go none q = tested-fits n (T .typed n) refl m c r hc hr
 
@@ -161,19 +161,19 @@ last-kept n kinds rest (a ∷ b ∷ d ∷ fs) c r h = refl
 -- ---- nodes
 
 -- the fields with which a node goes on keep to the form, and the same children follow them
-abbrev StepFine : ℕ → Follows → ℕ → Fields → Step → Type 0
+abbrev StepFine : ℕ → Follows → ℕ → Fields → NodeStep → Type 0
 StepFine n w v fs (goes fs′ entity first rest) = FieldsFine n (fieldsOf w) fs′ × (childrenOf w v (lastField fs′) ≡ childrenOf w v (lastField fs))
 StepFine n w v fs (stops number other) = Unit {0}
 
 aggregate-fine : (n v : ℕ) (fs : Fields) (d : Direction) → FieldsFine n (fieldsOf Aggregate) fs → DirectionFits d → StepFine n Aggregate v fs (aggregate fs d)
 unfolding fieldsOf
-aggregate-fine n v fs (Turned c r k) h q = (slots-fine n _ fs c r h (q .0) (q .1), ap (childrenOf Aggregate v) (last-kept n _ _ fs c r h))
+aggregate-fine n v fs (Directed c r k) h q = (slots-fine n _ fs c r h (q .0) (q .1), ap (childrenOf Aggregate v) (last-kept n _ _ fs c r h))
 aggregate-fine n v fs (Open e) h q = tt
 
 only-fine : (n v : ℕ) (inp : ℕ → ℕ → Option ℕ) (fs : Fields) (d : Direction) → FieldsFine n (fieldsOf OnlyRelated) fs → DirectionFits d → StepFine n OnlyRelated v fs (onlyRelated inp fs d)
 unfolding fieldsOf
 only-fine n v inp fs (Open e) h q = tt
-only-fine n v inp fs (Turned c r owner) h q = go (eqb (valueOfNode fs .0) 84) (inp owner (valueOfNode fs .1))
+only-fine n v inp fs (Directed c r owner) h q = go (eqb (valueOfNode fs .0) 84) (inp owner (valueOfNode fs .1))
   where
     go : (b : Bool) (o : Option ℕ) → StepFine n OnlyRelated v fs (pick b (stops 11 (valueOfNode fs .1)) (allowedInput (withSlots c r fs) (valueOfNode fs .1) o))
     go true o = tt
@@ -182,7 +182,7 @@ only-fine n v inp fs (Turned c r owner) h q = go (eqb (valueOfNode fs .0) 84) (i
 
 test-fine : (n v : ℕ) (fs : Fields) (entity : ℕ) (m : Membership) (d : Direction) → FieldsFine n (fieldsOf Slots) fs → DirectionFits d → StepFine n Slots v fs (membershipTest fs entity m d)
 unfolding fieldsOf childrenOf
-test-fine n v fs entity m (Turned c r k) h q = (slots-fine n _ fs c r h (q .0) (q .1), refl)
+test-fine n v fs entity m (Directed c r k) h q = (slots-fine n _ fs c r h (q .0) (q .1), refl)
 test-fine n v fs entity m (Open k) h q = tt
 
 module _ (n : ℕ) where
@@ -208,8 +208,8 @@ module _ (n : ℕ) where
       go false e = omega arith
 
 module _ (C : Citing) (fit : TablesFit (C .tables)) (n : ℕ) where
-  step-fine : (entity : ℕ) (m : Membership) (w : Follows) (v : ℕ) (fs : Fields) → FieldsFine n (fieldsOf w) fs → StepFine n w v fs (stepBy C entity m w v fs)
-  unfolding stepBy fieldsOf
+  step-fine : (entity : ℕ) (m : Membership) (w : Follows) (v : ℕ) (fs : Fields) → FieldsFine n (fieldsOf w) fs → StepFine n w v fs (nodeStep C entity m w v fs)
+  unfolding nodeStep fieldsOf
   step-fine entity m Nothing v fs h = (h, refl)
   step-fine entity m Counted v fs h = (h, refl)
   step-fine entity m OneScalar v fs h = (h, refl)
@@ -228,11 +228,11 @@ module _ (C : Citing) (fit : TablesFit (C .tables)) (n : ℕ) where
       only-fine n v (C .input) fs (turn (C .tables) v entity (currentOf fs) (relatedOf fs)) h (turn-fits (C .tables) fit v entity (currentOf fs) (relatedOf fs) (s .0) (s .1))
   step-fine entity m Slots v fs h =
       let s = slots-fit n _ fs h in
-      test-fine n v fs entity m (direction.member (C .tables) v m (currentOf fs) (relatedOf fs)) h (member-fits (C .tables) fit v m (currentOf fs) (relatedOf fs) (s .0) (s .1))
+      test-fine n v fs entity m (direction.memberDirection (C .tables) v m (currentOf fs) (relatedOf fs)) h (member-fits (C .tables) fit v m (currentOf fs) (relatedOf fs) (s .0) (s .1))
   step-fine entity m Atom v fs h = (h, refl)
   step-fine entity m Exists v fs h = (h, refl)
 
-  node-good : (d sort at k v : ℕ) (fs : Fields) (f : Forest) (b : ℕ) (s : Step) → Fine (word (heads sort (suc d)) n) (k, v) → StepFine n (entryOf k .follows) v fs s
+  node-good : (d sort at k v : ℕ) (fs : Fields) (f : Forest) (b : ℕ) (s : NodeStep) → Fine (word (heads sort (suc d)) n) (k, v) → StepFine n (entryOf k .follows) v fs s
       → ((entity : ℕ) (first rest : Membership) → Good (λ f′. FineEach (λ s t. Fine (tree n d s) t) (childrenOf (entryOf k .follows) v (lastField fs)) (ofForest f′)) (resolveForest C entity first rest b f))
       → Good (Fine (tree n (suc d) sort)) (atNode C at s (λ fs′ entity first rest. mapDone (node k v fs′) (resolveForest C entity first rest b f)))
   node-good d sort at k v fs f b (stops number other) h q g = tt
@@ -247,7 +247,7 @@ module _ (C : Citing) (fit : TablesFit (C .tables)) (n : ℕ) where
     tree-good (node k v fs f) zero sort entity m at h = absurd (no-level n sort k v fs f h)
     tree-good (node k v fs f) (suc d) sort entity m at h =
         let o = open-node n d sort k v fs f h in
-        node-good d sort at k v fs f (at + 1 + length fs) (stepBy C entity m (entryOf k .follows) v fs) (o .0) (step-fine entity m (entryOf k .follows) v fs (o .1 .0))
+        node-good d sort at k v fs f (at + 1 + length fs) (nodeStep C entity m (entryOf k .follows) v fs) (o .0) (step-fine entity m (entryOf k .follows) v fs (o .1 .0))
         (λ e first rest. forest-good f d (childrenOf (entryOf k .follows) v (lastField fs)) e first rest (at + 1 + length fs) (o .1 .1))
 
     forest-good : (f : Forest) (d : ℕ) (sorts : List ℕ) (entity : ℕ) (first rest : Membership) (at : ℕ) → FineEach (λ s t. Fine (tree n d s) t) sorts (ofForest f)

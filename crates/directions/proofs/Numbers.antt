@@ -17,9 +17,9 @@ use Rattle.definitions.specs.Lean.{any}
 use Rattle.definitions.specs.Places.{relationWords, firstRelation}
 use Rattle.definitions.specs.Direction.{Membership, turn}
 use Rattle.definitions.specs.Inputs.{ofOrigin, noSequence, declarations, owned, input}
-use Rattle.definitions.specs.Turning.{Outcome, done, refused, andThen, mapDone, Citing, currentOf, relatedOf, withSlots, valueOfNode, Step, goes, stops, aggregate, allowedInput, onlyRelated, membershipTest, stepBy, atNode, resolveTree, resolveForest, InRange}
+use Rattle.definitions.specs.ResolvingTrees.{Outcome, done, refused, andThen, mapDone, Citing, currentOf, relatedOf, withSlots, valueOfNode, NodeStep, goes, stops, aggregate, allowedInput, onlyRelated, membershipTest, nodeStep, atNode, resolveTree, resolveForest, InRange}
 use Rattle.definitions.specs.declared.direction.Direction.{Direction}
-use Rattle.definitions.specs.declared.direction.Direction.the-variants.{Turned, Open}
+use Rattle.definitions.specs.declared.direction.Direction.the-variants.{Directed, Open}
 use Rattle.definitions.specs.Tables.{tables}
 use Rattle.definitions.specs.Resolving.{cites, predicatePlace, withPredicate, resolveBody, resolveBodies, bodySize, ruleBy, resolveRule, ruleWords, resolveRules, predicateBy, resolvePredicate, resolveDerivation, resolveRelation, resolveRelations, defaultedEqual, equalRefusal, firstRule, resolveRecords, resolved}
 use Rattle.definitions.specs.Tree as trees
@@ -43,12 +43,12 @@ abbrev pub OfInput : Option ℕ → Type 0
 OfInput none = Unit {0}
 OfInput (some n) = InRange n
 
-abbrev StepNumbered : Step → Type 0
+abbrev StepNumbered : NodeStep → Type 0
 StepNumbered (goes fs entity first rest) = Unit {0}
 StepNumbered (stops number other) = InRange number
 
 aggregate-numbered : (fs : Fields) (d : Direction) → StepNumbered (aggregate fs d)
-aggregate-numbered fs (Turned c r k) = tt
+aggregate-numbered fs (Directed c r k) = tt
 aggregate-numbered fs (Open e) = (omega arith, omega arith)
 
 allowed-numbered : (fs : Fields) (n : ℕ) (o : Option ℕ) → OfInput o → StepNumbered (allowedInput fs n o)
@@ -57,19 +57,19 @@ allowed-numbered fs n (some number) h = h
 
 only-numbered : (inp : ℕ → ℕ → Option ℕ) → ((owner n : ℕ) → OfInput (inp owner n)) → (fs : Fields) (d : Direction) → StepNumbered (onlyRelated inp fs d)
 only-numbered inp h fs (Open e) = (omega arith, omega arith)
-only-numbered inp h fs (Turned c r owner) = go (eqb (valueOfNode fs .0) 84)
+only-numbered inp h fs (Directed c r owner) = go (eqb (valueOfNode fs .0) 84)
   where
     go : (b : Bool) → StepNumbered (pick b (stops 11 (valueOfNode fs .1)) (allowedInput (withSlots c r fs) (valueOfNode fs .1) (inp owner (valueOfNode fs .1))))
     go true = (omega arith, omega arith)
     go false = allowed-numbered (withSlots c r fs) (valueOfNode fs .1) (inp owner (valueOfNode fs .1)) (h owner (valueOfNode fs .1))
 
 test-numbered : (fs : Fields) (entity : ℕ) (m : Membership) (d : Direction) → StepNumbered (membershipTest fs entity m d)
-test-numbered fs entity m (Turned c r k) = tt
+test-numbered fs entity m (Directed c r k) = tt
 test-numbered fs entity m (Open k) = (omega arith, omega arith)
 
 module _ (C : Citing) (h : (owner n : ℕ) → OfInput (C .input owner n)) where
-  step-numbered : (entity : ℕ) (m : Membership) (w : Follows) (v : ℕ) (fs : Fields) → StepNumbered (stepBy C entity m w v fs)
-  unfolding stepBy
+  step-numbered : (entity : ℕ) (m : Membership) (w : Follows) (v : ℕ) (fs : Fields) → StepNumbered (nodeStep C entity m w v fs)
+  unfolding nodeStep
   step-numbered entity m Nothing v fs = tt
   step-numbered entity m Counted v fs = tt
   step-numbered entity m OneScalar v fs = tt
@@ -82,11 +82,11 @@ module _ (C : Citing) (h : (owner n : ℕ) → OfInput (C .input owner n)) where
   step-numbered entity m Choice v fs = tt
   step-numbered entity m Aggregate v fs = aggregate-numbered fs (turn (C .tables) v entity (currentOf fs) (relatedOf fs))
   step-numbered entity m OnlyRelated v fs = only-numbered (C .input) h fs (turn (C .tables) v entity (currentOf fs) (relatedOf fs))
-  step-numbered entity m Slots v fs = test-numbered fs entity m (direction.member (C .tables) v m (currentOf fs) (relatedOf fs))
+  step-numbered entity m Slots v fs = test-numbered fs entity m (direction.memberDirection (C .tables) v m (currentOf fs) (relatedOf fs))
   step-numbered entity m Atom v fs = tt
   step-numbered entity m Exists v fs = tt
 
-  node-numbered : (at : ℕ) (s : Step) → StepNumbered s → (on : Fields → ℕ → Membership → Membership → Outcome Tree)
+  node-numbered : (at : ℕ) (s : NodeStep) → StepNumbered s → (on : Fields → ℕ → Membership → Membership → Outcome Tree)
       → ((fs : Fields) (entity : ℕ) (first rest : Membership) → Numbered (on fs entity first rest)) → Numbered (atNode C at s on)
   node-numbered at (goes fs entity first rest) q on k = k fs entity first rest
   node-numbered at (stops number other) q on k = q
@@ -96,7 +96,7 @@ module _ (C : Citing) (h : (owner n : ℕ) → OfInput (C .input owner n)) where
 
     tree-numbered : (entity : ℕ) (m : Membership) (at : ℕ) (t : Tree) → Numbered (resolveTree C entity m at t)
     tree-numbered entity m at (node k v fs f) =
-        node-numbered at (stepBy C entity m (entryOf k .follows) v fs) (step-numbered entity m (entryOf k .follows) v fs) _
+        node-numbered at (nodeStep C entity m (entryOf k .follows) v fs) (step-numbered entity m (entryOf k .follows) v fs) _
         (λ fs′ e first rest. map-numbered (node k v fs′) (resolveForest C e first rest (at + 1 + length fs) f) (forest-numbered e first rest (at + 1 + length fs) f))
 
     forest-numbered : (entity : ℕ) (first rest : Membership) (at : ℕ) (f : Forest) → Numbered (resolveForest C entity first rest at f)

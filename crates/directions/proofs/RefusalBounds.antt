@@ -15,10 +15,10 @@ use Rattle.definitions.specs.Table.{pick, table, entryOf, fieldsOf, childrenOf}
 use Rattle.definitions.specs.Form.{FineEach, only, allowedHere, Fine}
 use Rattle.definitions.specs.Tree.{Tree, Forest, ofForest, node, more, lastField, tree, Fields, size, sizes}
 use Rattle.definitions.specs.declared.direction.Direction.{Direction}
-use Rattle.definitions.specs.declared.direction.Direction.the-variants.{Turned, Open}
+use Rattle.definitions.specs.declared.direction.Direction.the-variants.{Directed, Open}
 use Rattle.definitions.specs.Tables.{Derived, Tables}
 use Rattle.definitions.specs.Direction.{bearing, orElse, kindOrZero, matched, towards, turn, Membership, all, eachOnce, tested}
-use Rattle.definitions.specs.Turning.{Outcome, done, refused, andThen, mapDone, Citing, currentOf, relatedOf, withSlots, valueOfNode, Step, goes, stops, aggregate, allowedInput, onlyRelated, membershipTest, stepBy, atNode, resolveTree, resolveForest}
+use Rattle.definitions.specs.ResolvingTrees.{Outcome, done, refused, andThen, mapDone, Citing, currentOf, relatedOf, withSlots, valueOfNode, NodeStep, goes, stops, aggregate, allowedInput, onlyRelated, membershipTest, nodeStep, atNode, resolveTree, resolveForest}
 use Rattle.directions.proofs.KeepsForm.{FieldsFine, slotted, open-node, no-level}
 use Rattle.directions.proofs.SmallKinds.{KindFits}
 use Rattle.definitions.specs.Tree as trees
@@ -64,11 +64,11 @@ MemberSmall most (some m) = (m .0 < most) × (m .1 < most)
 
 -- an open direction tells a kind below the limit
 abbrev OpenFits : ℕ → Direction → Type 0
-OpenFits most (Turned c r k) = Unit {0}
+OpenFits most (Directed c r k) = Unit {0}
 OpenFits most (Open e) = e < most
 
 -- a step hands such kinds on, and stops with a small number and such an other
-abbrev StepFits : ℕ → Step → Type 0
+abbrev StepFits : ℕ → NodeStep → Type 0
 StepFits most (goes fs entity first rest) = (entity < most) × (MemberSmall most first × MemberSmall most rest)
 StepFits most (stops number other) = (number < 16) × (other < most)
 
@@ -110,7 +110,7 @@ module _ (most : ℕ) where
   unfolding turn
   turn-open T n e c r h = go (T .derived n)
     where
-      go : (o : Option Derived) → OpenFits most (elim o [ some d ↦ Turned (d .current) (d .related) (kindOrZero (d .kinds) (d .related)) | none ↦ towards (T .direct) (T .typed n) e c r ])
+      go : (o : Option Derived) → OpenFits most (elim o [ some d ↦ Directed (d .current) (d .related) (kindOrZero (d .kinds) (d .related)) | none ↦ towards (T .direct) (T .typed n) e c r ])
       go (some d) = tt
       go none = towards-open (T .direct) (T .typed n) e c r h
 
@@ -126,28 +126,28 @@ module _ (most : ℕ) where
   tested-open (some ks) none c r h = tt
   tested-open (some ks) (some m) c r h = go (eqb (m .0) (m .1)) (all (m .0) ks)
     where
-      go : (a b : Bool) → OpenFits most (pick a (pick b (Open (m .0)) (Turned c r 0)) (eachOnce c r (bearing (m .0) 0 ks) (bearing (m .1) 0 ks)))
+      go : (a b : Bool) → OpenFits most (pick a (pick b (Open (m .0)) (Directed c r 0)) (eachOnce c r (bearing (m .0) 0 ks) (bearing (m .1) 0 ks)))
       go true true = h .0
       go true false = tt
       go false b = once-open c r (bearing (m .0) 0 ks) (bearing (m .1) 0 ks)
 
-  member-open : (T : Tables) (n : ℕ) (m : Membership) (c r : ℕ) → MemberSmall most m → OpenFits most (direction.member T n m c r)
-  unfolding direction.member
+  member-open : (T : Tables) (n : ℕ) (m : Membership) (c r : ℕ) → MemberSmall most m → OpenFits most (direction.memberDirection T n m c r)
+  unfolding direction.memberDirection
   member-open T n m c r h = go (T .derived n)
     where
-      go : (o : Option Derived) → OpenFits most (elim o [ some d ↦ Turned (d .current) (d .related) 0 | none ↦ tested (T .typed n) m c r ])
+      go : (o : Option Derived) → OpenFits most (elim o [ some d ↦ Directed (d .current) (d .related) 0 | none ↦ tested (T .typed n) m c r ])
       go (some d) = tt
       go none = tested-open (T .typed n) m c r h
 
   -- ---- a node
 
   aggregate-steps : (fs : Fields) (d : Direction) → KindFits most d → OpenFits most d → StepFits most (aggregate fs d)
-  aggregate-steps fs (Turned c r k) h o = (h, (tt, tt))
+  aggregate-steps fs (Directed c r k) h o = (h, (tt, tt))
   aggregate-steps fs (Open e) h o = (omega arith, o)
 
   only-steps : (inp : ℕ → ℕ → Option ℕ) → ((owner n number : ℕ) → inp owner n ≡ some number → number < 16) → (fs : Fields) → valueOfNode fs .1 < most → (d : Direction) → OpenFits most d → StepFits most (onlyRelated inp fs d)
   only-steps inp h fs u (Open e) o = (omega arith, o)
-  only-steps inp h fs u (Turned c r owner) o = go (eqb (valueOfNode fs .0) 84) (inp owner (valueOfNode fs .1)) refl
+  only-steps inp h fs u (Directed c r owner) o = go (eqb (valueOfNode fs .0) 84) (inp owner (valueOfNode fs .1)) refl
     where
       go : (b : Bool) (i : Option ℕ) → inp owner (valueOfNode fs .1) ≡ i → StepFits most (pick b (stops 11 (valueOfNode fs .1)) (allowedInput (withSlots c r fs) (valueOfNode fs .1) i))
       go true i q = (omega arith, u)
@@ -155,12 +155,12 @@ module _ (most : ℕ) where
       go false (some number) q = (h owner (valueOfNode fs .1) number q, u)
 
   test-steps : (fs : Fields) (entity : ℕ) → entity < most → (m : Membership) → MemberSmall most m → (d : Direction) → OpenFits most d → StepFits most (membershipTest fs entity m d)
-  test-steps fs entity h m s (Turned c r k) o = (h, (s, s))
+  test-steps fs entity h m s (Directed c r k) o = (h, (s, s))
   test-steps fs entity h m s (Open k) o = (omega arith, o)
 
   module _ (C : Citing) (fit : CitingFits most C) where
-    step-fits : (n : ℕ) → n ≤ most → (entity : ℕ) → entity < most → (m : Membership) → MemberSmall most m → (w : Follows) (v : ℕ) (fs : Fields) → FieldsFine n (fieldsOf w) fs → StepFits most (stepBy C entity m w v fs)
-    unfolding stepBy fieldsOf
+    step-fits : (n : ℕ) → n ≤ most → (entity : ℕ) → entity < most → (m : Membership) → MemberSmall most m → (w : Follows) (v : ℕ) (fs : Fields) → FieldsFine n (fieldsOf w) fs → StepFits most (nodeStep C entity m w v fs)
+    unfolding nodeStep fieldsOf
     step-fits n l entity h m s Nothing v fs q = (h, (s, s))
     step-fits n l entity h m s Counted v fs q = (h, (s, s))
     step-fits n l entity h m s OneScalar v fs q = (h, (s, s))
@@ -176,11 +176,11 @@ module _ (most : ℕ) where
     step-fits n l entity h m s OnlyRelated v fs q =
         only-steps (C .input) (fit .inputs) fs (let t = third-fits n fs q in omega arith) (turn (C .tables) v entity (currentOf fs) (relatedOf fs)) (turn-open (C .tables) v entity (currentOf fs) (relatedOf fs) h)
     step-fits n l entity h m s Slots v fs q =
-        test-steps fs entity h m s (direction.member (C .tables) v m (currentOf fs) (relatedOf fs)) (member-open (C .tables) v m (currentOf fs) (relatedOf fs) s)
+        test-steps fs entity h m s (direction.memberDirection (C .tables) v m (currentOf fs) (relatedOf fs)) (member-open (C .tables) v m (currentOf fs) (relatedOf fs) s)
     step-fits n l entity h m s Atom v fs q = (h, (s, s))
     step-fits n l entity h m s Exists v fs q = (h, (s, s))
 
-    node-refuses : (top at : ℕ) → at < top → (s : Step) → StepFits most s → (on : Fields → ℕ → Membership → Membership → Outcome Tree)
+    node-refuses : (top at : ℕ) → at < top → (s : NodeStep) → StepFits most s → (on : Fields → ℕ → Membership → Membership → Outcome Tree)
         → ((fs : Fields) (entity : ℕ) → entity < most → (first : Membership) → MemberSmall most first → (rest : Membership) → MemberSmall most rest → Refuses most top (on fs entity first rest)) → Refuses most top (atNode C at s on)
     node-refuses top at h (goes fs entity first rest) q on k = k fs entity (q .0) first (q .1 .0) rest (q .1 .1)
     node-refuses top at h (stops number other) q on k = record { number = q .0; place = h; other = q .1 }
@@ -192,7 +192,7 @@ module _ (most : ℕ) where
       tree-refuses (node k v fs f) n zero sort names h entity low m s at = absurd (no-level n sort k v fs f h)
       tree-refuses (node k v fs f) n (suc d) sort names h entity low m s at =
           let o = open-node n d sort k v fs f h in
-          node-refuses (at + (1 + length fs + sizes f)) at (omega arith) (stepBy C entity m (entryOf k .follows) v fs) (step-fits n names entity low m s (entryOf k .follows) v fs (o .1 .0)) _
+          node-refuses (at + (1 + length fs + sizes f)) at (omega arith) (nodeStep C entity m (entryOf k .follows) v fs) (step-fits n names entity low m s (entryOf k .follows) v fs (o .1 .0)) _
           (λ fs′ e small first a rest b. map-refuses most (at + (1 + length fs + sizes f)) (node k v fs′) (resolveForest C e first rest (at + 1 + length fs) f)
           (refuses-below most (at + 1 + length fs + sizes f) (at + (1 + length fs + sizes f)) (omega arith) (resolveForest C e first rest (at + 1 + length fs) f)
           (forest-refuses f n d (childrenOf (entryOf k .follows) v (lastField fs)) names (o .1 .1) e small first a rest b (at + 1 + length fs))))

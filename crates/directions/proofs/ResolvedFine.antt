@@ -14,10 +14,10 @@ use Rattle.definitions.specs.Pack.{WellFormed, nameList, chain, member, derivat
 use Rattle.definitions.specs.Kinds.{find, kindsOf, ownAnswer, namesOf, listIn, Which, list9, list21}
 use Rattle.definitions.specs.Filtered.{kindAt}
 use Rattle.definitions.specs.Places.{relationWords}
-use Rattle.chains.proofs.RelationScan.{RelationsFine}
-use Rattle.chains.proofs.PackIndex.{parts, find-kept}
+use Rattle.chains.proofs.RelationForm.{RelationsFine}
+use Rattle.chains.proofs.PackParts.{parts, find-kept}
 use Rattle.definitions.specs.Tables.{Derived, derivedBy, derivedAt, pair, typedBy, typedAt, tables}
-use Rattle.definitions.specs.Turning.{Citing, resolveTree}
+use Rattle.definitions.specs.ResolvingTrees.{Citing, resolveTree}
 use Rattle.definitions.specs.Resolving.{cites, resolveBody, resolveBodies, bodySize, ruleBy, resolveRule, ruleWords, resolveRules, predicatePlace, withPredicate, predicateBy, resolvePredicate, resolveDerivation, resolveRelation, resolveRelations, empty, passedOver, unlike, orKinds, withEntities, stampedWith, stampBy, stampDerived, stamp}
 use Rattle.directions.proofs.KeepsForm.{Good, good-imp, map-good, then-good, TablesFit, tree-good}
 use Rattle.definitions.specs.Kinds as kinds
@@ -159,7 +159,7 @@ module _ (p : Pack) (w : WellFormed p) where
   list-fine m (some r) q list9 = find-kept n m [] rs r (parts p w .relations-fine) q .1 .tail .1 .1 .0
   list-fine m (some r) q list21 = entities-fine (r .derivation) (find-kept n m [] rs r (parts p w .relations-fine) q .1 .tail .1 .1 .1)
 
-  answer-fine : (a : kinds.Answer) (ks : List ℕ) → namesOf rs a ≡ some ks → Fine (nameList n 9) ks
+  answer-fine : (a : kinds.KindsFound) (ks : List ℕ) → namesOf rs a ≡ some ks → Fine (nameList n 9) ks
   answer-fine none ks e = let z : _≡_ {A = ℕ} 0 1 = cc in absurd (omega arith)
   answer-fine (some s) ks e =
       let q : listIn (find (s .owner) rs) (s .which) ≡ ks = cc in

@@ -10,9 +10,9 @@ use Rattle.definitions.specs.Form.{wordsAll, FineAll, wordsBy, Fine}
 use Rattle.definitions.specs.Tree.{root, tree, Tree, size}
 use Rattle.definitions.specs.Records.{Body, Rule, Pack}
 use Rattle.definitions.specs.Pack.{WellFormed, body, bodies, rule}
-use Rattle.definitions.specs.Turning.{Outcome, done, refused, andThen, mapDone, Citing, resolveTree}
+use Rattle.definitions.specs.ResolvingTrees.{Outcome, done, refused, andThen, mapDone, Citing, resolveTree}
 use Rattle.definitions.specs.Resolving.{cites, resolveBody, resolveBodies, bodySize, ruleBy, resolveRule, ruleWords}
-use Rattle.directions.specs.Records.{wordsOf, runBy, All, bodyWords}
+use Rattle.directions.specs.RecordRuns.{runWords, runBy, EachKeeps, bodyWords}
 use Rattle.directions.proofs.KeepsForm.{Good}
 use Rattle.directions.proofs.TreeWords.{size-is, tree-words, size-kept}
 use Rattle.directions.proofs.ResolvedFine.{rule-good}
@@ -24,7 +24,7 @@ pub body-words : (n : ℕ) (b : Body) → Fine (body n) b → wordsBy (body n) b
 unfolding body root Fine wordsBy
 body-words n b f = ap (λ (l : List ℕ). wordOf 27 (b .sort) ∷ l) (tree-words (b .tree) n 32 (b .sort) (f .1))
 
-versions-words : (n : ℕ) (bs : List Body) → FineAll {S = Unit {0}} (λ u b. u) (λ u b. Fine (body n) b) tt bs → wordsAll {S = Unit {0}} (λ u b. u) (λ u b. wordsBy (body n) b) tt bs ≡ wordsOf bodyWords bs
+versions-words : (n : ℕ) (bs : List Body) → FineAll {S = Unit {0}} (λ u b. u) (λ u b. Fine (body n) b) tt bs → wordsAll {S = Unit {0}} (λ u b. u) (λ u b. wordsBy (body n) b) tt bs ≡ runWords bodyWords bs
 versions-words n [] h = refl
 versions-words n (b ∷ bs) h =
     ap (λ (l : List ℕ). l ++ wordsAll {S = Unit {0}} (λ u b. u) (λ u b. wordsBy (body n) b) tt bs) (body-words n b (h .0)) ∙ ap (λ (l : List ℕ). bodyWords b ++ l) (versions-words n bs (h .1))
@@ -41,10 +41,10 @@ pub record RuleParts (n : ℕ) (r : Rule) : Type 0 where
   pub origin : r .origin < 16777216
   pub entity : r .entity < 16777216
   pub many : suc (length (r .versions)) < 16777216
-  pub bodies : All (λ b. Fine (body n) b) (bodiesOf r)
-  pub words : ruleWords n r ≡ head r ++ wordsOf bodyWords (bodiesOf r)
+  pub bodies : EachKeeps (λ b. Fine (body n) b) (bodiesOf r)
+  pub words : ruleWords n r ≡ head r ++ runWords bodyWords (bodiesOf r)
 
-all-versions : (n : ℕ) (bs : List Body) → FineAll {S = Unit {0}} (λ u b. u) (λ u b. Fine (body n) b) tt bs → All (λ b. Fine (body n) b) bs
+all-versions : (n : ℕ) (bs : List Body) → FineAll {S = Unit {0}} (λ u b. u) (λ u b. Fine (body n) b) tt bs → EachKeeps (λ b. Fine (body n) b) bs
 all-versions n [] h = tt
 all-versions n (b ∷ bs) h = (h .0, all-versions n bs (h .1))
 

@@ -4,8 +4,8 @@ use native.Mathlib.Omega.{arith}
 use mathlib.Core.Path.{_≡_, refl, ap, sym, _∙_, subst}
 use mathlib.Core.List.{List, [], _∷_, _++_}
 use lib.ListN.{length, length-append}
-use Rattle.definitions.specs.Turning.{Outcome, done, refused, andThen, mapDone}
-use Rattle.directions.specs.Records.{wordsOf, runBy, All}
+use Rattle.definitions.specs.ResolvingTrees.{Outcome, done, refused, andThen, mapDone}
+use Rattle.directions.specs.RecordRuns.{runWords, runBy, EachKeeps}
 
 pub run-length : {A : Type 0} (W : A → List ℕ) (by : ℕ → A → Outcome A) (at : ℕ) (l m : List A) → runBy W by at l ≡ done m → length m ≡ length l
 unfolding runBy
@@ -22,18 +22,18 @@ run-length {A} W by at (a ∷ l) m e = go (λ x q. run-length W by (at + length 
 
 module _ {A : Type 0} (W : A → List ℕ) (resolve : ℕ → A → Outcome A) (Keeps : A → Type 0) (long : (at : ℕ) (a b : A) → Keeps a → resolve at a ≡ done b → length (W b) ≡ length (W a)) where
   -- as many words as before
-  pub run-words : (at : ℕ) (l m : List A) → All Keeps l → runBy W resolve at l ≡ done m → length (wordsOf W m) ≡ length (wordsOf W l)
+  pub run-words : (at : ℕ) (l m : List A) → EachKeeps Keeps l → runBy W resolve at l ≡ done m → length (runWords W m) ≡ length (runWords W l)
   unfolding runBy
-  run-words at [] m h e = let z : [] ≡ m = cc in ap (λ (x : List A). length (wordsOf W x)) (sym z)
+  run-words at [] m h e = let z : [] ≡ m = cc in ap (λ (x : List A). length (runWords W x)) (sym z)
   run-words at (a ∷ l) m h e = go (λ x q. run-words (at + length (W a)) l x (h .1) q) (resolve at a) refl e
     where
-      more : ((x : List A) → runBy W resolve (at + length (W a)) l ≡ done x → length (wordsOf W x) ≡ length (wordsOf W l)) → (b : A) → length (W b) ≡ length (W a)
-          → (o : Outcome (List A)) → runBy W resolve (at + length (W a)) l ≡ o → mapDone (λ x. b ∷ x) o ≡ done m → length (wordsOf W m) ≡ length (W a ++ wordsOf W l)
+      more : ((x : List A) → runBy W resolve (at + length (W a)) l ≡ done x → length (runWords W x) ≡ length (runWords W l)) → (b : A) → length (W b) ≡ length (W a)
+          → (o : Outcome (List A)) → runBy W resolve (at + length (W a)) l ≡ o → mapDone (λ x. b ∷ x) o ≡ done m → length (runWords W m) ≡ length (W a ++ runWords W l)
       more ih b s (refused r) q e = let z : _≡_ {A = ℕ} 0 1 = cc in absurd (omega arith)
-      more ih b s (done x) q e = let z : b ∷ x ≡ m = cc in ap (λ (y : List A). length (wordsOf W y)) (sym z) ∙ length-append (W b) (wordsOf W x) ∙ omega (arith, ih x q, length-append (W a) (wordsOf W l))
+      more ih b s (done x) q e = let z : b ∷ x ≡ m = cc in ap (λ (y : List A). length (runWords W y)) (sym z) ∙ length-append (W b) (runWords W x) ∙ omega (arith, ih x q, length-append (W a) (runWords W l))
 
-      go : ((x : List A) → runBy W resolve (at + length (W a)) l ≡ done x → length (wordsOf W x) ≡ length (wordsOf W l))
-          → (o : Outcome A) → resolve at a ≡ o → andThen o (λ b. mapDone (λ x. b ∷ x) (runBy W resolve (at + length (W a)) l)) ≡ done m → length (wordsOf W m) ≡ length (W a ++ wordsOf W l)
+      go : ((x : List A) → runBy W resolve (at + length (W a)) l ≡ done x → length (runWords W x) ≡ length (runWords W l))
+          → (o : Outcome A) → resolve at a ≡ o → andThen o (λ b. mapDone (λ x. b ∷ x) (runBy W resolve (at + length (W a)) l)) ≡ done m → length (runWords W m) ≡ length (W a ++ runWords W l)
       go ih (refused r) s e = let z : _≡_ {A = ℕ} 0 1 = cc in absurd (omega arith)
       go ih (done b) s e = more ih b (long at a b (h .0) s) (runBy W resolve (at + length (W a)) l) refl e
 

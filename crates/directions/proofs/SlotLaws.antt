@@ -10,7 +10,7 @@ use lib.Dec.{eqb, ltb}
 use Rattle.definitions.specs.Table.{pick}
 use Rattle.definitions.specs.Places.{namesAt}
 use Rattle.definitions.specs.declared.direction.Direction.{Direction}
-use Rattle.definitions.specs.declared.direction.Direction.the-variants.{Turned, Open}
+use Rattle.definitions.specs.declared.direction.Direction.the-variants.{Directed, Open}
 use Rattle.definitions.specs.Tables.{Derived}
 use Rattle.definitions.specs.Direction.{turn, Membership}
 use Rattle.directions.specs.Words.{typedIn, derivedIn, tablesIn, SlotsFit, MemberTurned}
@@ -45,7 +45,7 @@ tables-fit-in ws acts taken =
 
 -- the direction that a node gets fits its slots
 pub slots-fit-in : (d : Direction) → DirectionFits d → SlotsFit d
-slots-fit-in (Turned c r k) h = h
+slots-fit-in (Directed c r k) h = h
 slots-fit-in (Open e) h = tt
 
 module _ (ws acts taken : List ℕ) where
@@ -53,9 +53,9 @@ module _ (ws acts taken : List ℕ) where
   turned-fits n e c r hc hr q = rw q (slots-fit-in (turn (tablesIn ws acts taken) n e c r) (turn-fits (tablesIn ws acts taken) (tables-fit-in ws acts taken) n e c r hc hr))
 
 -- a test of membership
-member-fits-in : (ws acts taken : List ℕ) (n : ℕ) (m : Membership) (c r : ℕ) → c < 16777216 → r < 16777216 → SlotsFit (direction.member (tablesIn ws acts taken) n m c r)
+member-fits-in : (ws acts taken : List ℕ) (n : ℕ) (m : Membership) (c r : ℕ) → c < 16777216 → r < 16777216 → SlotsFit (direction.memberDirection (tablesIn ws acts taken) n m c r)
 member-fits-in ws acts taken n m c r hc hr =
-    slots-fit-in (direction.member (tablesIn ws acts taken) n m c r) (member-fits (tablesIn ws acts taken) (tables-fit-in ws acts taken) n m c r hc hr)
+    slots-fit-in (direction.memberDirection (tablesIn ws acts taken) n m c r) (member-fits (tablesIn ws acts taken) (tables-fit-in ws acts taken) n m c r hc hr)
 
 pub member-fits-code : (ws acts : List ℕ) (n : ℕ) (m : Membership) (c r : ℕ) → c < 16777216 → r < 16777216 → {d : Direction} → MemberTurned ws acts n m c r d → SlotsFit d
 member-fits-code ws acts n m c r hc hr t = rw (t .each []) (member-fits-in ws acts [] n m c r hc hr)

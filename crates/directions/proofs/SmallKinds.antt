@@ -10,7 +10,7 @@ use lib.Dec.{ltb}
 use Rattle.definitions.specs.Table.{pick}
 use Rattle.filtered.proofs.KindBounds.{Below}
 use Rattle.definitions.specs.declared.direction.Direction.{Direction}
-use Rattle.definitions.specs.declared.direction.Direction.the-variants.{Turned, Open}
+use Rattle.definitions.specs.declared.direction.Direction.the-variants.{Directed, Open}
 use Rattle.definitions.specs.Tables.{Derived, Tables}
 use Rattle.definitions.specs.Direction.{bearing, orElse, kindOrZero, matched, towards, turn}
 
@@ -37,7 +37,7 @@ pub record KindsBelow (most : ℕ) (T : Tables) : Type 0 where
   pub derived : (n : ℕ) (d : Derived) → T .derived n ≡ some d → Small most (d .kinds)
 
 abbrev pub KindFits : ℕ → Direction → Type 0
-KindFits most (Turned c r k) = k < most
+KindFits most (Directed c r k) = k < most
 KindFits most (Open e) = Unit {0}
 
 module _ (most : ℕ) (some-kind : 0 < most) where
@@ -55,6 +55,6 @@ module _ (most : ℕ) (some-kind : 0 < most) where
   turn-below T b n e c r = go (T .derived n) refl
     where
       go : (o : Option Derived) → T .derived n ≡ o
-          → KindFits most (elim o [ some d ↦ Turned (d .current) (d .related) (kindOrZero (d .kinds) (d .related)) | none ↦ towards (T .direct) (T .typed n) e c r ])
+          → KindFits most (elim o [ some d ↦ Directed (d .current) (d .related) (kindOrZero (d .kinds) (d .related)) | none ↦ towards (T .direct) (T .typed n) e c r ])
       go (some d) q = b .derived n d q (d .related)
       go none q = towards-small (T .direct) (T .typed n) e c r (b .typed n)

@@ -13,7 +13,7 @@ use Rattle.definitions.specs.Places.{hops}
 use Rattle.definitions.specs.Kinds.{list9}
 use Rattle.chains.specs.Record.{valueAt, slotsPlace}
 use Rattle.filtered.proofs.KindBounds.{Below, tail-below}
-use Rattle.chains.proofs.RelationScan.{kept}
+use Rattle.chains.proofs.RelationForm.{kept}
 use Rattle.chains.proofs.ListAt.{nameWords, InWords}
 use Rattle.chains.proofs.RecordLaws.{value-there, slots-at, current-there, related-there, after-nine, nine-words, nine-length}
 

@@ -13,9 +13,9 @@ use Rattle.definitions.specs.Table.{pick, wordOf, entryOf, fieldsOf, childrenOf
 use Rattle.definitions.specs.Form.{only, wordsEach, FineEach, word, wordsBy, Fine}
 use Rattle.definitions.specs.Tree.{Tree, Forest, node, more, ofForest, lastField, fields, follow, tree, Fields, fieldWords, treeWords, forestWords, size, sizes}
 use Rattle.definitions.specs.declared.direction.Direction.{Direction}
-use Rattle.definitions.specs.declared.direction.Direction.the-variants.{Turned, Open}
+use Rattle.definitions.specs.declared.direction.Direction.the-variants.{Directed, Open}
 use Rattle.definitions.specs.Direction.{turn, Membership}
-use Rattle.definitions.specs.Turning.{mapDone, Citing, currentOf, relatedOf, withSlots, valueOfNode, Step, goes, stops, aggregate, allowedInput, onlyRelated, membershipTest, stepBy, atNode, resolveTree, resolveForest}
+use Rattle.definitions.specs.ResolvingTrees.{mapDone, Citing, currentOf, relatedOf, withSlots, valueOfNode, NodeStep, goes, stops, aggregate, allowedInput, onlyRelated, membershipTest, nodeStep, atNode, resolveTree, resolveForest}
 use Rattle.directions.proofs.KeepsForm.{Good, map-good, then-good, FieldsFine, open-node, no-level}
 use Rattle.definitions.specs.Tree as trees
 use Rattle.definitions.specs.Direction as direction
@@ -80,17 +80,17 @@ slots-length c r [] = refl
 slots-length c r (f ∷ []) = refl
 slots-length c r (f ∷ g ∷ fs) = refl
 
-abbrev pub StepLong : Fields → Step → Type 0
+abbrev pub StepLong : Fields → NodeStep → Type 0
 StepLong fs (goes fs′ entity first rest) = length fs′ ≡ length fs
 StepLong fs (stops number other) = Unit {0}
 
 aggregate-long : (fs : Fields) (d : Direction) → StepLong fs (aggregate fs d)
-aggregate-long fs (Turned c r k) = slots-length c r fs
+aggregate-long fs (Directed c r k) = slots-length c r fs
 aggregate-long fs (Open e) = tt
 
 only-long : (inp : ℕ → ℕ → Option ℕ) (fs : Fields) (d : Direction) → StepLong fs (onlyRelated inp fs d)
 only-long inp fs (Open e) = tt
-only-long inp fs (Turned c r owner) = go (eqb (valueOfNode fs .0) 84) (inp owner (valueOfNode fs .1))
+only-long inp fs (Directed c r owner) = go (eqb (valueOfNode fs .0) 84) (inp owner (valueOfNode fs .1))
   where
     go : (b : Bool) (o : Option ℕ) → StepLong fs (pick b (stops 11 (valueOfNode fs .1)) (allowedInput (withSlots c r fs) (valueOfNode fs .1) o))
     go true o = tt
@@ -98,12 +98,12 @@ only-long inp fs (Turned c r owner) = go (eqb (valueOfNode fs .0) 84) (inp owner
     go false (some number) = tt
 
 test-long : (fs : Fields) (entity : ℕ) (m : Membership) (d : Direction) → StepLong fs (membershipTest fs entity m d)
-test-long fs entity m (Turned c r k) = slots-length c r fs
+test-long fs entity m (Directed c r k) = slots-length c r fs
 test-long fs entity m (Open k) = tt
 
 module _ (C : Citing) where
-  pub step-long : (entity : ℕ) (m : Membership) (w : Follows) (v : ℕ) (fs : Fields) → StepLong fs (stepBy C entity m w v fs)
-  unfolding stepBy
+  pub step-long : (entity : ℕ) (m : Membership) (w : Follows) (v : ℕ) (fs : Fields) → StepLong fs (nodeStep C entity m w v fs)
+  unfolding nodeStep
   step-long entity m Nothing v fs = refl
   step-long entity m Counted v fs = refl
   step-long entity m OneScalar v fs = refl
@@ -116,11 +116,11 @@ module _ (C : Citing) where
   step-long entity m Choice v fs = refl
   step-long entity m Aggregate v fs = aggregate-long fs (turn (C .tables) v entity (currentOf fs) (relatedOf fs))
   step-long entity m OnlyRelated v fs = only-long (C .input) fs (turn (C .tables) v entity (currentOf fs) (relatedOf fs))
-  step-long entity m Slots v fs = test-long fs entity m (direction.member (C .tables) v m (currentOf fs) (relatedOf fs))
+  step-long entity m Slots v fs = test-long fs entity m (direction.memberDirection (C .tables) v m (currentOf fs) (relatedOf fs))
   step-long entity m Atom v fs = refl
   step-long entity m Exists v fs = refl
 
-  node-long : (at k v : ℕ) (fs : Fields) (f : Forest) (b : ℕ) (s : Step) → StepLong fs s
+  node-long : (at k v : ℕ) (fs : Fields) (f : Forest) (b : ℕ) (s : NodeStep) → StepLong fs s
       → ((entity : ℕ) (first rest : Membership) → Good (λ f′. sizes f′ ≡ sizes f) (resolveForest C entity first rest b f))
       → Good (λ t. size t ≡ size (node k v fs f)) (atNode C at s (λ fs′ entity first rest. mapDone (node k v fs′) (resolveForest C entity first rest b f)))
   unfolding size
@@ -132,7 +132,7 @@ module _ (C : Citing) where
 
     pub size-kept : (t : Tree) (entity : ℕ) (m : Membership) (at : ℕ) → Good (λ t′. size t′ ≡ size t) (resolveTree C entity m at t)
     size-kept (node k v fs f) entity m at =
-        node-long at k v fs f (at + 1 + length fs) (stepBy C entity m (entryOf k .follows) v fs) (step-long entity m (entryOf k .follows) v fs)
+        node-long at k v fs f (at + 1 + length fs) (nodeStep C entity m (entryOf k .follows) v fs) (step-long entity m (entryOf k .follows) v fs)
         (λ e first rest. sizes-kept f e first rest (at + 1 + length fs))
 
     sizes-kept : (f : Forest) (entity : ℕ) (first rest : Membership) (at : ℕ) → Good (λ f′. sizes f′ ≡ sizes f) (resolveForest C entity first rest at f)

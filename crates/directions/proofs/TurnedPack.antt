@@ -14,21 +14,21 @@ use Rattle.definitions.specs.Rows.{toRow}
 use Rattle.definitions.specs.Pack.{WellFormed, newName, relation, relations, rule, rules, blocks, defaulted, defaultedName, above, records, inner, layout, total, words}
 use Rattle.definitions.specs.Kinds.{declared}
 use Rattle.definitions.specs.Places.{relationWords, firstRelation, relationsEnd}
-use Rattle.chains.proofs.RelationScan.{relationsWords, RelationsFine}
-use Rattle.chains.proofs.PackIndex.{parts}
-use Rattle.definitions.specs.Turning.{Outcome, andThen, mapDone}
+use Rattle.chains.proofs.RelationForm.{relationsWords, RelationsFine}
+use Rattle.chains.proofs.PackParts.{parts}
+use Rattle.definitions.specs.ResolvingTrees.{Outcome, andThen, mapDone}
 use Rattle.definitions.specs.Resolving.{ruleWords, resolveRule, resolveRules, resolveRelation, resolveRelations, firstRule}
-use Rattle.directions.specs.Records.{wordsOf, runBy, All, Many, RelationKeeps, withRecords}
+use Rattle.directions.specs.RecordRuns.{runWords, runBy, EachKeeps, Many, RelationKeeps, withRecords}
 use Rattle.inputs.proofs.BlocksStand.{first-kind}
 
 -- ---- its words
 
-relations-words : (n : ℕ) (used : List ℕ) (rs : List Relation) → relationsWords n used rs ≡ wordsOf (relationWords n) rs
+relations-words : (n : ℕ) (used : List ℕ) (rs : List Relation) → relationsWords n used rs ≡ runWords (relationWords n) rs
 unfolding relation newName wordsBy
 relations-words n used [] = refl
 relations-words n used (r ∷ rs) = ap (λ (l : List ℕ). relationWords n r ++ l) (relations-words n (r .name ∷ used) rs)
 
-rules-words : (n : ℕ) (rs : List Rule) → wordsAll {S = Unit {0}} (λ u a. u) (λ u a. wordsBy (rule n) a) tt rs ≡ wordsOf (ruleWords n) rs
+rules-words : (n : ℕ) (rs : List Rule) → wordsAll {S = Unit {0}} (λ u a. u) (λ u a. wordsBy (rule n) a) tt rs ≡ runWords (ruleWords n) rs
 rules-words n [] = refl
 rules-words n (r ∷ rs) = ap (λ (l : List ℕ). ruleWords n r ++ l) (rules-words n rs)
 
@@ -37,9 +37,9 @@ abbrev pub opened : Pack → List ℕ
 opened p = wordOf 2 (p .names) ∷ (wordsBy (defaulted (p .names)) (p .defaulted) ++ (wordOf 5 (length (p .relations)) ∷ []))
 
 abbrev pub rulesOn : Pack → List ℕ
-rulesOn p = wordsOf (ruleWords (p .names)) (p .rules) ++ wordsBy (blocks (p .names)) (p .blocks)
+rulesOn p = runWords (ruleWords (p .names)) (p .rules) ++ wordsBy (blocks (p .names)) (p .blocks)
 
-inner-words : (p : Pack) → wordsBy (inner (p .edition)) (toRow p) ≡ opened p ++ (wordsOf (relationWords (p .names)) (p .relations) ++ (wordOf 22 (length (p .rules)) ∷ rulesOn p))
+inner-words : (p : Pack) → wordsBy (inner (p .edition)) (toRow p) ≡ opened p ++ (runWords (relationWords (p .names)) (p .relations) ++ (wordOf 22 (length (p .rules)) ∷ rulesOn p))
 unfolding inner records relations rules wordsBy count items
 inner-words p =
     let n : ℕ = p .names in
@@ -49,13 +49,13 @@ inner-words p =
     let W : List ℕ = wordsAll {S = Unit {0}} (λ u a. u) (λ u a. wordsBy (rule n) a) tt (p .rules) in
     let R : List ℕ = relationsWords n [] (p .relations) in
     ap (λ (l : List ℕ). wordOf 2 n ∷ (D ++ (wordOf 5 (length (p .relations)) ∷ (l ++ (wordOf 22 (length (p .rules)) ∷ (W ++ B)))))) (relations-words n [] (p .relations))
-    ∙ ap (λ (l : List ℕ). wordOf 2 n ∷ (D ++ (wordOf 5 (length (p .relations)) ∷ (wordsOf (relationWords n) (p .relations) ++ (wordOf 22 (length (p .rules)) ∷ (l ++ B)))))) (rules-words n (p .rules))
-    ∙ ap (λ (l : List ℕ). wordOf 2 n ∷ l) (sym (append-assoc D five (wordsOf (relationWords n) (p .relations) ++ (wordOf 22 (length (p .rules)) ∷ rulesOn p))))
+    ∙ ap (λ (l : List ℕ). wordOf 2 n ∷ (D ++ (wordOf 5 (length (p .relations)) ∷ (runWords (relationWords n) (p .relations) ++ (wordOf 22 (length (p .rules)) ∷ (l ++ B)))))) (rules-words n (p .rules))
+    ∙ ap (λ (l : List ℕ). wordOf 2 n ∷ l) (sym (append-assoc D five (runWords (relationWords n) (p .relations) ++ (wordOf 22 (length (p .rules)) ∷ rulesOn p))))
 
 abbrev pub front : Pack → List ℕ
 front p = wordOf 1 (total p) ∷ opened p
 
-pub pack-words : (p : Pack) → words p ≡ front p ++ (wordsOf (relationWords (p .names)) (p .relations) ++ (wordOf 22 (length (p .rules)) ∷ rulesOn p))
+pub pack-words : (p : Pack) → words p ≡ front p ++ (runWords (relationWords (p .names)) (p .relations) ++ (wordOf 22 (length (p .rules)) ∷ rulesOn p))
 unfolding words layout wordsBy
 pack-words p = rw (first-kind (p .edition)) (ap (λ (l : List ℕ). wordOf 1 (total p) ∷ l) (inner-words p))
 
@@ -75,21 +75,21 @@ front-long p =
 
 -- up to the first rule
 abbrev pub front22 : Pack → List ℕ
-front22 p = front p ++ (wordsOf (relationWords (p .names)) (p .relations) ++ (wordOf 22 (length (p .rules)) ∷ []))
+front22 p = front p ++ (runWords (relationWords (p .names)) (p .relations) ++ (wordOf 22 (length (p .rules)) ∷ []))
 
 pub pack-words-22 : (p : Pack) → words p ≡ front22 p ++ rulesOn p
 pack-words-22 p =
-    let R : List ℕ = wordsOf (relationWords (p .names)) (p .relations) in
+    let R : List ℕ = runWords (relationWords (p .names)) (p .relations) in
     let one : List ℕ = wordOf 22 (length (p .rules)) ∷ [] in
     pack-words p ∙ ap (λ (l : List ℕ). front p ++ l) (sym (append-assoc R one (rulesOn p))) ∙ sym (append-assoc (front p) (R ++ one) (rulesOn p))
 
-end-is : (n at : ℕ) (rs : List Relation) → relationsEnd n at rs ≡ at + length (wordsOf (relationWords n) rs)
+end-is : (n at : ℕ) (rs : List Relation) → relationsEnd n at rs ≡ at + length (runWords (relationWords n) rs)
 end-is n at [] = omega arith
-end-is n at (r ∷ rs) = end-is n (at + length (relationWords n r)) rs ∙ omega (arith, length-append (relationWords n r) (wordsOf (relationWords n) rs))
+end-is n at (r ∷ rs) = end-is n (at + length (relationWords n r)) rs ∙ omega (arith, length-append (relationWords n r) (runWords (relationWords n) rs))
 
 pub front22-long : (p : Pack) → length (front22 p) ≡ firstRule p
 front22-long p =
-    let R : List ℕ = wordsOf (relationWords (p .names)) (p .relations) in
+    let R : List ℕ = runWords (relationWords (p .names)) (p .relations) in
     let a = length-append (front p) (R ++ (wordOf 22 (length (p .rules)) ∷ [])) in
     let b = length-append R (wordOf 22 (length (p .rules)) ∷ []) in
     omega (arith, front-long p, end-is (p .names) (firstRelation p) (p .relations))
@@ -109,7 +109,7 @@ relations-run p at (r ∷ l) =
     ap (λ (f : Relation → Outcome (List Relation)). andThen (resolveRelation p at r) f) (fun-ext (λ r′. ap (mapDone (λ m. r′ ∷ m)) (relations-run p (at + length (relationWords (p .names) r)) l)))
 
 -- every rule and relation keeps to its form
-all-rules : (n : ℕ) (l : List Rule) → FineAll {S = Unit {0}} (λ u a. u) (λ u a. Fine (rule n) a) tt l → All (Fine (rule n)) l
+all-rules : (n : ℕ) (l : List Rule) → FineAll {S = Unit {0}} (λ u a. u) (λ u a. Fine (rule n) a) tt l → EachKeeps (Fine (rule n)) l
 all-rules n [] h = tt
 all-rules n (r ∷ l) h = (h .0, all-rules n l (h .1))
 
@@ -127,7 +127,7 @@ later v u us e = rw e (go (eqb v u))
     go true = refl
     go false = refl
 
-keep-from : (p : Pack) (used : List ℕ) (l : List Relation) → RelationsFine (p .names) used l → ((r : Relation) → among (r .name) (declared l) ≡ true → among (r .name) (declared (p .relations)) ≡ true) → All (RelationKeeps p) l
+keep-from : (p : Pack) (used : List ℕ) (l : List Relation) → RelationsFine (p .names) used l → ((r : Relation) → among (r .name) (declared l) ≡ true → among (r .name) (declared (p .relations)) ≡ true) → EachKeeps (RelationKeeps p) l
 keep-from p used [] h k = tt
 keep-from p used (r ∷ l) h k = (
   record { used = λ v. among v used; fine = h .0; known = k r (here (r .name) (declared l)) },
@@ -140,18 +140,18 @@ relations-keep p w = record { many = refl; all = keep-from p [] (p .relations) (
 -- ---- the pack again, with as many words
 
 module _ (p : Pack) (rels : List Relation) (rls : List Rule) (many : length rels ≡ length (p .relations)) (rules-many : length rls ≡ length (p .rules))
-    (long : length (wordsOf (relationWords (p .names)) rels) ≡ length (wordsOf (relationWords (p .names)) (p .relations))) (rules-long : length (wordsOf (ruleWords (p .names)) rls) ≡ length (wordsOf (ruleWords (p .names)) (p .rules))) where
+    (long : length (runWords (relationWords (p .names)) rels) ≡ length (runWords (relationWords (p .names)) (p .relations))) (rules-long : length (runWords (ruleWords (p .names)) rls) ≡ length (runWords (ruleWords (p .names)) (p .rules))) where
   abbrev q : Pack
   q = withRecords p rels rls
 
   abbrev R : List Relation → List ℕ
-  R l = wordsOf (relationWords (p .names)) l
+  R l = runWords (relationWords (p .names)) l
 
   abbrev B : List ℕ
   B = wordsBy (blocks (p .names)) (p .blocks)
 
   abbrev U : List Rule → List ℕ
-  U l = wordsOf (ruleWords (p .names)) l
+  U l = runWords (ruleWords (p .names)) l
 
   pub total-same : total q ≡ total p
   unfolding total

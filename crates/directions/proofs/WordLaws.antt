@@ -17,10 +17,10 @@ use Rattle.filtered.specs.Taking.{kindIn, KindFound}
 use Rattle.filtered.specs.Acts.{actPart, actList}
 use Rattle.filtered.specs.Said.{directOf, directIn}
 use Rattle.definitions.specs.declared.direction.Direction.{Direction}
-use Rattle.definitions.specs.declared.direction.Direction.the-variants.{Turned, Open}
+use Rattle.definitions.specs.declared.direction.Direction.the-variants.{Directed, Open}
 use Rattle.directions.specs.declared.direction.Membership as direction
 use Rattle.directions.specs.declared.direction.Membership.the-variants.{Kinds, Unknown}
-use Rattle.definitions.specs.Direction.{bearing, orElse, kindOrZero, matched, towards, turn, Membership, eachOnce, between, tested, member}
+use Rattle.definitions.specs.Direction.{bearing, orElse, kindOrZero, matched, towards, turn, Membership, eachOnce, between, tested, memberDirection}
 use Rattle.definitions.specs.Tables.{Derived, Tables}
 use Rattle.directions.specs.Words.{typedIn, derivedIn, tablesIn, membershipOf, MemberTurned}
 use Rattle.chains.specs.Record.{valueAt}
@@ -42,24 +42,24 @@ module _ (a b k e c r : ℕ) where
   pub both-bear : a ≡ k → b ≡ k → Open e ≡ goal
   both-bear p q = sym (rw (eq-eqb a k p, eq-eqb b k q) refl)
 
-  pub first-bears : a ≡ k → (b ≡ k → ⊥) → Turned 0 1 b ≡ goal
+  pub first-bears : a ≡ k → (b ≡ k → ⊥) → Directed 0 1 b ≡ goal
   first-bears p q = sym (rw (eq-eqb a k p, ne-eqb b k q) refl)
 
-  pub second-bears : (a ≡ k → ⊥) → b ≡ k → Turned 1 0 a ≡ goal
+  pub second-bears : (a ≡ k → ⊥) → b ≡ k → Directed 1 0 a ≡ goal
   second-bears p q = sym (rw (ne-eqb a k p, eq-eqb b k q) refl)
 
-  neither-bears : (a ≡ k → ⊥) → (b ≡ k → ⊥) → goal ≡ Turned c r (kindOrZero (some (a ∷ b ∷ [])) r)
+  neither-bears : (a ≡ k → ⊥) → (b ≡ k → ⊥) → goal ≡ Directed c r (kindOrZero (some (a ∷ b ∷ [])) r)
   neither-bears p q = rw (ne-eqb a k p, ne-eqb b k q) refl
 
   module _ (p : a ≡ k → ⊥) (q : b ≡ k → ⊥) where
-    pub kept-first : r ≡ 0 → Turned c r a ≡ goal
-    kept-first z = sym (neither-bears p q ∙ ap (Turned c r) (rw z refl))
+    pub kept-first : r ≡ 0 → Directed c r a ≡ goal
+    kept-first z = sym (neither-bears p q ∙ ap (Directed c r) (rw z refl))
 
-    pub kept-second : r ≡ 1 → Turned c r b ≡ goal
-    kept-second z = sym (neither-bears p q ∙ ap (Turned c r) (rw z refl))
+    pub kept-second : r ≡ 1 → Directed c r b ≡ goal
+    kept-second z = sym (neither-bears p q ∙ ap (Directed c r) (rw z refl))
 
-    pub kept-none : (r ≡ 0 → ⊥) → (r ≡ 1 → ⊥) → Turned c r 0 ≡ goal
-    kept-none y z = sym (neither-bears p q ∙ ap (Turned c r) (past (ltb-two)))
+    pub kept-none : (r ≡ 0 → ⊥) → (r ≡ 1 → ⊥) → Directed c r 0 ≡ goal
+    kept-none y z = sym (neither-bears p q ∙ ap (Directed c r) (past (ltb-two)))
       where
         ltb-two : 2 ≤ r
         ltb-two = omega arith
@@ -95,10 +95,10 @@ module _ (ws : List ℕ) (x : ℕ) (p : actPart x ≡ 1) {at a b : ℕ} (l : at 
   pub is-tested : (y z : ℕ) {o : Membership} {m : direction.Membership} {c r : ℕ} {d : Direction} → membershipOf m ≡ o → m ≡ Kinds c r → d ≡ between (a ∷ b ∷ []) (c, r) y z → d ≡ tested (typedIn ws x) o y z
   is-tested y z s e q = q ∙ sym (rw (← s, e, typed-there) refl)
 
-pub no-membership : (ws : List ℕ) (x y z : ℕ) {o : Membership} {m : direction.Membership} → membershipOf m ≡ o → m ≡ Unknown → Turned y z 0 ≡ tested (typedIn ws x) o y z
+pub no-membership : (ws : List ℕ) (x y z : ℕ) {o : Membership} {m : direction.Membership} → membershipOf m ≡ o → m ≡ Unknown → Directed y z 0 ≡ tested (typedIn ws x) o y z
 no-membership ws x y z q e = rw (← q, e) (go (typedIn ws x))
   where
-    go : (o : Option (List ℕ)) → Turned y z 0 ≡ tested o none y z
+    go : (o : Option (List ℕ)) → Directed y z 0 ≡ tested o none y z
     go none = refl
     go (some ks) = refl
 
@@ -125,7 +125,7 @@ turn-plain : (T : Tables) (n e c r : ℕ) → T .derived n ≡ none → turn T n
 unfolding turn
 turn-plain T n e c r h = rw (h, turn) refl
 
-turn-derived : (T : Tables) (n e c r : ℕ) (d : Derived) → T .derived n ≡ some d → turn T n e c r ≡ Turned (d .current) (d .related) (kindOrZero (d .kinds) (d .related))
+turn-derived : (T : Tables) (n e c r : ℕ) (d : Derived) → T .derived n ≡ some d → turn T n e c r ≡ Directed (d .current) (d .related) (kindOrZero (d .kinds) (d .related))
 unfolding turn
 turn-derived T n e c r d h = rw (h, turn) refl
 
@@ -133,7 +133,7 @@ module _ (ws acts taken : List ℕ) (relation e c r : ℕ) {x part : ℕ} (is : 
   abbrev T : Tables
   T = tablesIn ws acts taken
 
-  pub neither : part ≡ 0 → Turned c r 0 ≡ turn T relation e c r
+  pub neither : part ≡ 0 → Directed c r 0 ≡ turn T relation e c r
   neither z =
       sym (turn-plain T relation e c r (plain-here ws acts relation is p (omega arith) taken) ∙ ap (λ o. towards (T .direct) o e c r) (neither-here ws acts relation is p z taken))
 
@@ -142,7 +142,7 @@ module _ (ws acts taken : List ℕ) (relation e c r : ℕ) {x part : ℕ} (is : 
   is-typed z q =
       q ∙ sym (turn-plain T relation e c r (plain-here ws acts relation is p (omega arith) taken) ∙ ap (λ o. towards (directIn taken) o e c r) (typed-here ws acts relation is p taken))
 
-  pub is-derived : (part ≡ 0 → ⊥) → (part ≡ 1 → ⊥) → {u v list k : ℕ} → u ≡ valueAt ws part → v ≡ valueAt ws (part + 1) → list ≡ actList x → k ≡ kindOrZero (namesAt ws list) v → Turned u v k ≡ turn T relation e c r
+  pub is-derived : (part ≡ 0 → ⊥) → (part ≡ 1 → ⊥) → {u v list k : ℕ} → u ≡ valueAt ws part → v ≡ valueAt ws (part + 1) → list ≡ actList x → k ≡ kindOrZero (namesAt ws list) v → Directed u v k ≡ turn T relation e c r
   is-derived z y {u} {v} {list} {k} s t l q =
       rw q (sym (turn-derived T relation e c r (record { current = u; related = v; kinds = namesAt ws list }) (derived-here ws acts relation is p (omega arith) s t l taken)))
 
@@ -153,59 +153,59 @@ module _ (a b c r x y : ℕ) where
   goal-between = between (a ∷ b ∷ []) (c, r) x y
 
   module _ (same : c ≡ r) where
-    pub first-unlike : (a ≡ c → ⊥) → Turned x y 0 ≡ goal-between
+    pub first-unlike : (a ≡ c → ⊥) → Directed x y 0 ≡ goal-between
     first-unlike p = sym (rw (eq-eqb c r same, ne-eqb a c p) refl)
 
-    pub second-unlike : a ≡ c → (b ≡ c → ⊥) → Turned x y 0 ≡ goal-between
+    pub second-unlike : a ≡ c → (b ≡ c → ⊥) → Directed x y 0 ≡ goal-between
     second-unlike p q = sym (rw (eq-eqb c r same, eq-eqb a c p, ne-eqb b c q) refl)
 
     pub both-like : a ≡ c → b ≡ c → Open c ≡ goal-between
     both-like p q = sym (rw (eq-eqb c r same, eq-eqb a c p, eq-eqb b c q) refl)
 
   module _ (unlike : c ≡ r → ⊥) where
-    pub in-order : a ≡ c → b ≡ r → Turned 0 1 0 ≡ goal-between
+    pub in-order : a ≡ c → b ≡ r → Directed 0 1 0 ≡ goal-between
     in-order p q =
         let u : eqb b c ≡ false = ne-eqb b c (λ z. unlike (sym z ∙ q)) in
         let v : eqb a r ≡ false = ne-eqb a r (λ z. unlike (sym p ∙ z)) in
         sym (rw (ne-eqb c r unlike, eq-eqb a c p, u, v, eq-eqb b r q) refl)
 
-    pub second-missing : a ≡ c → (b ≡ r → ⊥) → Turned x y 0 ≡ goal-between
+    pub second-missing : a ≡ c → (b ≡ r → ⊥) → Directed x y 0 ≡ goal-between
     second-missing p q =
         let v : eqb a r ≡ false = ne-eqb a r (λ z. unlike (sym p ∙ z)) in
         sym (rw (ne-eqb c r unlike, eq-eqb a c p, v, ne-eqb b r q) (go (eqb b c)))
       where
-        go : (t : Bool) → eachOnce x y (0 ∷ pick t (1 ∷ []) []) [] ≡ Turned x y 0
+        go : (t : Bool) → eachOnce x y (0 ∷ pick t (1 ∷ []) []) [] ≡ Directed x y 0
         go true = refl
         go false = refl
 
-    pub turned-round : (a ≡ c → ⊥) → a ≡ r → b ≡ c → Turned 1 0 0 ≡ goal-between
+    pub turned-round : (a ≡ c → ⊥) → a ≡ r → b ≡ c → Directed 1 0 0 ≡ goal-between
     turned-round p q s =
         let u : eqb b r ≡ false = ne-eqb b r (λ z. unlike (sym s ∙ z)) in
         sym (rw (ne-eqb c r unlike, ne-eqb a c p, eq-eqb a r q, eq-eqb b c s, u) refl)
 
-    pub current-missing : (a ≡ c → ⊥) → (b ≡ c → ⊥) → Turned x y 0 ≡ goal-between
+    pub current-missing : (a ≡ c → ⊥) → (b ≡ c → ⊥) → Directed x y 0 ≡ goal-between
     current-missing p q = sym (rw (ne-eqb c r unlike, ne-eqb a c p, ne-eqb b c q) refl)
 
-    pub related-missing : (a ≡ c → ⊥) → (a ≡ r → ⊥) → Turned x y 0 ≡ goal-between
+    pub related-missing : (a ≡ c → ⊥) → (a ≡ r → ⊥) → Directed x y 0 ≡ goal-between
     related-missing p q = go (eqb b c) refl
       where
-        go : (t : Bool) → eqb b c ≡ t → Turned x y 0 ≡ goal-between
+        go : (t : Bool) → eqb b c ≡ t → Directed x y 0 ≡ goal-between
         go false e = current-missing p (eqb-false b c e)
         go true e =
             let s : b ≡ c = eqb-true b c e in
             let u : eqb b r ≡ false = ne-eqb b r (λ z. unlike (sym s ∙ z)) in
             sym (rw (ne-eqb c r unlike, ne-eqb a c p, ne-eqb a r q, e, u) refl)
 
-member-plain : (T : Tables) (n : ℕ) (m : Membership) (x y : ℕ) → T .derived n ≡ none → member T n m x y ≡ tested (T .typed n) m x y
-unfolding member
-member-plain T n m x y h = rw (h, member) refl
+member-plain : (T : Tables) (n : ℕ) (m : Membership) (x y : ℕ) → T .derived n ≡ none → memberDirection T n m x y ≡ tested (T .typed n) m x y
+unfolding memberDirection
+member-plain T n m x y h = rw (h, memberDirection) refl
 
-member-derived : (T : Tables) (n : ℕ) (m : Membership) (x y : ℕ) (d : Derived) → T .derived n ≡ some d → member T n m x y ≡ Turned (d .current) (d .related) 0
-unfolding member
-member-derived T n m x y d h = rw (h, member) refl
+member-derived : (T : Tables) (n : ℕ) (m : Membership) (x y : ℕ) (d : Derived) → T .derived n ≡ some d → memberDirection T n m x y ≡ Directed (d .current) (d .related) 0
+unfolding memberDirection
+member-derived T n m x y d h = rw (h, memberDirection) refl
 
 module _ (ws acts : List ℕ) (relation : ℕ) (m : Membership) (y z : ℕ) {x part : ℕ} (is : x ≡ getD acts relation 0) (p : part ≡ actPart x) where
-  pub member-neither : part ≡ 0 → MemberTurned ws acts relation m y z (Turned y z 0)
+  pub member-neither : part ≡ 0 → MemberTurned ws acts relation m y z (Directed y z 0)
   member-neither h =
       record {
         each = λ taken.
@@ -219,7 +219,7 @@ module _ (ws acts : List ℕ) (relation : ℕ) (m : Membership) (y z : ℕ) {x p
             q ∙ sym (member-plain (tablesIn ws acts taken) relation m y z (plain-here ws acts relation is p (omega arith) taken) ∙ ap (λ o. tested o m y z) (typed-here ws acts relation is p taken));
       }
 
-  pub member-slots : (part ≡ 0 → ⊥) → (part ≡ 1 → ⊥) → {u v : ℕ} → u ≡ valueAt ws part → v ≡ valueAt ws (part + 1) → MemberTurned ws acts relation m y z (Turned u v 0)
+  pub member-slots : (part ≡ 0 → ⊥) → (part ≡ 1 → ⊥) → {u v : ℕ} → u ≡ valueAt ws part → v ≡ valueAt ws (part + 1) → MemberTurned ws acts relation m y z (Directed u v 0)
   member-slots f g {u} {v} s t =
       record {
         each = λ taken.

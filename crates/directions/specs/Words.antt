@@ -13,11 +13,11 @@ use Rattle.chains.specs.Record.{valueAt}
 use Rattle.filtered.specs.Acts.{actPart, actList}
 use Rattle.filtered.specs.Said.{directIn}
 use Rattle.definitions.specs.declared.direction.Direction.{Direction}
-use Rattle.definitions.specs.declared.direction.Direction.the-variants.{Turned, Open}
+use Rattle.definitions.specs.declared.direction.Direction.the-variants.{Directed, Open}
 use Rattle.directions.specs.declared.direction.Membership as direction
 use Rattle.directions.specs.declared.direction.Membership.the-variants.{Kinds, Unknown}
 use Rattle.definitions.specs.Tables.{Derived, Tables}
-use Rattle.definitions.specs.Direction.{Membership, memberKinds, member}
+use Rattle.definitions.specs.Direction.{Membership, memberKinds, memberDirection}
 use Rattle.definitions.specs.Resolving.{equalKinds}
 
 -- what its number says of a relation: as a typed one by the two names of its list, and as a derived one whose slots stand at a place
@@ -47,12 +47,12 @@ memberIn ws x = memberKinds (derivedIn ws x)
 
 -- slots that fit into words
 abbrev pub SlotsFit : Direction → Type 0
-SlotsFit (Turned c r kind) = (c < 16777216) × (r < 16777216)
+SlotsFit (Directed c r kind) = (c < 16777216) × (r < 16777216)
 SlotsFit (Open other) = Unit {0}
 
 -- a test of membership comes out as the tables say, whatever they say of entities
 pub record MemberTurned (ws acts : List ℕ) (relation : ℕ) (m : Membership) (current related : ℕ) (d : Direction) : Type 0 where
-  pub each : (taken : List ℕ) → d ≡ member (tablesIn ws acts taken) relation m current related
+  pub each : (taken : List ℕ) → d ≡ memberDirection (tablesIn ws acts taken) relation m current related
 
 -- whether a name is that of a derived relation with equal kinds in its slots
 unfoldable pub equalIn : List ℕ → List ℕ → ℕ → Bool

@@ -41,18 +41,18 @@ pub fn matched(a: u32, b: u32, kind: u32, entity: u32, current: u32, related: u3
         if b == kind {
             return Direction::Open(entity);
         }
-        return Direction::Turned(0, 1, b);
+        return Direction::Directed(0, 1, b);
     }
     if b == kind {
-        return Direction::Turned(1, 0, a);
+        return Direction::Directed(1, 0, a);
     }
     if related == 0 {
-        return Direction::Turned(current, related, a);
+        return Direction::Directed(current, related, a);
     }
     if related == 1 {
-        return Direction::Turned(current, related, b);
+        return Direction::Directed(current, related, b);
     }
-    Direction::Turned(current, related, 0)
+    Direction::Directed(current, related, 0)
 }
 
 // A test of membership between two kinds, over a typed relation of two kinds.
@@ -61,26 +61,26 @@ pub fn between(a: u32, b: u32, c: u32, r: u32, current: u32, related: u32) -> Di
 {
     if c == r {
         if a != c {
-            return Direction::Turned(current, related, 0);
+            return Direction::Directed(current, related, 0);
         }
         if b != c {
-            return Direction::Turned(current, related, 0);
+            return Direction::Directed(current, related, 0);
         }
         return Direction::Open(c);
     }
     if a == c {
         if b == r {
-            return Direction::Turned(0, 1, 0);
+            return Direction::Directed(0, 1, 0);
         }
-        return Direction::Turned(current, related, 0);
+        return Direction::Directed(current, related, 0);
     }
     if a == r {
         if b == c {
-            return Direction::Turned(1, 0, 0);
+            return Direction::Directed(1, 0, 0);
         }
-        return Direction::Turned(current, related, 0);
+        return Direction::Directed(current, related, 0);
     }
-    Direction::Turned(current, related, 0)
+    Direction::Directed(current, related, 0)
 }
 
 // The kind by which an entity is matched: the one that it takes, or itself.
@@ -131,7 +131,7 @@ pub fn turn(
     let x = act_of(acts, relation);
     let part = part(x);
     if part == Act::NEITHER {
-        return Direction::Turned(current, related, 0);
+        return Direction::Directed(current, related, 0);
     }
     if part == Act::TYPED {
         return towards(pack, taken, x, entity, current, related);
@@ -139,7 +139,7 @@ pub fn turn(
     let at = part as usize;
     let c = value_at(pack, at);
     let r = value_at(pack, at + 1);
-    Direction::Turned(c, r, kind_or_zero(pack, list(x), r))
+    Direction::Directed(c, r, kind_or_zero(pack, list(x), r))
 }
 
 // The kinds in the slots of a derived relation, by its number.
@@ -178,7 +178,7 @@ fn tested(pack: &[u32], x: u32, own: u32, current: u32, related: u32) -> Directi
     ensures { λ r. ⌜ r ≡ tested (typedIn (now (pack .entry)) x) (memberIn (now (pack .entry)) own) current related ⌝ }
 {
     let Membership::Kinds(c, r) = slot_kinds(pack, own) else {
-        return Direction::Turned(current, related, 0);
+        return Direction::Directed(current, related, 0);
     };
     let at = list(x) as usize;
     let a = value_at(pack, at + 1);
@@ -200,7 +200,7 @@ pub fn member(
     let x = act_of(acts, relation);
     let part = part(x);
     if part == Act::NEITHER {
-        return Direction::Turned(current, related, 0);
+        return Direction::Directed(current, related, 0);
     }
     if part == Act::TYPED {
         return tested(pack, x, own, current, related);
@@ -208,5 +208,5 @@ pub fn member(
     let at = part as usize;
     let c = value_at(pack, at);
     let r = value_at(pack, at + 1);
-    Direction::Turned(c, r, 0)
+    Direction::Directed(c, r, 0)
 }

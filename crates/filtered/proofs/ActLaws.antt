@@ -18,8 +18,8 @@ use Rattle.definitions.specs.Kinds.{find, declared, ownAnswer}
 use Rattle.definitions.specs.Places.{startOf, firstRelation, placeOf}
 use Rattle.chains.specs.Record.{kindCount}
 use Rattle.chains.specs.Settle.{Marked}
-use Rattle.chains.specs.AllKinds.{slotsFor, slotsOf, Noted, KindsMarked}
-use Rattle.chains.proofs.PackIndex.{parts}
+use Rattle.chains.specs.PackDirectory.{slotsFor, slotsOf, RelationsNoted, KindsMarked}
+use Rattle.chains.proofs.PackParts.{parts}
 use Rattle.chains.proofs.ListAt.{InWords}
 use Rattle.chains.proofs.RecordLaws.{counted}
 use Rattle.chains.proofs.DeclarationLaws.{standing}
@@ -66,7 +66,7 @@ module _ (ws starts slots : List ℕ) (m : ℕ) where
           last true = omega arith
           last false = refl
 
-module _ {ws names starts : List ℕ} (slots : List ℕ) {marks : List ℕ} {steps : ℕ} (noted : Noted ws names starts) (slotted : (p : Pack) → read ws ≡ yes p → (m : ℕ) → getD slots m 0 ≡ slotsOf p m) (marked : KindsMarked ws steps names marks)
+module _ {ws names starts : List ℕ} (slots : List ℕ) {marks : List ℕ} {steps : ℕ} (noted : RelationsNoted ws names starts) (slotted : (p : Pack) → read ws ≡ yes p → (m : ℕ) → getD slots m 0 ≡ slotsOf p m) (marked : KindsMarked ws steps names marks)
     (low : Marked marks) (few : (j : ℕ) → getD names j 0 < length marks) (p : Pack) (h : read ws ≡ yes p) (m : ℕ) where
   abbrev rs : List Relation
   rs = p .relations

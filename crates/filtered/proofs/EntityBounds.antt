@@ -14,8 +14,8 @@ use Rattle.definitions.specs.Records.{Derivation, Relation, Pack}
 use Rattle.definitions.specs.Pack.{WellFormed, derivation, member, optionalDerivation, relationTail}
 use Rattle.definitions.specs.Lean.{any}
 use Rattle.definitions.specs.Filtered.{entityIs, takes, takenFrom, taken, single, direct, namesEntity}
-use Rattle.chains.proofs.RelationScan.{RelationsFine, kept}
-use Rattle.chains.proofs.PackIndex.{parts}
+use Rattle.chains.proofs.RelationForm.{RelationsFine, kept}
+use Rattle.chains.proofs.PackParts.{parts}
 
 entity-allowed : (n v e : ℕ) → allowedHere n 19 v ≡ true → n ≤ e → entityIs v e ≡ false
 unfolding allowedHere entryOf table

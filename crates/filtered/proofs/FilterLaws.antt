@@ -13,9 +13,9 @@ use Rattle.definitions.specs.Answers.{noRoom, writeAnswer, Answered}
 use Rattle.definitions.specs.Checking.{checkAnswer}
 use Rattle.pack.proofs.Refusals.{CheckRefuses}
 use Rattle.definitions.specs.declared.operation.Filter.{Filter}
-use Rattle.definitions.specs.Filtered.{says, filterWords}
+use Rattle.definitions.specs.Filtered.{filterSays, filterWords}
 use Rattle.definitions.specs.Operations.{filterAnswer, filterBuffer}
-use Rattle.chains.specs.AllKinds.{IsPack, Named}
+use Rattle.chains.specs.PackDirectory.{IsPack, Named}
 use Rattle.filtered.specs.Said.{FilterLeft}
 use Rattle.chains.proofs.FillLaws.{table-length}
 use Rattle.chains.proofs.AnswerLaws.{made-refused, made-room, made-done}
@@ -31,7 +31,7 @@ module _ (f : Filter) (ws lent : List ℕ) where
 
   module _ (c : IsPack ws) {n : ℕ} (k : Named ws n) where
     one-name : length (filterWords f (c .pack)) ≡ n
-    one-name = table-length (says f (c .pack)) 0 (c .pack .names) ∙ sym (k .names (c .pack) (c .reads))
+    one-name = table-length (filterSays f (c .pack)) 0 (c .pack .names) ∙ sym (k .names (c .pack) (c .reads))
 
     pub filter-room : length lent < n → {a : Answer} → a ≡ noRoom → Answered (filterAnswer f) (filterBuffer f) ws lent a lent
     unfolding filterAnswer filterBuffer

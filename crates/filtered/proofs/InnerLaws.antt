@@ -13,12 +13,12 @@ use borrow.Author.Tests.{eq-eqb, eqb-true, eqb-false, lt-ltb, le-ltb, ltb-true, 
 use Rattle.definitions.specs.Table.{pick}
 use Rattle.definitions.specs.Table as table
 use Rattle.definitions.specs.Form.{among}
-use Rattle.definitions.specs.Chain.{end, next, mapped, Settled, nothing, All, walkAll, own, same}
+use Rattle.definitions.specs.Chain.{end, next, mapped, Settled, nothing, AllWalked, walkAll, own, same}
 use Rattle.definitions.specs.Filtered.{innerAt, upTo, innerStep}
 use Rattle.definitions.specs.Answers.{tableFrom}
 use Rattle.chains.specs.Entry.{wordIn, declaredBy, declaredIn, declarationsIn}
-use Rattle.chains.specs.Settle.{stepAt, Leading, settledIn, walksIn, Walkable, WalkedHere, SettledAll}
-use Rattle.chains.specs.AllKinds.{Lent}
+use Rattle.chains.specs.Settle.{linkAt, Leading, settledIn, walksIn, Walkable, WalkedHere, SettledAll}
+use Rattle.chains.specs.PackDirectory.{ClearTable}
 use Rattle.filtered.specs.Said.{directOf, innerEntry, plainly, unseen, directIn, InnerAsked, InnerWords, InnerSettleable, InnerSettled, answered, InnerMarked}
 use Rattle.chains.proofs.Names.{or-left, or-right}
 use Rattle.chains.proofs.MappedLaws.{AnswersMapped, answers-mapped}
@@ -110,8 +110,8 @@ module _ (taken : List ℕ) (n : ℕ) (asked : InnerAsked taken n) (dir : List �
   unfolding Leading
   leading m = all-says m .small
 
-  steps-are : (m : ℕ) → mapped answered (innerStep n (directIn taken) m) ≡ stepAt index m
-  unfolding stepAt
+  steps-are : (m : ℕ) → mapped answered (innerStep n (directIn taken) m) ≡ linkAt index m
+  unfolding linkAt
   steps-are m = sym (all-says m .step)
 
   name-below : (j : ℕ) → getD names j 0 < n
@@ -121,27 +121,27 @@ module _ (taken : List ℕ) (n : ℕ) (asked : InnerAsked taken n) (dir : List �
       go true e = let h = ltb-true j n e in rw (whole-at plainly n j h) h
       go false e = omega (arith, whole-past plainly n j (ltb-false j n e), asked .least)
 
-  lent-unseen : Lent n (tableFrom unseen 0 n)
+  lent-unseen : ClearTable n (tableFrom unseen 0 n)
   lent-unseen = record { long = omega (arith, table-length unseen 0 n); short = omega (arith, table-length unseen 0 n, asked .most); clear = λ m. go m (ltb m n) refl }
     where
       go : (m : ℕ) (c : Bool) → ltb m n ≡ c → getD (tableFrom unseen 0 n) m 0 ≡ 0
       go m true e = whole-at unseen n m (ltb-true m n e)
       go m false e = whole-past unseen n m (ltb-false m n e)
 
-  over-index : AnswersMapped answered none same (innerStep n (directIn taken)) 0 same (stepAt index) (upTo n) names
-  over-index = answers-mapped answered none 0 refl same same (λ r. refl) (innerStep n (directIn taken)) (stepAt index) steps-are (upTo n) names
+  over-index : AnswersMapped answered none same (innerStep n (directIn taken)) 0 same (linkAt index) (upTo n) names
+  over-index = answers-mapped answered none 0 refl same same (λ r. refl) (innerStep n (directIn taken)) (linkAt index) steps-are (upTo n) names
 
-  inner-marked : {marks₀ marks : List ℕ} {steps : ℕ} → Lent n marks₀ → SettledAll index marks₀ names 0 (n + 1) marks steps → InnerMarked taken n marks
+  inner-marked : {marks₀ marks : List ℕ} {steps : ℕ} → ClearTable n marks₀ → SettledAll index marks₀ names 0 (n + 1) marks steps → InnerMarked taken n marks
   inner-marked {marks₀} {marks} lent s =
       let f : n + 1 ≡ suc (length (upTo n)) = add-one n ∙ ap suc (sym (up-to-length n)) in
-      let over : walksIn index (n + 1) names (settledIn marks₀) 0 ≡ walkAll 0 same (stepAt index) (upTo n) names nothing 0 =
-      ap (λ (k : ℕ). walksIn index k names (settledIn marks₀) 0) f ∙ ap (λ (t : Settled ℕ). walkAll 0 same (stepAt index) (upTo n) names t 0) (clear-nothing marks₀ (lent .clear)) in
+      let over : walksIn index (n + 1) names (settledIn marks₀) 0 ≡ walkAll 0 same (linkAt index) (upTo n) names nothing 0 =
+      ap (λ (k : ℕ). walksIn index k names (settledIn marks₀) 0) f ∙ ap (λ (t : Settled ℕ). walkAll 0 same (linkAt index) (upTo n) names t 0) (clear-nothing marks₀ (lent .clear)) in
       record {
         marked = λ e h.
             let o : 0 + e ≡ e = omega arith in
             let i : among e names ≡ true = ap (λ (m : ℕ). among m names) (sym o) ∙ among-counted 0 n e h in
             settled-mark marks e (answered (own none same (innerStep n (directIn taken)) (upTo n) e))
-            (ap (λ (t : Settled ℕ). t e) (s .settles ∙ ap (λ (a : All ℕ). a .settled) over) ∙ over-index .settled e ∙ ap (Option·map answered) (inner-own (directIn taken) n names .each e i));
+            (ap (λ (t : Settled ℕ). t e) (s .settles ∙ ap (λ (a : AllWalked ℕ). a .settled) over) ∙ over-index .settled e ∙ ap (Option·map answered) (inner-own (directIn taken) n names .each e i));
       }
 
   -- the same of the code's values

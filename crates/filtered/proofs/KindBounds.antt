@@ -12,10 +12,10 @@ use Rattle.definitions.specs.Table.{pick, entryOf, table}
 use Rattle.definitions.specs.Form.{allowedHere, FineAll, field, Fine, items}
 use Rattle.definitions.specs.Records.{Derivation, Relation, Pack}
 use Rattle.definitions.specs.Pack.{WellFormed, nameList, member, derivation, optionalDerivation, relationTail}
-use Rattle.definitions.specs.Kinds.{Which, list9, list21, Answer, find, listOf, listIn, namesOf, kindsOf, ownAnswer}
+use Rattle.definitions.specs.Kinds.{Which, list9, list21, KindsFound, find, listOf, listIn, namesOf, kindsOf, ownAnswer}
 use Rattle.definitions.specs.Lean.{any}
 use Rattle.definitions.specs.Filtered.{kindAt, listed, entityIs, takes, takenFrom, taken, single, direct}
-use Rattle.chains.proofs.PackIndex.{parts, find-kept}
+use Rattle.chains.proofs.PackParts.{parts, find-kept}
 
 abbrev pub Below : ℕ → List ℕ → Type 0
 Below n [] = Unit {0}
@@ -69,7 +69,7 @@ module _ (p : Pack) (w : WellFormed p) where
   list-below n c none e = tt
   list-below n c (some r) e = tail-below (p .names) r (find-kept (p .names) n [] (p .relations) r (parts p w .relations-fine) e .1 .tail) c
 
-  answer-below : (a : Answer) → BelowAll (p .names) (namesOf (p .relations) a)
+  answer-below : (a : KindsFound) → BelowAll (p .names) (namesOf (p .relations) a)
   answer-below none = tt
   answer-below (some s) = list-below (s .owner) (s .which) (find (s .owner) (p .relations)) refl
 

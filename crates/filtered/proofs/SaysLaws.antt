@@ -15,14 +15,14 @@ use Rattle.definitions.specs.Pack.{WellFormed, yes, read}
 use Rattle.pack.proofs.PackLaws.{words-read}
 use Rattle.definitions.specs.declared.operation.Filter.{Filter}
 use Rattle.definitions.specs.declared.operation.Filter.the-variants.{Direct, Innermost, Alias, Unresolved}
-use Rattle.definitions.specs.Chain.{Step, end, own, same}
+use Rattle.definitions.specs.Chain.{Link, end, own, same}
 use Rattle.definitions.specs.Lean.{any}
-use Rattle.definitions.specs.Filtered.{taken, single, direct, alias, namesEntity, isNil, unresolved, innerAt, upTo, innerStep, innermost, orNone, says, filterWords}
-use Rattle.chains.specs.AllKinds.{IsPack, Named}
+use Rattle.definitions.specs.Filtered.{taken, single, direct, alias, namesEntity, isNil, unresolved, innerAt, upTo, innerStep, innermost, orNone, filterSays, filterWords}
+use Rattle.chains.specs.PackDirectory.{IsPack, Named}
 use Rattle.definitions.specs.Answers.{yesNo, tableFrom}
-use Rattle.filtered.specs.Taking.{several, known, Known}
+use Rattle.filtered.specs.Taking.{several, known, KnowsEntities}
 use Rattle.filtered.specs.Said.{directOf, aliasOf, unresolvedOf, innerOf, saidIn, directIn, InnerAsked, answered, InnerMarked, InnerFor, FilterLeft}
-use Rattle.chains.proofs.PackIndex.{parts}
+use Rattle.chains.proofs.PackParts.{parts}
 use Rattle.filtered.proofs.KindBounds.{Below, taken-below, direct-below}
 
 -- ---- from what is known
@@ -89,7 +89,7 @@ module _ (b : Bool) where
 
 -- ---- a checked pack
 
-module _ {ws t : List ℕ} (p : Pack) (h : read ws ≡ yes p) (k : Known ws t) where
+module _ {ws t : List ℕ} (p : Pack) (h : read ws ≡ yes p) (k : KnowsEntities ws t) where
   abbrev rs : List Relation
   rs = p .relations
 
@@ -162,7 +162,7 @@ module _ {ws t : List ℕ} (p : Pack) (h : read ws ≡ yes p) (k : Known ws t) w
       walked = own none same (innerStep (p .names) (direct rs)) (upTo (p .names)) e
 
       mark : getD marks e 0 ≡ 2 + answered walked
-      mark = m .marked e i ∙ ap (λ (s : ℕ → Step (Option ℕ)). 2 + answered (own none same s (upTo (p .names)) e)) inner-steps
+      mark = m .marked e i ∙ ap (λ (s : ℕ → Link (Option ℕ)). 2 + answered (own none same s (upTo (p .names)) e)) inner-steps
 
       answer : (o : Option ℕ) → pick (leb (2 + answered o) 2) table.none (2 + answered o - 3) ≡ orNone o
       answer none = refl
@@ -177,7 +177,7 @@ module _ {ws t : List ℕ} (p : Pack) (h : read ws ≡ yes p) (k : Known ws t) w
           rw (directly e ∙ ap orNone q, ne-eqb j table.none (λ z. omega (arith, most)), mark) (answer walked)
 
   -- every table
-  says-said : (f : Filter) (marks : List ℕ) → InnerFor f t (p .names) marks → (e : ℕ) → e < p .names → saidIn f t marks e ≡ says f p e
+  says-said : (f : Filter) (marks : List ℕ) → InnerFor f t (p .names) marks → (e : ℕ) → e < p .names → saidIn f t marks e ≡ filterSays f p e
   unfolding saidIn
   says-said Direct marks m e i = directly e
   says-said Innermost marks m e i = innermost-said marks m e i
@@ -189,9 +189,9 @@ module _ {ws t : List ℕ} (p : Pack) (h : read ws ≡ yes p) (k : Known ws t) w
   table-alike f g n (suc j) q = rw (q n (omega arith) (omega arith), table-alike f g (suc n) j (λ e l u. q e (omega arith) (omega arith))) refl
 
   table-said : (f : Filter) (marks : List ℕ) → InnerFor f t (p .names) marks → tableFrom (saidIn f t marks) 0 (p .names) ≡ filterWords f p
-  table-said f marks m = table-alike (saidIn f t marks) (says f p) 0 (p .names) (λ e l u. says-said f marks m e (omega arith))
+  table-said f marks m = table-alike (saidIn f t marks) (filterSays f p) 0 (p .names) (λ e l u. says-said f marks m e (omega arith))
 
-module _ {ws t : List ℕ} (c : IsPack ws) (k : Known ws t) {n : ℕ} (named : Named ws n) where
+module _ {ws t : List ℕ} (c : IsPack ws) (k : KnowsEntities ws t) {n : ℕ} (named : Named ws n) where
   pub inner-asked : n ≤ length t → InnerAsked t n
   inner-asked long =
       let q = named .names (c .pack) (c .reads) in

@@ -22,14 +22,14 @@ use Rattle.definitions.specs.Places.{startOf, firstRelation, hops, placeOf, nam
 use Rattle.chains.specs.Record.{valueAt, slotsPlace}
 use Rattle.records.specs.declared.directory.Layout.{Layout}
 use Rattle.chains.specs.Entry.{startsIn, slotsIn, namesIn}
-use Rattle.chains.specs.AllKinds.{slotsOf, Noted, Lent, IsDirectory, KindsMarked}
+use Rattle.chains.specs.PackDirectory.{slotsOf, RelationsNoted, ClearTable, IsDirectory, KindsMarked}
 use Rattle.chains.specs.Settle.{Marked}
 use Rattle.filtered.specs.Acts.{actPart, actList, actsFrom}
 use Rattle.filtered.specs.Taking.{several, known, namedAfter, takenAfter, takeAt, takenBy, kindMarked, takenIn, RelationsRead, NamesLow, Filled}
 use Rattle.filtered.proofs.ActLaws.{part-is, list-is}
 use Rattle.pack.proofs.PackLaws.{words-read}
 use Rattle.chains.proofs.Names.{or-left, or-right, or-false, or-true}
-use Rattle.chains.proofs.PackIndex.{parts, EachFound, all-found}
+use Rattle.chains.proofs.PackParts.{parts, EachFound, all-found}
 use Rattle.chains.proofs.ListAt.{InWords, place-holds}
 use Rattle.chains.proofs.RecordLaws.{slots-at, current-there, entity-there}
 use Rattle.chains.proofs.DeclarationLaws.{a-record, standing}
@@ -200,7 +200,7 @@ kind-of {ws} {marks = marks} m low p h same fine n i slot =
     let q : actList (getD marks n 0) ≡ placeOf p (ownAnswer (p .relations) n) = (let k = m .marked p h n i in omega (arith, low n)) in
     ap (λ (o : Option (List ℕ)). kindAt o slot) (ap (namesAt ws) q ∙ ap (λ (v : List ℕ). namesAt v (placeOf p (ownAnswer (p .relations) n))) (sym same) ∙ place-holds p fine n)
 
-module _ {ws names records : List ℕ} (slots : List ℕ) {marks : List ℕ} {steps : ℕ} (noted : Noted ws names records) (slotted : (p : Pack) → read ws ≡ yes p → (m : ℕ) → getD slots m 0 ≡ slotsOf p m) (m : KindsMarked ws steps names marks)
+module _ {ws names records : List ℕ} (slots : List ℕ) {marks : List ℕ} {steps : ℕ} (noted : RelationsNoted ws names records) (slotted : (p : Pack) → read ws ≡ yes p → (m : ℕ) → getD slots m 0 ≡ slotsOf p m) (m : KindsMarked ws steps names marks)
     (low : Marked marks) (p : Pack) (h : read ws ≡ yes p) where
   abbrev kind : ℕ → ℕ → Option ℕ
   kind = kindMarked ws marks
@@ -241,7 +241,7 @@ module _ {ws names records : List ℕ} (slots : List ℕ) {marks : List ℕ} {st
   all-take [] f t = refl
   all-take (r ∷ l) f t = ap (takenIn ws slots marks (declared l)) (slots-take r (f .0) t) ∙ all-take l (f .1) (tableAfter kind (r .name) (r .derivation) t)
 
-  module _ {t t₀ : List ℕ} (lent : Lent (p .names) t₀) (q : t ≡ takenIn ws slots marks names t₀) where
+  module _ {t t₀ : List ℕ} (lent : ClearTable (p .names) t₀) (q : t ≡ takenIn ws slots marks names t₀) where
     is-after : t ≡ afterAll kind (p .relations) t₀
     is-after = q ∙ ap (λ (l : List ℕ). takenIn ws slots marks l t₀) (noted .named p h) ∙ all-take (p .relations) (all-found p fine) t₀
 
@@ -270,7 +270,7 @@ module _ {ws : List ℕ} {l : Layout} {dir marks : List ℕ} {steps : ℕ} (d : 
   unfolding NamesLow
   takeable h j = omega (arith, its-low d j)
 
-  pub filled : {acts t t₀ : List ℕ} → l .names ≤ length marks → Lent (l .names) t₀ → RelationsRead ws (startsIn dir) (slotsIn dir) (namesIn dir (l .relations)) marks t₀ acts t → Filled ws (namesIn dir (l .relations)) (startsIn dir) acts t steps
+  pub filled : {acts t t₀ : List ℕ} → l .names ≤ length marks → ClearTable (l .names) t₀ → RelationsRead ws (startsIn dir) (slotsIn dir) (namesIn dir (l .relations)) marks t₀ acts t → Filled ws (namesIn dir (l .relations)) (startsIn dir) acts t steps
   filled {acts} {t₀ = t₀} long lent q =
       let names : List ℕ = namesIn dir (l .relations) in
       let few : (j : ℕ) → getD names j 0 < length marks = λ j. omega (arith, its-low d j) in
@@ -283,5 +283,5 @@ module _ {ws : List ℕ} {l : Layout} {dir marks : List ℕ} {steps : ℕ} (d : 
               parts = λ p h n. same actPart n ∙ part-is (slotsIn dir) (d .noted) (d .slotted) m low few p h n;
               lists = λ p h n i. same actList n ∙ list-is (slotsIn dir) (d .noted) (d .slotted) m low few p h n i;
             };
-        knows = record { holds = λ p h. entity-known (slotsIn dir) (d .noted) (d .slotted) m low p h (subst (λ (n : ℕ). Lent n t₀) (d .named .names p h) lent) (q .takes) };
+        knows = record { holds = λ p h. entity-known (slotsIn dir) (d .noted) (d .slotted) m low p h (subst (λ (n : ℕ). ClearTable n t₀) (d .named .names p h) lent) (q .takes) };
       }

@@ -13,7 +13,7 @@ use Rattle.definitions.specs.Pack.{yes, read}
 use Rattle.definitions.specs.Kinds.{find, declared, ownAnswer}
 use Rattle.definitions.specs.Places.{startOf, firstRelation, placeOf}
 use Rattle.chains.specs.Record.{kindCount}
-use Rattle.chains.specs.AllKinds.{slotsFor}
+use Rattle.chains.specs.PackDirectory.{slotsFor}
 
 -- 0 if it is neither typed nor derived, 1 if it is typed by the two names of its list, else the place of its slots
 abbrev pub actPart : ℕ → ℕ

@@ -19,7 +19,7 @@ ghost use Prim.Native.Nat.{_+_, _<_, _≤_};
 ghost use lib.ListN.{length};
 ghost use Rattle.definitions.specs.Answers.{tableFrom, Answered};
 ghost use Rattle.chains.specs.Entry.{Reaches, declaredBy};
-ghost use Rattle.chains.specs.AllKinds.{Lent, Room, IsDirectory};
+ghost use Rattle.chains.specs.PackDirectory.{ClearTable, DirectoryRoom, IsDirectory};
 ghost use Rattle.checking.specs.Checked.{namesSaid};
 ghost use Rattle.definitions.specs.Operations.{filterAnswer, filterBuffer};
 ghost use Rattle.filtered.specs.Said.{directOf, aliasOf, unresolvedOf, innerEntry, innerOf, said, saidIn, unseen, InnerAsked, InnerWords, InnerMarked, InnerFor, FilterLeft, KnownName};
@@ -168,7 +168,7 @@ fn fill(
     taken: &mut [u32],
     out: &mut [u32],
 )
-    requires { ⌜ IsDirectory (now pack) l (now dir) × Lent (l .names) (now marks) × Reaches (now dir) (length (now marks)) × Lent (l .names) (now taken) × (length (now out) ≡ l .names) ⌝ }
+    requires { ⌜ IsDirectory (now pack) l (now dir) × ClearTable (l .names) (now marks) × Reaches (now dir) (length (now marks)) × ClearTable (l .names) (now taken) × (length (now out) ≡ l .names) ⌝ }
     ensures { λ r. ⌜ FilterLeft filter (now (pack .entry)) (now (out .exit)) ⌝ }
 {
     take_kinds(pack, l, dir, marks, taken);
@@ -186,7 +186,7 @@ fn filtered_in(
     taken: &mut [u32],
     out: &mut [u32],
 ) -> Answer
-    requires { ⌜ Room (now pack) (now dir) (now marks) × Lent (namesSaid (now pack)) (now taken) ⌝ }
+    requires { ⌜ DirectoryRoom (now pack) (now dir) (now marks) × ClearTable (namesSaid (now pack)) (now taken) ⌝ }
     ensures { λ r. ⌜ Answered (filterAnswer filter) (filterBuffer filter) (now (pack .entry)) (now (out .entry)) r (now (out .exit)) ⌝ }
 {
     let r = check_directory(pack, dir);

@@ -16,8 +16,8 @@ ghost use lib.Dec.{eqb};
 ghost use Rattle.definitions.specs.Table.{pick};
 ghost use Rattle.chains.specs.Record.{kindCount};
 ghost use Rattle.chains.specs.Entry.{Reaches, startsIn, slotsIn, namesIn};
-ghost use Rattle.chains.specs.AllKinds.{Lent, IsDirectory};
-ghost use Rattle.filtered.specs.Taking.{kindIn, Small, KindFound, namedAfter, takenAfter, takeAt, RelationRead, RelationsRead, NamesLow, Known, Filled};
+ghost use Rattle.chains.specs.PackDirectory.{ClearTable, IsDirectory};
+ghost use Rattle.filtered.specs.Taking.{kindIn, Small, KindFound, namedAfter, takenAfter, takeAt, RelationRead, RelationsRead, NamesLow, KnowsEntities, Filled};
 
 // A relation's kind at a slot, where it is known.
 pub enum Kind {
@@ -139,7 +139,7 @@ fn read_relations(pack: &[u32], dir: &[u32], count: u32, acts: &mut [u32], taken
 // The tables of a checked pack, which hold zeros before: the marks of the chain walk become what aggregates do. The answer is the
 // number of declarations read.
 pub fn read_tables(pack: &[u32], l: Layout, dir: &[u32], acts: &mut [u32], taken: &mut [u32]) -> u32
-    requires { ⌜ IsDirectory (now pack) l (now dir) × Lent (l .names) (now acts) × Reaches (now dir) (length (now acts)) × Lent (l .names) (now taken) ⌝ }
+    requires { ⌜ IsDirectory (now pack) l (now dir) × ClearTable (l .names) (now acts) × Reaches (now dir) (length (now acts)) × ClearTable (l .names) (now taken) ⌝ }
     ensures { λ r. ⌜ Filled (now (pack .entry)) (namesIn (now (dir .entry)) (l .relations)) (startsIn (now (dir .entry))) (now (acts .exit)) (now (taken .exit)) r ⌝ }
 {
     let count = l.relations;
@@ -150,8 +150,8 @@ pub fn read_tables(pack: &[u32], l: Layout, dir: &[u32], acts: &mut [u32], taken
 
 // What is known of every entity of a checked pack; the marks and the table hold zeros before.
 pub fn take_kinds(pack: &[u32], l: Layout, dir: &[u32], marks: &mut [u32], table: &mut [u32])
-    requires { ⌜ IsDirectory (now pack) l (now dir) × Lent (l .names) (now marks) × Reaches (now dir) (length (now marks)) × Lent (l .names) (now table) ⌝ }
-    ensures { λ r. ⌜ Known (now (pack .entry)) (now (table .exit)) ⌝ }
+    requires { ⌜ IsDirectory (now pack) l (now dir) × ClearTable (l .names) (now marks) × Reaches (now dir) (length (now marks)) × ClearTable (l .names) (now table) ⌝ }
+    ensures { λ r. ⌜ KnowsEntities (now (pack .entry)) (now (table .exit)) ⌝ }
 {
     read_tables(pack, l, dir, marks, table);
 }

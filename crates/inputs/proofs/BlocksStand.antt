@@ -15,7 +15,7 @@ use Rattle.definitions.specs.Rows.{toRow}
 use Rattle.definitions.specs.Pack.{WellFormed, yes, read, item, blockItems, block, blocks, defaulted, relations, rules, records, inner, layout, total, words, firstKind}
 use Rattle.pack.proofs.PackLaws.{words-read}
 use Rattle.records.specs.Directory.{relationsAt, rulesAt, blocksAt}
-use Rattle.chains.specs.AllKinds.{BlocksAt}
+use Rattle.chains.specs.PackDirectory.{BlocksAt}
 use Rattle.definitions.specs.Inputs.{sequence, input}
 use Rattle.chains.specs.Record.{valueAt}
 use Rattle.inputs.specs.Blocks.{inputIn}

@@ -18,7 +18,7 @@ use Rattle.checking.proofs.OperationLaws.{turned-away}
 use Rattle.definitions.specs.Kinds.{allKinds, ownAnswer}
 use Rattle.definitions.specs.Lean.{leans}
 use Rattle.definitions.specs.Places.{placeOf, allKindsWords}
-use Rattle.chains.specs.AllKinds.{IsPack, Counted, Named}
+use Rattle.chains.specs.PackDirectory.{IsPack, Counted, Named}
 use Rattle.definitions.specs.Operations.{kindsOfAnswer, leanAnswer, allKindsAnswer, allKindsBuffer}
 use Rattle.kinds.specs.Parts.{OwnPlace, Leaning, KindsLeft}
 use Rattle.chains.proofs.KindLaws.{words-count}

@@ -12,7 +12,7 @@ use Rattle.records.specs.declared.directory.Layout.{Layout}
 use Rattle.definitions.specs.Answers.{tableFrom}
 use Rattle.chains.specs.Entry.{declarationsIn, namesIn}
 use Rattle.chains.specs.Settle.{Walkable, WalkedHere, Placeable}
-use Rattle.chains.specs.AllKinds.{IsDirectory, KindsMarked, Lent}
+use Rattle.chains.specs.PackDirectory.{IsDirectory, KindsMarked, ClearTable}
 use Rattle.kinds.specs.Parts.{placeAt, OwnPlace, KindsLeft}
 use Rattle.chains.proofs.KindLaws.{in-row, words-own}
 use Rattle.chains.proofs.EntryLaws.{name-here, names-long}
@@ -28,12 +28,12 @@ module _ {ws : List ℕ} {l : Layout} {dir : List ℕ} (d : IsDirectory ws l dir
   abbrev table : List ℕ
   table = declarationsIn dir
 
-  pub walkable-own : {name : ℕ} {marks₀ : List ℕ} → name < l .names → Lent (l .names) marks₀ → Walkable table marks₀ 0 name (l .relations + 1)
+  pub walkable-own : {name : ℕ} {marks₀ : List ℕ} → name < l .names → ClearTable (l .names) marks₀ → Walkable table marks₀ 0 name (l .relations + 1)
   walkable-own h lent =
       let s = settleable d lent in
       record { name = omega (arith, lent .long); leading = s .leading; marked = s .marked; room = omega (arith, few-relations d) }
 
-  pub own-place : {name r steps : ℕ} {marks₀ marks : List ℕ} → Lent (l .names) marks₀ → WalkedHere table marks₀ 0 name (l .relations + 1) r marks steps → OwnPlace ws name r
+  pub own-place : {name r steps : ℕ} {marks₀ marks : List ℕ} → ClearTable (l .names) marks₀ → WalkedHere table marks₀ 0 name (l .relations + 1) r marks steps → OwnPlace ws name r
   own-place {name} {r} {marks₀ = marks₀} lent w =
       let e : r ≡ placeOf p (ownAnswer (p .relations) name) =
       w .answers [] (settleable d lent .idle) ∙ rw (its-fuel d) (own-found p table (its-index d) marks₀ (lent .clear) name) in

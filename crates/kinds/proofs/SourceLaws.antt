@@ -16,12 +16,12 @@ use Rattle.definitions.specs.Kinds.{find}
 use Rattle.definitions.specs.Lean.{leadsWithin, sourceOf, sourceAt, sources, leans}
 use Rattle.records.specs.declared.directory.Layout.{Layout}
 use Rattle.chains.specs.Entry.{Reaches, startsIn}
-use Rattle.chains.specs.AllKinds.{IsPack, Counted, recordOf, Noted, IsDirectory}
+use Rattle.chains.specs.PackDirectory.{IsPack, Counted, recordOf, RelationsNoted, IsDirectory}
 use Rattle.kinds.specs.Parts.{Leaning}
 use Rattle.chains.specs.Record.{valueAt, kindCount, flagAt}
 use Rattle.kinds.specs.Sources.{sourceIn, sourcesIn, Sourced}
 use Rattle.chains.proofs.Names.{or-false}
-use Rattle.chains.proofs.PackIndex.{parts}
+use Rattle.chains.proofs.PackParts.{parts}
 use Rattle.chains.proofs.ListAt.{InWords}
 use Rattle.chains.proofs.RecordLaws.{no-flag, a-flag, source-there}
 use Rattle.chains.proofs.DeclarationLaws.{no-record, standing}
@@ -191,7 +191,7 @@ its-sourced {ws} {dir} {l} d {a} h =
           (subst (λ (v : List ℕ). (n : ℕ) → sourceIn v (getD (startsIn dir) n 0) ≤ c .pack .names) (its-words c) low);
     }
 
-module _ {ws names records : List ℕ} (c : IsPack ws) (noted : Noted ws names records) where
+module _ {ws names records : List ℕ} (c : IsPack ws) (noted : RelationsNoted ws names records) where
   pub its-leaning : {count a b : ℕ} {r : Bool} → Counted ws count → r ≡ leadsWithin (sourcesIn ws records) count a b → Leaning ws a b r
   unfolding leans
   its-leaning {count} {a} {b} k e =

@@ -17,7 +17,7 @@ ghost use lib.ListN.{length};
 ghost use Rattle.definitions.specs.Answers.{tableFrom, Answered};
 ghost use Rattle.chains.specs.Entry.{namesIn};
 ghost use Rattle.chains.specs.Settle.{Placeable};
-ghost use Rattle.chains.specs.AllKinds.{Room};
+ghost use Rattle.chains.specs.PackDirectory.{DirectoryRoom};
 ghost use Rattle.kinds.specs.Parts.{placeAt};
 ghost use Rattle.definitions.specs.Operations.{allKindsAnswer, allKindsBuffer};
 
@@ -36,7 +36,7 @@ fn places(dir: &[u32], marks: &[u32], out: &mut [u32])
 
 // The kinds of all relations, by a directory and marks that are lent.
 fn kinds_in(pack: &[u32], dir: &mut [u32], marks: &mut [u32], out: &mut [u32]) -> Answer
-    requires { ⌜ Room (now pack) (now dir) (now marks) ⌝ }
+    requires { ⌜ DirectoryRoom (now pack) (now dir) (now marks) ⌝ }
     ensures { λ r. ⌜ Answered allKindsAnswer allKindsBuffer (now (pack .entry)) (now (out .entry)) r (now (out .exit)) ⌝ }
 {
     let r = check_directory(pack, dir);

@@ -9,12 +9,12 @@ use pack::kinds::Pack;
 use records::directory::Directory;
 use records::directory::Laid;
 ghost use mathlib.Core.Path.{_≡_};
-ghost use Rattle.chains.specs.AllKinds.{Room};
+ghost use Rattle.chains.specs.PackDirectory.{DirectoryRoom};
 ghost use Rattle.definitions.specs.Operations.{kindsOfAnswer};
 
 // The place of a name's list, by a directory and marks that are lent.
 fn place_in(pack: &[u32], name: u32, dir: &mut [u32], marks: &mut [u32]) -> Answer
-    requires { ⌜ Room (now pack) (now dir) (now marks) ⌝ }
+    requires { ⌜ DirectoryRoom (now pack) (now dir) (now marks) ⌝ }
     ensures { λ r. ⌜ r ≡ kindsOfAnswer (now (pack .entry)) name ⌝ }
 {
     let r = check_directory(pack, dir);

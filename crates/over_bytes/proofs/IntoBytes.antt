@@ -11,7 +11,7 @@ use Rattle.definitions.specs.Operations.{resolveAnswer, resolveBuffer}
 use Rattle.resolve.specs.Finish.{RoomFor, frontOf, Into}
 use Rattle.resolve.proofs.ResolveLaws.{answer-within}
 use Rattle.definitions.specs.Bytes.{wordsOf, bytesOf, encode, outAfter}
-use Rattle.wire.specs.Loading.{loadedOf, Loaded, Tried, Fits}
+use Rattle.wire.specs.Loading.{loadedOf, Loaded, Tried, FitsOutput}
 use Rattle.wire.proofs.ByteLaws.{words-length}
 use Rattle.over_bytes.specs.Operations.{RoomIn}
 use Rattle.definitions.specs.declared.operation.Writing.the-variants.{Resolve}
@@ -38,10 +38,10 @@ module _ {bytes words : List ℕ} {n : ℕ} (l : Loaded bytes n words) {made : L
     here : a ≡ resolveAnswer (take n words) (length own)
     here = t .each own own-long .0
 
-    pub fits-into : length left ≡ length made → Fits a (length left) (length out)
+    pub fits-into : length left ≡ length made → FitsOutput a (length left) (length out)
     fits-into k = go a refl
       where
-        go : (b : Answer) → a ≡ b → Fits b (length left) (length out)
+        go : (b : Answer) → a ≡ b → FitsOutput b (length left) (length out)
         go (Given x s) f =
             let w = answer-within (take n words) (length own) (sym here ∙ f) in
             (omega (arith, w, own-long, e, r .fits, k), omega (arith, w, own-long, e))

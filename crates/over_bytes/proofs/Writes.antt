@@ -18,11 +18,11 @@ use Rattle.pack.proofs.PackLaws.{words-length, words-read}
 use Rattle.definitions.specs.Kinds.{allKinds}
 use Rattle.definitions.specs.Places.{allKindsWords}
 use Rattle.definitions.specs.Operations.{allKindsAnswer, allKindsBuffer, kindsOfAnswer, leanAnswer, filterAnswer, filterBuffer, givenOut, writtenOut, resolveAnswer, resolveBuffer, answerTo, answerOf, bufferOf}
-use Rattle.definitions.specs.Filtered.{says, filterWords}
+use Rattle.definitions.specs.Filtered.{filterSays, filterWords}
 use Rattle.definitions.specs.declared.operation.Filter.{Filter}
-use Rattle.chains.proofs.PackIndex.{parts}
+use Rattle.chains.proofs.PackParts.{parts}
 use Rattle.chains.proofs.FillLaws.{table-length}
-use Rattle.definitions.specs.Turning.{Outcome, done, refused}
+use Rattle.definitions.specs.ResolvingTrees.{Outcome, done, refused}
 use Rattle.definitions.specs.Resolving.{resolved}
 use Rattle.resolve.proofs.ResolveLaws.{given-enough}
 use Rattle.definitions.specs.Bytes.{notWords, outAfter}
@@ -94,7 +94,7 @@ unfolding allKindsWords
 few-places ws p e = simp length-map (omega (arith, parts p (words-read ws p e .fine) .few-relations))
 
 pub few-names : (f : Filter) (ws : List ℕ) (p : Pack) → read ws ≡ yes p → length (filterWords f p) ≤ 8192
-few-names f ws p e = omega (arith, table-length (says f p) 0 (p .names), parts p (words-read ws p e .fine) .most)
+few-names f ws p e = omega (arith, table-length (filterSays f p) 0 (p .names), parts p (words-read ws p e .fine) .most)
 
 rewrite-writes : Writes rewriteAnswer rewriteBuffer
 unfolding rewriteAnswer rewriteBuffer

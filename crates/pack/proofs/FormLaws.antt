@@ -10,8 +10,8 @@ use lib.ListN.{length, length-append}
 use lib.Dec.{leb, eqb}
 use borrow.Author.Tests.{eq-eqb, ne-eqb, eqb-true, leb-true}
 use Rattle.definitions.specs.declared.answer.Refusal.{Refusal}
-use Rattle.definitions.specs.declared.table.Rule.{Rule}
-use Rattle.definitions.specs.declared.table.Rule.the-variants.{FromOne}
+use Rattle.definitions.specs.declared.table.Values.{Values}
+use Rattle.definitions.specs.declared.table.Values.the-variants.{FromOne}
 use Rattle.definitions.specs.Table.{pick, kindOf, valueOf, wordOf, allowed, entryOf}
 use Rattle.definitions.specs.Form.{Read, got, refused, bind, mapRead, allowedHere, readWord, only, readField, readAll, wordsAll, FineAll, readEach, wordsEach, FineEach, Holder, list, listOrNone, option, count, items, says, first, whole, Suits, Form, field, word, empty, each, guarded, _▹_, countedFrom, oneAndMore, via, wordsBy, Fits, Fine, readBy}
 
@@ -50,22 +50,22 @@ pub map-got : {A B : Type 0} (f : A → B) (m : Read A) {b : B} {at : ℕ} {ws :
 map-got f (got a at₁ ws₁) e = (a, cc, cc)
 map-got f (refused r) e = absurd (clash e)
 
-word-lawful : (turned : ℕ → ℕ) (n : ℕ) → Lawful (wordsBy (word turned n)) (Fine (word turned n)) (readWord turned n)
+word-lawful : (rejects : ℕ → ℕ) (n : ℕ) → Lawful (wordsBy (word rejects n)) (Fine (word rejects n)) (readWord rejects n)
 unfolding wordsBy Fine
-word-lawful turned n = record { there = there; back = back }
+word-lawful rejects n = record { there = there; back = back }
   where
-    there : (t : ℕ × ℕ) (at : ℕ) (rest : List ℕ) → (turned (t .0) ≡ 0) × Fits n (t .0) (t .1) → readWord turned n at (wordOf (t .0) (t .1) ∷ rest) ≡ got t (at + 1) rest
+    there : (t : ℕ × ℕ) (at : ℕ) (rest : List ℕ) → (rejects (t .0) ≡ 0) × Fits n (t .0) (t .1) → readWord rejects n at (wordOf (t .0) (t .1) ∷ rest) ≡ got t (at + 1) rest
     there t at rest h =
         let q : (t .0 * 16777216 + t .1) / 16777216 ≡ t .0 = omega (arith, h .1 .0) in
         let m : (t .0 * 16777216 + t .1) % 16777216 ≡ t .1 = omega (arith, h .1 .0) in
-        simp (q, m, eq-eqb (turned (t .0)) 0 (h .0), h .1 .1)
+        simp (q, m, eq-eqb (rejects (t .0)) 0 (h .0), h .1 .1)
 
-    back : (at : ℕ) (ws : List ℕ) (t : ℕ × ℕ) (at′ : ℕ) (rest : List ℕ) → readWord turned n at ws ≡ got t at′ rest → Took (wordsBy (word turned n)) (Fine (word turned n)) at ws t at′ rest
+    back : (at : ℕ) (ws : List ℕ) (t : ℕ × ℕ) (at′ : ℕ) (rest : List ℕ) → readWord rejects n at ws ≡ got t at′ rest → Took (wordsBy (word rejects n)) (Fine (word rejects n)) at ws t at′ rest
     back at [] t at′ rest e = absurd (clash e)
     back at (w ∷ ws) t at′ rest e =
-        let p = pick-got (eqb (turned (kindOf w)) 0) _ _ e in
+        let p = pick-got (eqb (rejects (kindOf w)) 0) _ _ e in
         let q = pick-got (allowedHere n (kindOf w) (valueOf w)) _ _ (p .1) in
-        let z : turned (kindOf w) ≡ 0 = eqb-true _ _ (p .0) in
+        let z : rejects (kindOf w) ≡ 0 = eqb-true _ _ (p .0) in
         let u : (kindOf w, valueOf w) ≡ t = cc in
         let k : w / 16777216 ≡ t .0 = ap (λ (x : ℕ × ℕ). x .0) u in
         let v : w % 16777216 ≡ t .1 = ap (λ (x : ℕ × ℕ). x .1) u in
@@ -273,7 +273,7 @@ whole-of {A} listOrNone (some l) h = go (eqb (length l) 16777215) refl h
 whole-of option none h = refl
 whole-of option (some a) h = refl
 
-parts-of : {A C : Type 0} (H : Holder A C) (r : Rule) (n v : ℕ) (l : List A) → Suits H r → allowed r n v ≡ true → length l ≡ says H v
+parts-of : {A C : Type 0} (H : Holder A C) (r : Values) (n v : ℕ) (l : List A) → Suits H r → allowed r n v ≡ true → length l ≡ says H v
     → (count H (whole H v l) ≡ v) × (items H (whole H v l) ≡ l)
 unfolding count items says whole
 parts-of list r n v l s a h = (h, refl)
@@ -293,7 +293,7 @@ parts-of {A} option r n v l s a h = go l h
     go (x ∷ y ∷ m) h = absurd (omega (arith, most))
 
 -- a count word and what it counts
-module _ {S A C : Type 0} (H : Holder A C) (n kind : ℕ) (suits : Suits H (entryOf kind .rule)) (step : S → A → S) (W : S → A → List ℕ) (P : S → A → Type 0) (R : S → ℕ → List ℕ → Read A) (L : (s : S) → Lawful (W s) (P s) (R s)) where
+module _ {S A C : Type 0} (H : Holder A C) (n kind : ℕ) (suits : Suits H (entryOf kind .values)) (step : S → A → S) (W : S → A → List ℕ) (P : S → A → Type 0) (R : S → ℕ → List ℕ → Read A) (L : (s : S) → Lawful (W s) (P s) (R s)) where
   counted-lawful : (s : S)
       → Lawful (λ c. wordOf kind (count H c) ∷ wordsAll step W s (items H c)) (λ c. Fits n kind (count H c) × (says H (count H c) ≡ length (items H c)) × FineAll step P s (items H c))
       (λ at ws. bind (readField n kind at ws) (λ v at′ ws′. mapRead (whole H v) (readAll step R (says H v) s at′ ws′)))
@@ -301,7 +301,7 @@ module _ {S A C : Type 0} (H : Holder A C) (n kind : ℕ) (suits : Suits H (entr
   counted-lawful s =
       relaw _ _ _ _ (λ c h. (h .0, sym (h .1 .0), h .1 .1)) (λ c h. (h .0, (sym (h .1), h .2))) (λ at ws. map-then (whole H) (readField n kind at ws) (λ v at′ ws′. readAll step R (says H v) s at′ ws′))
       (via-lawful _ _ _ (λ t. whole H (t .0) (t .1)) (λ c. (count H c, items H c)) (λ c h. whole-of H c (sym (h .1 .0)))
-      (λ t h. let p = parts-of H (entryOf kind .rule) n (t .0) (t .1) suits (h .0 .1) (h .1 .0) in λ i. (p .0 i, p .1 i))
+      (λ t h. let p = parts-of H (entryOf kind .values) n (t .0) (t .1) suits (h .0 .1) (h .1 .0) in λ i. (p .0 i, p .1 i))
       (then-lawful _ _ (readField n kind) (λ v. wordsAll step W s) (λ v. PN step W P R s (says H v)) (λ v. readAll step R (says H v) s) (field-lawful n kind) (λ v. all-lawful step W P R L s (says H v))))
 
 one-of : (most v n : ℕ) → allowed (FromOne most) n v ≡ true → 1 ≤ v
@@ -312,7 +312,7 @@ one-of most v n e = go (leb 1 v) refl e
     go false h e = let z : _≡_ {A = ℕ} 0 1 = cc in absurd (omega arith)
 
 -- a count word, one, and as many more as it says
-module _ {A B : Type 0} (n kind most : ℕ) (rule : entryOf kind .rule ≡ FromOne most) (W : A → List ℕ) (P : A → Type 0) (R : ℕ → List ℕ → Read A) (L : Lawful W P R) (W₂ : B → List ℕ) (P₂ : B → Type 0) (R₂ : ℕ → List ℕ → Read B) (M : Lawful W₂ P₂ R₂) where
+module _ {A B : Type 0} (n kind most : ℕ) (rule : entryOf kind .values ≡ FromOne most) (W : A → List ℕ) (P : A → Type 0) (R : ℕ → List ℕ → Read A) (L : Lawful W P R) (W₂ : B → List ℕ) (P₂ : B → Type 0) (R₂ : ℕ → List ℕ → Read B) (M : Lawful W₂ P₂ R₂) where
   abbrev stay : Unit {0} → B → Unit {0}
   stay u b = u
 
@@ -348,7 +348,7 @@ guarded-lawful W P R test why L =
 pub lawful : {A : Type 0} (F : Form A) → Lawful (wordsBy F) (Fine F) (readBy F)
 unfolding W× P× R× PN wordsBy Fine readBy
 lawful (field n kind) = field-lawful n kind
-lawful (word turned n) = word-lawful turned n
+lawful (word rejects n) = word-lawful rejects n
 lawful (empty a) = empty-lawful a
 lawful (each F xs) = each-lawful _ _ _ (λ x. lawful (F x)) xs
 lawful (guarded F test why) = guarded-lawful _ _ _ test why (lawful F)

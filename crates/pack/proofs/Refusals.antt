@@ -54,12 +54,12 @@ at-end end = record { least = omega arith; most = omega arith; place = omega ari
 plain : {A : Type 0} (number place end : ℕ) (r : Refusal) → OfWord number → place < end → _≡_ {A = Read A} (because number place) (refused r) → Within end r
 plain number place end r h p e = rw (← same-refusal e) (at-word number place 0 end h p (omega arith))
 
--- a kind is turned away by 2 or 5
+-- a kind is rejected by 2 or 5
 abbrev Turned : ℕ → Type 0
 Turned number = (number ≤ 5) × (number ≡ 1 → ⊥) × (number ≡ 3 → ⊥)
 
 abbrev Turns : (ℕ → ℕ) → Type 0
-Turns turned = (k : ℕ) → Turned (turned k)
+Turns rejects = (k : ℕ) → Turned (rejects k)
 
 turned-0 : Turned 0
 turned-0 = (omega arith, λ e. omega arith, λ e. omega arith)
@@ -70,22 +70,22 @@ turned-2 = (omega arith, λ e. omega arith, λ e. omega arith)
 turned-5 : Turned 5
 turned-5 = (omega arith, λ e. omega arith, λ e. omega arith)
 
-word-bounded : (turned : ℕ → ℕ) (n : ℕ) → Turns turned → Bounded (readWord turned n)
-word-bounded turned n t at [] r e = let z : at + 0 ≡ at = omega arith in rw (z, ← same-refusal e) (at-end at)
-word-bounded turned n t at (w ∷ ws) r e = kind (eqb (turned (kindOf w)) 0) refl e
+word-bounded : (rejects : ℕ → ℕ) (n : ℕ) → Turns rejects → Bounded (readWord rejects n)
+word-bounded rejects n t at [] r e = let z : at + 0 ≡ at = omega arith in rw (z, ← same-refusal e) (at-end at)
+word-bounded rejects n t at (w ∷ ws) r e = kind (eqb (rejects (kindOf w)) 0) refl e
   where
     value : (b : Bool) → pick {A = Read (ℕ × ℕ)} b (got (kindOf w, valueOf w) (at + 1) ws) (because 4 at) ≡ refused r → Within (at + length (w ∷ ws)) r
     value true e = absurd (no-got e)
     value false e = plain 4 at _ r (omega arith, omega arith, λ e. omega arith) (omega arith) e
 
-    kind : (b : Bool) → eqb (turned (kindOf w)) 0 ≡ b
-        → pick {A = Read (ℕ × ℕ)} b (pick (allowedHere n (kindOf w) (valueOf w)) (got (kindOf w, valueOf w) (at + 1) ws) (because 4 at)) (because (turned (kindOf w)) at) ≡ refused r
+    kind : (b : Bool) → eqb (rejects (kindOf w)) 0 ≡ b
+        → pick {A = Read (ℕ × ℕ)} b (pick (allowedHere n (kindOf w) (valueOf w)) (got (kindOf w, valueOf w) (at + 1) ws) (because 4 at)) (because (rejects (kindOf w)) at) ≡ refused r
         → Within (at + length (w ∷ ws)) r
     kind true h e = value (allowedHere n (kindOf w) (valueOf w)) e
     kind false h e =
-        let z = eqb-false (turned (kindOf w)) 0 h in
+        let z = eqb-false (rejects (kindOf w)) 0 h in
         let u = t (kindOf w) in
-        plain (turned (kindOf w)) at _ r (omega (arith, u .1), omega (arith, u .0), u .2) (omega arith) e
+        plain (rejects (kindOf w)) at _ r (omega (arith, u .1), omega (arith, u .0), u .2) (omega arith) e
 
 only-turns : (kinds : List ℕ) → Turns (only kinds)
 only-turns kinds k = go (among k kinds)
@@ -145,9 +145,9 @@ each-bounded F h (x ∷ xs) at ws r e =
 abbrev Fit : {A : Type 0} → Form A → Type 0
 Fit F = Bounded (readBy F)
 
-word-fit : (turned : ℕ → ℕ) (n : ℕ) → Turns turned → Fit (word turned n)
+word-fit : (rejects : ℕ → ℕ) (n : ℕ) → Turns rejects → Fit (word rejects n)
 unfolding readBy
-word-fit turned n t = word-bounded turned n t
+word-fit rejects n t = word-bounded rejects n t
 
 field-fit : (n kind : ℕ) → Fit (field n kind)
 unfolding readBy
@@ -169,7 +169,7 @@ via-fit : {A B : Type 0} (to : A → B) (from : B → A) (tf : (b : B) → to (f
 unfolding readBy
 via-fit to from tf ft F h = after-map to (readBy F) h
 
-counted-fit : {S A C : Type 0} (H : Holder A C) (n kind : ℕ) (suits : Suits H (entryOf kind .rule)) (step : S → A → S) (F : S → Form A) (s : S) → ((u : S) → Fit (F u)) → Fit (countedFrom H n kind suits step F s)
+counted-fit : {S A C : Type 0} (H : Holder A C) (n kind : ℕ) (suits : Suits H (entryOf kind .values)) (step : S → A → S) (F : S → Form A) (s : S) → ((u : S) → Fit (F u)) → Fit (countedFrom H n kind suits step F s)
 unfolding readBy
 counted-fit H n kind suits step F s h =
     bind-bounded (field n kind) _ (field-bounded n kind) (λ v. after-map (whole H v) (readAll step (λ u b vs. readBy (F u) b vs) (says H v) s) (all-bounded step F h (says H v) s))

@@ -13,10 +13,10 @@ use Rattle.definitions.specs.declared.answer.Refusal.{Refusal}
 use Rattle.pack.specs.declared.cursor.Cursor.{Cursor}
 use Rattle.pack.specs.declared.cursor.Step.{Step}
 use Rattle.pack.specs.declared.cursor.Step.the-variants.{On, Refused}
-use Rattle.definitions.specs.declared.table.Rule.the-variants.{AtMost, FromOne}
+use Rattle.definitions.specs.declared.table.Values.the-variants.{AtMost, FromOne}
 use Rattle.definitions.specs.Table.{kindOf, valueOf, entryOf}
 use Rattle.definitions.specs.Form.{Read, got, refused, bind, mapRead, allowedHere, readWord, only, readField, readAll, readEach, Holder, option, says, whole, Suits, Form, field, word, each, guarded, _▹_, countedFrom, oneAndMore, via, wordsBy, Fine, readBy}
-use Rattle.pack.specs.Steps.{stepBy, stepOf, walk, same, fieldStep, nextWord, wordStep, walkAll}
+use Rattle.pack.specs.Readers.{stepBy, stepOf, skipOver, itself, fieldStep, nextWord, wordStep, skipAll}
 use Rattle.pack.proofs.FormLaws.{lawful}
 
 -- a word at a place
@@ -44,18 +44,18 @@ step-map : {A B : Type 0} (g : B → ℕ) (h : A → B) (m : Read A) → stepBy 
 step-map g h (got a at ws) = refl
 step-map g h (refused r) = refl
 
--- a word of which the kind is not turned away: what the code's word, tests on it and answer come to
-module _ (turned : ℕ → ℕ) (n : ℕ) (f : ℕ × ℕ → ℕ) (ws : List ℕ) (at : ℕ) {y : Step} (e : y ≡ wordStep ws at) where
+-- a word of which the kind is not rejected: what the code's word, tests on it and answer come to
+module _ (rejects : ℕ → ℕ) (n : ℕ) (f : ℕ × ℕ → ℕ) (ws : List ℕ) (at : ℕ) {y : Step} (e : y ≡ wordStep ws at) where
   -- the word that stands there, if any
   stood : (l : List ℕ) → drop at ws ≡ l → y ≡ nextWord at l
   unfolding wordStep
   stood l h = e ∙ ap (λ (m : List ℕ). nextWord at m) h
 
-  pub word-stop : {r : Refusal} → y ≡ Refused r → y ≡ stepOf f (word turned n) ws at
+  pub word-stop : {r : Refusal} → y ≡ Refused r → y ≡ stepOf f (word rejects n) ws at
   unfolding stepOf readBy
   word-stop {r} o = go (drop at ws) refl
     where
-      go : (l : List ℕ) → drop at ws ≡ l → y ≡ stepBy f (readWord turned n at l)
+      go : (l : List ℕ) → drop at ws ≡ l → y ≡ stepBy f (readWord rejects n at l)
       go [] h = stood [] h
       go (w ∷ l) h = absurd (no-refused (sym (stood (w ∷ l) h) ∙ o))
 
@@ -79,16 +79,16 @@ module _ (turned : ℕ → ℕ) (n : ℕ) (f : ℕ × ℕ → ℕ) (ws : List �
         go [] h = absurd (no-on (sym (stood [] h) ∙ o))
         go (x ∷ l) h = let u : On x (record { at = at + 1 }) ≡ On w k = sym (stood (x ∷ l) h) ∙ o in cc
 
-    pub word-turned : {x : ℕ} → turned (kindOf w) ≡ x → (x ≡ 0 → ⊥) → Refused (record { number = x; place = at; name = 0; other = 0 }) ≡ stepOf f (word turned n) ws at
+    pub word-rejected : {x : ℕ} → rejects (kindOf w) ≡ x → (x ≡ 0 → ⊥) → Refused (record { number = x; place = at; name = 0; other = 0 }) ≡ stepOf f (word rejects n) ws at
     unfolding stepOf readBy
-    word-turned {x} t z = sym (simp (stands, t, ne-eqb x 0 z))
+    word-rejected {x} t z = sym (simp (stands, t, ne-eqb x 0 z))
 
-    pub word-value : turned (kindOf w) ≡ 0 → allowedHere n (kindOf w) (valueOf w) ≡ false
-        → Refused (record { number = 4; place = at; name = 0; other = 0 }) ≡ stepOf f (word turned n) ws at
+    pub word-value : rejects (kindOf w) ≡ 0 → allowedHere n (kindOf w) (valueOf w) ≡ false
+        → Refused (record { number = 4; place = at; name = 0; other = 0 }) ≡ stepOf f (word rejects n) ws at
     unfolding stepOf readBy
     word-value t v = sym (simp (stands, t, v))
 
-    pub word-on : {x : ℕ} → turned (kindOf w) ≡ 0 → allowedHere n (kindOf w) (valueOf w) ≡ true → f (kindOf w, valueOf w) ≡ x → On x k ≡ stepOf f (word turned n) ws at
+    pub word-on : {x : ℕ} → rejects (kindOf w) ≡ 0 → allowedHere n (kindOf w) (valueOf w) ≡ true → f (kindOf w, valueOf w) ≡ x → On x k ≡ stepOf f (word rejects n) ws at
     unfolding stepOf readBy
     word-on t v q = sym (simp (stands, t, v, q, after))
 
@@ -98,9 +98,9 @@ unfolding stepOf readBy
 field-word n kind f ws at = sym (step-map f (λ t. t .1) (readWord (only (kind ∷ [])) n at (drop at ws)))
 
 pub as-word : (n kind : ℕ) (ws : List ℕ) (at : ℕ) {y : Step} → y ≡ fieldStep n kind ws at → y ≡ stepOf (λ t. t .1) (word (only (kind ∷ [])) n) ws at
-as-word n kind ws at e = e ∙ sym (field-word n kind same ws at)
+as-word n kind ws at e = e ∙ sym (field-word n kind itself ws at)
 
-pub as-walk : (n kind : ℕ) (ws : List ℕ) (at : ℕ) {y : Step} → y ≡ walk (field n kind) ws at → y ≡ walk (word (only (kind ∷ [])) n) ws at
+pub as-walk : (n kind : ℕ) (ws : List ℕ) (at : ℕ) {y : Step} → y ≡ skipOver (field n kind) ws at → y ≡ skipOver (word (only (kind ∷ [])) n) ws at
 as-walk n kind ws at e = e ∙ sym (field-word n kind (λ v. 0) ws at)
 
 -- what is left after a form is the list from the place after it
@@ -129,9 +129,9 @@ went {A} f F ws at {x} {v} {k} e o = go (readBy F at (drop at ws)) refl (sym e �
     go (refused r) h e = absurd (no-on e)
 
 -- of a form whose number is its value
-pub went-same : (F : Form ℕ) (ws : List ℕ) (at : ℕ) {x : Step} {v : ℕ} {k : Cursor} → x ≡ stepOf same F ws at → x ≡ On v k
+pub went-same : (F : Form ℕ) (ws : List ℕ) (at : ℕ) {x : Step} {v : ℕ} {k : Cursor} → x ≡ stepOf itself F ws at → x ≡ On v k
     → (readBy F at (drop at ws) ≡ got v (k .at) (drop (k .at) ws)) × Fine F v
-went-same F ws at e o = let t = went same F ws at e o in (rw (← t .kept) (t .found), rw (← t .kept) (t .fine))
+went-same F ws at e o = let t = went itself F ws at e o in (rw (← t .kept) (t .found), rw (← t .kept) (t .fine))
 
 pub by-via : {A B : Type 0} (to : A → B) (from : B → A) (tf : (b : B) → to (from b) ≡ b) (ft : (a : A) → from (to a) ≡ a) (g : B → ℕ) (F : Form A) (ws : List ℕ) (at : ℕ) {x : Step}
     → x ≡ stepOf (λ a. g (to a)) F ws at → x ≡ stepOf g (via to from tf ft F) ws at
@@ -176,8 +176,8 @@ then-none {A} {B} f F G ws at = go (readBy F at (drop at ws))
 
 -- where what follows goes by the value
 pub by-value : {B : Type 0} (F : Form ℕ) (G : ℕ → Form B) (g : ℕ × B → ℕ) (ws : List ℕ) (at : ℕ) {x y : Step} {v : ℕ} {k : Cursor}
-    → y ≡ stepOf same F ws at → y ≡ On v k → x ≡ stepOf (λ b. g (v, b)) (G v) ws (k .at) → x ≡ stepOf g (F ▹ G) ws at
-by-value F G g ws at {v = v} {k = k} e o h = h ∙ sym (past same F ws at e G g v (k .at) (went-same F ws at e o .0))
+    → y ≡ stepOf itself F ws at → y ≡ On v k → x ≡ stepOf (λ b. g (v, b)) (G v) ws (k .at) → x ≡ stepOf g (F ▹ G) ws at
+by-value F G g ws at {v = v} {k = k} e o h = h ∙ sym (past itself F ws at e G g v (k .at) (went-same F ws at e o .0))
 
 -- one for each entry of a list
 module _ {X A : Type 0} (F : X → Form A) (ws : List ℕ) (at : ℕ) where
@@ -219,53 +219,53 @@ pred-of m h = omega arith
 
 -- as many of one entry
 module _ {X A : Type 0} (F : X → Form A) (x : X) (ws : List ℕ) (at m : ℕ) where
-  pub many-done : m ≤ 0 → On 0 (record { at = at }) ≡ walk (each F (replicate m x)) ws at
+  pub many-done : m ≤ 0 → On 0 (record { at = at }) ≡ skipOver (each F (replicate m x)) ws at
   many-done h = let z : m ≡ 0 = omega arith in rw z (each-done F ws at 0)
 
   module _ (h : 0 < m) (f : A → ℕ) {y : Step} (e : y ≡ stepOf f (F x) ws at) where
-    pub many-stop : {r : Refusal} → y ≡ Refused r → y ≡ walk (each F (replicate m x)) ws at
-    many-stop o = each-stop F ws at x (replicate (m - 1) x) f (λ l. 0) e o ∙ ap (λ (n : ℕ). walk (each F (replicate n x)) ws at) (sym (pred-of m h))
+    pub many-stop : {r : Refusal} → y ≡ Refused r → y ≡ skipOver (each F (replicate m x)) ws at
+    many-stop o = each-stop F ws at x (replicate (m - 1) x) f (λ l. 0) e o ∙ ap (λ (n : ℕ). skipOver (each F (replicate n x)) ws at) (sym (pred-of m h))
 
-    pub many-next : {v : ℕ} {k : Cursor} → y ≡ On v k → walk (each F (replicate m x)) ws at ≡ walk (each F (replicate (m - 1) x)) ws (k .at)
-    many-next o = ap (λ (n : ℕ). walk (each F (replicate n x)) ws at) (pred-of m h) ∙ sym (by-each F ws at x (replicate (m - 1) x) f (λ l. 0) e o (λ a. refl))
+    pub many-next : {v : ℕ} {k : Cursor} → y ≡ On v k → skipOver (each F (replicate m x)) ws at ≡ skipOver (each F (replicate (m - 1) x)) ws (k .at)
+    many-next o = ap (λ (n : ℕ). skipOver (each F (replicate n x)) ws at) (pred-of m h) ∙ sym (by-each F ws at x (replicate (m - 1) x) f (λ l. 0) e o (λ a. refl))
 
 -- so many with a state
 module _ {S A : Type 0} (step : S → A → S) (F : S → Form A) (s : S) (ws : List ℕ) (at : ℕ) (m : ℕ) where
-  pub all-done : m ≤ 0 → On 0 (record { at = at }) ≡ walkAll step F m s ws at
-  unfolding walkAll
+  pub all-done : m ≤ 0 → On 0 (record { at = at }) ≡ skipAll step F m s ws at
+  unfolding skipAll
   all-done h = let z : m ≡ 0 = omega arith in rw z refl
 
-  all-past : (n : ℕ) (a : A) (at′ : ℕ) → readBy (F s) at (drop at ws) ≡ got a at′ (drop at′ ws) → walkAll step F (suc n) s ws at ≡ walkAll step F n (step s a) ws at′
-  unfolding walkAll
+  all-past : (n : ℕ) (a : A) (at′ : ℕ) → readBy (F s) at (drop at ws) ≡ got a at′ (drop at′ ws) → skipAll step F (suc n) s ws at ≡ skipAll step F n (step s a) ws at′
+  unfolding skipAll
   all-past n a at′ h = rw h (step-map (λ l. 0) (λ l. a ∷ l) (readAll step (λ u b vs. readBy (F u) b vs) n (step s a) at′ (drop at′ ws)))
 
   module _ (h : 0 < m) (f : A → ℕ) {y : Step} (e : y ≡ stepOf f (F s) ws at) where
     -- the next state is a function of the number that is kept
-    pub all-next : (g : ℕ → S) → ((a : A) → step s a ≡ g (f a)) → {v : ℕ} {k : Cursor} → y ≡ On v k → walkAll step F m s ws at ≡ walkAll step F (m - 1) (g v) ws (k .at)
+    pub all-next : (g : ℕ → S) → ((a : A) → step s a ≡ g (f a)) → {v : ℕ} {k : Cursor} → y ≡ On v k → skipAll step F m s ws at ≡ skipAll step F (m - 1) (g v) ws (k .at)
     all-next g q {v} {k} o =
         let t = went f (F s) ws at e o in
-        ap (λ (n : ℕ). walkAll step F n s ws at) (pred-of m h) ∙ all-past (m - 1) (t .value) (k .at) (t .found)
-        ∙ ap (λ (u : S). walkAll step F (m - 1) u ws (k .at)) (q (t .value) ∙ ap g (t .kept))
+        ap (λ (n : ℕ). skipAll step F n s ws at) (pred-of m h) ∙ all-past (m - 1) (t .value) (k .at) (t .found)
+        ∙ ap (λ (u : S). skipAll step F (m - 1) u ws (k .at)) (q (t .value) ∙ ap g (t .kept))
 
-    pub all-stop : {r : Refusal} → y ≡ Refused r → y ≡ walkAll step F m s ws at
-    unfolding walkAll stepOf
-    all-stop {r} o = o ∙ sym (ap (λ (n : ℕ). walkAll step F n s ws at) (pred-of m h) ∙ rw (step-no f (readBy (F s) at (drop at ws)) (sym e ∙ o)))
+    pub all-stop : {r : Refusal} → y ≡ Refused r → y ≡ skipAll step F m s ws at
+    unfolding skipAll stepOf
+    all-stop {r} o = o ∙ sym (ap (λ (n : ℕ). skipAll step F n s ws at) (pred-of m h) ∙ rw (step-no f (readBy (F s) at (drop at ws)) (sym e ∙ o)))
 
 -- a count and what it counts
-module _ {S A C : Type 0} (H : Holder A C) (n kind : ℕ) (suits : Suits H (entryOf kind .rule)) (step : S → A → S) (F : S → Form A) (s : S) (ws : List ℕ) (at : ℕ) {y : Step} (e : y ≡ fieldStep n kind ws at) where
-  pub counted-stop : {r : Refusal} → y ≡ Refused r → y ≡ walk (countedFrom H n kind suits step F s) ws at
+module _ {S A C : Type 0} (H : Holder A C) (n kind : ℕ) (suits : Suits H (entryOf kind .values)) (step : S → A → S) (F : S → Form A) (s : S) (ws : List ℕ) (at : ℕ) {y : Step} (e : y ≡ fieldStep n kind ws at) where
+  pub counted-stop : {r : Refusal} → y ≡ Refused r → y ≡ skipOver (countedFrom H n kind suits step F s) ws at
   unfolding stepOf readBy
-  counted-stop {r} o = o ∙ sym (rw (step-no same (readField n kind at (drop at ws)) (sym e ∙ o)))
+  counted-stop {r} o = o ∙ sym (rw (step-no itself (readField n kind at (drop at ws)) (sym e ∙ o)))
 
-  pub by-counted : {x : Step} {v : ℕ} {k : Cursor} → y ≡ On v k → x ≡ walkAll step F (says H v) s ws (k .at) → x ≡ walk (countedFrom H n kind suits step F s) ws at
-  unfolding stepOf walkAll readBy
+  pub by-counted : {x : Step} {v : ℕ} {k : Cursor} → y ≡ On v k → x ≡ skipAll step F (says H v) s ws (k .at) → x ≡ skipOver (countedFrom H n kind suits step F s) ws at
+  unfolding stepOf skipAll readBy
   by-counted {v = v} {k = k} o h =
       let z : readField n kind at (drop at ws) ≡ got v (k .at) (drop (k .at) ws) = went-same (field n kind) ws at e o .0 in
       h ∙ sym (rw z (step-map (λ c. 0) (whole H v) (readAll step (λ u b vs. readBy (F u) b vs) (says H v) s (k .at) (drop (k .at) ws))))
 
   -- the same with a loop's own count
-  pub by-left : {x : Step} {v : ℕ} {k : Cursor} → y ≡ On v k → {m : ℕ} → m ≡ says H v → x ≡ walkAll step F m s ws (k .at) → x ≡ walk (countedFrom H n kind suits step F s) ws at
-  by-left {k = k} o q h = by-counted o (h ∙ ap (λ (m : ℕ). walkAll step F m s ws (k .at)) q)
+  pub by-left : {x : Step} {v : ℕ} {k : Cursor} → y ≡ On v k → {m : ℕ} → m ≡ says H v → x ≡ skipAll step F m s ws (k .at) → x ≡ skipOver (countedFrom H n kind suits step F s) ws at
+  by-left {k = k} o q h = by-counted o (h ∙ ap (λ (m : ℕ). skipAll step F m s ws (k .at)) q)
 
 -- a word that was read has an allowed value
 pub field-fine : (n kind : ℕ) (ws : List ℕ) (at : ℕ) {x : Step} {v : ℕ} {k : Cursor} → x ≡ fieldStep n kind ws at → x ≡ On v k → (v < 16777216) × (allowedHere n kind v ≡ true)
@@ -273,7 +273,7 @@ unfolding Fine
 field-fine n kind ws at e o = went-same (field n kind) ws at e o .1
 
 -- what the rules say
-pub at-most : (n kind m : ℕ) → entryOf kind .rule ≡ AtMost m → (v : ℕ) → allowedHere n kind v ≡ true → v ≤ m
+pub at-most : (n kind m : ℕ) → entryOf kind .values ≡ AtMost m → (v : ℕ) → allowedHere n kind v ≡ true → v ≤ m
 unfolding allowedHere
 at-most n kind m r v e = leb-true v m (rw r at e)
 
@@ -281,21 +281,21 @@ both : (a b : Bool) → (a && b) ≡ true → (a ≡ true) × (b ≡ true)
 both true b e = (refl, e)
 both false b e = (e, cc)
 
-pub from-one : (n kind m : ℕ) → entryOf kind .rule ≡ FromOne m → (v : ℕ) → allowedHere n kind v ≡ true → (1 ≤ v) × (v ≤ m)
+pub from-one : (n kind m : ℕ) → entryOf kind .values ≡ FromOne m → (v : ℕ) → allowedHere n kind v ≡ true → (1 ≤ v) × (v ≤ m)
 unfolding allowedHere
 from-one n kind m r v e = let b = both (leb 1 v) (leb v m) (rw r at e) in (leb-true 1 v (b .0), leb-true v m (b .1))
 
 -- a flag and what it says
-module _ {A : Type 0} (n kind : ℕ) (flag : entryOf kind .rule ≡ AtMost 1) (F : Form A) (ws : List ℕ) (at : ℕ) {y : Step} (e : y ≡ fieldStep n kind ws at) where
+module _ {A : Type 0} (n kind : ℕ) (flag : entryOf kind .values ≡ AtMost 1) (F : Form A) (ws : List ℕ) (at : ℕ) {y : Step} (e : y ≡ fieldStep n kind ws at) where
   abbrev optional : Form (Option A)
   optional = countedFrom {S = Unit {0}} option n kind flag (λ u a. u) (λ u. F) tt
 
-  pub optional-none : {v : ℕ} {k : Cursor} → y ≡ On v k → v ≡ 0 → On 0 k ≡ walk optional ws at
+  pub optional-none : {v : ℕ} {k : Cursor} → y ≡ On v k → v ≡ 0 → On 0 k ≡ skipOver optional ws at
   unfolding says
   optional-none {v} {k} o z = by-counted option n kind flag _ _ _ ws at e o (all-done _ _ _ ws (k .at) v (omega arith))
 
-  pub optional-some : {v : ℕ} {k : Cursor} {x : Step} → y ≡ On v k → (v ≡ 0 → ⊥) → x ≡ walk F ws (k .at) → x ≡ walk optional ws at
-  unfolding says walkAll stepOf
+  pub optional-some : {v : ℕ} {k : Cursor} {x : Step} → y ≡ On v k → (v ≡ 0 → ⊥) → x ≡ skipOver F ws (k .at) → x ≡ skipOver optional ws at
+  unfolding says skipAll stepOf
   optional-some {v} {k} {x} o z h =
       let l : v ≤ 1 = at-most n kind 1 flag v (field-fine n kind ws at e o .1) in
       let one : v ≡ 1 = omega arith in
@@ -306,45 +306,45 @@ module _ {A : Type 0} (n kind : ℕ) (flag : entryOf kind .rule ≡ AtMost 1) (F
       go (refused r) h = h
 
 -- a count, one, and more
-module _ {A B : Type 0} (n kind most : ℕ) (rule : entryOf kind .rule ≡ FromOne most) (F : Form A) (G : Form B) (ws : List ℕ) (at : ℕ) {y : Step} (e : y ≡ fieldStep n kind ws at) where
+module _ {A B : Type 0} (n kind most : ℕ) (rule : entryOf kind .values ≡ FromOne most) (F : Form A) (G : Form B) (ws : List ℕ) (at : ℕ) {y : Step} (e : y ≡ fieldStep n kind ws at) where
   abbrev bodies : Form (A × List B)
   bodies = oneAndMore n kind most rule F G
 
-  pub more-stop : {r : Refusal} → y ≡ Refused r → y ≡ walk bodies ws at
+  pub more-stop : {r : Refusal} → y ≡ Refused r → y ≡ skipOver bodies ws at
   unfolding stepOf readBy
-  more-stop {r} o = o ∙ sym (rw (step-no same (readField n kind at (drop at ws)) (sym e ∙ o)))
+  more-stop {r} o = o ∙ sym (rw (step-no itself (readField n kind at (drop at ws)) (sym e ∙ o)))
 
   module _ {v : ℕ} {k : Cursor} (o : y ≡ On v k) (f : A → ℕ) {x : Step} (d : x ≡ stepOf f F ws (k .at)) where
     count-there : readField n kind at (drop at ws) ≡ got v (k .at) (drop (k .at) ws)
     unfolding readBy
     count-there = went-same (field n kind) ws at e o .0
 
-    pub first-stop : {r : Refusal} → x ≡ Refused r → x ≡ walk bodies ws at
+    pub first-stop : {r : Refusal} → x ≡ Refused r → x ≡ skipOver bodies ws at
     unfolding stepOf readBy
     first-stop {r} p = p ∙ sym (rw count-there (rw (step-no f (readBy F (k .at) (drop (k .at) ws)) (sym d ∙ p))))
 
-    pub by-more : {z : Step} {u : ℕ} {j : Cursor} → x ≡ On u j → z ≡ walkAll {S = Unit {0}} (λ u b. u) (λ u. G) (v - 1) tt ws (j .at) → z ≡ walk bodies ws at
-    unfolding stepOf walkAll readBy
+    pub by-more : {z : Step} {u : ℕ} {j : Cursor} → x ≡ On u j → z ≡ skipAll {S = Unit {0}} (λ u b. u) (λ u. G) (v - 1) tt ws (j .at) → z ≡ skipOver bodies ws at
+    unfolding stepOf skipAll readBy
     by-more {j = j} p h =
         let t = went f F ws (k .at) d p in
         h ∙ sym (rw count-there (rw (t .found) (step-map (λ c. 0) (λ l. (t .value, l)) (readAll {S = Unit {0}} (λ u b. u) (λ u b vs. readBy G b vs) (v - 1) tt (j .at) (drop (j .at) ws)))))
 
 -- a word with a later test
 module _ (n kind : ℕ) (test : ℕ → Bool) (why : ℕ → ℕ → Refusal) (ws : List ℕ) (at : ℕ) {x : Step} (e : x ≡ fieldStep n kind ws at) where
-  pub guarded-stop : {r : Refusal} → x ≡ Refused r → x ≡ stepOf same (guarded (field n kind) test why) ws at
+  pub guarded-stop : {r : Refusal} → x ≡ Refused r → x ≡ stepOf itself (guarded (field n kind) test why) ws at
   unfolding stepOf readBy
-  guarded-stop o = o ∙ sym (rw (step-no same (readField n kind at (drop at ws)) (sym e ∙ o)))
+  guarded-stop o = o ∙ sym (rw (step-no itself (readField n kind at (drop at ws)) (sym e ∙ o)))
 
   module _ {v : ℕ} {k : Cursor} (o : x ≡ On v k) where
     value-there : readField n kind at (drop at ws) ≡ got v (k .at) (drop (k .at) ws)
     unfolding readBy
     value-there = went-same (field n kind) ws at e o .0
 
-    pub guarded-no : test v ≡ false → Refused (why at v) ≡ stepOf same (guarded (field n kind) test why) ws at
+    pub guarded-no : test v ≡ false → Refused (why at v) ≡ stepOf itself (guarded (field n kind) test why) ws at
     unfolding readBy stepOf
     guarded-no z = sym (simp (value-there, z))
 
-    pub guarded-on : test v ≡ true → On v k ≡ stepOf same (guarded (field n kind) test why) ws at
+    pub guarded-on : test v ≡ true → On v k ≡ stepOf itself (guarded (field n kind) test why) ws at
     unfolding readBy stepOf
     guarded-on z = sym (simp (value-there, z))
 

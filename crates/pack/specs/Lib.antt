@@ -1,2 +1,2 @@
 pub mod Packed
-pub mod Steps
+pub mod Readers

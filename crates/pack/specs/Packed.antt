@@ -6,14 +6,14 @@ use mathlib.Core.List.{List}
 use lib.ListN.{length, getD}
 use lib.Dec.{eqb, leb}
 use Rattle.definitions.specs.declared.table.Entry.{Entry}
-use Rattle.definitions.specs.declared.table.Rule.{Rule}
-use Rattle.definitions.specs.declared.table.Rule.the-variants.{Unused, Any, AtMost, FromOne, AtMostOrNone, Total, Name, NameOrNone}
+use Rattle.definitions.specs.declared.table.Values.{Values}
+use Rattle.definitions.specs.declared.table.Values.the-variants.{Unused, Any, AtMost, FromOne, AtMostOrNone, Total, Name, NameOrNone}
 use Rattle.definitions.specs.declared.table.Follows.{Follows}
 use Rattle.definitions.specs.declared.table.Follows.the-variants.{Nothing, Counted, OneScalar, TwoScalars, Scalars, Patterns, Periods, OneJudgment, Judgments, Choice, Aggregate, OnlyRelated, Slots, Atom, Exists}
 use Rattle.definitions.specs.Table.{pick, kindOf, entryOf}
 use Rattle.definitions.specs.Form.{allowedHere}
 
-abbrev pub ruleFrom : ℕ → Rule
+abbrev pub ruleFrom : ℕ → Values
 ruleFrom x =
     pick (eqb (x % 8) 1) Any
     (pick (eqb (x % 8) 2) (AtMost (x / 8 % 8192))
@@ -44,7 +44,7 @@ abbrev pub followsFrom : ℕ → Follows
 followsFrom x = followsBy (x / 262144)
 
 abbrev pub entryFrom : ℕ → Entry
-entryFrom x = record { sort = x / 65536 % 4; rule = ruleFrom x; follows = followsFrom x }
+entryFrom x = record { sort = x / 65536 % 4; values = ruleFrom x; follows = followsFrom x }
 
 -- whether what follows is a row of children of one sort, of which there are one, two or as many as the value says
 abbrev pub inRow : Follows → Bool
@@ -65,12 +65,16 @@ inRow Atom = false
 inRow Exists = false
 
 -- the rule by which the table allows a word of this kind its values
-abbrev pub Ruled : ℕ → Rule → Type 0
-Ruled kind rule = entryOf kind .rule ≡ rule
+abbrev pub Ruled : ℕ → Values → Type 0
+Ruled kind rule = entryOf kind .values ≡ rule
 
 -- a list that holds the table: at each kind an entry's number
 unfoldable pub Tabled : List ℕ → Type 0
 Tabled t = (k : ℕ) → k < 256 → entryFrom (getD t k 0) ≡ entryOf k
+
+-- the last kind of the words of trees
+abbrev pub lastOfTrees : ℕ
+lastOfTrees = 106
 
 -- In an operation's copy of the table the entries of names, among the kinds of trees, have the bound of names as their limit.
 unfoldable pub boundOf : List ℕ → ℕ

@@ -2,13 +2,13 @@
 use definitions::answer::Number;
 use definitions::answer::Refusal;
 use crate::kinds::Pack;
-use definitions::table::Rule;
+use definitions::table::Values;
 use crate::table::allows;
 ghost use mathlib.Core.Path.{_≡_};
 ghost use Rattle.pack.specs.Packed.{Ruled};
 ghost use mathlib.Core.List.{[], _∷_};
 ghost use Rattle.definitions.specs.Form.{field, word, only};
-ghost use Rattle.pack.specs.Steps.{wordStep, fieldStep, walk};
+ghost use Rattle.pack.specs.Readers.{wordStep, fieldStep, skipOver};
 
 // A place of the pack. It starts at word 0 and moves on by whole words.
 pub struct Cursor {
@@ -55,7 +55,7 @@ impl Cursor {
     }
 
     // A word of this kind, whose values the table allows by this rule: its value.
-    pub fn field(self, s: &[u32], n: u32, kind: u32, rule: Rule) -> Step
+    pub fn field(self, s: &[u32], n: u32, kind: u32, rule: Values) -> Step
         requires { ⌜ Ruled kind rule ⌝ }
         ensures { λ r. ⌜ r ≡ fieldStep n kind (now (s .entry)) (self .at) ⌝ }
     {
@@ -76,9 +76,9 @@ impl Cursor {
     }
 
     // A word of which only the place after it is wanted.
-    pub fn skip(self, s: &[u32], n: u32, kind: u32, rule: Rule) -> Step
+    pub fn skip(self, s: &[u32], n: u32, kind: u32, rule: Values) -> Step
         requires { ⌜ Ruled kind rule ⌝ }
-        ensures { λ r. ⌜ r ≡ walk (field n kind) (now (s .entry)) (self .at) ⌝ }
+        ensures { λ r. ⌜ r ≡ skipOver (field n kind) (now (s .entry)) (self .at) ⌝ }
     {
         let f = self.field(s, n, kind, rule);
         let Step::On(_, c) = f else {
@@ -88,9 +88,9 @@ impl Cursor {
     }
 
     // A word of one of two kinds, which have the same rule.
-    pub fn either(self, s: &[u32], n: u32, a: u32, b: u32, rule: Rule) -> Step
+    pub fn either(self, s: &[u32], n: u32, a: u32, b: u32, rule: Values) -> Step
         requires { ⌜ Ruled a rule × Ruled b rule ⌝ }
-        ensures { λ r. ⌜ r ≡ walk (word (only (a ∷ b ∷ [])) n) (now (s .entry)) (self .at) ⌝ }
+        ensures { λ r. ⌜ r ≡ skipOver (word (only (a ∷ b ∷ [])) n) (now (s .entry)) (self .at) ⌝ }
     {
         let at = self.at;
         let f = self.word(s);

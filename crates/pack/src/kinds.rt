@@ -8,6 +8,9 @@ impl Pack {
 
     pub const NONE: u32 = 16777215;
 
+    // The most that a value can be: a word whose value is not held to anything.
+    pub const ANY_VALUE: u32 = Pack::VALUES - 1;
+
     pub const LEAST_WORDS: usize = 6;
 
     pub const MOST_WORDS: usize = 8192;
@@ -135,9 +138,11 @@ impl Pack {
     pub const NO_TREE: u32 = 2;
 }
 
-// The kinds of tree nodes; the words of trees, fields among them, have kinds from FIRST_OF_TREES on.
+// The kinds of tree nodes; the words of trees, fields among them, have kinds from FIRST_OF_TREES to LAST_OF_TREES.
 impl Pack {
     pub const FIRST_OF_TREES: u32 = 64;
+
+    pub const LAST_OF_TREES: u32 = Pack::ROLE_DERIVED;
 
     pub const ONE_CHILD: u32 = 66;
 

@@ -2,7 +2,7 @@
 use crate::kinds::Pack;
 use definitions::table::Entry;
 use definitions::table::Follows;
-use definitions::table::Rule;
+use definitions::table::Values;
 ghost use mathlib.Core.Path.{_≡_};
 ghost use mathlib.Core.Bool.{true};
 ghost use Prim.Native.Nat.{ℕ, _/_, _%_, _<_};
@@ -332,19 +332,19 @@ const TABLE: [u32; 256] = [
     UNUSED,
 ];
 
-fn rule_from(x: u32) -> Rule
+fn rule_from(x: u32) -> Values
     ensures { λ r. ⌜ r ≡ ruleFrom x ⌝ }
 {
     let limit = x / LIMIT % LIMITS;
     match x % LIMIT {
-        ANY => Rule::Any,
-        AT_MOST => Rule::AtMost(limit),
-        FROM_ONE => Rule::FromOne(limit),
-        AT_MOST_OR_NONE => Rule::AtMostOrNone(limit),
-        TOTAL => Rule::Total,
-        NAME => Rule::Name,
-        NAME_OR_NONE => Rule::NameOrNone,
-        _ => Rule::Unused,
+        ANY => Values::Any,
+        AT_MOST => Values::AtMost(limit),
+        FROM_ONE => Values::FromOne(limit),
+        AT_MOST_OR_NONE => Values::AtMostOrNone(limit),
+        TOTAL => Values::Total,
+        NAME => Values::Name,
+        NAME_OR_NONE => Values::NameOrNone,
+        _ => Values::Unused,
     }
 }
 
@@ -385,7 +385,7 @@ pub fn entry_of(t: &[u32; 256], kind: u32) -> Entry
     let x = t[kind as usize];
     Entry {
         sort: x / SORT % 4,
-        rule: rule_from(x),
+        values: rule_from(x),
         follows: follows_from(x),
     }
 }
@@ -416,7 +416,7 @@ pub fn table_for(n: u32) -> [u32; 256]
 {
     let mut t = table();
     let mut kind = Pack::FIRST_OF_TREES;
-    while kind <= Pack::ROLE_DERIVED {
+    while kind <= Pack::LAST_OF_TREES {
         t[kind as usize] = with_bound(t[kind as usize], n);
         kind += 1;
     }
@@ -449,19 +449,19 @@ pub fn allows_head(t: &[u32; 256], kind: u32, v: u32) -> bool
 
 // Whether a rule allows a value, which is held to n: the total to the number of words, a name to N. One more than none is 0
 // modulo VALUES, so that a name or none takes one comparison.
-pub fn allows(rule: Rule, n: u32, v: u32) -> bool
+pub fn allows(rule: Values, n: u32, v: u32) -> bool
     requires { ⌜ v < 16777216 ⌝ }
     ensures { λ r. ⌜ r ≡ allowed rule n v ⌝ }
 {
     match rule {
-        Rule::Unused => false,
-        Rule::Any => true,
-        Rule::AtMost(most) => v <= most,
-        Rule::FromOne(most) => 1 <= v && v <= most,
-        Rule::AtMostOrNone(most) => v <= most || v == Pack::NONE,
-        Rule::Total => v == n,
-        Rule::Name => v < n,
-        Rule::NameOrNone => (v + 1) % Pack::VALUES <= n,
+        Values::Unused => false,
+        Values::Any => true,
+        Values::AtMost(most) => v <= most,
+        Values::FromOne(most) => 1 <= v && v <= most,
+        Values::AtMostOrNone(most) => v <= most || v == Pack::NONE,
+        Values::Total => v == n,
+        Values::Name => v < n,
+        Values::NameOrNone => (v + 1) % Pack::VALUES <= n,
     }
 }
 

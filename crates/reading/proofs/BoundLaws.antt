@@ -8,13 +8,13 @@ use lib.ListN.{length, getD}
 use lib.Dec.{eqb}
 use borrow.Author.Tests.{eqb-true}
 use Rattle.definitions.specs.declared.table.Entry.{Entry}
-use Rattle.definitions.specs.declared.table.Rule.{Rule}
-use Rattle.definitions.specs.declared.table.Rule.the-variants.{Unused, Any, AtMost, FromOne, AtMostOrNone, Total, Name, NameOrNone}
+use Rattle.definitions.specs.declared.table.Values.{Values}
+use Rattle.definitions.specs.declared.table.Values.the-variants.{Unused, Any, AtMost, FromOne, AtMostOrNone, Total, Name, NameOrNone}
 use Rattle.definitions.specs.Table.{pick, entryOf, table}
 use Rattle.pack.specs.Packed.{ruleFrom, Tabled, boundOf, Bounded}
 use Rattle.reading.specs.Noting.{Ready, ReadyFor}
 
-abbrev isName : Rule → Bool
+abbrev isName : Values → Bool
 isName Unused = false
 isName Any = false
 isName (AtMost m) = false
@@ -47,7 +47,7 @@ name-number x e = go (eqb (x % 8) 6) refl
 
 pub bound-is : (n : ℕ) (t : List ℕ) → Tabled t → Bounded n t → boundOf t ≡ n
 unfolding Tabled Bounded boundOf entryOf table
-bound-is n t h b = b 84 (omega arith) (omega arith) (name-number (getD t 84 0) (ap (λ (e : Entry). isName (e .rule)) (h 84 (omega arith))))
+bound-is n t h b = b 84 (omega arith) (omega arith) (name-number (getD t 84 0) (ap (λ (e : Entry). isName (e .values)) (h 84 (omega arith))))
 
 pub ready-for : (ws t : List ℕ) (n : ℕ) → length ws ≤ 8192 → Tabled t → Bounded n t → ReadyFor ws t n
 ready-for ws t n most h b =

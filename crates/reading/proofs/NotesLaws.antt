@@ -15,7 +15,7 @@ use Rattle.pack.proofs.FormLaws.{lawful}
 use Rattle.definitions.specs.Tree.{Tree, Forest, node, more, ofForest, heads, lastField, fields, follow, tree, size, sizes}
 use Rattle.definitions.specs.Tree as trees
 use Rattle.reading.specs.Notes.{lookBy, lookOf, noted, Note, note, within, contextOf, noteCode, notesOf, notesIn}
-use Rattle.reading.specs.Noting.{State, losing, push, nextNote, inNext, past, childIn, noteTree, noteForest, Came, pushAll, Left}
+use Rattle.reading.specs.Noting.{State, losing, push, nextNote, inNext, past, childIn, noteTree, noteForest, Came, pushAll, NotesLeft}
 
 -- ---- numbers noted one after the other
 
@@ -272,7 +272,7 @@ mutual
       place-forest f (s .1) b b (q .0) (q .1) ∙ omega (arith, place-tree t (s .0) a at d)
 
 pub came-left : (n left sort : ℕ) (ws : List ℕ) (at : ℕ) (d : List ℕ) (r : ℕ) (e : List ℕ) (inside : ℕ) (lost : Bool) → r ≤ 8192 → 0 < length d → getD d 0 0 ≤ at
-    → (c : Came (tree n left sort) (λ t. noteTree (contextOf inside lost) t) ws at d r e) → Left inside lost (c .value) at d r e
+    → (c : Came (tree n left sort) (λ t. noteTree (contextOf inside lost) t) ws at d r e) → NotesLeft inside lost (c .value) at d r e
 came-left n left sort ws at d r e inside lost most l few c =
     let t = c .value in
     let s = shaped t n left sort (lawful (tree n left sort) .back at (drop at ws) t r (drop r ws) (c .found) .fine) in

@@ -11,12 +11,12 @@ use Rattle.pack.specs.declared.cursor.Step.the-variants.{On}
 use Rattle.definitions.specs.Table.{pick, kindOf, valueOf, entryOf, table, fieldsOf, childrenOf, howMany, judgment}
 use Rattle.definitions.specs.Form.{Read, got, refused, mapRead, Form, word, each, _▹_, via, only, wordsBy, Fine, readBy}
 use Rattle.definitions.specs.Tree.{Tree, toForest, toTree, heads, lastField, fields, follow, tree}
-use Rattle.pack.specs.Steps.{stepOf, walk, coded}
+use Rattle.pack.specs.Readers.{stepOf, skipOver, codedStep}
 use Rattle.pack.proofs.FormLaws.{lawful, clash}
 use Rattle.pack.proofs.StepLaws.{went, by-each, each-last}
 use Rattle.pack.proofs.Listed.{in-range}
 use Rattle.reading.specs.Notes.{lookBy, noted}
-use Rattle.reading.specs.Noting.{losing, push, inNext, past, childIn, noteTree, noteForest, noteFollow, Came, Noted, Sorted, Rows, Shape}
+use Rattle.reading.specs.Noting.{losing, push, inNext, past, childIn, noteTree, noteForest, noteFollow, Came, NotedCode, Sorted, Rows, Shape}
 use Rattle.reading.proofs.TreeLaws.{followed, no-fields, only-fields, Row, by-row, Leaf, by-leaf}
 use Rattle.reading.proofs.CodeLaws.{Stands, code-on, code-as, none-code, code-stands, kept}
 
@@ -162,7 +162,7 @@ module _ (n left : ℕ) (ws : List ℕ) (b : Bool) (w : Follows) (v c at : ℕ) 
       record { value = ([], h .value); found = found-then ws (fields n (fieldsOf w)) _ at at r g k; noted = rw (p, f, add-none at) (h .noted) }
 
   -- fields and no children
-  pub fields-came : ((last : ℕ) → childrenOf w v last ≡ []) → {r : ℕ} → r ≡ coded (walk (fields n (fieldsOf w)) ws at) → r < 65536 → (d : List ℕ) {e : List ℕ}
+  pub fields-came : ((last : ℕ) → childrenOf w v last ≡ []) → {r : ℕ} → r ≡ codedStep (skipOver (fields n (fieldsOf w)) ws at) → r < 65536 → (d : List ℕ) {e : List ℕ}
       → e ≡ pick b (push (at + c) d) d → Came-after d r e
   unfolding follow noteFollow past noteForest
   fields-came ch {r} q h d {e} x =
@@ -196,8 +196,8 @@ module _ (n left : ℕ) (ws : List ℕ) (at : ℕ) where
   abbrev one : ℕ → Form (ℕ × ℕ)
   one kind = word (only (kind ∷ [])) n
 
-  pub where-came : {a b d k : ℕ} → a ≡ coded (walk (one 80) ws at) → a < 65536 → b ≡ coded (walk (one 81) ws a) → b < 65536 → d ≡ coded (walk (one 86) ws b) → d < 65536
-      → k ≡ coded (walk (one 83) ws d) → k < 65536 → d ≤ length ws → (c : ℕ) {r : ℕ} {e₀ e : List ℕ}
+  pub where-came : {a b d k : ℕ} → a ≡ codedStep (skipOver (one 80) ws at) → a < 65536 → b ≡ codedStep (skipOver (one 81) ws a) → b < 65536 → d ≡ codedStep (skipOver (one 86) ws b) → d < 65536
+      → k ≡ codedStep (skipOver (one 83) ws d) → k < 65536 → d ≤ length ws → (c : ℕ) {r : ℕ} {e₀ e : List ℕ}
       → Rowed n left ws (inNext e₀ + c % 8192) (inNext e₀ + c % 8192) (replicate (valueOf (getD ws d 0)) judgment) k (push (at + c) e₀) r e
       → Came (follow n (tree n left) Aggregate 0) (λ p. noteFollow c true Aggregate (toForest (p .1))) ws at e₀ r e
   unfolding fields fieldsOf childrenOf childIn lookBy
@@ -212,7 +212,7 @@ module _ (n left : ℕ) (ws : List ℕ) (at : ℕ) where
       after-fields n left ws true Aggregate 0 c at e₀ s h
 
   -- the arguments of an Exists, and its body
-  pub exists-came : {k : ℕ} → k ≡ coded (walk (one 85) ws at) → k < 65536 → at ≤ length ws → (c : ℕ) {r : ℕ} {d e : List ℕ}
+  pub exists-came : {k : ℕ} → k ≡ codedStep (skipOver (one 85) ws at) → k < 65536 → at ≤ length ws → (c : ℕ) {r : ℕ} {d e : List ℕ}
       → Rowed n left ws c c (replicate 1 judgment) k (push (at + c) d) r e
       → Came (follow n (tree n left) Exists 0) (λ p. noteFollow c true Exists (toForest (p .1))) ws at d r e
   unfolding fields fieldsOf childrenOf childIn lookBy
@@ -308,7 +308,7 @@ module _ (n left c : ℕ) (ws : List ℕ) (k v at : ℕ) where
 
   -- fields
   pub after-words : (w : Follows) → entryOf k .follows ≡ w → noted k ≡ true → ((last : ℕ) → childrenOf w v last ≡ []) → {r : ℕ} {d e : List ℕ}
-      → r ≡ coded (walk (fields n (fieldsOf w)) ws at) → e ≡ push (at + c) d → By-kind d r e
+      → r ≡ codedStep (skipOver (fields n (fieldsOf w)) ws at) → e ≡ push (at + c) d → By-kind d r e
   after-words w q p ch {r} {d} {e} h x =
       by-shape true w q p
       record {

@@ -15,7 +15,7 @@ use Rattle.definitions.specs.Table.{pick, kindOf, valueOf, entryOf, fieldsOf, c
 use Rattle.definitions.specs.Form.{Read, got, refused, because, bind, mapRead, allowedHere, only, Form, word, empty, each, _▹_, via, readBy}
 use Rattle.definitions.specs.Tree.{Tree, Forest, node, more, toForest, toTree, ofTree, to-of, of-to, heads, lastField, fields, follow, tree}
 use Rattle.definitions.specs.Tree as trees
-use Rattle.pack.specs.Steps.{stepBy, stepOf, walk, coded}
+use Rattle.pack.specs.Readers.{stepBy, stepOf, skipOver, codedStep}
 use Rattle.pack.proofs.FormLaws.{clash}
 use Rattle.reading.specs.Notes.{lookBy, noted}
 use Rattle.reading.specs.Noting.{Ready, Based, Context, State, losing, push, inNext, past, childIn, noteTree, noteForest, Sorted, Rows}
@@ -104,11 +104,11 @@ module _ {A : Type 0} (F : Form A) (alike : Alike F) (ws : List ℕ) (b : ℕ) w
   part-read : readBy F b (drop b ws) ≡ moved b (readBy F 0 (drop b ws))
   part-read = let z : 0 + b ≡ b = omega arith in subst (λ (i : ℕ). readBy F i (drop b ws) ≡ moved b (readBy F 0 (drop b ws))) z (alike b 0 (drop b ws))
 
-  part-code : coded (walk F ws b) ≡ coded (walk F (drop b ws) 0) + b
-  unfolding stepOf coded
-  part-code = ap (λ (m : Read A). coded (stepBy (λ a. 0) m)) part-read ∙ go (readBy F 0 (drop b ws))
+  part-code : codedStep (skipOver F ws b) ≡ codedStep (skipOver F (drop b ws) 0) + b
+  unfolding stepOf codedStep
+  part-code = ap (λ (m : Read A). codedStep (stepBy (λ a. 0) m)) part-read ∙ go (readBy F 0 (drop b ws))
     where
-      go : (m : Read A) → coded (stepBy (λ a. 0) (moved b m)) ≡ coded (stepBy (λ a. 0) m) + b
+      go : (m : Read A) → codedStep (stepBy (λ a. 0) (moved b m)) ≡ codedStep (stepBy (λ a. 0) m) + b
       go (got a at vs) = refl
       go (refused r) = omega arith
 

@@ -16,9 +16,9 @@ use Rattle.definitions.specs.Table.{kindOf, valueOf, entryOf, table, howMany, f
 use Rattle.pack.specs.Packed.{Compares}
 use Rattle.definitions.specs.Form.{Form, word, only, each, allowedHere}
 use Rattle.definitions.specs.Tree.{toForest, heads, fields, follow, tree, root}
-use Rattle.pack.specs.Steps.{walk, coded, fault, decoded}
+use Rattle.pack.specs.Readers.{skipOver, codedStep, fault, decoded}
 use Rattle.reading.specs.Notes.{noted}
-use Rattle.reading.specs.Noting.{State, push, inNext, noteTree, noteForest, Came, Noted, NotedStep, Sorted, Rows, Shape, After}
+use Rattle.reading.specs.Noting.{State, push, inNext, noteTree, noteForest, Came, NotedCode, NotedStep, Sorted, Rows, Shape, After}
 use Rattle.reading.proofs.TreeLaws.{heads-in, comparison-row, compared, Row, Leaf}
 use Rattle.reading.proofs.CodeLaws.{Turn, turn, Moved, passed, by-where, then-next, last-code, code-as, code-forward, code-within, code-stands, fault-code, fault-large, fault-on, fault-read, small-next, row-stop, row-leaf, row-last, node-stop, node-on, row-done, first-code, next-code, one-row, by-compared, tree-code, decode-on, decode-stop}
 use Rattle.reading.proofs.NotingLaws.{Rowed, Treed, rowed-end, rowed-next, rowed-turn, rowed-one, Followed, treed, row-followed, after-leaf, where-came, exists-came, Steady, steady-judgment}
@@ -27,8 +27,8 @@ use Rattle.reading.proofs.NotingLaws.{Rowed, Treed, rowed-end, rowed-ne
 no-both : {r : ℕ} → r < 65536 → 65536 ≤ r → ⊥
 no-both h k = omega arith
 
-pub refuses : {A : Type 0} (F : Form A) {ws : List ℕ} {at : ℕ} {d : List ℕ} {r : ℕ} {e : List ℕ} {note : A → State → State} → r ≡ coded (walk F ws at) → 65536 ≤ r
-    → Noted F note ws at d r e
+pub refuses : {A : Type 0} (F : Form A) {ws : List ℕ} {at : ℕ} {d : List ℕ} {r : ℕ} {e : List ℕ} {note : A → State → State} → r ≡ codedStep (skipOver F ws at) → 65536 ≤ r
+    → NotedCode F note ws at d r e
 refuses F q h = record { answers = q; notes = λ k. absurd (no-both k h) }
 
 -- the context and the notes, as the code has them
@@ -40,7 +40,7 @@ rowed-as n left ws sorts {a} {b} {at} {r} {d} {d₁} {e} p q h =
 pub record Walking (n sort c : ℕ) (ws : List ℕ) (levels count start : ℕ) (d₀ : List ℕ) (left m at : ℕ) (d : List ℕ) : Type 0 where
   pub there : at ≤ length ws
   pub deep : left ≤ levels
-  pub same : walk (each (tree n levels) (replicate count sort)) ws start ≡ walk (each (tree n left) (replicate m sort)) ws at
+  pub same : skipOver (each (tree n levels) (replicate count sort)) ws start ≡ skipOver (each (tree n left) (replicate m sort)) ws at
   pub lifts : (r : ℕ) (e : List ℕ) → Rowed n left ws c c (replicate m sort) at d r e → Rowed n levels ws c c (replicate count sort) start d₀ r e
 
 pub walking : (n sort c : ℕ) (ws : List ℕ) (levels count start : ℕ) (d : List ℕ) → start ≤ length ws → Walking n sort c ws levels count start d levels count start d
@@ -51,7 +51,7 @@ module _ {n sort c : ℕ} {ws : List ℕ} {levels count start : ℕ} {d₀ : Lis
   pub walked : m ≤ 0 → Rows n levels sort count c ws start d₀ at d
   walked z = record { answers = row-done (tree n left) sort ws at m z (g .same); notes = λ h. g .lifts at d (rowed-end n left ws c c sort at m d z) }
 
-  module _ (most : length ws ≤ 8192) (more : 0 < m) {f : ℕ} (h : f ≡ fault (walk (word (heads sort left) n) ws at)) where
+  module _ (most : length ws ≤ 8192) (more : 0 < m) {f : ℕ} (h : f ≡ fault (skipOver (word (heads sort left) n) ws at)) where
     -- a head word that is refused
     pub head-refused : (f ≡ 0 → ⊥) → {e : List ℕ} → Rows n levels sort count c ws start d₀ f e
     head-refused z =
@@ -60,7 +60,7 @@ module _ {n sort c : ℕ} {ws : List ℕ} {levels count start : ℕ} {d₀ : Lis
         refuses _ (code-as (row-stop n sort left ws at q most (g .there) m more l) (sym (g .same))) l
 
     module _ (z : f ≡ 0) where
-      code : at + 1 ≡ coded (walk (word (heads sort left) n) ws at)
+      code : at + 1 ≡ codedStep (skipOver (word (heads sort left) n) ws at)
       code = fault-on (heads sort left) n ws at h z
 
       small : at + 1 < 65536
@@ -141,9 +141,9 @@ pub record Fielded (n : ℕ) (ws : List ℕ) (at : ℕ) : Type 0 where
   pub opaque : Moved (only (86 ∷ [])) n ws (at + 2) (at + 3)
   pub flag : Moved (only (83 ∷ [])) n ws (at + 3) (at + 4)
 
-pub fielded : (n : ℕ) (ws : List ℕ) (at : ℕ) → length ws ≤ 8192 → at ≤ length ws → {f g h i : ℕ} → f ≡ fault (walk (word (only (80 ∷ [])) n) ws at) → f ≡ 0
-    → g ≡ fault (walk (word (only (81 ∷ [])) n) ws (at + 1)) → g ≡ 0 → h ≡ fault (walk (word (only (86 ∷ [])) n) ws (at + 2)) → h ≡ 0
-    → i ≡ fault (walk (word (only (83 ∷ [])) n) ws (at + 3)) → i ≡ 0 → Fielded n ws at
+pub fielded : (n : ℕ) (ws : List ℕ) (at : ℕ) → length ws ≤ 8192 → at ≤ length ws → {f g h i : ℕ} → f ≡ fault (skipOver (word (only (80 ∷ [])) n) ws at) → f ≡ 0
+    → g ≡ fault (skipOver (word (only (81 ∷ [])) n) ws (at + 1)) → g ≡ 0 → h ≡ fault (skipOver (word (only (86 ∷ [])) n) ws (at + 2)) → h ≡ 0
+    → i ≡ fault (skipOver (word (only (83 ∷ [])) n) ws (at + 3)) → i ≡ 0 → Fielded n ws at
 fielded n ws at most l e1 z1 e2 z2 e3 z3 e4 z4 =
     let m1 = passed (only (80 ∷ [])) n ws at e1 most l z1 (at + 1) refl in
     let m2 = passed (only (81 ∷ [])) n ws (at + 1) e2 most (m1 .there) z2 (at + 2) (omega arith) in

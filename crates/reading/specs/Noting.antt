@@ -13,7 +13,7 @@ use Rattle.pack.specs.Packed.{Tabled, boundOf, Bounded}
 use Rattle.definitions.specs.Form.{got, Form, each, readBy}
 use Rattle.definitions.specs.Tree.{Tree, Forest, node, more, toForest, follow, tree, size}
 use Rattle.definitions.specs.Tree as trees
-use Rattle.pack.specs.Steps.{walk, coded}
+use Rattle.pack.specs.Readers.{skipOver, codedStep}
 use Rattle.reading.specs.Notes.{lookBy, noted, notesOf, noteCode}
 
 -- what is lent to the readers of trees: words, of which there are no more than a pack may have, and a table with the bound of names
@@ -97,18 +97,18 @@ pub record Came {A : Type 0} (F : Form A) (note : A → State → State) (ws : L
   pub noted : note value (at, d) ≡ (r, e)
 
 -- Its answer is that of its form; and if the form was read, place and array are those of the value. Of a refusal nothing is said of the array.
-pub record Noted {A : Type 0} (F : Form A) (note : A → State → State) (ws : List ℕ) (at : ℕ) (d : List ℕ) (r : ℕ) (e : List ℕ) : Type 0 where
-  pub answers : r ≡ coded (walk F ws at)
+pub record NotedCode {A : Type 0} (F : Form A) (note : A → State → State) (ws : List ℕ) (at : ℕ) (d : List ℕ) (r : ℕ) (e : List ℕ) : Type 0 where
+  pub answers : r ≡ codedStep (skipOver F ws at)
   pub notes : r < 65536 → Came F note ws at d r e
 
 -- the same of a step
 pub record NotedStep {A : Type 0} (F : Form A) (note : A → State → State) (ws : List ℕ) (at : ℕ) (d : List ℕ) (r : Step) (e : List ℕ) : Type 0 where
-  pub answers : r ≡ walk F ws at
+  pub answers : r ≡ skipOver F ws at
   pub notes : {v : ℕ} {k : Cursor} → r ≡ On v k → Came F note ws at d (k .at) e
 
 -- a row of trees of these sorts, the first in one context and the others in another
 abbrev pub Sorted : ℕ → ℕ → List ℕ → ℕ → ℕ → List ℕ → ℕ → List ℕ → ℕ → List ℕ → Type 0
-Sorted n left sorts a b = Noted (each (tree n left) sorts) (λ l. noteForest a b (toForest l))
+Sorted n left sorts a b = NotedCode (each (tree n left) sorts) (λ l. noteForest a b (toForest l))
 
 -- so many trees of one sort in one context
 abbrev pub Rows : ℕ → ℕ → ℕ → ℕ → ℕ → List ℕ → ℕ → List ℕ → ℕ → List ℕ → Type 0
@@ -116,7 +116,7 @@ Rows n left sort count c = Sorted n left (replicate count sort) c c
 
 -- what follows a head word of this shape and value
 abbrev pub Shape : ℕ → ℕ → Bool → Follows → ℕ → ℕ → List ℕ → ℕ → List ℕ → ℕ → List ℕ → Type 0
-Shape n left noted w v c = Noted (follow n (tree n left) w v) (λ p. noteFollow c noted w (toForest (p .1)))
+Shape n left noted w v c = NotedCode (follow n (tree n left) w v) (λ p. noteFollow c noted w (toForest (p .1)))
 
 -- what follows the head word at a place
 abbrev pub After : ℕ → ℕ → ℕ → List ℕ → ℕ → List ℕ → ℕ → List ℕ → Type 0
@@ -131,7 +131,7 @@ pushAll [] d = d
 pushAll (x ∷ xs) d = pushAll xs (push x d)
 
 -- What a reader leaves that has read a tree from one place to another in a context: the codes of the tree's notes behind those that were there.
-pub record Left (inside : ℕ) (lost : Bool) (t : Tree) (at : ℕ) (d : List ℕ) (r : ℕ) (e : List ℕ) : Type 0 where
+pub record NotesLeft (inside : ℕ) (lost : Bool) (t : Tree) (at : ℕ) (d : List ℕ) (r : ℕ) (e : List ℕ) : Type 0 where
   pub ends : r ≡ at + size t
   pub notes : e ≡ pushAll (map noteCode (notesOf (getD d 0 0 + 1) inside lost at t)) d
   pub counts : getD e 0 0 ≡ getD d 0 0 + length (notesOf (getD d 0 0 + 1) inside lost at t)

@@ -5,7 +5,7 @@ use pack::cursor::Cursor;
 use pack::cursor::Step;
 use pack::cursor::stop;
 use pack::kinds::Pack;
-use definitions::table::Rule;
+use definitions::table::Values;
 use pack::table::allows_head;
 use pack::table::bound;
 use pack::table::children;
@@ -23,14 +23,14 @@ ghost use Rattle.definitions.specs.Table.{scalar, judgment, kindOf, valueOf, en
 ghost use Rattle.pack.specs.Packed.{Tabled, boundOf, Bounded, UpTo, Compares};
 ghost use Rattle.definitions.specs.Form.{word, only};
 ghost use Rattle.definitions.specs.Tree.{heads, fields, root};
-ghost use Rattle.pack.specs.Steps.{walk, coded, fault, decoded};
+ghost use Rattle.pack.specs.Readers.{skipOver, codedStep, fault, decoded};
 ghost use Rattle.reading.specs.Notes.{contextOf, noteCode, note};
 ghost use Rattle.reading.specs.Noting.{nextNote, Ready, Based, Context, losing, push, inNext, noteTree, NotedStep, Sorted, Rows, Shape, After};
 
 // The code of a refusal.
 fn refused(number: u32, at: usize) -> usize
     requires { ⌜ (number ≤ 5) × (at ≤ 8192) ⌝ }
-    ensures { λ r. ⌜ r ≡ coded (Refused (record { number = number; place = at; name = 0; other = 0 })) ⌝ }
+    ensures { λ r. ⌜ r ≡ codedStep (Refused (record { number = number; place = at; name = 0; other = 0 })) ⌝ }
 {
     Pack::CODES * (number as usize + 1) + at
 }
@@ -38,7 +38,7 @@ fn refused(number: u32, at: usize) -> usize
 // The word that begins a tree of the sort, where so many levels are left: 0, or a refusal's code.
 fn head(s: &[u32], t: &[u32; 256], at: usize, sort: u32, left: u32) -> usize
     requires { ⌜ Ready (now s) (now t) × (at ≤ length (now s)) × (sort < 2) ⌝ }
-    ensures { λ r. ⌜ r ≡ fault (walk (word (heads sort left) (boundOf (now (t .entry)))) (now (s .entry)) at) ⌝ }
+    ensures { λ r. ⌜ r ≡ fault (skipOver (word (heads sort left) (boundOf (now (t .entry)))) (now (s .entry)) at) ⌝ }
 {
     if s.len() <= at {
         return refused(Number::ENDED, at);
@@ -62,7 +62,7 @@ fn head(s: &[u32], t: &[u32; 256], at: usize, sort: u32, left: u32) -> usize
 // A word of this kind, with any value up to a most: 0, or a refusal's code.
 fn up_to(s: &[u32], at: usize, kind: u32, most: u32) -> usize
     requires { ⌜ (length (now s) ≤ 8192) × (at ≤ length (now s)) × UpTo kind most ⌝ }
-    ensures { λ r. ⌜ ((n : ℕ) → r ≡ fault (walk (word (only (kind ∷ [])) n) (now (s .entry)) at)) ⌝ }
+    ensures { λ r. ⌜ ((n : ℕ) → r ≡ fault (skipOver (word (only (kind ∷ [])) n) (now (s .entry)) at)) ⌝ }
 {
     if s.len() <= at {
         return refused(Number::ENDED, at);
@@ -80,13 +80,13 @@ fn up_to(s: &[u32], at: usize, kind: u32, most: u32) -> usize
 // The slots of a RelationMember.
 fn slots(s: &[u32], at: usize) -> usize
     requires { ⌜ (length (now s) ≤ 8192) × (at ≤ length (now s)) ⌝ }
-    ensures { λ r. ⌜ ((n : ℕ) → r ≡ coded (walk (fields n (fieldsOf Slots)) (now (s .entry)) at)) ⌝ }
+    ensures { λ r. ⌜ ((n : ℕ) → r ≡ codedStep (skipOver (fields n (fieldsOf Slots)) (now (s .entry)) at)) ⌝ }
 {
-    let f1 = up_to(s, at, Pack::CURRENT, Pack::NONE);
+    let f1 = up_to(s, at, Pack::CURRENT, Pack::ANY_VALUE);
     if f1 != 0 {
         return f1;
     }
-    let f2 = up_to(s, at + 1, Pack::RELATED, Pack::NONE);
+    let f2 = up_to(s, at + 1, Pack::RELATED, Pack::ANY_VALUE);
     if f2 != 0 {
         return f2;
     }
@@ -96,9 +96,9 @@ fn slots(s: &[u32], at: usize) -> usize
 // The arguments of a RelationAtom.
 fn atom(s: &[u32], at: usize) -> usize
     requires { ⌜ (length (now s) ≤ 8192) × (at ≤ length (now s)) ⌝ }
-    ensures { λ r. ⌜ ((n : ℕ) → r ≡ coded (walk (fields n (fieldsOf Atom)) (now (s .entry)) at)) ⌝ }
+    ensures { λ r. ⌜ ((n : ℕ) → r ≡ codedStep (skipOver (fields n (fieldsOf Atom)) (now (s .entry)) at)) ⌝ }
 {
-    let f1 = up_to(s, at, Pack::ARGUMENTS, Pack::NONE);
+    let f1 = up_to(s, at, Pack::ARGUMENTS, Pack::ANY_VALUE);
     if f1 != 0 {
         return f1;
     }
@@ -108,18 +108,18 @@ fn atom(s: &[u32], at: usize) -> usize
 // The slots of an OnlyRelated, and its input's or derived name.
 fn only_related(s: &[u32], t: &[u32; 256], at: usize) -> usize
     requires { ⌜ (length (now s) ≤ 8192) × (at ≤ length (now s)) ⌝ }
-    ensures { λ r. ⌜ r ≡ coded (walk (fields (boundOf (now (t .entry))) (fieldsOf OnlyRelated)) (now (s .entry)) at) ⌝ }
+    ensures { λ r. ⌜ r ≡ codedStep (skipOver (fields (boundOf (now (t .entry))) (fieldsOf OnlyRelated)) (now (s .entry)) at) ⌝ }
 {
-    let f1 = up_to(s, at, Pack::CURRENT, Pack::NONE);
+    let f1 = up_to(s, at, Pack::CURRENT, Pack::ANY_VALUE);
     if f1 != 0 {
         return f1;
     }
-    let f2 = up_to(s, at + 1, Pack::RELATED, Pack::NONE);
+    let f2 = up_to(s, at + 1, Pack::RELATED, Pack::ANY_VALUE);
     if f2 != 0 {
         return f2;
     }
     let c = Cursor { at: at + 2 };
-    match c.either(s, bound(t), Pack::INPUT, Pack::DERIVED, Rule::Name) {
+    match c.either(s, bound(t), Pack::INPUT, Pack::DERIVED, Values::Name) {
         Step::On(_, next) => next.at,
         Step::Refused(r) => refused(r.number, r.place),
     }
@@ -314,15 +314,15 @@ fn aggregate(
     requires { ⌜ Ready (now s) (now t) × (at ≤ length (now s)) × Based (now s) context ⌝ }
     ensures { λ r. ⌜ Shape (boundOf (now (t .entry))) left true Aggregate 0 context (now (s .entry)) at (now (notes .entry)) r (now (notes .exit)) ⌝ }
 {
-    let f1 = up_to(s, at, Pack::CURRENT, Pack::NONE);
+    let f1 = up_to(s, at, Pack::CURRENT, Pack::ANY_VALUE);
     if f1 != 0 {
         return f1;
     }
-    let f2 = up_to(s, at + 1, Pack::RELATED, Pack::NONE);
+    let f2 = up_to(s, at + 1, Pack::RELATED, Pack::ANY_VALUE);
     if f2 != 0 {
         return f2;
     }
-    let f3 = up_to(s, at + 2, Pack::VALUE, Pack::NONE);
+    let f3 = up_to(s, at + 2, Pack::VALUE, Pack::ANY_VALUE);
     if f3 != 0 {
         return f3;
     }
@@ -346,7 +346,7 @@ fn exists(s: &[u32], t: &[u32; 256], at: usize, left: u32, context: u32, notes: 
     requires { ⌜ Ready (now s) (now t) × (at ≤ length (now s)) × Based (now s) context ⌝ }
     ensures { λ r. ⌜ Shape (boundOf (now (t .entry))) left true Exists 0 context (now (s .entry)) at (now (notes .entry)) r (now (notes .exit)) ⌝ }
 {
-    let f1 = up_to(s, at, Pack::ARGUMENTS, Pack::NONE);
+    let f1 = up_to(s, at, Pack::ARGUMENTS, Pack::ANY_VALUE);
     if f1 != 0 {
         return f1;
     }

@@ -22,9 +22,10 @@ use Rattle.pack.proofs.FormLaws.{clash}
 use Rattle.definitions.specs.Records.{undated, Hop, Derivation, Relation}
 use Rattle.definitions.specs.Rows.{Records, Chain, Member, RelationTail, toDerivation}
 use Rattle.definitions.specs.Pack.{defaulted, relations, rules, blocks, records, nextUsed, hop, path, chain, member, nameList, derivation, optionalDerivation, newName, relationTail, relation}
-use Rattle.pack.specs.Steps.{stepOf, walk, same, nameOf, fieldStep}
+use Rattle.definitions.specs.Places.{hops, relationWords}
+use Rattle.pack.specs.Readers.{stepOf, skipOver, itself, nameOf, fieldStep}
 use Rattle.pack.proofs.StepLaws.{at-most, field-fine, step-no}
-use Rattle.records.specs.Directory.{Noted, hops, leadOf, leadIn, chainLead, entities, derivedBy, noteIn, tailNote, entered, entry, noteRelation, Clear, relationWords, noteRelations, notesAll, relationsAt, rulesAt, blocksAt, layoutOf, directoryOf, stepIn, refusal}
+use Rattle.records.specs.Directory.{Noted, leadOf, leadIn, chainLead, entities, derivedNote, noteIn, tailNote, entered, entry, noteRelation, Clear, noteRelations, notesAll, relationsAt, rulesAt, blocksAt, layoutOf, directoryOf, stepIn, refusedLayout}
 use Rattle.records.specs.Notes.{noteRules, notePredicate, notePredicates, Both, noteBoth, noteAll, relationsLeft, notesLeft, LaidOut}
 use Rattle.records.proofs.KeptLaws.{there, within, noted-there, Left, left-all, left-turn}
 use Rattle.records.proofs.RecordLaws.{name-alike, relation-below}
@@ -99,13 +100,13 @@ chain-read n ws at {y} {v} {k} e o =
 
 -- what is kept of a derivation
 pub derived-note : (n kinds : ℕ) (a : Chain) (b : Member) {slots lead many s : ℕ} → slots ≡ 3 + kinds + length (wordsBy (chain n) a) → chainLead a ≡ lead → entities b ≡ many
-    → s ≡ derivedBy kinds slots many lead → noteIn kinds (some (toDerivation (a, b))) ≡ s
+    → s ≡ derivedNote kinds slots many lead → noteIn kinds (some (toDerivation (a, b))) ≡ s
 unfolding noteIn
 derived-note n kinds a b {slots} {lead} {many} {s} p l m e =
     let w : 7 + kinds + 3 * hops (a .1 .0) ≡ slots = omega (arith, chain-words n a) in
     rw (w, l, m, ← e) refl
 
-derived-small : (kinds slots many lead : ℕ) → slots ≤ 64 → lead ≤ 4096 → derivedBy kinds slots many lead < 266240
+derived-small : (kinds slots many lead : ℕ) → slots ≤ 64 → lead ≤ 4096 → derivedNote kinds slots many lead < 266240
 derived-small kinds slots many lead a b = go (eqb many 0) (eqb kinds 0) (eqb lead 0)
   where
     go : (x y z : Bool) → pick x (pick y (pick z (64 * slots) (64 * (63 + lead))) (3 + 64 * slots)) (slots + 4 + 64 * slots) < 266240
@@ -200,11 +201,11 @@ pub record NameRead (n at v : ℕ) (k : Cursor) (ws : List ℕ) : Type 0 where
   pub near : k .at ≤ length ws
   pub below : v < n
 
-pub name-read : (n : ℕ) (used : ℕ → Bool) (ws : List ℕ) (at : ℕ) {y : Step} {v : ℕ} {k : Cursor} → y ≡ stepOf same (newName n used) ws at → y ≡ On v k → NameRead n at v k ws
+pub name-read : (n : ℕ) (used : ℕ → Bool) (ws : List ℕ) (at : ℕ) {y : Step} {v : ℕ} {k : Cursor} → y ≡ stepOf itself (newName n used) ws at → y ≡ On v k → NameRead n at v k ws
 unfolding newName wordsBy Fine allowedHere entryOf table
 name-read n used ws at {v = v} e o =
-    let t = there same (newName n used) ws at e o in
-    record { on = t .on; near = within same (newName n used) ws at e o (λ a. omega arith); below = subst (λ (m : ℕ). m < n) (t .kept) (ltb-true (t .value) n (t .fine .0 .1)) }
+    let t = there itself (newName n used) ws at e o in
+    record { on = t .on; near = within itself (newName n used) ws at e o (λ a. omega arith); below = subst (λ (m : ℕ). m < n) (t .kept) (ltb-true (t .value) n (t .fine .0 .1)) }
 
 -- ---- the loop over relations
 
@@ -256,7 +257,7 @@ pub record CountRead (at v : ℕ) (k : Cursor) : Type 0 where
 
 pub count-read : (n : ℕ) (ws : List ℕ) (at : ℕ) {x : Step} {v : ℕ} {k : Cursor} → x ≡ fieldStep n 5 ws at → x ≡ On v k → CountRead at v k
 unfolding entryOf table wordsBy
-count-read n ws at {v = v} e o = record { few = at-most n 5 512 refl v (field-fine n 5 ws at e o .1); late = omega (arith, there same (field n 5) ws at e o .on) }
+count-read n ws at {v = v} e o = record { few = at-most n 5 512 refl v (field-fine n 5 ws at e o .1); late = omega (arith, there itself (field n 5) ws at e o .on) }
 
 -- ---- all records
 
@@ -273,10 +274,10 @@ layout-alike : (n e : ℕ) {a b c f g x y z u v : ℕ} → a ≡ x → b ≡ y �
 layout-alike n e p q r s t = rw (p, q, r, s, t) refl
 
 module _ (n : ℕ) (ws : List ℕ) (at : ℕ) (d e : List ℕ) {d′ e′ : List ℕ} where
-  pub laid-no : {x : Step} {w : Refusal} {r : Laid} → x ≡ walk (records undated n) ws at → x ≡ Refused w → r ≡ refusal x → LaidOut n ws at d e r d′ e′
+  pub laid-no : {x : Step} {w : Refusal} {r : Laid} → x ≡ skipOver (records undated n) ws at → x ≡ Refused w → r ≡ refusedLayout x → LaidOut n ws at d e r d′ e′
   unfolding stepOf
   laid-no {x} {w} {r} y o q =
-      let s : r ≡ No w = q ∙ ap refusal o in
+      let s : r ≡ No w = q ∙ ap refusedLayout o in
       let no = step-no (λ a. 0) (readBy (records undated n) at (drop at ws)) (sym y ∙ o) in
       record {
         answers = ap stepIn s ∙ sym o ∙ y;
@@ -286,8 +287,8 @@ module _ (n : ℕ) (ws : List ℕ) (at : ℕ) (d e : List ℕ) {d′ e′ : List
       }
 
   module _ {y₁ y₂ y₃ y₄ : Step} {v₁ v₂ v₃ v₄ : ℕ} {k₁ k₂ k₃ k₄ : Cursor} {e₁ : List ℕ} {first all : ℕ} where
-    pub laid-yes : y₁ ≡ walk (defaulted n) ws at → y₁ ≡ On v₁ k₁ → Noted (count list) (relations n) (noteAll n (k₁ .at)) ws (k₁ .at) (d, e) y₂ (d′, e₁) → y₂ ≡ On v₂ k₂
-        → Noted (count list) (rules n) (noteRules n (k₂ .at)) ws (k₂ .at) e₁ y₃ e′ → y₃ ≡ On v₃ k₃ → y₄ ≡ walk (blocks n) ws (k₃ .at) → y₄ ≡ On v₄ k₄
+    pub laid-yes : y₁ ≡ skipOver (defaulted n) ws at → y₁ ≡ On v₁ k₁ → Noted (count list) (relations n) (noteAll n (k₁ .at)) ws (k₁ .at) (d, e) y₂ (d′, e₁) → y₂ ≡ On v₂ k₂
+        → Noted (count list) (rules n) (noteRules n (k₂ .at)) ws (k₂ .at) e₁ y₃ e′ → y₃ ≡ On v₃ k₃ → y₄ ≡ skipOver (blocks n) ws (k₃ .at) → y₄ ≡ On v₄ k₄
         → first ≡ getD e₁ 0 0 → all ≡ getD e′ 0 0
         → LaidOut n ws at d e (Yes (record { names = n; relations = v₂; rules = k₂ .at; blocks = k₃ .at; end = k₄ .at; noted = first; all = all })) d′ e′
     unfolding records readBy stepOf layoutOf directoryOf relationsAt rulesAt blocksAt relationsLeft notesLeft count

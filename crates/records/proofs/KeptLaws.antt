@@ -9,10 +9,10 @@ use Rattle.definitions.specs.declared.answer.Refusal.{Refusal}
 use Rattle.pack.specs.declared.cursor.Cursor.{Cursor}
 use Rattle.pack.specs.declared.cursor.Step.{Step}
 use Rattle.pack.specs.declared.cursor.Step.the-variants.{On, Refused}
-use Rattle.definitions.specs.declared.table.Rule.the-variants.{AtMost, FromOne}
+use Rattle.definitions.specs.declared.table.Values.the-variants.{AtMost, FromOne}
 use Rattle.definitions.specs.Table.{wordOf, entryOf}
 use Rattle.definitions.specs.Form.{Read, got, refused, bind, mapRead, readField, readAll, Holder, list, option, count, says, whole, Suits, Form, field, _▹_, via, countedFrom, oneAndMore, wordsBy, Fine, readBy}
-use Rattle.pack.specs.Steps.{stepBy, stepOf, walk, same, fieldStep, walkAll}
+use Rattle.pack.specs.Readers.{stepBy, stepOf, skipOver, itself, fieldStep, skipAll}
 use Rattle.pack.proofs.FormLaws.{lawful, clash, bind-got, map-got}
 use Rattle.pack.proofs.StepLaws.{went, went-same, step-no, by-via, by-left, by-more, all-next, all-done, field-fine, at-most}
 use Rattle.reading.specs.Noting.{State, NotedStep}
@@ -71,19 +71,19 @@ module _ {A : Type 0} (f : A → ℕ) (F : Form A) (ws : List ℕ) (at : ℕ) {y
   kept-last g h = let t = there in sym (rw (t .found) (rw (h t) refl))
 
 -- the value of a count word is the count of what is read
-pub counted-kept : {S A C : Type 0} (H : Holder A C) (n kind : ℕ) (suits : Suits H (entryOf kind .rule)) (step : S → A → S) (F : S → Form A) (s : S) (ws : List ℕ) (at : ℕ) {y : Step}
+pub counted-kept : {S A C : Type 0} (H : Holder A C) (n kind : ℕ) (suits : Suits H (entryOf kind .values)) (step : S → A → S) (F : S → Form A) (s : S) (ws : List ℕ) (at : ℕ) {y : Step}
     → y ≡ fieldStep n kind ws at → {v : ℕ} {k : Cursor} → y ≡ On v k → {u : ℕ} {j : Cursor}
-    → On u j ≡ walk (countedFrom H n kind suits step F s) ws at → On v j ≡ stepOf (count H) (countedFrom H n kind suits step F s) ws at
+    → On u j ≡ skipOver (countedFrom H n kind suits step F s) ws at → On v j ≡ stepOf (count H) (countedFrom H n kind suits step F s) ws at
 unfolding wordsBy
 counted-kept H n kind suits step F s ws at e {v} {k} o {u} {j} w =
     kept-last (λ c. 0) (countedFrom H n kind suits step F s) ws at w refl (count H)
     (λ t.
-    let b = there same (field n kind) ws at e o in
+    let b = there itself (field n kind) ws at e o in
     let q : wordOf kind (count H (t .value)) ≡ wordOf kind (b .value) = cc (t .stood, b .stood) in
     omega (arith, q, b .kept))
 
 -- a flag and what it says
-module _ {A : Type 0} (n kind : ℕ) (flag : entryOf kind .rule ≡ AtMost 1) (F : Form A) (ws : List ℕ) (at : ℕ) {y : Step} (e : y ≡ fieldStep n kind ws at) {v : ℕ} {k : Cursor} (o : y ≡ On v k) (g : Option A → ℕ) where
+module _ {A : Type 0} (n kind : ℕ) (flag : entryOf kind .values ≡ AtMost 1) (F : Form A) (ws : List ℕ) (at : ℕ) {y : Step} (e : y ≡ fieldStep n kind ws at) {v : ℕ} {k : Cursor} (o : y ≡ On v k) (g : Option A → ℕ) where
   abbrev optional : Form (Option A)
   optional = countedFrom {S = Unit {0}} option n kind flag (λ u a. u) (λ u. F) tt
 
@@ -190,7 +190,7 @@ module _ {S A D : Type 0} (step : S → A → S) (F : S → Form A) (W : A → L
 
   -- what is left to do: whatever is read from the start on is read from here on, and its notes end alike
   pub record Left (m₀ : ℕ) (s₀ : S) (at₀ : ℕ) (d₀ : D) (m i : ℕ) (s : S) (at : ℕ) (d : D) : Type 0 where
-    pub walks : walkAll step F m₀ s₀ ws at₀ ≡ walkAll step F m s ws at
+    pub walks : skipAll step F m₀ s₀ ws at₀ ≡ skipAll step F m s ws at
     pub notes : (L : List A) (next : ℕ) (rest : List ℕ) → reads m₀ s₀ at₀ ≡ got L next rest
         → (l : List A) × (reads m s at ≡ got l next rest) × (notesAll W note 0 at₀ L d₀ ≡ notesAll W note i at l d)
 
@@ -233,7 +233,7 @@ module _ {S A D : Type 0} (step : S → A → S) (F : S → Form A) (W : A → L
         sym (b .2 ∙ rw (← y) refl)
 
   -- a count, and as many of them
-  module _ (n kind : ℕ) (suits : Suits {A = A} list (entryOf kind .rule)) (s : S) (at : ℕ) (d : D) {y : Step} (e : y ≡ fieldStep n kind ws at) {v : ℕ} {k : Cursor} (o : y ≡ On v k) where
+  module _ (n kind : ℕ) (suits : Suits {A = A} list (entryOf kind .values)) (s : S) (at : ℕ) (d : D) {y : Step} (e : y ≡ fieldStep n kind ws at) {v : ℕ} {k : Cursor} (o : y ≡ On v k) where
     pub noted-all : {i : ℕ} {u : S} {j : Cursor} {m : ℕ} {d′ : D} → Left v s (k .at) d m i u (j .at) d′ → m ≤ 0
         → Noted (count list) (countedFrom list n kind suits step F s) (notesAll W note 0 (at + 1)) ws at d (On v j) d′
     unfolding readBy says whole wordsBy
@@ -241,7 +241,7 @@ module _ {S A D : Type 0} (step : S → A → S) (F : S → Form A) (W : A → L
         record {
           answers = counted-kept list n kind suits step F s ws at e o (by-left list n kind suits step F s ws at e o refl (all-done step F u ws (j .at) m h ∙ sym (l .walks)));
           notes = λ L next rest r.
-              (let t = there same (field n kind) ws at e o in
+              (let t = there itself (field n kind) ws at e o in
               let c : readField n kind at (drop at ws) ≡ got v (k .at) (drop (k .at) ws) = went-same (field n kind) ws at e o .0 in
               let w = map-got (λ (l : List A). l) (reads v s (k .at)) (rw c at r) in
               let a : k .at ≡ at + 1 = t .on in
@@ -284,7 +284,7 @@ module _ {A : Type 0} (F : Form A) (note : ℕ → ℕ → A → List ℕ → Li
       }
 
 -- a count, one and so many more
-module _ {A B : Type 0} (n kind most : ℕ) (rule : entryOf kind .rule ≡ FromOne most) (F : Form A) (G : Form B) (first : ℕ → A → List ℕ → List ℕ) (note : ℕ → ℕ → B → List ℕ → List ℕ) (ws : List ℕ) (at : ℕ) (d : List ℕ) {y : Step} (e : y ≡ fieldStep n kind ws at) {v : ℕ} {k : Cursor} (o : y ≡ On v k) where
+module _ {A B : Type 0} (n kind most : ℕ) (rule : entryOf kind .values ≡ FromOne most) (F : Form A) (G : Form B) (first : ℕ → A → List ℕ → List ℕ) (note : ℕ → ℕ → B → List ℕ → List ℕ) (ws : List ℕ) (at : ℕ) (d : List ℕ) {y : Step} (e : y ≡ fieldStep n kind ws at) {v : ℕ} {k : Cursor} (o : y ≡ On v k) where
   abbrev pub noteMore : A × List B → List ℕ → List ℕ
   noteMore t d = notesAll (wordsBy G) note 0 (at + 1 + length (wordsBy F (t .0))) (t .1) (first (at + 1) (t .0) d)
 
@@ -297,7 +297,7 @@ module _ {A B : Type 0} (n kind most : ℕ) (rule : entryOf kind .rule ≡ FromO
   noted-more {d₁ = d₁} h {j = j} p {c} {m} {d′} g z =
       let a = noted-there (λ a. 0) F (first (k .at)) ws (k .at) d h p in
       let t = a .0 in
-      let b = there same (field n kind) ws at e o in
+      let b = there itself (field n kind) ws at e o in
       let q : readField n kind at (drop at ws) ≡ got v (k .at) (drop (k .at) ws) = went-same (field n kind) ws at e o .0 in
       let on : k .at ≡ at + 1 = b .on in
       record {

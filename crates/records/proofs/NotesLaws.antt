@@ -13,10 +13,11 @@ use Rattle.definitions.specs.Tree.{Tree, root}
 use Rattle.definitions.specs.Records.{Body, Derivation, Relation}
 use Rattle.definitions.specs.Rows.{Chain, Member, RelationTail, toBody, toDerivation, toRelation, toRule}
 use Rattle.definitions.specs.Pack.{body, bodies, rule, nameList, chain, member, derivation, optionalDerivation, relationTail, newName, relation}
+use Rattle.definitions.specs.Places.{hops}
 use Rattle.pack.specs.Packed.{boundOf}
-use Rattle.pack.specs.Steps.{stepOf, walk, same, nameOf, fieldStep}
+use Rattle.pack.specs.Readers.{stepOf, skipOver, itself, nameOf, fieldStep}
 use Rattle.reading.specs.Noting.{ReadyFor, Context, noteTree, NotedStep}
-use Rattle.records.specs.Directory.{Noted, hops, chainLead, entities, derivedBy, memberNote, noteIn, tailNote, noteRelation}
+use Rattle.records.specs.Directory.{Noted, chainLead, entities, derivedNote, memberNote, noteIn, tailNote, noteRelation}
 use Rattle.records.specs.Notes.{opened, inside, noteBody, noteMember, noteDerivation, noteOptional, noteTail, notePredicate, Both, noteBoth, noteBodies, noteRule}
 use Rattle.records.proofs.KeptLaws.{there, within, noted-then, noted-via, noted-as, noted-last, tree-noted}
 use Rattle.records.proofs.DirectoryLaws.{chain-words, derived-note}
@@ -33,7 +34,7 @@ pub body-noted : (n context : ℕ) (ws : List ℕ) (at : ℕ) (d : List ℕ) {y 
 unfolding body wordsBy
 body-noted n context ws at d {k = k} q o {x} {e} h =
     noted-via _ _ _ _ (λ b. 0) _ (noteBody context at) ws at d
-    (noted-then same (field n 27) ws at q o (λ sort. root n sort) (λ t. 0) (λ t. noteBody context at (toBody t)) d
+    (noted-then itself (field n 27) ws at q o (λ sort. root n sort) (λ t. 0) (λ t. noteBody context at (toBody t)) d
     (λ t. subst (λ (s : ℕ). Noted (λ b. 0) (root n s) (λ b d. noteTree context b (at + 1, d) .1) ws (k .at) d x e) (sym (t .kept))
     (noted-as _ _ _ _ _ _ _ _ h (λ u. ap (λ (i : ℕ). noteTree context u (i, d) .1) (t .on)))))
 
@@ -48,8 +49,8 @@ list-words n kind l = let e = names-words n l in omega arith
 
 -- what follows the chain of a derivation: its predicate is noted
 module _ (n context : ℕ) (ws : List ℕ) (at : ℕ) (d : List ℕ) {y₁ y₂ y₃ : Step} {v₁ v₂ v₃ : ℕ} {k₁ k₂ k₃ : Cursor} where
-  pub member-noted : y₁ ≡ walk (field n 19) ws at → y₁ ≡ On v₁ k₁ → y₂ ≡ walk (field n 20) ws (k₁ .at) → y₂ ≡ On v₂ k₂ → y₃ ≡ stepOf (count list) (nameList n 21) ws (k₂ .at) → y₃ ≡ On v₃ k₃
-      → (kinds slots lead : ℕ) {s : ℕ} → s ≡ derivedBy kinds slots v₃ lead
+  pub member-noted : y₁ ≡ skipOver (field n 19) ws at → y₁ ≡ On v₁ k₁ → y₂ ≡ skipOver (field n 20) ws (k₁ .at) → y₂ ≡ On v₂ k₂ → y₃ ≡ stepOf (count list) (nameList n 21) ws (k₂ .at) → y₃ ≡ On v₃ k₃
+      → (kinds slots lead : ℕ) {s : ℕ} → s ≡ derivedNote kinds slots v₃ lead
       → {x : Step} {e : List ℕ} → Noted (λ u. 0) (root n 1) (λ u d. noteTree context u (k₃ .at, d) .1) ws (k₃ .at) d x e → {v : ℕ} {k : Cursor} → x ≡ On v k
       → Noted (memberNote kinds slots lead) (member n) (noteMember context at) ws at d (On s k) e
   unfolding member wordsBy count
@@ -59,7 +60,7 @@ module _ (n context : ℕ) (ws : List ℕ) (at : ℕ) (d : List ℕ) {y₁ y₂ 
       (λ b. noted-then (count list) (nameList n 21) ws (k₂ .at) q₃ o₃ _ _ (λ t. noteMember context at (a .value, (b .value, t))) d
       (λ l. let w = list-words n 21 (l .value) in
       let p : k₃ .at ≡ at + 3 + length (l .value) = omega (arith, a .on, b .on, l .on, w) in
-      noted-as _ _ _ _ _ _ _ _ (noted-last _ _ _ _ _ _ h o (λ u. derivedBy kinds slots (length (l .value)) lead) (λ t. ap (λ (i : ℕ). derivedBy kinds slots i lead) (l .kept) ∙ sym m)) (λ u. ap (λ (i : ℕ). noteTree context u (i, d) .1) p))))
+      noted-as _ _ _ _ _ _ _ _ (noted-last _ _ _ _ _ _ h o (λ u. derivedNote kinds slots (length (l .value)) lead) (λ t. ap (λ (i : ℕ). derivedNote kinds slots i lead) (l .kept) ∙ sym m)) (λ u. ap (λ (i : ℕ). noteTree context u (i, d) .1) p))))
 
 -- a derivation, of a relation that starts at a place
 module _ (n kinds start : ℕ) (ws : List ℕ) (at : ℕ) (d : List ℕ) {y : Step} {lead : ℕ} {k : Cursor} where
@@ -80,7 +81,7 @@ module _ (n kinds start : ℕ) (ws : List ℕ) (at : ℕ) (d : List ℕ) {y : St
 
 -- what follows the name of a relation
 module _ (n start : ℕ) (ws : List ℕ) (at : ℕ) (d : List ℕ) {y₁ y₂ y₃ : Step} {v₁ v₂ v₃ : ℕ} {k₁ k₂ k₃ : Cursor} where
-  pub tail-noted : y₁ ≡ walk (field n 7) ws at → y₁ ≡ On v₁ k₁ → y₂ ≡ walk (field n 8) ws (k₁ .at) → y₂ ≡ On v₂ k₂ → y₃ ≡ stepOf (count list) (nameList n 9) ws (k₂ .at) → y₃ ≡ On v₃ k₃
+  pub tail-noted : y₁ ≡ skipOver (field n 7) ws at → y₁ ≡ On v₁ k₁ → y₂ ≡ skipOver (field n 8) ws (k₁ .at) → y₂ ≡ On v₂ k₂ → y₃ ≡ stepOf (count list) (nameList n 9) ws (k₂ .at) → y₃ ≡ On v₃ k₃
       → {x : Step} {e : List ℕ} → Noted (noteIn v₃) (optionalDerivation n) (noteOptional start (k₃ .at)) ws (k₃ .at) d x e
       → Noted tailNote (relationTail n) (noteTail start at) ws at d x e
   unfolding relationTail wordsBy count
@@ -95,18 +96,18 @@ module _ (n start : ℕ) (ws : List ℕ) (at : ℕ) (d : List ℕ) {y₁ y₂ y�
 
 -- ---- where words stand that were read
 
-pub field-on : (n kind : ℕ) (ws : List ℕ) (at : ℕ) {y : Step} {v : ℕ} {k : Cursor} → y ≡ walk (field n kind) ws at → y ≡ On v k → k .at ≡ at + 1
+pub field-on : (n kind : ℕ) (ws : List ℕ) (at : ℕ) {y : Step} {v : ℕ} {k : Cursor} → y ≡ skipOver (field n kind) ws at → y ≡ On v k → k .at ≡ at + 1
 unfolding wordsBy
 field-on n kind ws at e o = there (λ a. 0) (field n kind) ws at e o .on
 
 pub flag-on : (n : ℕ) (ws : List ℕ) (at : ℕ) {y : Step} {v : ℕ} {k : Cursor} → y ≡ fieldStep n 11 ws at → y ≡ On v k → k .at ≡ at + 1
 unfolding wordsBy
-flag-on n ws at e o = there same (field n 11) ws at e o .on
+flag-on n ws at e o = there itself (field n 11) ws at e o .on
 
 pub list-on : (n : ℕ) (ws : List ℕ) (at : ℕ) {y : Step} {v : ℕ} {k : Cursor} → y ≡ stepOf (count list) (nameList n 9) ws at → y ≡ On v k → at ≤ k .at
 list-on n ws at e o = omega (arith, there (count list) (nameList n 9) ws at e o .on)
 
-pub rule-place : (n : ℕ) (ws : List ℕ) (at : ℕ) {y : Step} {v : ℕ} {k : Cursor} → y ≡ walk (field n 23) ws at → y ≡ On v k → length ws ≤ 8192 → at ≤ 8192
+pub rule-place : (n : ℕ) (ws : List ℕ) (at : ℕ) {y : Step} {v : ℕ} {k : Cursor} → y ≡ skipOver (field n 23) ws at → y ≡ On v k → length ws ≤ 8192 → at ≤ 8192
 unfolding wordsBy
 rule-place n ws at e o m = omega (arith, field-on n 23 ws at e o, within (λ a. 0) (field n 23) ws at e o (λ a. omega arith))
 
@@ -116,7 +117,7 @@ rule-context d e = omega (arith, e)
 -- ---- a rule, and a relation
 
 module _ (n i : ℕ) (ws : List ℕ) (at : ℕ) (d : List ℕ) {y₁ y₂ y₃ : Step} {v₁ v₂ v₃ : ℕ} {k₁ k₂ k₃ : Cursor} where
-  pub rule-noted : y₁ ≡ walk (field n 23) ws at → y₁ ≡ On v₁ k₁ → y₂ ≡ walk (field n 24) ws (k₁ .at) → y₂ ≡ On v₂ k₂ → y₃ ≡ walk (field n 25) ws (k₂ .at) → y₃ ≡ On v₃ k₃
+  pub rule-noted : y₁ ≡ skipOver (field n 23) ws at → y₁ ≡ On v₁ k₁ → y₂ ≡ skipOver (field n 24) ws (k₁ .at) → y₂ ≡ On v₂ k₂ → y₃ ≡ skipOver (field n 25) ws (k₂ .at) → y₃ ≡ On v₃ k₃
       → {context : ℕ} {d₁ : List ℕ} → context ≡ inside d → d₁ ≡ opened at d → {x : Step} {e : List ℕ}
       → Noted (λ t. 0) (bodies n) (noteBodies n context (k₃ .at)) ws (k₃ .at) d₁ x e → Noted (λ r. 0) (rule n) (noteRule n i at) ws at d x e
   unfolding rule noteRule

@@ -17,7 +17,8 @@ use Rattle.definitions.specs.Form.{Read, got, refused, Form, wordsBy, readBy}
 use Rattle.definitions.specs.Records.{Hop, Derivation, Relation}
 use Rattle.definitions.specs.Rows.{Chain, Member, RelationTail, Records}
 use Rattle.definitions.specs.Pack.{defaulted, relation, relations, rules}
-use Rattle.pack.specs.Steps.{stepOf}
+use Rattle.definitions.specs.Places.{hops, relationWords}
+use Rattle.pack.specs.Readers.{stepOf}
 
 -- ---- readers that note
 
@@ -33,10 +34,6 @@ notesAll W note i at [] d = d
 notesAll W note i at (a ∷ l) d = notesAll W note (i + 1) (at + length (W a)) l (note i at a d)
 
 -- ---- what is noted of a relation
-
-abbrev pub hops : Option (List Hop) → ℕ
-hops none = 0
-hops (some l) = length l
 
 -- "a source and path none lead on to the source": the name and 1, 0 for none
 unfoldable pub leadOf : ℕ → Option (List Hop) → ℕ
@@ -63,17 +60,17 @@ slotsBehind kinds d = 7 + kinds + 3 * hops (d .path)
 abbrev pub plainBy : ℕ → ℕ
 plainBy kinds = pick (eqb kinds 0) 0 3
 
-abbrev pub derivedBy : ℕ → ℕ → ℕ → ℕ → ℕ
-derivedBy kinds slots many lead =
+abbrev pub derivedNote : ℕ → ℕ → ℕ → ℕ → ℕ
+derivedNote kinds slots many lead =
     pick (eqb many 0) (pick (eqb kinds 0) (pick (eqb lead 0) (64 * slots) (64 * (63 + lead))) (3 + 64 * slots)) (slots + 4 + 64 * slots)
 
 -- of a derivation with such a chain, by what follows the chain
 abbrev pub memberNote : ℕ → ℕ → ℕ → Member → ℕ
-memberNote kinds slots lead t = derivedBy kinds slots (entities t) lead
+memberNote kinds slots lead t = derivedNote kinds slots (entities t) lead
 
 unfoldable pub noteIn : ℕ → Option Derivation → ℕ
 noteIn kinds none = plainBy kinds
-noteIn kinds (some d) = derivedBy kinds (slotsBehind kinds d) (length (d .slotEntities)) (leadOf (d .source) (d .path))
+noteIn kinds (some d) = derivedNote kinds (slotsBehind kinds d) (length (d .slotEntities)) (leadOf (d .source) (d .path))
 
 abbrev pub tailNote : RelationTail → ℕ
 tailNote t = noteIn (length (t .1 .1 .0)) (t .1 .1 .1)
@@ -89,9 +86,6 @@ entry at r = at + 8192 * noteIn (length (r .slotKinds)) (r .derivation)
 
 unfoldable pub noteRelation : ℕ → ℕ → Relation → List ℕ → List ℕ
 noteRelation i at r d = set (set d i (r .name)) (512 + r .name) (entry at r)
-
-abbrev pub relationWords : ℕ → Relation → List ℕ
-relationWords n r = wordsBy (relation n (λ v. false)) r
 
 abbrev pub noteRelations : ℕ → ℕ → List Relation → List ℕ → List ℕ
 noteRelations n at l d = notesAll (relationWords n) noteRelation 0 (at + 1) l d
@@ -127,6 +121,6 @@ stepIn (Yes l) = On 0 (record { at = l .end })
 stepIn (No r) = Refused r
 
 -- a refused step as a layout
-abbrev pub refusal : Step → Laid
-refusal (On v k) = No (record { number = 0; place = 0; name = 0; other = 0 })
-refusal (Refused r) = No r
+abbrev pub refusedLayout : Step → Laid
+refusedLayout (On v k) = No (record { number = 0; place = 0; name = 0; other = 0 })
+refusedLayout (Refused r) = No r

@@ -8,13 +8,14 @@ use lib.ListN.{length, getD, drop}
 use Rattle.records.specs.declared.directory.Laid.{Laid}
 use Rattle.records.specs.declared.directory.Laid.the-variants.{Yes}
 use Rattle.definitions.specs.Form.{got, wordsBy, readBy}
-use Rattle.pack.specs.Steps.{walk}
+use Rattle.pack.specs.Readers.{skipOver}
 use Rattle.definitions.specs.Records.{Body, Rule, Derivation, Relation, undated}
 use Rattle.definitions.specs.Rows.{Member, RelationTail, Records}
 use Rattle.definitions.specs.Pack.{body, rule, records}
+use Rattle.definitions.specs.Places.{hops, relationWords}
 use Rattle.reading.specs.Notes.{note, contextOf, noteCode}
 use Rattle.reading.specs.Noting.{push, nextNote, noteTree}
-use Rattle.records.specs.Directory.{hops, notesAll, relationWords, noteRelation, relationsAt, rulesAt, layoutOf, directoryOf, stepIn}
+use Rattle.records.specs.Directory.{notesAll, noteRelation, relationsAt, rulesAt, layoutOf, directoryOf, stepIn}
 
 -- a rule or relation at a place, inside no other note
 abbrev pub opened : ℕ → List ℕ → List ℕ
@@ -90,7 +91,7 @@ notesLeft n at t e = noteRules n (rulesAt n at t) (t .1 .1 .0) (relationsLeft n 
 
 -- The answer; and if they were read, where they stand, what is noted of them in the directory, and the notes.
 pub record LaidOut (n : ℕ) (ws : List ℕ) (at : ℕ) (d e : List ℕ) (r : Laid) (d′ e′ : List ℕ) : Type 0 where
-  pub answers : stepIn r ≡ walk (records undated n) ws at
+  pub answers : stepIn r ≡ skipOver (records undated n) ws at
   pub lays : (t : Records) (next : ℕ) (rest : List ℕ) → readBy (records undated n) at (drop at ws) ≡ got t next rest
       → r ≡ Yes (layoutOf n at next t (getD (relationsLeft n at t e) 0 0) (getD (notesLeft n at t e) 0 0))
   pub enters : (t : Records) (next : ℕ) (rest : List ℕ) → readBy (records undated n) at (drop at ws) ≡ got t next rest → d′ ≡ directoryOf n at t d

@@ -12,12 +12,12 @@ use reading::tree::count;
 ghost use mathlib.Core.Path.{_≡_};
 ghost use Prim.Native.Nat.{_≤_};
 ghost use Rattle.reading.specs.Noting.{ReadyFor};
-ghost use Rattle.records.specs.Directory.{Clear, refusal};
+ghost use Rattle.records.specs.Directory.{Clear, refusedLayout};
 ghost use Rattle.records.specs.Notes.{LaidOut};
 
 // What a refused step says.
 pub fn refused(f: Step) -> Laid
-    ensures { λ r. ⌜ r ≡ refusal f ⌝ }
+    ensures { λ r. ⌜ r ≡ refusedLayout f ⌝ }
 {
     match f {
         Step::Refused(e) => Laid::No(e),

@@ -4,19 +4,19 @@ use crate::directory::Directory;
 use pack::cursor::Cursor;
 use pack::cursor::Step;
 use pack::kinds::Pack;
-use definitions::table::Rule;
+use definitions::table::Values;
 use reading::tree::judgment;
 use reading::tree::open;
 ghost use mathlib.Core.Path.{_≡_};
-ghost use Rattle.definitions.specs.declared.table.Rule.the-variants.{AtMost};
+ghost use Rattle.definitions.specs.declared.table.Values.the-variants.{AtMost};
 ghost use Rattle.pack.specs.Packed.{Ruled};
 ghost use Rattle.definitions.specs.Pack.{nameList, hop, path, chain, member, derivation, optionalDerivation};
-ghost use Rattle.pack.specs.Steps.{walk, stepOf};
+ghost use Rattle.pack.specs.Readers.{skipOver, stepOf};
 ghost use Rattle.definitions.specs.Form.{count, list, listOrNone};
 ghost use mathlib.Core.Option.{some};
 ghost use Prim.Native.Nat.{_≤_};
 ghost use Rattle.reading.specs.Noting.{ReadyFor, Context};
-ghost use Rattle.records.specs.Directory.{Noted, leadIn, chainLead, plainBy, derivedBy, memberNote, noteIn};
+ghost use Rattle.records.specs.Directory.{Noted, leadIn, chainLead, plainBy, derivedNote, memberNote, noteIn};
 ghost use Rattle.records.specs.Notes.{noteMember, noteDerivation, noteOptional};
 
 // A count of this kind, and as many names: how many.
@@ -24,14 +24,14 @@ pub fn name_list(from: Cursor, s: &[u32], n: u32, kind: u32) -> Step
     requires { ⌜ Ruled kind (AtMost 8) ⌝ }
     ensures { λ r. ⌜ r ≡ stepOf (count list) (nameList n kind) (now (s .entry)) (from .at) ⌝ }
 {
-    let f = from.field(s, n, kind, Rule::AtMost(Pack::MOST_SLOTS));
+    let f = from.field(s, n, kind, Values::AtMost(Pack::MOST_SLOTS));
     let Step::On(count, first) = f else {
         return f;
     };
     let mut c = first;
     let mut left = count;
     while 0 < left {
-        let g = c.field(s, n, Pack::SLOT_KIND, Rule::Name);
+        let g = c.field(s, n, Pack::SLOT_KIND, Values::Name);
         let Step::On(_, next) = g else {
             return g;
         };
@@ -43,24 +43,24 @@ pub fn name_list(from: Cursor, s: &[u32], n: u32, kind: u32) -> Step
 
 // A step of a path.
 fn hop(from: Cursor, s: &[u32], n: u32) -> Step
-    ensures { λ r. ⌜ r ≡ walk (hop n) (now (s .entry)) (from .at) ⌝ }
+    ensures { λ r. ⌜ r ≡ skipOver (hop n) (now (s .entry)) (from .at) ⌝ }
 {
-    let f1 = from.skip(s, n, Pack::STEP_RELATION, Rule::Name);
+    let f1 = from.skip(s, n, Pack::STEP_RELATION, Values::Name);
     let Step::On(_, c1) = f1 else {
         return f1;
     };
-    let f2 = c1.skip(s, n, Pack::STEP_CURRENT, Rule::Any);
+    let f2 = c1.skip(s, n, Pack::STEP_CURRENT, Values::Any);
     let Step::On(_, c2) = f2 else {
         return f2;
     };
-    c2.skip(s, n, Pack::STEP_RELATED, Rule::Any)
+    c2.skip(s, n, Pack::STEP_RELATED, Values::Any)
 }
 
 // A path: its count.
 fn path(from: Cursor, s: &[u32], n: u32) -> Step
     ensures { λ r. ⌜ r ≡ stepOf (count listOrNone) (path n) (now (s .entry)) (from .at) ⌝ }
 {
-    let f = from.field(s, n, Pack::PATH, Rule::AtMostOrNone(Pack::MOST_STEPS));
+    let f = from.field(s, n, Pack::PATH, Values::AtMostOrNone(Pack::MOST_STEPS));
     let Step::On(count, first) = f else {
         return f;
     };
@@ -95,7 +95,7 @@ fn lead(source: u32, steps: u32) -> u32
 fn chain(from: Cursor, s: &[u32], n: u32) -> Step
     ensures { λ r. ⌜ r ≡ stepOf chainLead (chain n) (now (s .entry)) (from .at) ⌝ }
 {
-    let f1 = from.field(s, n, Pack::SOURCE, Rule::NameOrNone);
+    let f1 = from.field(s, n, Pack::SOURCE, Values::NameOrNone);
     let Step::On(source, c1) = f1 else {
         return f1;
     };
@@ -103,11 +103,11 @@ fn chain(from: Cursor, s: &[u32], n: u32) -> Step
     let Step::On(steps, c2) = f2 else {
         return f2;
     };
-    let f3 = c2.skip(s, n, Pack::CURRENT_SLOT, Rule::Any);
+    let f3 = c2.skip(s, n, Pack::CURRENT_SLOT, Values::Any);
     let Step::On(_, c3) = f3 else {
         return f3;
     };
-    let f4 = c3.skip(s, n, Pack::RELATED_SLOT, Rule::Any);
+    let f4 = c3.skip(s, n, Pack::RELATED_SLOT, Values::Any);
     let Step::On(_, c4) = f4 else {
         return f4;
     };
@@ -135,7 +135,7 @@ fn plain(kinds: u32) -> u32
 // The same with one whose list 21 has so many names.
 fn derived(front: Front, many: u32) -> u32
     requires { ⌜ (front .slots ≤ 8300) × (front .lead ≤ 4096) ⌝ }
-    ensures { λ r. ⌜ r ≡ derivedBy (front .kinds) (front .slots) many (front .lead) ⌝ }
+    ensures { λ r. ⌜ r ≡ derivedNote (front .kinds) (front .slots) many (front .lead) ⌝ }
 {
     let slots = front.slots;
     if many != 0 {
@@ -163,11 +163,11 @@ fn member(
     requires { ⌜ ReadyFor (now s) (now t) n × Context context × (front .slots ≤ 8300) × (front .lead ≤ 4096) ⌝ }
     ensures { λ r. ⌜ Noted (memberNote (front .kinds) (front .slots) (front .lead)) (member n) (noteMember context (from .at)) (now (s .entry)) (from .at) (now (notes .entry)) r (now (notes .exit)) ⌝ }
 {
-    let f1 = from.skip(s, n, Pack::ENTITY, Rule::NameOrNone);
+    let f1 = from.skip(s, n, Pack::ENTITY, Values::NameOrNone);
     let Step::On(_, c1) = f1 else {
         return f1;
     };
-    let f2 = c1.skip(s, n, Pack::MEMBER, Rule::NameOrNone);
+    let f2 = c1.skip(s, n, Pack::MEMBER, Values::NameOrNone);
     let Step::On(_, c2) = f2 else {
         return f2;
     };
@@ -220,7 +220,7 @@ pub fn optional_derivation(
     requires { ⌜ ReadyFor (now s) (now t) n × (n ≤ 4096) × (kinds ≤ 8) × (start ≤ from .at) ⌝ }
     ensures { λ r. ⌜ Noted (noteIn kinds) (optionalDerivation n) (noteOptional start (from .at)) (now (s .entry)) (from .at) (now (notes .entry)) r (now (notes .exit)) ⌝ }
 {
-    let f = from.field(s, n, Pack::DERIVATION, Rule::AtMost(1));
+    let f = from.field(s, n, Pack::DERIVATION, Values::AtMost(1));
     let Step::On(flag, c) = f else {
         return f;
     };

@@ -7,13 +7,13 @@ use definitions::answer::Refusal;
 use pack::cursor::Cursor;
 use pack::cursor::Step;
 use pack::kinds::Pack;
-use definitions::table::Rule;
+use definitions::table::Values;
 ghost use mathlib.Core.Path.{_≡_};
 ghost use Prim.Native.Nat.{_+_, _<_, _≤_};
 ghost use lib.ListN.{length};
 ghost use Rattle.definitions.specs.Pack.{relationTail, newName, relation, relations};
 ghost use Rattle.definitions.specs.Form.{count, list};
-ghost use Rattle.pack.specs.Steps.{stepOf, same, nameOf};
+ghost use Rattle.pack.specs.Readers.{stepOf, itself, nameOf};
 ghost use Rattle.reading.specs.Noting.{ReadyFor};
 ghost use Rattle.records.specs.Directory.{Noted, tailNote, entered, Clear};
 ghost use Rattle.records.specs.Notes.{noteTail, noteBoth, noteAll};
@@ -30,11 +30,11 @@ fn relation_tail(
     requires { ⌜ ReadyFor (now s) (now t) n × (n ≤ 4096) × (start ≤ from .at) ⌝ }
     ensures { λ r. ⌜ Noted tailNote (relationTail n) (noteTail start (from .at)) (now (s .entry)) (from .at) (now (notes .entry)) r (now (notes .exit)) ⌝ }
 {
-    let f1 = from.skip(s, n, Pack::RELATION_ORIGIN, Rule::NameOrNone);
+    let f1 = from.skip(s, n, Pack::RELATION_ORIGIN, Values::NameOrNone);
     let Step::On(_, c1) = f1 else {
         return f1;
     };
-    let f2 = c1.skip(s, n, Pack::ARITY, Rule::Any);
+    let f2 = c1.skip(s, n, Pack::ARITY, Values::Any);
     let Step::On(_, c2) = f2 else {
         return f2;
     };
@@ -48,10 +48,10 @@ fn relation_tail(
 // A name that no relation before it has.
 fn new_name(from: Cursor, s: &[u32], n: u32, dir: &[u32]) -> Step
     requires { ⌜ 512 + n ≤ length (now dir) ⌝ }
-    ensures { λ r. ⌜ r ≡ stepOf same (newName n (entered (now (dir .entry)))) (now (s .entry)) (from .at) ⌝ }
+    ensures { λ r. ⌜ r ≡ stepOf itself (newName n (entered (now (dir .entry)))) (now (s .entry)) (from .at) ⌝ }
 {
     let at = from.at;
-    let f = from.field(s, n, Pack::RELATION, Rule::Name);
+    let f = from.field(s, n, Pack::RELATION, Values::Name);
     let Step::On(v, c) = f else {
         return f;
     };
@@ -109,7 +109,7 @@ pub fn relations(
         s,
         n,
         Pack::RELATION_COUNT,
-        Rule::AtMost(Pack::MOST_RELATIONS),
+        Values::AtMost(Pack::MOST_RELATIONS),
     );
     let Step::On(count, first) = f else {
         return f;

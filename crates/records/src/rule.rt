@@ -2,7 +2,7 @@
 use pack::cursor::Cursor;
 use pack::cursor::Step;
 use pack::kinds::Pack;
-use definitions::table::Rule;
+use definitions::table::Values;
 use reading::tree::judgment;
 use reading::tree::open;
 use reading::tree::scalar;
@@ -18,7 +18,7 @@ fn body(from: Cursor, s: &[u32], t: &[u32; 256], n: u32, context: u32, notes: &m
     requires { ⌜ ReadyFor (now s) (now t) n × Context context ⌝ }
     ensures { λ r. ⌜ Noted (λ b. 0) (body n) (noteBody context (from .at)) (now (s .entry)) (from .at) (now (notes .entry)) r (now (notes .exit)) ⌝ }
 {
-    let f = from.field(s, n, Pack::BODY, Rule::AtMost(1));
+    let f = from.field(s, n, Pack::BODY, Values::AtMost(1));
     let Step::On(sort, c) = f else {
         return f;
     };
@@ -34,7 +34,7 @@ fn bodies(from: Cursor, s: &[u32], t: &[u32; 256], n: u32, context: u32, notes: 
     requires { ⌜ ReadyFor (now s) (now t) n × Context context ⌝ }
     ensures { λ r. ⌜ Noted (λ b. 0) (bodies n) (noteBodies n context (from .at)) (now (s .entry)) (from .at) (now (notes .entry)) r (now (notes .exit)) ⌝ }
 {
-    let f = from.field(s, n, Pack::BODIES, Rule::FromOne(Pack::MOST_BODIES));
+    let f = from.field(s, n, Pack::BODIES, Values::FromOne(Pack::MOST_BODIES));
     let Step::On(count, c0) = f else {
         return f;
     };
@@ -60,15 +60,15 @@ fn rule(from: Cursor, s: &[u32], t: &[u32; 256], n: u32, notes: &mut [u32]) -> S
     ensures { λ r. ⌜ ((i : ℕ) → Noted (λ b. 0) (rule n) (noteRule n i (from .at)) (now (s .entry)) (from .at) (now (notes .entry)) r (now (notes .exit))) ⌝ }
 {
     let start = from.at;
-    let f1 = from.skip(s, n, Pack::RULE, Rule::Name);
+    let f1 = from.skip(s, n, Pack::RULE, Values::Name);
     let Step::On(_, c1) = f1 else {
         return f1;
     };
-    let f2 = c1.skip(s, n, Pack::RULE_ORIGIN, Rule::NameOrNone);
+    let f2 = c1.skip(s, n, Pack::RULE_ORIGIN, Values::NameOrNone);
     let Step::On(_, c2) = f2 else {
         return f2;
     };
-    let f3 = c2.skip(s, n, Pack::RULE_ENTITY, Rule::Name);
+    let f3 = c2.skip(s, n, Pack::RULE_ENTITY, Values::Name);
     let Step::On(_, c3) = f3 else {
         return f3;
     };
@@ -81,7 +81,7 @@ pub fn rules(from: Cursor, s: &[u32], t: &[u32; 256], n: u32, notes: &mut [u32])
     requires { ⌜ ReadyFor (now s) (now t) n ⌝ }
     ensures { λ r. ⌜ Noted (count list) (rules n) (noteRules n (from .at)) (now (s .entry)) (from .at) (now (notes .entry)) r (now (notes .exit)) ⌝ }
 {
-    let f = from.field(s, n, Pack::RULE_COUNT, Rule::AtMost(Pack::MOST_RULES));
+    let f = from.field(s, n, Pack::RULE_COUNT, Values::AtMost(Pack::MOST_RULES));
     let Step::On(count, first) = f else {
         return f;
     };

@@ -20,15 +20,15 @@ use Rattle.definitions.specs.Answers.{noRoom}
 use Rattle.pack.proofs.PackLaws.{words-read, words-length}
 use Rattle.definitions.specs.Kinds.{allKinds}
 use Rattle.definitions.specs.Places.{relationWords, firstRelation, relationsEnd}
-use Rattle.chains.proofs.RelationScan.{RelationsFine}
-use Rattle.chains.proofs.PackIndex.{parts, all-found}
+use Rattle.chains.proofs.RelationForm.{RelationsFine}
+use Rattle.chains.proofs.PackParts.{parts, all-found}
 use Rattle.chains.proofs.CheckedLaws.{same-pack}
-use Rattle.definitions.specs.Turning.{Outcome, done, refused, andThen, mapDone}
+use Rattle.definitions.specs.ResolvingTrees.{Outcome, done, refused, andThen, mapDone}
 use Rattle.definitions.specs.Resolving.{stamp, ruleWords, resolveRule, resolveRules, resolveRelation, resolveRelations, firstRule}
 use Rattle.chains.specs.Record.{Recorded}
 use Rattle.stamping.specs.Stamping.{listsFor, addedBy, Listed}
 use Rattle.resolve.specs.Writing.{sums, lengths, beginnings, otherPieces, piecesOf, Stamped, WriteAsked, WriteCame}
-use Rattle.directions.specs.Records.{placesFrom, wordsOf, runBy, RelationKeeps, withRecords, turned, placesIn, Tabled}
+use Rattle.directions.specs.RecordRuns.{placesFrom, runWords, runBy, RelationKeeps, withRecords, treesResolved, placesIn, TablesFilled}
 use Rattle.definitions.specs.Operations.{givenOut, writtenOut}
 use Rattle.resolve.specs.Finish.{stampAll, AskedOf, ClearFor, FinishAsked, FinishCame}
 use Rattle.directions.proofs.KeepsForm.{Good}
@@ -52,8 +52,8 @@ record TurnedAs (p q : Pack) : Type 0 where
   relations-are : resolveRelations p (firstRelation p) (p .relations) ≡ done rels
   same : withRecords p rels rls ≡ q
 
-turned-as : (p q : Pack) → turned p ≡ done q → TurnedAs p q
-unfolding turned
+turned-as : (p q : Pack) → treesResolved p ≡ done q → TurnedAs p q
+unfolding treesResolved
 turned-as p q e = go (resolveRules p (firstRule p) (p .rules)) refl e
   where
     more : (rls : List Rule) → resolveRules p (firstRule p) (p .rules) ≡ done rls → (o : Outcome (List Relation)) → resolveRelations p (firstRelation p) (p .relations) ≡ o → mapDone (λ rels. withRecords p rels rls) o ≡ done q → TurnedAs p q
@@ -83,10 +83,10 @@ module _ (p : Pack) (w : WellFormed p) (rels : List Relation) (rls : List Rule) 
   rules-many : length rls ≡ length (p .rules)
   rules-many = run-length (ruleWords n) (λ at r. resolveRule p at r) (firstRule p) (p .rules) rls rules-ran
 
-  long : length (wordsOf (relationWords n) rels) ≡ length (wordsOf (relationWords n) (p .relations))
+  long : length (runWords (relationWords n) rels) ≡ length (runWords (relationWords n) (p .relations))
   long = run-words (relationWords n) (λ at r. resolveRelation p at r) (RelationKeeps p) (relation-long p w) (firstRelation p) (p .relations) rels (relations-keep p w .all) relations-ran
 
-  rules-long : length (wordsOf (ruleWords n) rls) ≡ length (wordsOf (ruleWords n) (p .rules))
+  rules-long : length (runWords (ruleWords n) rls) ≡ length (runWords (ruleWords n) (p .rules))
   rules-long = run-words (ruleWords n) (λ at r. resolveRule p at r) (λ r. Fine (rule n) r) (rule-long p w) (firstRule p) (p .rules) rls (rules-keep p w .all) rules-ran
 
   fine-relations : RelationsFine n [] rels
@@ -125,12 +125,12 @@ module _ (p : Pack) (w : WellFormed p) (rels : List Relation) (rls : List Rule) 
   pieces-same =
       ap (sums 0) (rw (map-append, map-append, relations-same, others-same) (ap (λ (x : ℕ). x ∷ (lengths (map (relationWords n) rels) ++ lengths (otherPieces q))) (front-long p ∙ sym (front-long q))))
 
-  module _ {ws starts acts taken : List ℕ} {steps : ℕ} (a : Tabled ws starts acts taken steps) (h : read ws ≡ yes p) {asked work order lists : List ℕ} {added : ℕ} (asks : AskedOf p asked)
+  module _ {ws starts acts taken : List ℕ} {steps : ℕ} (a : TablesFilled ws starts acts taken steps) (h : read ws ≡ yes p) {asked work order lists : List ℕ} {added : ℕ} (asks : AskedOf p asked)
       (stands : work ≡ words q) (places : order ≡ placesIn p) (listed : Listed ws work acts asked order lists added) where
     stamps : Stamped ws lists rels (map (stamp p) rels)
     stamps =
         subst (λ (l : List ℕ). Stamped ws l rels (map (stamp p) rels)) (ap (listsFor ws work acts asked) (sym places) ∙ sym (listed .each))
-        (all-stamped p w ws acts asked work h (parts p w .most) (a .filled .says) (settled a) asks (wordOf 22 (length (p .rules)) ∷ (wordsOf (ruleWords n) rls ++ wordsBy (blocks n) (p .blocks))) (firstRelation p) (p .relations) rels (front p) (front-long p) (relations-keep p w .all) (all-found p w) (all-starting p w) pairs
+        (all-stamped p w ws acts asked work h (parts p w .most) (a .filled .says) (settled a) asks (wordOf 22 (length (p .rules)) ∷ (runWords (ruleWords n) rls ++ wordsBy (blocks n) (p .blocks))) (firstRelation p) (p .relations) rels (front p) (front-long p) (relations-keep p w .all) (all-found p w) (all-starting p w) pairs
         (stands ∙ again-words p rels rls many rules-many long rules-long))
 
     placed : order ≡ placesIn q
@@ -139,8 +139,8 @@ module _ (p : Pack) (w : WellFormed p) (rels : List Relation) (rls : List Rule) 
     its-length : length work + added ≡ length (words (stampAll p q))
     its-length =
         let q′ : Pack = stampAll p q in
-        let R : List ℕ = wordsOf (relationWords n) rels in
-        let R′ : List ℕ = wordsOf (relationWords n) (map (stamp p) rels) in
+        let R : List ℕ = runWords (relationWords n) rels in
+        let R′ : List ℕ = runWords (relationWords n) (map (stamp p) rels) in
         let after : List ℕ = wordOf 22 (length rls) ∷ rulesOn q in
         let more : length R′ ≡ length R + added =
         longer ws work n (parts p w .most) after (front q) [] fine-relations stamps (stands ∙ pack-words q)
@@ -210,11 +210,11 @@ module _ {ws places acts asked work : List ℕ} {relations steps : ℕ} (a : Fin
   pub whole-short : length work ≤ 8192
   whole-short = let m = well p w (T .rels) (T .rls) (T .rules-are) (T .relations-are) .most in omega (arith, ap length (a .stands), words-length (a .whole), ap total (T .same))
 
-  places-inside : (n at : ℕ) (l : List Relation) (i : ℕ) → getD (placesFrom n at l) i 0 ≤ at + length (wordsOf (relationWords n) l)
+  places-inside : (n at : ℕ) (l : List Relation) (i : ℕ) → getD (placesFrom n at l) i 0 ≤ at + length (runWords (relationWords n) l)
   unfolding placesFrom
   places-inside n at [] i = omega arith
   places-inside n at (r ∷ l) zero = omega arith
-  places-inside n at (r ∷ l) (suc i) = omega (arith, places-inside n (at + length (relationWords n r)) l i, length-append (relationWords n r) (wordsOf (relationWords n) l))
+  places-inside n at (r ∷ l) (suc i) = omega (arith, places-inside n (at + length (relationWords n r)) l i, length-append (relationWords n r) (runWords (relationWords n) l))
 
   pub few-starts : relations ≤ 512
   few-starts = omega (arith, a .counts, parts p w .few-relations)
@@ -243,7 +243,7 @@ module _ {ws places acts asked work : List ℕ} {relations steps : ℕ} (a : Fin
 
   place-within : (i : ℕ) → getD order i 0 < length ws
   place-within i =
-      let R : List ℕ = wordsOf (relationWords (p .names)) (p .relations) in
+      let R : List ℕ = runWords (relationWords (p .names)) (p .relations) in
       let l = ap length (pack-words p) ∙ length-append (front p) (R ++ (wordOf 22 (length (p .rules)) ∷ rulesOn p)) in
       let k = length-append R (wordOf 22 (length (p .rules)) ∷ rulesOn p) in
       let e : getD order i 0 ≡ getD (placesIn p) i 0 = ap (λ (o : List ℕ). getD o i 0) their-places in
@@ -278,9 +278,9 @@ module _ {ws places acts asked work : List ℕ} {relations steps : ℕ} (a : Fin
       of-pack : {answer : Answer} {left : List ℕ} → answer ≡ givenOut (allKinds (p .relations) .steps) (length lent) (done (stampAll p (a .whole))) → left ≡ writtenOut lent (done (stampAll p (a .whole))) → FinishCame ws lent answer left
       of-pack {answer} {left} x y =
           record {
-            answers = λ r q e f. subst (λ (t : Pack). turned t ≡ done q → answer ≡ givenOut (allKinds (t .relations) .steps) (length lent) (done (stampAll t q))) (same-pack ws h e)
+            answers = λ r q e f. subst (λ (t : Pack). treesResolved t ≡ done q → answer ≡ givenOut (allKinds (t .relations) .steps) (length lent) (done (stampAll t q))) (same-pack ws h e)
                 (λ g. x ∙ ap (λ (t : Pack). givenOut (allKinds (p .relations) .steps) (length lent) (done (stampAll p t))) (done-same (sym (a .resolves) ∙ g))) f;
-            leaves = λ r q e f. subst (λ (t : Pack). turned t ≡ done q → left ≡ writtenOut lent (done (stampAll t q))) (same-pack ws h e)
+            leaves = λ r q e f. subst (λ (t : Pack). treesResolved t ≡ done q → left ≡ writtenOut lent (done (stampAll t q))) (same-pack ws h e)
                 (λ g. y ∙ ap (λ (t : Pack). writtenOut lent (done (stampAll p t))) (done-same (sym (a .resolves) ∙ g))) f;
           }
 

@@ -15,11 +15,11 @@ use Rattle.definitions.specs.Pack as forms
 use Rattle.pack.proofs.PackLaws.{words-read}
 use Rattle.definitions.specs.Kinds.{declared}
 use Rattle.definitions.specs.Places.{relationWords, startOf, firstRelation, relationsEnd}
-use Rattle.chains.specs.AllKinds.{RulesAt, BlocksAt}
+use Rattle.chains.specs.PackDirectory.{RulesAt, BlocksAt}
 use Rattle.chains.specs.Entry.{Reaches, startsIn, namesIn}
 use Rattle.chains.specs.Record.{valueAt}
-use Rattle.chains.proofs.RelationScan.{RelationsFine, kept}
-use Rattle.chains.proofs.PackIndex.{EachFound, all-found, parts}
+use Rattle.chains.proofs.RelationForm.{RelationsFine, kept}
+use Rattle.chains.proofs.PackParts.{EachFound, all-found, parts}
 use Rattle.chains.proofs.EntryLaws.{name-here}
 use Rattle.chains.proofs.RecordLaws.{value-there}
 use Rattle.chains.proofs.EntryLaws.{reaches-one}
@@ -29,7 +29,7 @@ use Rattle.inputs.proofs.InputRead.{itemsWords, blocksWords, BlockFits, BlocksF
 use Rattle.inputs.proofs.BlocksStand.{Stands, blocks-stand, block-words, blocks-words}
 use Rattle.kinds.proofs.PartLaws.{map-names, table-mapped}
 use Rattle.definitions.specs.Resolving.{ruleWords, firstRule}
-use Rattle.directions.specs.Records.{placesFrom, placesIn, wordsOf, bodyWords, Tabled}
+use Rattle.directions.specs.RecordRuns.{placesFrom, placesIn, runWords, bodyWords, TablesFilled}
 use Rattle.chains.proofs.DeclarationLaws.{a-record}
 use Rattle.directions.proofs.TurnedPack.{front, front-long, front22, front22-long, pack-words-22, rulesOn}
 use Rattle.turning.specs.Notes.{Note, notesRun, bodyNotes, ruleNotes, relationsNoted, rulesNoted}
@@ -74,7 +74,7 @@ begin-relations n at (r ∷ rs) = ap (λ (l : List ℕ). at ∷ l) (begin-relati
 
 rules-at : (p : Pack) → firstRelation p + length (joined (map (relationWords (p .names)) (p .relations))) ≡ relationsEnd (p .names) (firstRelation p) (p .relations)
 rules-at p =
-    let R : List ℕ = wordsOf (relationWords (p .names)) (p .relations) in
+    let R : List ℕ = runWords (relationWords (p .names)) (p .relations) in
     let one : List ℕ = wordOf 22 (length (p .rules)) ∷ [] in
     omega (arith, ap length (joined-map (relationWords (p .names)) (p .relations)), front22-long p, front-long p, length-append (front p) (R ++ one), length-append R one)
 
@@ -158,7 +158,7 @@ run-blocks ws n pre (b ∷ bs) rest e f =
 
 -- ---- of a checked pack
 
-module _ {ws : List ℕ} (dir : List ℕ) {acts taken : List ℕ} {steps : ℕ} (a : Tabled ws (startsIn dir) acts taken steps) where
+module _ {ws : List ℕ} (dir : List ℕ) {acts taken : List ℕ} {steps : ℕ} (a : TablesFilled ws (startsIn dir) acts taken steps) where
   abbrev p : Pack
   p = a .checked .pack
 
@@ -199,7 +199,7 @@ module _ {ws : List ℕ} (dir : List ℕ) {acts taken : List ℕ} {steps : ℕ} 
 
     blocks-at : blocks ≡ rules + 1 + length (joined rulesPieces)
     blocks-at =
-        let R : List ℕ = wordsOf (ruleWords n) (p .rules) in
+        let R : List ℕ = runWords (ruleWords n) (p .rules) in
         let B : List ℕ = blocksWords (p .blocks) in
         omega (
           arith,

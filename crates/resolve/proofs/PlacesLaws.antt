@@ -16,12 +16,12 @@ use Rattle.definitions.specs.Places.{relationWords}
 use Rattle.chains.specs.Entry.{startsIn, namesIn}
 use Rattle.chains.specs.Record.{valueAt}
 use Rattle.chains.proofs.FillLaws.{table-length}
-use Rattle.chains.proofs.PackIndex.{parts}
+use Rattle.chains.proofs.PackParts.{parts}
 use Rattle.chains.proofs.RecordLaws.{value-there}
 use Rattle.filtered.proofs.TakenKnown.{names-low}
 use Rattle.inputs.specs.Blocks.{AfterBlock}
 use Rattle.inputs.proofs.BlocksStand.{ReadsInputs, reads-inputs}
-use Rattle.directions.specs.Records.{wordsOf, Tabled}
+use Rattle.directions.specs.RecordRuns.{runWords, TablesFilled}
 use Rattle.directions.proofs.TurnedPack.{front, pack-words, front22, front22-long, pack-words-22, rulesOn}
 use Rattle.turning.specs.Notes.{Note, noteCode, Held, relationsNoted, rulesNoted}
 use Rattle.turning.specs.Asked.{InWords}
@@ -178,7 +178,7 @@ module _ {ws dir notes : List ℕ} {f : Figures} {room : ℕ} (o : OrderAsked ws
   w : WellFormed p
   w = words-read ws p h .fine
 
-  abbrev tabled : Tabled ws (startsIn dir) (o .acts) (o .taken) (f .steps)
+  abbrev tabled : TablesFilled ws (startsIn dir) (o .acts) (o .taken) (f .steps)
   tabled = record { checked = a .directory .checked; declares = namesIn dir (a .layout .relations); filled = a .filled }
 
   abbrev blocks : ℕ
@@ -203,7 +203,7 @@ module _ {ws dir notes : List ℕ} {f : Figures} {room : ℕ} (o : OrderAsked ws
 
   rules-many : valueAt ws (f .rules) ≡ length (p .rules)
   rules-many =
-      let R : List ℕ = wordsOf (relationWords (p .names)) (p .relations) in
+      let R : List ℕ = runWords (relationWords (p .names)) (p .relations) in
       let one : List ℕ = wordOf 22 (length (p .rules)) ∷ [] in
       value-there ws (front p ++ R) (rulesOn p) 22 (length (p .rules)) (f .rules) (sym (words-read ws p h .same) ∙ pack-words p ∙ sym (append-assoc (front p) R (wordOf 22 (length (p .rules)) ∷ rulesOn p)))
       (omega (arith, near .0, length-append (front p) R, length-append (front p) (R ++ one), length-append R one)) (parts p w .rule-count)

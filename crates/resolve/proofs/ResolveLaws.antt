@@ -29,24 +29,24 @@ use Rattle.records.specs.declared.directory.Laid.the-variants.{Yes}
 use Rattle.records.specs.Directory.{Clear}
 use Rattle.checking.specs.Checked.{namesSaid, CheckedNotes}
 use Rattle.checking.proofs.CheckLaws.{without-notes, clear-zeros}
-use Rattle.chains.specs.AllKinds.{Lent, IsPack, IsDirectory}
+use Rattle.chains.specs.PackDirectory.{ClearTable, IsPack, IsDirectory}
 use Rattle.filtered.specs.Taking.{Filled}
 use Rattle.chains.proofs.CheckedLaws.{said-names, same-pack, short-checked}
 use Rattle.chains.proofs.EntryLaws.{directed, reaches-one}
 use Rattle.chains.proofs.DeclarationLaws.{a-record}
 use Rattle.turning.proofs.LeftLaws.{noted-there}
 use Rattle.inputs.proofs.BlocksStand.{reads-inputs}
-use Rattle.chains.proofs.PackIndex.{parts, zero-at, find-name, find-kept}
+use Rattle.chains.proofs.PackParts.{parts, zero-at, find-name, find-kept}
 use Rattle.definitions.specs.Tables.{Tables, derivedAt, tables}
-use Rattle.definitions.specs.Turning.{Outcome, done, refused, andThen, mapDone}
+use Rattle.definitions.specs.ResolvingTrees.{Outcome, done, refused, andThen, mapDone}
 use Rattle.definitions.specs.Resolving.{equalKinds, defaultedEqual, equalRefusal, resolveRules, resolveRelations, stamp, firstRule, resolveRecords, resolved}
 use Rattle.definitions.specs.Operations.{givenOut, writtenOut, resolveAnswer, resolveBuffer}
 use Rattle.directions.specs.Words.{derivedIn, tablesIn, firstEqual}
 use Rattle.chains.specs.Record.{valueAt}
-use Rattle.directions.specs.Records.{withRecords, turned, Tabled}
+use Rattle.directions.specs.RecordRuns.{withRecords, treesResolved, TablesFilled}
 use Rattle.resolve.specs.declared.finish.Figures.{Figures}
 use Rattle.resolve.specs.Writing.{beginnings, piecesOf}
-use Rattle.resolve.specs.Finish.{stampAll, unstamped, AskedOf, TreesAsked, TreesCame, ResolveAsked, PlacedAsked, TablesFor, CheckedAsked, RoomFor, frontOf, Into, FinishAsked, FinishCame}
+use Rattle.resolve.specs.Finish.{stampAll, resolvedTrees, AskedOf, TreesAsked, TreesCame, ResolveAsked, PlacedAsked, TablesFor, CheckedAsked, RoomFor, frontOf, Into, FinishAsked, FinishCame}
 use Rattle.turning.specs.declared.turns.Ended.{Ended}
 use Rattle.turning.specs.declared.turns.Ended.the-variants as ended
 use Rattle.turning.specs.declared.turns.Counts.{Counts}
@@ -63,8 +63,8 @@ ended-either e = let z : _≡_ {A = ℕ} 0 1 = cc in omega arith
 
 -- ---- Resolving, step by step
 
-records-are : (p : Pack) → resolveRecords p ≡ mapDone (stampAll p) (turned p)
-unfolding turned
+records-are : (p : Pack) → resolveRecords p ≡ mapDone (stampAll p) (treesResolved p)
+unfolding treesResolved
 records-are p = go (resolveRules p (firstRule p) (p .rules))
   where
     more : (rls : List Rule) (o : Outcome (List Relation))
@@ -78,11 +78,11 @@ records-are p = go (resolveRules p (firstRule p) (p .rules))
     go (done rls) = more rls (resolveRelations p (firstRelation p) (p .relations))
     go (refused r) = refl
 
-resolved-is : (p : Pack) → resolved p ≡ mapDone (stampAll p) (unstamped p)
-unfolding resolved unstamped
+resolved-is : (p : Pack) → resolved p ≡ mapDone (stampAll p) (resolvedTrees p)
+unfolding resolved resolvedTrees
 resolved-is p = go (defaultedEqual (tables (p .relations)) (p .defaulted))
   where
-    go : (o : Option ℕ) → elim o [ some n ↦ refused (equalRefusal p n) | none ↦ resolveRecords p ] ≡ mapDone (stampAll p) (elim o [ some n ↦ refused (equalRefusal p n) | none ↦ turned p ])
+    go : (o : Option ℕ) → elim o [ some n ↦ refused (equalRefusal p n) | none ↦ resolveRecords p ] ≡ mapDone (stampAll p) (elim o [ some n ↦ refused (equalRefusal p n) | none ↦ treesResolved p ])
     go (some n) = refl
     go none = records-are p
 
@@ -144,16 +144,16 @@ module _ {ws dir acts taken work notes : List ℕ} {k : Counts} (a : TreesAsked 
     none-equal none e q = refl
     none-equal (some m) e q = let b = small m e in absurd (omega arith)
 
-    whole-none : defaultedEqual T (p .defaulted) ≡ none → unstamped p ≡ turned p
-    unfolding unstamped
-    whole-none e = ap (λ (o : Option ℕ). elim o [ some n ↦ refused (equalRefusal p n) | none ↦ turned p ]) e
+    whole-none : defaultedEqual T (p .defaulted) ≡ none → resolvedTrees p ≡ treesResolved p
+    unfolding resolvedTrees
+    whole-none e = ap (λ (o : Option ℕ). elim o [ some n ↦ refused (equalRefusal p n) | none ↦ treesResolved p ]) e
 
-    whole-some : (m : ℕ) → defaultedEqual T (p .defaulted) ≡ some m → unstamped p ≡ refused (equalRefusal p m)
-    unfolding unstamped
-    whole-some m e = ap (λ (o : Option ℕ). elim o [ some n ↦ refused (equalRefusal p n) | none ↦ turned p ]) e
+    whole-some : (m : ℕ) → defaultedEqual T (p .defaulted) ≡ some m → resolvedTrees p ≡ refused (equalRefusal p m)
+    unfolding resolvedTrees
+    whole-some m e = ap (λ (o : Option ℕ). elim o [ some n ↦ refused (equalRefusal p n) | none ↦ treesResolved p ]) e
 
-    of-pack : (o : Ended) (left : List ℕ) → TurnedAs (unstamped p) o left → (q : Pack) → read ws ≡ yes q → TurnedAs (unstamped q) o left
-    of-pack o left c q e = subst (λ (x : Pack). TurnedAs (unstamped x) o left) (same-pack ws h e) c
+    of-pack : (o : Ended) (left : List ℕ) → TurnedAs (resolvedTrees p) o left → (q : Pack) → read ws ≡ yes q → TurnedAs (resolvedTrees q) o left
+    of-pack o left c q e = subst (λ (x : Pack). TurnedAs (resolvedTrees x) o left) (same-pack ws h e) c
 
     pub trees-turned : name ≡ table.none → {o : Ended} {left : List ℕ} → PackTurned ws o left → TreesCame ws o left
     trees-turned z {o} {left} t =
@@ -189,11 +189,11 @@ module _ {ws : List ℕ} (c : IsPack ws) (lent : List ℕ) where
   abbrev q : Pack
   q = c .pack
 
-  answer-is : resolveAnswer ws (length lent) ≡ givenOut (allKinds (q .relations) .steps) (length lent) (mapDone (stampAll q) (unstamped q))
+  answer-is : resolveAnswer ws (length lent) ≡ givenOut (allKinds (q .relations) .steps) (length lent) (mapDone (stampAll q) (resolvedTrees q))
   unfolding resolveAnswer
   answer-is = rw (c .reads) (ap (givenOut (allKinds (q .relations) .steps) (length lent)) (resolved-is q))
 
-  buffer-is : resolveBuffer ws lent ≡ writtenOut lent (mapDone (stampAll q) (unstamped q))
+  buffer-is : resolveBuffer ws lent ≡ writtenOut lent (mapDone (stampAll q) (resolvedTrees q))
   unfolding resolveBuffer
   buffer-is = rw (c .reads) (ap (writtenOut lent) (resolved-is q))
 
@@ -202,9 +202,9 @@ module _ {ws : List ℕ} (c : IsPack ws) (lent : List ℕ) where
   same-refusal {x} {y} e = let z : x ≡ y = cc in z
 
   pub resolve-stopped : {o : Ended} {left : List ℕ} {r : Refusal} → TreesCame ws o left → o ≡ ended.Refused r → Answered resolveAnswer resolveBuffer ws lent (Refused r) lent
-  resolve-stopped {o} {left} {r} t e = go (unstamped q) refl (t .each q (c .reads))
+  resolve-stopped {o} {left} {r} t e = go (resolvedTrees q) refl (t .each q (c .reads))
     where
-      go : (u : Outcome Pack) → unstamped q ≡ u → TurnedAs u o left → Answered resolveAnswer resolveBuffer ws lent (Refused r) lent
+      go : (u : Outcome Pack) → resolvedTrees q ≡ u → TurnedAs u o left → Answered resolveAnswer resolveBuffer ws lent (Refused r) lent
       go (done x) s k = absurd (ended-either (sym (k .0) ∙ e))
       go (refused x) s k =
           record {
@@ -213,24 +213,24 @@ module _ {ws : List ℕ} (c : IsPack ws) (lent : List ℕ) where
           }
 
   -- done
-  turned-done : (x : Pack) → unstamped q ≡ done x → turned q ≡ done x
-  unfolding unstamped
+  turned-done : (x : Pack) → resolvedTrees q ≡ done x → treesResolved q ≡ done x
+  unfolding resolvedTrees
   turned-done x e = go (defaultedEqual (tables (q .relations)) (q .defaulted)) e
     where
-      go : (o : Option ℕ) → elim o [ some n ↦ refused (equalRefusal q n) | none ↦ turned q ] ≡ done x → turned q ≡ done x
+      go : (o : Option ℕ) → elim o [ some n ↦ refused (equalRefusal q n) | none ↦ treesResolved q ] ≡ done x → treesResolved q ≡ done x
       go (some n) e = let z : _≡_ {A = ℕ} 0 1 = cc in absurd (omega arith)
       go none e = e
 
   pub record WholeDone (left : List ℕ) : Type 0 where
     pub whole : Pack
-    pub outcome : unstamped q ≡ done whole
-    pub resolves : turned q ≡ done whole
+    pub outcome : resolvedTrees q ≡ done whole
+    pub resolves : treesResolved q ≡ done whole
     pub stands : left ≡ words whole
 
   pub whole-done : {o : Ended} {left : List ℕ} → TreesCame ws o left → o ≡ ended.All → WholeDone left
-  whole-done {o} {left} t e = go (unstamped q) refl (t .each q (c .reads))
+  whole-done {o} {left} t e = go (resolvedTrees q) refl (t .each q (c .reads))
     where
-      go : (u : Outcome Pack) → unstamped q ≡ u → TurnedAs u o left → WholeDone left
+      go : (u : Outcome Pack) → resolvedTrees q ≡ u → TurnedAs u o left → WholeDone left
       go (done x) s k = record { whole = x; outcome = s; resolves = turned-done x s; stands = k .1 }
       go (refused r) s k = absurd (ended-either (sym e ∙ k))
 
@@ -265,7 +265,7 @@ module _ {ws dir acts taken asked₀ notes : List ℕ} {f : Figures} {work : Lis
   abbrev all : ℕ
   all = f .notes .all
 
-  abbrev its-tables : Tabled ws (startsIn dir) acts taken (f .steps)
+  abbrev its-tables : TablesFilled ws (startsIn dir) acts taken (f .steps)
   its-tables = record { checked = a .directory .checked; declares = namesIn dir (a .layout .relations); filled = a .filled }
 
   -- what stamping asks of the notes
@@ -352,9 +352,9 @@ module _ {ws d e d′ e′ : List ℕ} {r : Laid} {l : Layout} (clear : Clear (n
       record {
         directory = its-directory;
         reaches = record { most = tables .reaches .most; long = omega (arith, tables .reaches .long) };
-        acts-lent = subst (λ (n : ℕ). Lent n acts) names (tables .acts-lent);
-        taken-lent = subst (λ (n : ℕ). Lent n taken) names (tables .taken-lent);
-        asked-lent = subst (λ (n : ℕ). Lent n asked) names (tables .asked-lent);
+        acts-lent = subst (λ (n : ℕ). ClearTable n acts) names (tables .acts-lent);
+        taken-lent = subst (λ (n : ℕ). ClearTable n taken) names (tables .taken-lent);
+        asked-lent = subst (λ (n : ℕ). ClearTable n asked) names (tables .asked-lent);
         notes-in = noted-there c o (to .first) (to .blank) (to .noted its-words) (its-directory .checked .pack) (its-directory .checked .reads);
         same = same;
         fits = omega (arith, to .fits, kept);
@@ -548,7 +548,7 @@ module _ {ws dir acts taken asked notes : List ℕ} {f : Figures} {work : List �
 pub tables-for : (ws : List ℕ) (most : ℕ) → most ≤ 4096 → namesSaid ws ≤ most → TablesFor ws (replicate (512 + most) 0) (replicate most 0) (replicate most 0) (replicate most 0)
 tables-for ws most few h =
     let long = length-replicate {A = ℕ} most 0 in
-    let lent : Lent (namesSaid ws) (replicate most 0) = record { long = omega arith; short = omega arith; clear = zero-at most } in
+    let lent : ClearTable (namesSaid ws) (replicate most 0) = record { long = omega arith; short = omega arith; clear = zero-at most } in
     record {
       clear = clear-zeros (namesSaid ws) (512 + most) (omega arith);
       reaches = record { most = omega arith; long = omega (arith, length-replicate {A = ℕ} (512 + most) 0) };

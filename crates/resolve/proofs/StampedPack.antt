@@ -14,14 +14,14 @@ use Rattle.definitions.specs.Records.{Relation, Pack}
 use Rattle.definitions.specs.Pack.{WellFormed, yes, read, relation}
 use Rattle.definitions.specs.Kinds.{find, declared, kindsOf}
 use Rattle.definitions.specs.Places.{relationWords, startOf, firstRelation, namesAt}
-use Rattle.chains.proofs.RelationScan.{RelationsFine, kept}
-use Rattle.chains.proofs.PackIndex.{EachFound, parts}
-use Rattle.definitions.specs.Turning.{Outcome, done}
+use Rattle.chains.proofs.RelationForm.{RelationsFine, kept}
+use Rattle.chains.proofs.PackParts.{EachFound, parts}
+use Rattle.definitions.specs.ResolvingTrees.{Outcome, done}
 use Rattle.definitions.specs.Resolving.{atomNames, roleJudgment, inDerivation, stamp, resolveRelation}
 use Rattle.stamping.specs.Stamping.{StampedBy, listFor, listsFor}
 use Rattle.resolve.specs.Writing.{lengths, Stamped, no-more, one-more}
 use Rattle.resolve.specs.Finish.{AskedOf}
-use Rattle.directions.specs.Records.{placesFrom, wordsOf, All, RelationKeeps, KindsReady}
+use Rattle.directions.specs.RecordRuns.{placesFrom, runWords, EachKeeps, RelationKeeps, KindsReady}
 use Rattle.directions.proofs.KeepsForm.{Good}
 use Rattle.directions.proofs.ResolvedFine.{Same, tail-of, with-tail, relation-good}
 use Rattle.directions.proofs.RunLaws.{RunPairs}
@@ -84,23 +84,23 @@ module _ (p : Pack) (w : WellFormed p) where
         ∙ ap (λ (m : ℕ). pick (atomNames p m || inDerivation roleJudgment (s .derivation)) 1 0) (sym (t .0)) in
         stamped-by ws work acts asked p at s (record { before = before; after = after; long = long; same-words = stands; used = keeps .used; fine = fine }) most part kinds told
 
-    pub all-stamped : (at : ℕ) (l m : List Relation) (before : List ℕ) → length before ≡ at → All (RelationKeeps p) l → EachFound (p .relations) l → Starting at l
-        → RunPairs (relationWords n) (λ at r. resolveRelation p at r) (RelationKeeps p) (relation-long p w) at l m → work ≡ before ++ (wordsOf (relationWords n) m ++ rest)
+    pub all-stamped : (at : ℕ) (l m : List Relation) (before : List ℕ) → length before ≡ at → EachKeeps (RelationKeeps p) l → EachFound (p .relations) l → Starting at l
+        → RunPairs (relationWords n) (λ at r. resolveRelation p at r) (RelationKeeps p) (relation-long p w) at l m → work ≡ before ++ (runWords (relationWords n) m ++ rest)
         → Stamped ws (listsFor ws work acts asked (placesFrom n at l)) m (map (stamp p) m)
     unfolding placesFrom listsFor
     all-stamped at [] [] before long keeps found starts q stands = no-more
     all-stamped at [] (s ∷ m) before long keeps found starts q stands = absurd q
     all-stamped at (r ∷ l) [] before long keeps found starts q stands = absurd q
     all-stamped at (r ∷ l) (s ∷ m) before long keeps found starts q stands =
-        let tail : List ℕ = wordsOf (relationWords n) m ++ rest in
-        let opened : work ≡ before ++ (relationWords n s ++ tail) = stands ∙ ap (λ (x : List ℕ). before ++ x) (append-assoc (relationWords n s) (wordsOf (relationWords n) m) rest) in
+        let tail : List ℕ = runWords (relationWords n) m ++ rest in
+        let opened : work ≡ before ++ (relationWords n s ++ tail) = stands ∙ ap (λ (x : List ℕ). before ++ x) (append-assoc (relationWords n s) (runWords (relationWords n) m) rest) in
         let size = relation-long p w at r s (keeps .0) (q .0) in
         one-more (one-stamped at r s before tail long (keeps .0) (found .0) (starts .0) (q .0) opened)
         (all-stamped (at + length (relationWords n r)) l m (before ++ relationWords n s) (length-append before (relationWords n s) ∙ omega arith) (keeps .1) (found .1) (starts .1) (q .1) (opened ∙ sym (append-assoc before (relationWords n s) tail)))
 
 -- resolved records are as long as they were
 pub same-lengths : {A : Type 0} (W : A → List ℕ) (resolve : ℕ → A → Outcome A) (Keeps : A → Type 0) (long : (at : ℕ) (a b : A) → Keeps a → resolve at a ≡ done b → length (W b) ≡ length (W a))
-    (at : ℕ) (l m : List A) → All Keeps l → RunPairs W resolve Keeps long at l m → lengths (map W l) ≡ lengths (map W m)
+    (at : ℕ) (l m : List A) → EachKeeps Keeps l → RunPairs W resolve Keeps long at l m → lengths (map W l) ≡ lengths (map W m)
 same-lengths W resolve Keeps long at [] [] keeps q = refl
 same-lengths W resolve Keeps long at [] (b ∷ m) keeps q = absurd q
 same-lengths W resolve Keeps long at (a ∷ l) [] keeps q = absurd q

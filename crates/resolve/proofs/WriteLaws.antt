@@ -13,7 +13,7 @@ use Rattle.definitions.specs.Answers.{tableFrom}
 use Rattle.chains.proofs.FillLaws.{Filling, done}
 use Rattle.chains.specs.Record.{valueAt, kindCount, slotsPlace}
 use Rattle.stamping.specs.Stamping.{namesOr, Lists}
-use Rattle.resolve.specs.Writing.{joined, sums, beginnings, fromTo, listWords, putFor, pieceOut, Stampable, Put, Room}
+use Rattle.resolve.specs.Writing.{joined, sums, beginnings, fromTo, listWords, putFor, pieceOut, Stampable, Put, PutRoom}
 use Rattle.stamping.proofs.ListForLaws.{names-there}
 
 -- ---- a copy of words
@@ -88,10 +88,10 @@ put-then {out} {to = to} {a = a} {b} p q =
       holds = q .holds ∙ ap (λ (l : List ℕ). l ++ b) (p .holds) ∙ append-assoc (take to out) a b;
     }
 
-pub room-first : {out : List ℕ} {to : ℕ} (a b : List ℕ) → Room out to (a ++ b) → Room out to a
+pub room-first : {out : List ℕ} {to : ℕ} (a b : List ℕ) → PutRoom out to (a ++ b) → PutRoom out to a
 room-first a b r = record { fits = omega (arith, r .fits, length-append a b); few = r .few }
 
-pub room-then : {out left : List ℕ} {to next : ℕ} (a b : List ℕ) → Room out to (a ++ b) → Put out to a left next → length left ≡ length out → Room left next b
+pub room-then : {out left : List ℕ} {to next : ℕ} (a b : List ℕ) → PutRoom out to (a ++ b) → Put out to a left next → length left ≡ length out → PutRoom left next b
 room-then a b r p l = record { fits = omega (arith, r .fits, p .after, length-append a b); few = omega (arith, r .few) }
 
 -- words that are copied
@@ -106,7 +106,7 @@ pub all-there : {out more left : List ℕ} {next : ℕ} → Put out 0 more left 
 all-there {left = left} {next} p e = sym (take-all next left (omega arith)) ∙ p .holds
 
 -- then a list
-module _ (ws : List ℕ) (list kind : ℕ) (words : List ℕ) {out : List ℕ} {to : ℕ} (room : Room out to (words ++ listWords kind (namesOr (namesAt ws list))))
+module _ (ws : List ℕ) (list kind : ℕ) (words : List ℕ) {out : List ℕ} {to : ℕ} (room : PutRoom out to (words ++ listWords kind (namesOr (namesAt ws list))))
     {left : List ℕ} {at : ℕ} (p : Put out to words left at) (same : length left ≡ length out) {names : ℕ} (l : Lists ws list names) where
   abbrev ks : List ℕ
   ks = namesOr (namesAt ws list)
@@ -253,7 +253,7 @@ module _ (ws work places lists whole : List ℕ) where
     fits : to + length more ≤ length out
     fits = omega (arith, s .size, s .room, ap length (F .todo), length-append (take to out ++ more) (joined (F .l′)), length-append (take to out) more, length-take-le to out (s .room))
 
-    pub part-asked : length whole ≤ 8192 → Stampable (getD lists i 0) (fromTo start end work) × Room out to (pieceOut ws (getD lists i 0) (fromTo start end work))
+    pub part-asked : length whole ≤ 8192 → Stampable (getD lists i 0) (fromTo start end work) × PutRoom out to (pieceOut ws (getD lists i 0) (fromTo start end work))
     part-asked few = rw part-is (F .fits, record { fits = fits; few = omega (arith, s .size) })
 
     pub part-put : {next : ℕ} {left : List ℕ} → Put out to (pieceOut ws (getD lists i 0) (fromTo start end work)) left next → length left ≡ length out → Writing (i + 1) end next left

@@ -16,13 +16,13 @@ use Rattle.definitions.specs.Pack.{newName, nameList, relationTail, relation, d
 use Rattle.pack.proofs.PackLaws.{words-length}
 use Rattle.definitions.specs.Places.{namesAt, relationWords}
 use Rattle.chains.proofs.ListAt.{nameWords, list-words, early, late, option-words, InWords}
-use Rattle.chains.proofs.RelationScan.{RelationsFine}
-use Rattle.chains.proofs.PackIndex.{parts}
+use Rattle.chains.proofs.RelationForm.{RelationsFine}
+use Rattle.chains.proofs.PackParts.{parts}
 use Rattle.definitions.specs.Resolving.{ruleWords, orKinds, withEntities, stampedWith}
 use Rattle.chains.specs.Record.{kindCount, slotsPlace}
 use Rattle.stamping.specs.Stamping.{StampedBy, as-it-is, with-kinds, addedFor, addedBy}
 use Rattle.resolve.specs.Writing.{Stamped, no-more, one-more, withRelations, joined, frontPiece, blockPiece, otherPieces, piecesOf, fromTo, listWords, putFor, Stampable, WriteAsked}
-use Rattle.directions.specs.Records.{placesFrom, wordsOf}
+use Rattle.directions.specs.RecordRuns.{placesFrom, runWords}
 use Rattle.chains.proofs.RecordLaws.{counted, before-slots, four, four-length}
 use Rattle.resolve.proofs.WriteLaws.{piece-stays, piece-stamped, Pieces, no-piece, piece, Writing}
 use Rattle.directions.proofs.TurnedPack.{opened, pack-words, rulesOn}
@@ -140,18 +140,18 @@ module _ (ws work : List ℕ) (n : ℕ) (most : n ≤ 4096) (after : List ℕ) w
   one-longer B T r r′ used fine stands {list} (with-kinds d ks pos q o z) =
       rw q (stamped-long n r used fine most d o z ks (counted work (length B) n r (record { before = B; after = T; long = refl; same-words = stands; used = used; fine = fine }) most))
 
-  pub longer : (B : List ℕ) (used : List ℕ) {lists : List ℕ} {rs rs′ : List Relation} → RelationsFine n used rs → Stamped ws lists rs rs′ → work ≡ B ++ (wordsOf (relationWords n) rs ++ after)
-      → length (wordsOf (relationWords n) rs′) ≡ length (wordsOf (relationWords n) rs) + addedBy ws work (placesFrom n (length B) rs) lists
+  pub longer : (B : List ℕ) (used : List ℕ) {lists : List ℕ} {rs rs′ : List Relation} → RelationsFine n used rs → Stamped ws lists rs rs′ → work ≡ B ++ (runWords (relationWords n) rs ++ after)
+      → length (runWords (relationWords n) rs′) ≡ length (runWords (relationWords n) rs) + addedBy ws work (placesFrom n (length B) rs) lists
   unfolding addedBy placesFrom
   longer B used f no-more stands = refl
   longer B used {rs = r ∷ rs} {rs′ = r′ ∷ rs′} f (one-more {list = list} {lists = lists} s more) stands =
-      let opened : work ≡ B ++ (relationWords n r ++ (wordsOf (relationWords n) rs ++ after)) = stands ∙ ap (λ (x : List ℕ). B ++ x) (append-assoc (relationWords n r) (wordsOf (relationWords n) rs) after) in
-      let here = one-longer B (wordsOf (relationWords n) rs ++ after) r r′ (λ v. among v used) (f .0) opened s in
+      let opened : work ≡ B ++ (relationWords n r ++ (runWords (relationWords n) rs ++ after)) = stands ∙ ap (λ (x : List ℕ). B ++ x) (append-assoc (relationWords n r) (runWords (relationWords n) rs) after) in
+      let here = one-longer B (runWords (relationWords n) rs ++ after) r r′ (λ v. among v used) (f .0) opened s in
       let long = length-append B (relationWords n r) in
-      let later : length (wordsOf (relationWords n) rs′) ≡ length (wordsOf (relationWords n) rs) + addedBy ws work (placesFrom n (length B + length (relationWords n r)) rs) lists =
-      longer (B ++ relationWords n r) (r .name ∷ used) (f .1) more (opened ∙ sym (append-assoc B (relationWords n r) (wordsOf (relationWords n) rs ++ after)))
-      ∙ ap (λ (x : ℕ). length (wordsOf (relationWords n) rs) + addedBy ws work (placesFrom n x rs) lists) long in
-      length-append (relationWords n r′) (wordsOf (relationWords n) rs′) ∙ omega (arith, here, later, length-append (relationWords n r) (wordsOf (relationWords n) rs))
+      let later : length (runWords (relationWords n) rs′) ≡ length (runWords (relationWords n) rs) + addedBy ws work (placesFrom n (length B + length (relationWords n r)) rs) lists =
+      longer (B ++ relationWords n r) (r .name ∷ used) (f .1) more (opened ∙ sym (append-assoc B (relationWords n r) (runWords (relationWords n) rs ++ after)))
+      ∙ ap (λ (x : ℕ). length (runWords (relationWords n) rs) + addedBy ws work (placesFrom n x rs) lists) long in
+      length-append (relationWords n r′) (runWords (relationWords n) rs′) ∙ omega (arith, here, later, length-append (relationWords n r) (runWords (relationWords n) rs))
 
 -- ---- pieces
 
@@ -159,7 +159,7 @@ joined-append : (a b : List (List ℕ)) → joined (a ++ b) ≡ joined a ++ join
 joined-append [] b = refl
 joined-append (w ∷ a) b = ap (λ (l : List ℕ). w ++ l) (joined-append a b) ∙ sym (append-assoc w (joined a) (joined b))
 
-pub joined-map : {A : Type 0} (W : A → List ℕ) (l : List A) → joined (map W l) ≡ wordsOf W l
+pub joined-map : {A : Type 0} (W : A → List ℕ) (l : List A) → joined (map W l) ≡ runWords W l
 joined-map W [] = refl
 joined-map W (a ∷ l) = ap (λ (x : List ℕ). W a ++ x) (joined-map W l)
 
@@ -200,12 +200,12 @@ others-joined p =
     let n : ℕ = p .names in
     let B : List ℕ = wordOf 28 (length (p .blocks)) ∷ joined (map (blockPiece n) (p .blocks)) in
     ap (λ (l : List ℕ). wordOf 22 (length (p .rules)) ∷ l)
-    (joined-append (map (ruleWords n) (p .rules)) _ ∙ ap (λ (l : List ℕ). l ++ B) (joined-map (ruleWords n) (p .rules)) ∙ ap (λ (l : List ℕ). wordsOf (ruleWords n) (p .rules) ++ l) (blocks-joined n (p .blocks)))
+    (joined-append (map (ruleWords n) (p .rules)) _ ∙ ap (λ (l : List ℕ). l ++ B) (joined-map (ruleWords n) (p .rules)) ∙ ap (λ (l : List ℕ). runWords (ruleWords n) (p .rules) ++ l) (blocks-joined n (p .blocks)))
 
-pub pieces-joined : (p : Pack) (rs : List Relation) → joined (map (relationWords (p .names)) rs ++ otherPieces p) ≡ wordsOf (relationWords (p .names)) rs ++ (wordOf 22 (length (p .rules)) ∷ rulesOn p)
+pub pieces-joined : (p : Pack) (rs : List Relation) → joined (map (relationWords (p .names)) rs ++ otherPieces p) ≡ runWords (relationWords (p .names)) rs ++ (wordOf 22 (length (p .rules)) ∷ rulesOn p)
 pieces-joined p rs =
     joined-append (map (relationWords (p .names)) rs) (otherPieces p) ∙ ap (λ (x : List ℕ). x ++ joined (otherPieces p)) (joined-map (relationWords (p .names)) rs)
-    ∙ ap (λ (x : List ℕ). wordsOf (relationWords (p .names)) rs ++ x) (others-joined p)
+    ∙ ap (λ (x : List ℕ). runWords (relationWords (p .names)) rs ++ x) (others-joined p)
 
 -- ---- for the code
 
@@ -229,7 +229,7 @@ module _ {ws places lists work : List ℕ} {room : ℕ} (a : WriteAsked ws place
 
   total-set : {v : ℕ} → v ≡ wordOf 1 room → set (joined come) 0 v ≡ words q′
   total-set {v} e =
-      let rest : List ℕ = wordsOf (relationWords (q .names)) (a .stamped) ++ after in
+      let rest : List ℕ = runWords (relationWords (q .names)) (a .stamped) ++ after in
       ap (λ (x : List ℕ). v ∷ (opened q ++ x)) (pieces-joined q (a .stamped)) ∙ ap (λ (x : ℕ). x ∷ (opened q ++ rest)) (e ∙ ap (wordOf 1) (a .size ∙ words-length q′))
       ∙ ap (λ (k : ℕ). wordOf 1 (total q′) ∷ ((wordOf 2 (q .names) ∷ (wordsBy (defaulted (q .names)) (q .defaulted) ++ (wordOf 5 k ∷ []))) ++ rest)) (same-many (a .stamps)) ∙ sym (pack-words q′)
 

@@ -16,17 +16,17 @@ use Rattle.definitions.specs.Kinds.{find, allKinds}
 use Rattle.records.specs.declared.directory.Layout.{Layout}
 use Rattle.records.specs.Directory.{Clear}
 use Rattle.checking.specs.Checked.{namesSaid}
-use Rattle.chains.specs.AllKinds.{Lent, IsDirectory}
+use Rattle.chains.specs.PackDirectory.{ClearTable, IsDirectory}
 use Rattle.definitions.specs.Answers.{tableFrom}
 use Rattle.chains.specs.Record.{valueAt}
 use Rattle.chains.specs.Entry.{Reaches, startsIn, namesIn}
 use Rattle.filtered.specs.Taking.{NamesLow, Filled}
-use Rattle.definitions.specs.Turning.{Outcome, done, refused}
+use Rattle.definitions.specs.ResolvingTrees.{Outcome, done, refused}
 use Rattle.definitions.specs.Tables.{tables}
 use Rattle.definitions.specs.Resolving.{defaultedEqual, equalRefusal, stamp, atomNames, inDerivation, roleJudgment}
 use Rattle.definitions.specs.Operations.{givenOut, writtenOut, resolveAnswer, resolveBuffer}
 use Rattle.resolve.specs.Writing.{beginnings, piecesOf, withRelations}
-use Rattle.directions.specs.Records.{turned, Tabled}
+use Rattle.directions.specs.RecordRuns.{treesResolved, TablesFilled}
 use Rattle.turning.specs.declared.turns.Ended.{Ended}
 use Rattle.turning.specs.declared.turns.Counts.{Counts}
 use Rattle.turning.specs.Notes.{Note, Held, NotesIn}
@@ -40,17 +40,17 @@ use Rattle.resolve.specs.declared.finish.Figures.{Figures}
 -- ---- the first three steps of Resolving
 
 -- defaulted names, then the trees
-unfoldable pub unstamped : Pack → Outcome Pack
-unstamped p = elim (defaultedEqual (tables (p .relations)) (p .defaulted)) [ some n ↦ refused (equalRefusal p n) | none ↦ turned p ]
+unfoldable pub resolvedTrees : Pack → Outcome Pack
+resolvedTrees p = elim (defaultedEqual (tables (p .relations)) (p .defaulted)) [ some n ↦ refused (equalRefusal p n) | none ↦ treesResolved p ]
 
 -- what comes of them in the words of the pack
 pub record TreesCame (ws : List ℕ) (o : Ended) (left : List ℕ) : Type 0 where
-  pub each : (p : Pack) → read ws ≡ yes p → TurnedAs (unstamped p) o left
+  pub each : (p : Pack) → read ws ≡ yes p → TurnedAs (resolvedTrees p) o left
 
 -- the tables of a checked pack, its notes, and a copy of its words
 pub record TreesAsked (ws dir acts taken work notes : List ℕ) (c : Counts) : Type 0 where
   pub steps : ℕ
-  pub tabled : Tabled ws (startsIn dir) acts taken steps
+  pub tabled : TablesFilled ws (startsIn dir) acts taken steps
   pub reaches : Reaches dir (tabled .checked .pack .names)
   pub turns : PackAsked ws acts taken work notes (c .blocks .at) (c .blocks .count) (c .noted) (c .all)
 
@@ -102,12 +102,12 @@ pub record NamesIn (dir : List ℕ) (relations : ℕ) : Type 0 where
 pub record FinishAsked (ws places acts asked work : List ℕ) (relations steps : ℕ) : Type 0 where
   pub records : List ℕ
   pub taken : List ℕ
-  pub tabled : Tabled ws records acts taken steps
+  pub tabled : TablesFilled ws records acts taken steps
   pub counts : relations ≡ length (tabled .checked .pack .relations)
   pub begins : places ≡ beginnings 0 (piecesOf (tabled .checked .pack))
   pub asks : AskedOf (tabled .checked .pack) asked
   pub whole : Pack
-  pub resolves : turned (tabled .checked .pack) ≡ done whole
+  pub resolves : treesResolved (tabled .checked .pack) ≡ done whole
   pub stands : work ≡ words whole
 
 -- a table of zeros with a word for each place
@@ -118,15 +118,15 @@ pub record ClearFor (places t : List ℕ) : Type 0 where
 
 -- what is answered and left of them
 pub record FinishCame (ws lent : List ℕ) (answer : Answer) (left : List ℕ) : Type 0 where
-  pub answers : (p q : Pack) → read ws ≡ yes p → turned p ≡ done q → answer ≡ givenOut (allKinds (p .relations) .steps) (length lent) (done (stampAll p q))
-  pub leaves : (p q : Pack) → read ws ≡ yes p → turned p ≡ done q → left ≡ writtenOut lent (done (stampAll p q))
+  pub answers : (p q : Pack) → read ws ≡ yes p → treesResolved p ≡ done q → answer ≡ givenOut (allKinds (p .relations) .steps) (length lent) (done (stampAll p q))
+  pub leaves : (p q : Pack) → read ws ≡ yes p → treesResolved p ≡ done q → left ≡ writtenOut lent (done (stampAll p q))
 
 -- a checked pack with its directory, its tables and its notes, and a slice for as many words
 pub record ResolveAsked (ws dir acts taken asked notes : List ℕ) (f : Figures) (work : List ℕ) : Type 0 where
   pub layout : Layout
   pub directory : IsDirectory ws layout dir
   pub filled : Filled ws (namesIn dir (layout .relations)) (startsIn dir) acts taken (f .steps)
-  pub lent : Lent (layout .names) asked
+  pub lent : ClearTable (layout .names) asked
   pub counts : f .relations ≡ layout .relations
   pub ruled : f .rules ≡ layout .rules
   pub blocks : f .notes .blocks .at ≡ layout .blocks + 1
@@ -160,16 +160,16 @@ pub record OrderCame (ws dir notes : List ℕ) (f : Figures) (room : ℕ) (left 
 pub record TablesFor (ws dir acts taken asked : List ℕ) : Type 0 where
   pub clear : Clear (namesSaid ws) dir
   pub reaches : Reaches dir (length acts)
-  pub acts-lent : Lent (namesSaid ws) acts
-  pub taken-lent : Lent (namesSaid ws) taken
-  pub asked-lent : Lent (namesSaid ws) asked
+  pub acts-lent : ClearTable (namesSaid ws) acts
+  pub taken-lent : ClearTable (namesSaid ws) taken
+  pub asked-lent : ClearTable (namesSaid ws) asked
 
 pub record CheckedAsked (ws : List ℕ) (l : Layout) (dir acts taken asked out : List ℕ) (room : ℕ) (work : List ℕ) : Type 0 where
   pub directory : IsDirectory ws l dir
   pub reaches : Reaches dir (length acts)
-  pub acts-lent : Lent (l .names) acts
-  pub taken-lent : Lent (l .names) taken
-  pub asked-lent : Lent (l .names) asked
+  pub acts-lent : ClearTable (l .names) acts
+  pub taken-lent : ClearTable (l .names) taken
+  pub asked-lent : ClearTable (l .names) asked
   pub notes-in : NotesIn (directory .checked .pack) out (l .noted) (l .all)
   pub same : length work ≡ length ws
   pub fits : room ≤ length out

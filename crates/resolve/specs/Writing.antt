@@ -87,7 +87,7 @@ pub record Put (out : List ℕ) (to : ℕ) (more : List ℕ) (left : List ℕ) (
   pub holds : take next left ≡ take to out ++ more
 
 -- there is room for them
-pub record Room (out : List ℕ) (to : ℕ) (more : List ℕ) : Type 0 where
+pub record PutRoom (out : List ℕ) (to : ℕ) (more : List ℕ) : Type 0 where
   pub fits : to + length more ≤ length out
   pub few : length out ≤ 8192
 

@@ -12,7 +12,7 @@ ghost use lib.ListN.{length, getD};
 ghost use Rattle.definitions.specs.Table.{wordOf};
 ghost use Rattle.definitions.specs.Places.{namesAt};
 ghost use Rattle.stamping.specs.Stamping.{namesOr, Lists};
-ghost use Rattle.resolve.specs.Writing.{listWords, putFor, pieceOut, Stampable, Put, Room, WriteAsked, WriteCame};
+ghost use Rattle.resolve.specs.Writing.{listWords, putFor, pieceOut, Stampable, Put, PutRoom, WriteAsked, WriteCame};
 
 // The words of a slice in another of the same length.
 pub fn copy(from: &[u32], to: &mut [u32])
@@ -40,7 +40,7 @@ fn put_names(pack: &[u32], list: u32, out: &mut [u32])
 
 // Words at a place. The answer is the place after them, as of each that puts words.
 fn put_words(words: &[u32], out: &mut [u32], to: usize) -> usize
-    requires { ⌜ Room (now out) to (now words) ⌝ }
+    requires { ⌜ PutRoom (now out) to (now words) ⌝ }
     ensures { λ r. ⌜ Put (now (out .entry)) to (now (words .entry)) (now (out .exit)) r ⌝ }
 {
     let next = to + words.len();
@@ -50,7 +50,7 @@ fn put_words(words: &[u32], out: &mut [u32], to: usize) -> usize
 
 // Words, and then a list of a kind.
 fn put_list(pack: &[u32], list: u32, kind: u32, words: &[u32], out: &mut [u32], to: usize) -> usize
-    requires { ⌜ (kind ≤ 21) × Room (now out) to (now words ++ listWords kind (namesOr (namesAt (now pack) list))) ⌝ }
+    requires { ⌜ (kind ≤ 21) × PutRoom (now out) to (now words ++ listWords kind (namesOr (namesAt (now pack) list))) ⌝ }
     ensures { λ r. ⌜ Put (now (out .entry)) to (now (words .entry) ++ listWords kind (namesOr (namesAt (now (pack .entry)) list))) (now (out .exit)) r ⌝ }
 {
     let at = put_words(words, out, to);
@@ -70,7 +70,7 @@ fn put_lists(
     out: &mut [u32],
     to: usize,
 ) -> usize
-    requires { ⌜ (4 ≤ place) × (place ≤ length (now words)) × Room (now out) to (putFor (namesOr (namesAt (now pack) list)) (now words) place) ⌝ }
+    requires { ⌜ (4 ≤ place) × (place ≤ length (now words)) × PutRoom (now out) to (putFor (namesOr (namesAt (now pack) list)) (now words) place) ⌝ }
     ensures { λ r. ⌜ Put (now (out .entry)) to (putFor (namesOr (namesAt (now (pack .entry)) list)) (now (words .entry)) place) (now (out .exit)) r ⌝ }
 {
     if kind_count(words, 0) != 0 {
@@ -82,7 +82,7 @@ fn put_lists(
 
 // A record with the list at a place stamped on it; at 0 there is none.
 fn put_record(pack: &[u32], list: u32, words: &[u32], out: &mut [u32], to: usize) -> usize
-    requires { ⌜ Stampable list (now words) × Room (now out) to (pieceOut (now pack) list (now words)) ⌝ }
+    requires { ⌜ Stampable list (now words) × PutRoom (now out) to (pieceOut (now pack) list (now words)) ⌝ }
     ensures { λ r. ⌜ Put (now (out .entry)) to (pieceOut (now (pack .entry)) list (now (words .entry))) (now (out .exit)) r ⌝ }
 {
     if list == 0 {

@@ -15,7 +15,7 @@ use Rattle.definitions.specs.Pack.{newName, relation, derivation}
 use Rattle.definitions.specs.Kinds.{kindsOf}
 use Rattle.definitions.specs.Filtered.{kindAt}
 use Rattle.definitions.specs.Places.{namesAt, hops}
-use Rattle.chains.proofs.RelationScan.{kept}
+use Rattle.chains.proofs.RelationForm.{kept}
 use Rattle.chains.proofs.ListAt.{InWords}
 use Rattle.definitions.specs.Resolving.{holds, roleJudgment, inDerivation, atomNames, empty, unlike, stampedWith, stampBy, stampDerived, stamp}
 use Rattle.stamping.specs.Stamping.{StampedBy, as-it-is, with-kinds, unstamped, passedIn, unlikeIn, listBy, listFor}

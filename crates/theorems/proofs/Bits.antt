@@ -18,7 +18,7 @@ use Rattle.definitions.specs.Answers.{answer, noRoom, writeAnswer, unknown, yes
 use Rattle.definitions.specs.Checking.{checkAnswer, rewriteAnswer}
 use Rattle.pack.proofs.PackLaws.{words-read}
 use Rattle.pack.proofs.Refusals.{read-numbers}
-use Rattle.definitions.specs.Chain.{Step, end, next, same, withNext, outside}
+use Rattle.definitions.specs.Chain.{Link, end, next, same, withNext, outside}
 use Rattle.definitions.specs.Kinds as kinds
 use Rattle.definitions.specs.Kinds.{kindStep, declared, ownAnswer, allKinds}
 use Rattle.definitions.specs.Places.{placeOf, allKindsWords}
@@ -27,10 +27,10 @@ use Rattle.definitions.specs.Filtered.{filterWords}
 use Rattle.definitions.specs.Lean.{leans}
 use Rattle.definitions.specs.declared.operation.Filter.{Filter}
 use Rattle.chains.proofs.KindLaws.{kinds-steps, distinct-names}
-use Rattle.chains.proofs.PackIndex.{parts}
+use Rattle.chains.proofs.PackParts.{parts}
 use Rattle.chains.proofs.PlaceBounds.{end-small}
 use Rattle.chains.proofs.ListAt.{own-holds}
-use Rattle.definitions.specs.Turning.{Outcome, done, refused}
+use Rattle.definitions.specs.ResolvingTrees.{Outcome, done, refused}
 use Rattle.definitions.specs.Resolving.{resolved}
 use Rattle.directions.proofs.Numbers.{refused-number}
 use Rattle.theorems.proofs.RefusalNames.{Told, resolved-told}
@@ -61,7 +61,7 @@ unfolding rewriteAnswer
 rewrite-fits ws room = reads ws _ (λ p e. writes (words p) 0 room (omega (arith, few-words ws p e)) (omega arith))
 
 -- a relation inherits from one name, so there are no more undeclared sources than relations
-few-outside : {R : Type 0} (step : ℕ → Step R) (ds ns : List ℕ) → length (outside step ds ns) ≤ length ns
+few-outside : {R : Type 0} (step : ℕ → Link R) (ds ns : List ℕ) → length (outside step ds ns) ≤ length ns
 unfolding outside
 few-outside step ds [] = omega arith
 few-outside {R} step ds (n ∷ ns) = go (step n) (few-outside step ds ns)
@@ -73,7 +73,7 @@ few-outside {R} step ds (n ∷ ns) = go (step n) (few-outside step ds ns)
     added true m h = omega arith
     added false m h = omega arith
 
-    go : (s : Step R) → length rest ≤ length ns → length (withNext ds s rest) ≤ length (n ∷ ns)
+    go : (s : Link R) → length rest ≤ length ns → length (withNext ds s rest) ≤ length (n ∷ ns)
     go (end r) h = omega arith
     go (next m) h = added (among m ds || among m rest) m h
 

@@ -5,7 +5,7 @@ use lib.ListN.{length}
 use Rattle.definitions.specs.Table.{entryOf}
 use Rattle.definitions.specs.Tree.{Tree, Forest, node, more, Fields, size}
 use Rattle.definitions.specs.Direction.{Membership}
-use Rattle.definitions.specs.Turning.{Outcome, done, refused, andThen, mapDone, Citing, Step, goes, stops, stepBy, atNode, resolveTree, resolveForest}
+use Rattle.definitions.specs.ResolvingTrees.{Outcome, done, refused, andThen, mapDone, Citing, NodeStep, goes, stops, nodeStep, atNode, resolveTree, resolveForest}
 use Rattle.definitions.specs.Tree as trees
 
 abbrev pub NamedBy : {A : Type 0} → ℕ → Outcome A → Type 0
@@ -21,7 +21,7 @@ then-named n (done a) f h k = k a
 then-named n (refused r) f h k = h
 
 module _ (C : Citing) where
-  node-named : (at : ℕ) (s : Step) (on : Fields → ℕ → Membership → Membership → Outcome Tree) → ((fs : Fields) (entity : ℕ) (first rest : Membership) → NamedBy (C .name) (on fs entity first rest)) → NamedBy (C .name) (atNode C at s on)
+  node-named : (at : ℕ) (s : NodeStep) (on : Fields → ℕ → Membership → Membership → Outcome Tree) → ((fs : Fields) (entity : ℕ) (first rest : Membership) → NamedBy (C .name) (on fs entity first rest)) → NamedBy (C .name) (atNode C at s on)
   node-named at (goes fs entity first rest) on k = k fs entity first rest
   node-named at (stops number other) on k = refl
 
@@ -30,7 +30,7 @@ module _ (C : Citing) where
 
     pub tree-named : (t : Tree) (entity : ℕ) (m : Membership) (at : ℕ) → NamedBy (C .name) (resolveTree C entity m at t)
     tree-named (node k v fs f) entity m at =
-        node-named at (stepBy C entity m (entryOf k .follows) v fs) _ (λ fs′ e first rest. map-named (C .name) (node k v fs′) (resolveForest C e first rest (at + 1 + length fs) f) (forest-named f e first rest (at + 1 + length fs)))
+        node-named at (nodeStep C entity m (entryOf k .follows) v fs) _ (λ fs′ e first rest. map-named (C .name) (node k v fs′) (resolveForest C e first rest (at + 1 + length fs) f) (forest-named f e first rest (at + 1 + length fs)))
 
     forest-named : (f : Forest) (entity : ℕ) (first rest : Membership) (at : ℕ) → NamedBy (C .name) (resolveForest C entity first rest at f)
     forest-named trees.none entity first rest at = tt

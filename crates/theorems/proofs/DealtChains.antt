@@ -14,7 +14,7 @@ use Rattle.definitions.specs.Kinds.{declared, undeclaredSources, ownAnswer, kin
 use Rattle.definitions.specs.Places.{placeOf, namesAt, allKindsWords}
 use Rattle.definitions.specs.Operations.{allKindsAnswer, leanAnswer, filterAnswer, filterBuffer}
 use Rattle.definitions.specs.Answers.{tableFrom}
-use Rattle.definitions.specs.Filtered.{says, filterWords}
+use Rattle.definitions.specs.Filtered.{filterSays, filterWords}
 use Rattle.definitions.specs.declared.operation.Filter.{Filter}
 use Rattle.definitions.specs.declared.operation.Filter.the-variants.{Direct, Innermost, Alias, Unresolved}
 use Rattle.definitions.specs.Chain.{Distinct}
@@ -30,7 +30,7 @@ unfolding allKindsAnswer
 all-kinds-steps ws p h room r =
     simp (h, words-count p, le-leb (length (p .relations)) room r, kinds-steps (p .relations) (distinct-names p (words-read ws p h .fine)))
 
-filter-alike : (p q : Pack) → Distinct (declared (p .relations)) → Dealt p q → (f : Filter) (e : ℕ) → says f p e ≡ says f q e
+filter-alike : (p q : Pack) → Distinct (declared (p .relations)) → Dealt p q → (f : Filter) (e : ℕ) → filterSays f p e ≡ filterSays f q e
 filter-alike p q u d Direct e = rw (filtered-dealt (d .relations) u .directs e) refl
 filter-alike p q u d Innermost e = rw (d .names, filtered-dealt (d .relations) u .innermosts (q .names) e) refl
 filter-alike p q u d Alias e = rw (filtered-dealt (d .relations) u .aliases e) refl
@@ -52,7 +52,7 @@ chains-dealt ws vs p q h k d =
     let u = distinct-names p (words-read ws p h .fine) in
     let a = kinds-dealt (d .relations) u in
     let l : length (allKindsWords p) ≡ length (allKindsWords q) = words-count p ∙ shuffled-length (d .relations) ∙ sym (words-count q) in
-    let t : (f : Filter) → filterWords f p ≡ filterWords f q = λ f. ap (λ (g : ℕ → ℕ). tableFrom g 0 (p .names)) (fun-ext (filter-alike p q u d f)) ∙ ap (tableFrom (says f q) 0) (d .names) in
+    let t : (f : Filter) → filterWords f p ≡ filterWords f q = λ f. ap (λ (g : ℕ → ℕ). tableFrom g 0 (p .names)) (fun-ext (filter-alike p q u d f)) ∙ ap (tableFrom (filterSays f q) 0) (d .names) in
     record {
       all-kinds = λ room. simp (h, k, l, a .steps);
       own-kinds = λ n. kinds-at ws p h n ∙ a .kinds n ∙ sym (kinds-at vs q k n);

@@ -95,7 +95,7 @@ module _ {S A : Type 0} (step : S → A → S) (F : S → Form A) (Same : A → 
   shuffled-long (trans p q) s = shuffled-long p s ∙ shuffled-long q s
 
   -- a count word and what it counts
-  counted-alike : {C : Type 0} (H : Holder A C) (n kind : ℕ) (suits : Suits H (entryOf kind .rule)) (s : S) (c d : C) → count H c ≡ count H d → Shuffled Same (items H c) (items H d) → Alike (countedFrom H n kind suits step F s) c d
+  counted-alike : {C : Type 0} (H : Holder A C) (n kind : ℕ) (suits : Suits H (entryOf kind .values)) (s : S) (c d : C) → count H c ≡ count H d → Shuffled Same (items H c) (items H d) → Alike (countedFrom H n kind suits step F s) c d
   unfolding Fine wordsBy
   counted-alike H n kind suits s c d e p =
       record {

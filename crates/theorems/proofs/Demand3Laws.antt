@@ -21,7 +21,7 @@ use Rattle.definitions.specs.Operations.{allKindsAnswer, allKindsBuffer, givenO
 use Rattle.chains.proofs.KindLaws.{kinds-dealt, distinct-names, words-own, kinds-steps}
 use Rattle.chains.proofs.ListAt.{walk-end, place-holds}
 use Rattle.theorems.proofs.DealtChains.{chains-dealt}
-use Rattle.definitions.specs.Turning.{Outcome, done, refused}
+use Rattle.definitions.specs.ResolvingTrees.{Outcome, done, refused}
 use Rattle.definitions.specs.Resolving.{resolved}
 use Rattle.theorems.specs.Demand3.{Left, ResolveAlike, bothResolve, bothEqual, bothRoom, bothOpen, KindsWritten, no-more, one-more, stepSum, StepsAreSum, Demand3}
 use Rattle.theorems.proofs.DealtResolving.{ResolvedAlike, bothDone, bothRefused, resolve-dealt}

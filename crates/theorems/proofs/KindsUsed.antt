@@ -25,10 +25,10 @@ use Rattle.definitions.specs.Places.{firstRelation}
 use Rattle.chains.proofs.Names.{apart, or-cases, or-left, or-right, among-append, any-of, of-any}
 use Rattle.chains.proofs.ChainLaws.{own-end}
 use Rattle.chains.proofs.KindLaws.{kind-leads}
-use Rattle.chains.proofs.PackIndex.{parts, find-name, EachFound, all-found}
+use Rattle.chains.proofs.PackParts.{parts, find-name, EachFound, all-found}
 use Rattle.definitions.specs.Filtered.{kindAt, listed, entityIs, takes, takenFrom, taken, single, direct}
 use Rattle.definitions.specs.Tables.{Derived, Tables, derivedBy, derivedAt, pair, typedBy, typedAt, tables}
-use Rattle.definitions.specs.Turning.{Outcome, done, refused, andThen, mapDone, result}
+use Rattle.definitions.specs.ResolvingTrees.{Outcome, done, refused, andThen, mapDone, result}
 use Rattle.definitions.specs.Resolving.{sameKind, equalKinds, defaultedEqual, equalRefusal, resolveRules, predicateBy, resolvePredicate, resolveDerivation, resolveRelation, withPredicate, resolveRelations, empty, unlike, passedOver, orKinds, stampedWith, stampBy, stampDerived, stamp, firstRule, resolveRecords, resolved}
 use Rattle.directions.proofs.Numbers.{Numbered, rules-numbered, relations-numbered}
 use Rattle.definitions.specs.Operations.{givenOut, resolveAnswer}

@@ -11,7 +11,7 @@ use Rattle.definitions.specs.Records.{Derivation, Relation, Body, Rule, Pack}
 use Rattle.definitions.specs.Kinds.{kindsOf}
 use Rattle.definitions.specs.Places.{relationWords}
 use Rattle.definitions.specs.Direction.{Membership}
-use Rattle.definitions.specs.Turning.{Outcome, andThen, mapDone, Citing, Step, goes, stops, stepBy, atNode, resolveTree, resolveForest, result}
+use Rattle.definitions.specs.ResolvingTrees.{Outcome, andThen, mapDone, Citing, NodeStep, goes, stops, nodeStep, atNode, resolveTree, resolveForest, result}
 use Rattle.definitions.specs.Resolving.{cites, predicatePlace, withPredicate, resolveBody, resolveBodies, bodySize, ruleBy, resolveRule, ruleWords, resolveRules, predicateBy, resolvePredicate, resolveDerivation, resolveRelation, resolveRelations}
 use Rattle.theorems.proofs.OutcomeLaws.{bound, result-map, result-then, allDone}
 
@@ -26,7 +26,7 @@ then-free o o′ f f′ e h = result-then o f (λ a. result (f′ a)) h ∙ ap (
 abbrev Free : Citing → Forest → Type 0
 Free C f = (entity : ℕ) (first rest : Membership) (at at′ : ℕ) → result (resolveForest C entity first rest at f) ≡ result (resolveForest C entity first rest at′ f)
 
-node-free : (C : Citing) (at at′ k v b b′ : ℕ) (f : Forest) → Free C f → (s : Step)
+node-free : (C : Citing) (at at′ k v b b′ : ℕ) (f : Forest) → Free C f → (s : NodeStep)
     → result (atNode C at s (λ fs entity first rest. mapDone (node k v fs) (resolveForest C entity first rest b f)))
     ≡ result (atNode C at′ s (λ fs entity first rest. mapDone (node k v fs) (resolveForest C entity first rest b′ f)))
 node-free C at at′ k v b b′ f h (goes fs entity first rest) = map-free (node k v fs) (resolveForest C entity first rest b f) (resolveForest C entity first rest b′ f) (h entity first rest b b′)
@@ -37,7 +37,7 @@ mutual
 
   pub tree-free : (C : Citing) (entity : ℕ) (m : Membership) (at at′ : ℕ) (t : Tree) → result (resolveTree C entity m at t) ≡ result (resolveTree C entity m at′ t)
   tree-free C entity m at at′ (node k v fs f) =
-      node-free C at at′ k v (at + 1 + length fs) (at′ + 1 + length fs) f (λ e first rest b b′. forest-free C e first rest b b′ f) (stepBy C entity m (entryOf k .follows) v fs)
+      node-free C at at′ k v (at + 1 + length fs) (at′ + 1 + length fs) f (λ e first rest b b′. forest-free C e first rest b b′ f) (nodeStep C entity m (entryOf k .follows) v fs)
 
   forest-free : (C : Citing) (entity : ℕ) (first rest : Membership) (at at′ : ℕ) (f : Forest) → result (resolveForest C entity first rest at f) ≡ result (resolveForest C entity first rest at′ f)
   forest-free C entity first rest at at′ trees.none = refl

@@ -17,14 +17,14 @@ use Rattle.definitions.specs.Kinds.{list9, find, kindsOf}
 use Rattle.definitions.specs.Filtered.{kindAt}
 use Rattle.definitions.specs.Places.{relationWords, startOf, firstRelation}
 use Rattle.filtered.proofs.KindBounds.{Below, BelowAll, tail-below, kinds-below}
-use Rattle.chains.proofs.RelationScan.{kept}
-use Rattle.chains.proofs.PackIndex.{parts, find-name, find-kept, start-within, opening, relationsPart, split, opening-length}
+use Rattle.chains.proofs.RelationForm.{kept}
+use Rattle.chains.proofs.PackParts.{parts, find-name, find-kept, start-within, opening, relationsPart, split, opening-length}
 use Rattle.definitions.specs.Direction.{Membership, kindOrZero, membership}
 use Rattle.definitions.specs.Tables.{Derived, derivedBy, derivedAt, pair, typedBy, typedAt, tables}
-use Rattle.definitions.specs.Turning.{Outcome, done, refused, andThen, mapDone, Citing, resolveTree}
+use Rattle.definitions.specs.ResolvingTrees.{Outcome, done, refused, andThen, mapDone, Citing, resolveTree}
 use Rattle.definitions.specs.Inputs.{input}
 use Rattle.definitions.specs.Resolving.{cites, defaultedEqual, equalRefusal, resolveBody, resolveRule, ruleWords, resolveRules, predicatePlace, predicateBy, resolvePredicate, resolveDerivation, resolveRelation, resolveRelations, firstRule, resolveRecords, resolved}
-use Rattle.directions.specs.Records.{wordsOf, runBy, All, bodyWords, RelationKeeps}
+use Rattle.directions.specs.RecordRuns.{runWords, runBy, EachKeeps, bodyWords, RelationKeeps}
 use Rattle.directions.proofs.Numbers.{OfInput, input-numbered}
 use Rattle.directions.proofs.TreeWords.{size-is}
 use Rattle.theorems.proofs.CitingNames.{NamedBy, tree-named}
@@ -55,14 +55,14 @@ module _ (most : ℕ) where
 
   -- a run of records
   module _ {A : Type 0} (W : A → List ℕ) (by : ℕ → A → Outcome A) (Keeps : A → Type 0) (each : (at : ℕ) (a : A) → Keeps a → Told most (at + length (W a)) (by at a)) where
-    run-told : (at : ℕ) (l : List A) → All Keeps l → Told most (at + length (wordsOf W l)) (runBy W by at l)
+    run-told : (at : ℕ) (l : List A) → EachKeeps Keeps l → Told most (at + length (runWords W l)) (runBy W by at l)
     unfolding runBy
     run-told at [] h = tt
     run-told at (a ∷ l) h =
-        let q = length-append (W a) (wordsOf W l) in
-        then-told (at + length (wordsOf W (a ∷ l))) (by at a) _ (told-below (at + length (W a)) (at + length (wordsOf W (a ∷ l))) (omega arith) (by at a) (each at a (h .0)))
-        (λ b. map-told (at + length (wordsOf W (a ∷ l))) (λ m. b ∷ m) (runBy W by (at + length (W a)) l)
-        (told-below (at + length (W a) + length (wordsOf W l)) (at + length (wordsOf W (a ∷ l))) (omega arith) (runBy W by (at + length (W a)) l) (run-told (at + length (W a)) l (h .1))))
+        let q = length-append (W a) (runWords W l) in
+        then-told (at + length (runWords W (a ∷ l))) (by at a) _ (told-below (at + length (W a)) (at + length (runWords W (a ∷ l))) (omega arith) (by at a) (each at a (h .0)))
+        (λ b. map-told (at + length (runWords W (a ∷ l))) (λ m. b ∷ m) (runBy W by (at + length (W a)) l)
+        (told-below (at + length (W a) + length (runWords W l)) (at + length (runWords W (a ∷ l))) (omega arith) (runBy W by (at + length (W a)) l) (run-told (at + length (W a)) l (h .1))))
 
 -- ---- a tree
 
@@ -158,15 +158,15 @@ module _ (p : Pack) (w : WellFormed p) where
       let names = rule-names n r f in
       let its = rule-parts n r f in
       let by : ℕ → Body → Outcome Body = λ at b. resolveBody C (r .entity) at b in
-      let long = ap length (its .words) ∙ length-append (head r) (wordsOf bodyWords (bodiesOf r)) in
+      let long = ap length (its .words) ∙ length-append (head r) (runWords bodyWords (bodiesOf r)) in
       subst (Told n (at + length (ruleWords n r))) (sym (rule-run C at r))
       (map-told n (at + length (ruleWords n r)) (again r) (runBy bodyWords by (at + 4) (bodiesOf r))
-      (told-below n (at + 4 + length (wordsOf bodyWords (bodiesOf r))) (at + length (ruleWords n r)) (omega arith) (runBy bodyWords by (at + 4) (bodiesOf r))
+      (told-below n (at + 4 + length (runWords bodyWords (bodiesOf r))) (at + length (ruleWords n r)) (omega arith) (runBy bodyWords by (at + 4) (bodiesOf r))
       (run-told n bodyWords by (Fine (body n)) (λ at b g. body-told n C (names .0) (cites-fits (r .citing) (r .origin)) (r .entity) (names .1) at b g) (at + 4) (bodiesOf r) (its .bodies))))
 
-  rules-told : Told n (firstRule p + length (wordsOf (ruleWords n) (p .rules))) (resolveRules p (firstRule p) (p .rules))
+  rules-told : Told n (firstRule p + length (runWords (ruleWords n) (p .rules))) (resolveRules p (firstRule p) (p .rules))
   rules-told =
-      subst (Told n (firstRule p + length (wordsOf (ruleWords n) (p .rules)))) (sym (rules-run p (firstRule p) (p .rules)))
+      subst (Told n (firstRule p + length (runWords (ruleWords n) (p .rules)))) (sym (rules-run p (firstRule p) (p .rules)))
       (run-told n (ruleWords n) (λ at r. resolveRule p at r) (Fine (rule n)) rule-told (firstRule p) (p .rules) (rules-keep p w .all))
 
   -- ---- relations
@@ -192,25 +192,25 @@ module _ (p : Pack) (w : WellFormed p) where
           map-told n (at + length (relationWords n r)) _ (resolvePredicate p at r d)
           (told-below n (at + predicatePlace r d + size (d .predicate)) (at + length (relationWords n r)) (omega (arith, lead-long n r d, size-is (d .predicate))) (resolvePredicate p at r d) (predicate-told at r d (k .below) f))
 
-  relations-told : Told n (firstRelation p + length (wordsOf (relationWords n) (p .relations))) (resolveRelations p (firstRelation p) (p .relations))
+  relations-told : Told n (firstRelation p + length (runWords (relationWords n) (p .relations))) (resolveRelations p (firstRelation p) (p .relations))
   relations-told =
-      subst (Told n (firstRelation p + length (wordsOf (relationWords n) (p .relations)))) (sym (relations-run p (firstRelation p) (p .relations)))
+      subst (Told n (firstRelation p + length (runWords (relationWords n) (p .relations)))) (sym (relations-run p (firstRelation p) (p .relations)))
       (run-told n (relationWords n) (λ at r. resolveRelation p at r) (RelationKeeps p) relation-told (firstRelation p) (p .relations) (relations-keep p w .all))
 
   -- ---- the whole
 
-  rules-inside : firstRule p + length (wordsOf (ruleWords n) (p .rules)) ≤ total p
+  rules-inside : firstRule p + length (runWords (ruleWords n) (p .rules)) ≤ total p
   rules-inside =
       let B : List ℕ = wordsBy (blocks n) (p .blocks) in
-      let a = ap length (pack-words-22 p) ∙ length-append (front22 p) (wordsOf (ruleWords n) (p .rules) ++ B) in
-      let b = length-append (wordsOf (ruleWords n) (p .rules)) B in
+      let a = ap length (pack-words-22 p) ∙ length-append (front22 p) (runWords (ruleWords n) (p .rules) ++ B) in
+      let b = length-append (runWords (ruleWords n) (p .rules)) B in
       omega (arith, front22-long p, words-length p)
 
-  relations-inside : firstRelation p + length (wordsOf (relationWords n) (p .relations)) ≤ total p
+  relations-inside : firstRelation p + length (runWords (relationWords n) (p .relations)) ≤ total p
   relations-inside =
-      let after : List ℕ = wordOf 22 (length (p .rules)) ∷ (wordsOf (ruleWords n) (p .rules) ++ wordsBy (blocks n) (p .blocks)) in
-      let a = ap length (pack-words p) ∙ length-append (front p) (wordsOf (relationWords n) (p .relations) ++ after) in
-      let b = length-append (wordsOf (relationWords n) (p .relations)) after in
+      let after : List ℕ = wordOf 22 (length (p .rules)) ∷ (runWords (ruleWords n) (p .rules) ++ wordsBy (blocks n) (p .blocks)) in
+      let a = ap length (pack-words p) ∙ length-append (front p) (runWords (relationWords n) (p .relations) ++ after) in
+      let b = length-append (runWords (relationWords n) (p .relations)) after in
       omega (arith, front-long p, words-length p)
 
   -- a word follows the relations

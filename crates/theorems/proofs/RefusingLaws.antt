@@ -25,7 +25,7 @@ use Rattle.definitions.specs.Operations.{allKindsAnswer, allKindsBuffer, filter
 use Rattle.theorems.proofs.KindsNumbers.{all-kinds-numbers, kinds-of-numbers, lean-numbers}
 use Rattle.definitions.specs.Filtered.{filterWords}
 use Rattle.filtered.proofs.FilterLaws.{filter-numbers}
-use Rattle.definitions.specs.Turning.{Outcome, done, refused}
+use Rattle.definitions.specs.ResolvingTrees.{Outcome, done, refused}
 use Rattle.definitions.specs.Resolving.{resolved}
 use Rattle.theorems.proofs.ResolveNumbers.{ResolveRefuses, checks, equal-kinds, open-direction, no-room, resolve-numbers}
 use Rattle.definitions.specs.Bytes.{wordsOf, encode, areWords, notWords, overBytes, outAfter, inRoom}

@@ -16,7 +16,7 @@ use Rattle.definitions.specs.Answers.{answer, noRoom}
 use Rattle.pack.proofs.PackLaws.{words-length, words-read}
 use Rattle.pack.proofs.Refusals.{CheckRefuses, read-numbers}
 use Rattle.definitions.specs.Kinds.{allKinds}
-use Rattle.definitions.specs.Turning.{Outcome, done, refused, InRange}
+use Rattle.definitions.specs.ResolvingTrees.{Outcome, done, refused, InRange}
 use Rattle.definitions.specs.Resolving.{resolved}
 use Rattle.definitions.specs.Operations.{givenOut, resolveAnswer}
 use Rattle.directions.proofs.Numbers.{refused-number}

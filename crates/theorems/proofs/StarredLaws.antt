@@ -12,12 +12,12 @@ use Rattle.definitions.specs.Tables.{tables}
 use Rattle.definitions.specs.Direction.{turn}
 use Rattle.definitions.specs.Direction as direction
 use Rattle.definitions.specs.Inputs.{input}
-use Rattle.definitions.specs.Turning.{stepBy, resolveTree}
+use Rattle.definitions.specs.ResolvingTrees.{nodeStep, resolveTree}
 use Rattle.definitions.specs.Resolving.{defaultedEqual, resolveBodies, ruleBy, resolveRules, predicateBy, resolveRelation, resolveRelations, holds, atomNames, stamp, resolved}
 use Rattle.theorems.specs.Starred.{AllHold, cases}
 
 pub starred : AllHold cases
-unfolding entryOf table wordsBy count items tree root follow fields relation newName relationTail nameList optionalDerivation derivation chain path hop member walk own walksFrom find kindStep kindsOf taken direct innermost startOf tables turn direction.member input stepBy size resolveTree defaultedEqual resolveBodies ruleBy resolveRules predicateBy resolveRelation resolveRelations holds atomNames stamp resolved
+unfolding entryOf table wordsBy count items tree root follow fields relation newName relationTail nameList optionalDerivation derivation chain path hop member walk own walksFrom find kindStep kindsOf taken direct innermost startOf tables turn direction.memberDirection input nodeStep size resolveTree defaultedEqual resolveBodies ruleBy resolveRules predicateBy resolveRelation resolveRelations holds atomNames stamp resolved
 starred = (
   ((refl, refl, refl)),
   (

@@ -11,10 +11,10 @@ use Rattle.definitions.specs.Tree.{Tree, Forest, node, more, treeWords, size}
 use Rattle.definitions.specs.Tree as trees
 use Rattle.definitions.specs.Records.{Derivation, Relation, Rule}
 use Rattle.definitions.specs.Tables.{Derived}
-use Rattle.definitions.specs.Direction.{turn, member}
-use Rattle.definitions.specs.Turning.{done, refused, stepBy}
+use Rattle.definitions.specs.Direction.{turn, memberDirection}
+use Rattle.definitions.specs.ResolvingTrees.{done, refused, nodeStep}
 use Rattle.turning.specs.Notes.{Note, note, lookBy, noted, notesOf, notesRun, ruleNotes, relationNotes}
-use Rattle.turning.specs.Turns.{Known, Root, work, nowhere, openRoot, stepAt, turnNode, turnNote, turnNotes}
+use Rattle.turning.specs.Turns.{KnownTables, Root, work, nowhere, openRoot, stepAt, turnNode, turnNote, turnNotes}
 
 -- relation 5 is typed [1,2], 7 is typed [1,3], 4 is typed [2,2], and 6 is derived with the kinds [2,1] in its slots 0 and 1
 abbrev typed : ℕ → Option (List ℕ)
@@ -24,7 +24,7 @@ typed n =
 abbrev derived : ℕ → Option Derived
 derived n = pick (eqb n 6) (some (record { current = 0; related = 1; kinds = some (2 ∷ 1 ∷ []) })) none
 
-abbrev known : Known
+abbrev known : KnownTables
 known = record { tables = record { typed = typed; derived = derived; direct = λ e. none }; input = λ origin owner name. none }
 
 abbrev w : ℕ → ℕ → ℕ
@@ -61,13 +61,13 @@ a1-notes = refl
 a1 : turnNotes known (w 23 8 ∷ w 24 table.none ∷ w 25 2 ∷ w 26 1 ∷ w 27 0 ∷ w 74 5 ∷ w 80 7 ∷ w 81 9 ∷ w 86 0 ∷ w 83 0 ∷ []) 1 (note 0 0 false ∷ note 5 1 false ∷ [])
     (work (w 23 8 ∷ w 24 table.none ∷ w 25 2 ∷ w 26 1 ∷ w 27 0 ∷ w 74 5 ∷ w 80 7 ∷ w 81 9 ∷ w 86 0 ∷ w 83 0 ∷ []) (0 ∷ 0 ∷ 0 ∷ []) nowhere)
     ≡ done (work (w 23 8 ∷ w 24 table.none ∷ w 25 2 ∷ w 26 1 ∷ w 27 0 ∷ w 74 5 ∷ w 80 1 ∷ w 81 0 ∷ w 86 0 ∷ w 83 0 ∷ []) (0 ∷ 2 ∷ 1 ∷ []) inRule)
-unfolding turnNotes turnNote turnNode openRoot stepAt stepBy turn lookBy entryOf table fieldsOf
+unfolding turnNotes turnNote turnNode openRoot stepAt nodeStep turn lookBy entryOf table fieldsOf
 a1 = refl
 
 -- A2: both kinds are 2: 10, at the node, of the rule 8, other the entity
 a2 : turnNotes known (w 23 8 ∷ w 24 table.none ∷ w 25 2 ∷ w 26 1 ∷ w 27 0 ∷ w 74 4 ∷ w 80 7 ∷ w 81 9 ∷ w 86 0 ∷ w 83 0 ∷ []) 1 (note 0 0 false ∷ note 5 1 false ∷ []) (work [] (0 ∷ 0 ∷ 0 ∷ []) nowhere)
     ≡ refused (record { number = 10; place = 5; name = 8; other = 2 })
-unfolding turnNotes turnNote turnNode openRoot stepAt stepBy turn lookBy entryOf table fieldsOf
+unfolding turnNotes turnNote turnNode openRoot stepAt nodeStep turn lookBy entryOf table fieldsOf
 a2 = refl
 
 -- M1: relation 6, of the membership (2,1); a test over 5 of the kinds 1 and 2: slots 1 and 0
@@ -84,13 +84,13 @@ m1-notes = refl
 
 m1 : turnNotes known (w 6 6 ∷ w 7 table.none ∷ w 101 5 ∷ w 80 7 ∷ w 81 9 ∷ []) 1 (note 0 0 false ∷ note 2 1 false ∷ []) (work (w 6 6 ∷ w 7 table.none ∷ w 101 5 ∷ w 80 7 ∷ w 81 9 ∷ []) (0 ∷ 0 ∷ 0 ∷ []) nowhere)
     ≡ done (work (w 6 6 ∷ w 7 table.none ∷ w 101 5 ∷ w 80 1 ∷ w 81 0 ∷ []) (0 ∷ 1 ∷ 0 ∷ []) (record { name = 6; origin = table.none; member = some (2, 1) }))
-unfolding turnNotes turnNote turnNode openRoot stepAt stepBy member lookBy entryOf table fieldsOf
+unfolding turnNotes turnNote turnNode openRoot stepAt nodeStep memberDirection lookBy entryOf table fieldsOf
 m1 = refl
 
 -- where membership is lost the slots stay
 m1-lost : turnNotes known (w 6 6 ∷ w 7 table.none ∷ w 101 5 ∷ w 80 7 ∷ w 81 9 ∷ []) 1 (note 0 0 false ∷ note 2 1 true ∷ []) (work (w 6 6 ∷ w 7 table.none ∷ w 101 5 ∷ w 80 7 ∷ w 81 9 ∷ []) (0 ∷ 0 ∷ 0 ∷ []) nowhere)
     ≡ done (work (w 6 6 ∷ w 7 table.none ∷ w 101 5 ∷ w 80 7 ∷ w 81 9 ∷ []) (0 ∷ 1 ∷ 0 ∷ []) (record { name = 6; origin = table.none; member = some (2, 1) }))
-unfolding turnNotes turnNote turnNode openRoot stepAt stepBy member lookBy entryOf table fieldsOf
+unfolding turnNotes turnNote turnNode openRoot stepAt nodeStep memberDirection lookBy entryOf table fieldsOf
 m1-lost = refl
 
 -- A where tree: And of a test and a Comparison of a Count over 7 with a leaf. Both stand inside the Count over 5, without membership.
@@ -103,7 +103,7 @@ where-notes = refl
 where-turned : turnNotes known (w 23 8 ∷ w 24 table.none ∷ w 25 2 ∷ w 74 5 ∷ w 80 7 ∷ w 81 9 ∷ w 86 0 ∷ w 83 1 ∷ w 74 7 ∷ w 80 7 ∷ w 81 9 ∷ []) 1 (note 0 0 false ∷ note 3 1 false ∷ note 8 2 true ∷ [])
     (work (w 23 8 ∷ w 24 table.none ∷ w 25 2 ∷ w 74 5 ∷ w 80 7 ∷ w 81 9 ∷ w 86 0 ∷ w 83 1 ∷ w 74 7 ∷ w 80 7 ∷ w 81 9 ∷ []) (0 ∷ 0 ∷ 0 ∷ 0 ∷ []) nowhere)
     ≡ done (work (w 23 8 ∷ w 24 table.none ∷ w 25 2 ∷ w 74 5 ∷ w 80 1 ∷ w 81 0 ∷ w 86 0 ∷ w 83 1 ∷ w 74 7 ∷ w 80 0 ∷ w 81 1 ∷ []) (0 ∷ 2 ∷ 1 ∷ 3 ∷ []) inRule)
-unfolding turnNotes turnNote turnNode openRoot stepAt stepBy turn lookBy entryOf table fieldsOf
+unfolding turnNotes turnNote turnNode openRoot stepAt nodeStep turn lookBy entryOf table fieldsOf
 where-turned = refl
 
 -- If, of a test, in the subject and in a pattern of NoMatch: lost in the pattern alone

@@ -24,7 +24,7 @@ use Rattle.definitions.specs.Tables.{tables}
 use Rattle.definitions.specs.Direction.{turn}
 use Rattle.definitions.specs.Direction as direction
 use Rattle.definitions.specs.Inputs.{input}
-use Rattle.definitions.specs.Turning.{done, stepBy, resolveTree}
+use Rattle.definitions.specs.ResolvingTrees.{done, nodeStep, resolveTree}
 use Rattle.definitions.specs.Resolving.{defaultedEqual, resolveBodies, ruleBy, resolveRules, predicateBy, resolveRelation, resolveRelations, holds, atomNames, stamp, resolved}
 use Rattle.theorems.specs.Demand3.{Left, ResolveAlike, bothResolve, bothEqual, bothRoom, bothOpen, DerivedRelation, KindsUsed}
 use Rattle.theorems.specs.Starred.{withoutDerivation, saysNothing, counting, withDerivation, ruled, packed}
@@ -97,7 +97,7 @@ pub record WrongOnes : Type 0 where
   pub never-9 : (answers : ℕ → Answer) → ((room : ℕ) (r : Refusal) → answers room ≡ Refused r → r .number ≡ 9 → ⊥) → KindsUsed equal answers → ⊥
 
 pub wrong-ones : WrongOnes
-unfolding entryOf table fieldsOf childrenOf heads wordsBy count items tree root follow fields words total layout inner records defaulted defaultedName relations relation newName relationTail nameList optionalDerivation derivation chain path hop member rules rule bodies body blocks block blockItems item walk own find kindStep kindsOf taken direct startOf tables turn direction.member input stepBy size resolveTree defaultedEqual resolveBodies ruleBy resolveRules predicateBy resolveRelation resolveRelations holds atomNames stamp resolved
+unfolding entryOf table fieldsOf childrenOf heads wordsBy count items tree root follow fields words total layout inner records defaulted defaultedName relations relation newName relationTail nameList optionalDerivation derivation chain path hop member rules rule bodies body blocks block blockItems item walk own find kindStep kindsOf taken direct startOf tables turn direction.memberDirection input nodeStep size resolveTree defaultedEqual resolveBodies ruleBy resolveRules predicateBy resolveRelation resolveRelations holds atomNames stamp resolved
 wrong-ones =
     record {
       input-copied = λ q lent lent′ after′ b steps a. refuted copied (packed [] (membership ∷ []) (turnedRule 1 0)) copied refl 18 (wordOf 80 7) (wordOf 80 1) (λ lent. refl) (λ lent. refl) (λ e. omega arith) a;

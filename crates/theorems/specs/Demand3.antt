@@ -20,7 +20,7 @@ use Rattle.definitions.specs.Operations.{allKindsAnswer, allKindsBuffer, resolv
 use Rattle.definitions.specs.Filtered.{kindAt}
 use Rattle.definitions.specs.Tables.{Derived, tables}
 use Rattle.definitions.specs.Direction.{kindOrZero, membership}
-use Rattle.definitions.specs.Turning.{InRange, result, resolveTree}
+use Rattle.definitions.specs.ResolvingTrees.{InRange, result, resolveTree}
 use Rattle.definitions.specs.Resolving.{cites, resolveRule, predicatePlace, resolvePredicate, resolveRelation, orKinds, stamp}
 
 -- ---- what comes out

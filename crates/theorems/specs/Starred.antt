@@ -10,7 +10,7 @@ use Rattle.definitions.specs.Records.{Hop, Relation, Rule, Pack, undated}
 use Rattle.definitions.specs.Kinds.{namesOf, allKinds, kindsOf}
 use Rattle.definitions.specs.Places.{settledOf}
 use Rattle.definitions.specs.Filtered.{direct, innermost}
-use Rattle.definitions.specs.Turning.{Outcome, done, refused}
+use Rattle.definitions.specs.ResolvingTrees.{Outcome, done, refused}
 use Rattle.definitions.specs.Resolving.{resolved}
 
 -- ---- what the cases are made of
@@ -26,8 +26,8 @@ saysNothing = node 105 0 [] trees.none
 abbrev pub counting : ℕ → ℕ → Tree
 counting c r = node 74 5 ((80, c) ∷ (81, r) ∷ (86, 0) ∷ (83, 0) ∷ []) trees.none
 
-abbrev pub within : ℕ → ℕ → Tree
-within c r = node 101 5 ((80, c) ∷ (81, r) ∷ []) trees.none
+abbrev pub memberNode : ℕ → ℕ → Tree
+memberNode c r = node 101 5 ((80, c) ∷ (81, r) ∷ []) trees.none
 
 -- "<5 means source 5": a derived relation with a source, a path and its two lists
 abbrev pub withSource : ℕ → ℕ → Option (List Hop) → List ℕ → List ℕ → Relation
@@ -109,8 +109,8 @@ cases =
     -- "A5 5[1,2,3]: kept."
     ∷ resolves (packed [] (withoutDerivation 5 (1 ∷ 2 ∷ 3 ∷ []) ∷ []) (ruled 2 (counting 7 9))) (done (packed [] (withoutDerivation 5 (1 ∷ 2 ∷ 3 ∷ []) ∷ []) (ruled 2 (counting 7 9))))
     -- "★M1 membership (1,2), [2,1]: 1,0."
-    ∷ resolves (packed [] (withoutDerivation 5 (2 ∷ 1 ∷ []) ∷ withDerivation 6 [] (1 ∷ 2 ∷ []) 0 1 3 (within 7 9) ∷ []) [])
-    (done (packed [] (withoutDerivation 5 (2 ∷ 1 ∷ []) ∷ withDerivation 6 [] (1 ∷ 2 ∷ []) 0 1 3 (within 1 0) ∷ []) []))
+    ∷ resolves (packed [] (withoutDerivation 5 (2 ∷ 1 ∷ []) ∷ withDerivation 6 [] (1 ∷ 2 ∷ []) 0 1 3 (memberNode 7 9) ∷ []) [])
+    (done (packed [] (withoutDerivation 5 (2 ∷ 1 ∷ []) ∷ withDerivation 6 [] (1 ∷ 2 ∷ []) 0 1 3 (memberNode 1 0) ∷ []) []))
     -- "★G1 defaulted, [1,2], slots 0,0: 9."
     ∷ resolves (packed (6 ∷ []) (withoutDerivation 5 [] ∷ withDerivation 6 [] (1 ∷ 2 ∷ []) 0 0 3 saysNothing ∷ []) []) (refusal 9 10 6 0)
     -- "★S1 [1,2], slots 0,5: stamped."

@@ -17,10 +17,10 @@ use Rattle.definitions.specs.Pack.{body}
 use Rattle.definitions.specs.Lean.{any}
 use Rattle.definitions.specs.Resolving.{holds, held, roleJudgment, atomOf}
 use Rattle.directions.proofs.TreeWords.{size-is, fields-length}
-use Rattle.directions.specs.Records.{wordsOf, All, bodyWords}
+use Rattle.directions.specs.RecordRuns.{runWords, EachKeeps, bodyWords}
 use Rattle.directions.proofs.TurnedPack.{front}
 use Rattle.turning.specs.Notes.{Note, note, lookBy, lookOf, noted, within, notesOf, notesIn, notesRun, bodyNotes}
-use Rattle.turning.specs.Turns.{valueIn, kindIn}
+use Rattle.turning.specs.Turns.{valueIn, kindHere}
 use Rattle.turning.specs.Asked.{someNote}
 use Rattle.turning.proofs.FlatLaws.{Sound, Sounds, kind-there, value-there}
 use Rattle.turning.proofs.RecordFlat.{body-tree}
@@ -43,7 +43,7 @@ module _ (is : ℕ → ℕ → Bool) (all : AllNoted is) (ws : List ℕ) where
 
   -- ---- trees
 
-  node-asked : (k v : ℕ) (at inside : ℕ) (lost : Bool) (ns ms : List Note) (rest : Bool) → kindIn ws at ≡ k → valueIn ws at ≡ v → some-of ns ≡ rest → some-of ms ≡ rest → (b : Bool) → noted k ≡ b → some-of (pick b (note at inside lost ∷ ns) ms) ≡ (is k v || rest)
+  node-asked : (k v : ℕ) (at inside : ℕ) (lost : Bool) (ns ms : List Note) (rest : Bool) → kindHere ws at ≡ k → valueIn ws at ≡ v → some-of ns ≡ rest → some-of ms ≡ rest → (b : Bool) → noted k ≡ b → some-of (pick b (note at inside lost ∷ ns) ms) ≡ (is k v || rest)
   node-asked k v at inside lost ns ms rest e f g h true q = rw (e, f, g) refl
   node-asked k v at inside lost ns ms rest e f g h false q = rw (all .others k v q) h
 
@@ -55,7 +55,7 @@ module _ (is : ℕ → ℕ → Bool) (all : AllNoted is) (ws : List ℕ) where
         let open-words : ws ≡ front ++ (wordOf k v ∷ (fieldWords fs ++ (forestWords f ++ back))) = source ∙ simp append-assoc in
         let past : ws ≡ (front ++ (wordOf k v ∷ fieldWords fs)) ++ (forestWords f ++ back) = open-words ∙ sym (append-assoc front (wordOf k v ∷ fieldWords fs) (forestWords f ++ back)) in
         let start : length (front ++ (wordOf k v ∷ fieldWords fs)) ≡ at + 1 + length fs = length-append front (wordOf k v ∷ fieldWords fs) ∙ omega (arith, fields-length fs) in
-        let kind : kindIn ws at ≡ k = ap (λ (l : List ℕ). kindIn l at) open-words ∙ kind-there front (forestWords f ++ back) k v fs at ahead (h .0) in
+        let kind : kindHere ws at ≡ k = ap (λ (l : List ℕ). kindHere l at) open-words ∙ kind-there front (forestWords f ++ back) k v fs at ahead (h .0) in
         let value : valueIn ws at ≡ v = ap (λ (l : List ℕ). valueIn l at) open-words ∙ value-there front (forestWords f ++ back) k v fs at ahead (h .0) in
         let first : Bool = lost || lookOf k .first in
         let rest : Bool = lost || lookOf k .rest in
@@ -78,15 +78,15 @@ module _ (is : ℕ → ℕ → Bool) (all : AllNoted is) (ws : List ℕ) where
   abbrev Asked : {A : Type 0} → (A → List ℕ) → (ℕ → ℕ → A → List Note) → (A → Bool) → A → Type 0
   Asked W N g a = (front back : List ℕ) (i at : ℕ) → ws ≡ front ++ (W a ++ back) → length front ≡ at → some-of (N i at a) ≡ g a
 
-  pub run-asked : {A : Type 0} (W : A → List ℕ) (N : ℕ → ℕ → A → List Note) (g : A → Bool) (Keeps : A → Type 0) → ((a : A) → Keeps a → Asked W N g a) → (l : List A) → All Keeps l → Asked (wordsOf W) (notesRun W N) (any g) l
+  pub run-asked : {A : Type 0} (W : A → List ℕ) (N : ℕ → ℕ → A → List Note) (g : A → Bool) (Keeps : A → Type 0) → ((a : A) → Keeps a → Asked W N g a) → (l : List A) → EachKeeps Keeps l → Asked (runWords W) (notesRun W N) (any g) l
   unfolding notesRun
   run-asked W N g Keeps each [] h front back i at source ahead = refl
   run-asked W N g Keeps each (a ∷ l) h front back i at source ahead =
-      let apiece : ws ≡ front ++ (W a ++ (wordsOf W l ++ back)) = source ∙ ap (λ (x : List ℕ). front ++ x) (append-assoc (W a) (wordsOf W l) back) in
+      let apiece : ws ≡ front ++ (W a ++ (runWords W l ++ back)) = source ∙ ap (λ (x : List ℕ). front ++ x) (append-assoc (W a) (runWords W l) back) in
       let start : length (front ++ W a) ≡ at + length (W a) = length-append front (W a) ∙ omega arith in
       let theirs : List Note = notesRun W N (i + length (N i at a)) (at + length (W a)) l in
-      any-append _ (N i at a) theirs ∙ ap (λ (b : Bool). b || some-of theirs) (each a (h .0) front (wordsOf W l ++ back) i at apiece ahead)
-      ∙ ap (λ (b : Bool). g a || b) (run-asked W N g Keeps each l (h .1) (front ++ W a) back (i + length (N i at a)) (at + length (W a)) (apiece ∙ sym (append-assoc front (W a) (wordsOf W l ++ back))) start)
+      any-append _ (N i at a) theirs ∙ ap (λ (b : Bool). b || some-of theirs) (each a (h .0) front (runWords W l ++ back) i at apiece ahead)
+      ∙ ap (λ (b : Bool). g a || b) (run-asked W N g Keeps each l (h .1) (front ++ W a) back (i + length (N i at a)) (at + length (W a)) (apiece ∙ sym (append-assoc front (W a) (runWords W l ++ back))) start)
 
   pub body-asked : (n inside : ℕ) (b : Body) → Fine (body n) b → Asked bodyWords (bodyNotes inside) (λ b. holds is (b .tree)) b
   body-asked n inside b f front back i at source ahead =

@@ -15,13 +15,13 @@ use Rattle.definitions.specs.Table.{pick, kindOf, valueOf, wordOf, entryOf, fie
 use Rattle.definitions.specs.Tree.{Tree, Forest, node, more, Fields, fieldWords, treeWords, forestWords, size, sizes}
 use Rattle.definitions.specs.Tree as trees
 use Rattle.definitions.specs.declared.direction.Direction.{Direction}
-use Rattle.definitions.specs.declared.direction.Direction.the-variants.{Turned, Open}
+use Rattle.definitions.specs.declared.direction.Direction.the-variants.{Directed, Open}
 use Rattle.definitions.specs.Direction.{turn, Membership}
 use Rattle.definitions.specs.Direction as direction
-use Rattle.definitions.specs.Turning.{Outcome, done, refused, andThen, mapDone, Citing, currentOf, relatedOf, withSlots, valueOfNode, Step, goes, stops, aggregate, allowedInput, onlyRelated, membershipTest, stepBy, atNode, resolveTree, resolveForest}
+use Rattle.definitions.specs.ResolvingTrees.{Outcome, done, refused, andThen, mapDone, Citing, currentOf, relatedOf, withSlots, valueOfNode, NodeStep, goes, stops, aggregate, allowedInput, onlyRelated, membershipTest, nodeStep, atNode, resolveTree, resolveForest}
 use Rattle.directions.proofs.TreeWords.{size-is, fields-length}
 use Rattle.turning.specs.Notes.{Note, lookBy, lookOf, noted, within, notesOf, notesIn}
-use Rattle.turning.specs.Turns.{Known, Root, citing, Work, work, held, fieldsAt, stepAt, turnedBy, turnNode, turnNote, turnNotes}
+use Rattle.turning.specs.Turns.{KnownTables, Root, citing, Work, work, held, fieldsAt, stepAt, turnedBy, turnNode, turnNote, turnNotes}
 
 -- ---- what is shown
 
@@ -54,7 +54,7 @@ Flat W before after size i results root (refused r) o = o ≡ refused r
 -- ---- what a step leaves the children
 
 -- the memberships that it goes on with, the slots that it sets, and the same entity where they do not stand inside it
-abbrev pub Leaves : ℕ → Membership → Bool → Follows → Fields → Step → Type 0
+abbrev pub Leaves : ℕ → Membership → Bool → Follows → Fields → NodeStep → Type 0
 Leaves entity m lost w fs (goes fs′ e first rest) =
     (first ≡ held (lost || lookBy w .first) m) × (rest ≡ held (lost || lookBy w .rest) m) × ((c : ℕ) × (r : ℕ) × (fs′ ≡ withSlots c r fs)) × (lookBy w .opens ≡ false → e ≡ entity)
 Leaves entity m lost w fs (stops number other) = Unit {0}
@@ -72,8 +72,8 @@ no e = let z : _≡_ {A = ℕ} 0 1 = cc in absurd (omega arith)
 
 -- a node without slots goes on as it is
 quiet : (C : Citing) (entity : ℕ) (m : Membership) (lost : Bool) (w : Follows) (v : ℕ) (fs : Fields) → lookBy w .slots ≡ false
-    → stepBy C entity (held lost m) w v fs ≡ goes fs entity (held (lost || lookBy w .first) m) (held (lost || lookBy w .rest) m)
-unfolding stepBy lookBy
+    → nodeStep C entity (held lost m) w v fs ≡ goes fs entity (held (lost || lookBy w .first) m) (held (lost || lookBy w .rest) m)
+unfolding nodeStep lookBy
 quiet C entity m lost Nothing v fs e = rw or-false
 quiet C entity m lost Counted v fs e = rw or-false
 quiet C entity m lost OneScalar v fs e = rw or-false
@@ -112,13 +112,13 @@ shut Exists e = refl
 -- one with slots is noted, and hands on no membership, or the same
 aggregate-leaves : (entity : ℕ) (m : Membership) (lost : Bool) (fs : Fields) (d : Direction) → Leaves entity m lost Aggregate fs (aggregate fs d)
 unfolding lookBy
-aggregate-leaves entity m lost fs (Turned c r k) = (rw or-true, rw or-true, (c, r, refl), λ e. no e)
+aggregate-leaves entity m lost fs (Directed c r k) = (rw or-true, rw or-true, (c, r, refl), λ e. no e)
 aggregate-leaves entity m lost fs (Open e) = tt
 
 only-leaves : (entity : ℕ) (m : Membership) (lost : Bool) (inp : ℕ → ℕ → Option ℕ) (fs : Fields) (d : Direction) → Leaves entity m lost OnlyRelated fs (onlyRelated inp fs d)
 unfolding lookBy
 only-leaves entity m lost inp fs (Open e) = tt
-only-leaves entity m lost inp fs (Turned c r owner) = go (eqb (valueOfNode fs .0) 84) (inp owner (valueOfNode fs .1))
+only-leaves entity m lost inp fs (Directed c r owner) = go (eqb (valueOfNode fs .0) 84) (inp owner (valueOfNode fs .1))
   where
     go : (b : Bool) (o : Option ℕ) → Leaves entity m lost OnlyRelated fs (pick b (stops 11 (valueOfNode fs .1)) (allowedInput (withSlots c r fs) (valueOfNode fs .1) o))
     go true o = tt
@@ -127,11 +127,11 @@ only-leaves entity m lost inp fs (Turned c r owner) = go (eqb (valueOfNode fs .0
 
 test-leaves : (entity : ℕ) (m : Membership) (lost : Bool) (fs : Fields) (d : Direction) → Leaves entity m lost Slots fs (membershipTest fs entity (held lost m) d)
 unfolding lookBy
-test-leaves entity m lost fs (Turned c r k) = (rw or-false, rw or-false, (c, r, refl), λ e. refl)
+test-leaves entity m lost fs (Directed c r k) = (rw or-false, rw or-false, (c, r, refl), λ e. refl)
 test-leaves entity m lost fs (Open k) = tt
 
-pub look-leaves : (C : Citing) (entity : ℕ) (m : Membership) (lost : Bool) (w : Follows) (v : ℕ) (fs : Fields) → lookBy w .slots ≡ true → Leaves entity m lost w fs (stepBy C entity (held lost m) w v fs)
-unfolding stepBy lookBy
+pub look-leaves : (C : Citing) (entity : ℕ) (m : Membership) (lost : Bool) (w : Follows) (v : ℕ) (fs : Fields) → lookBy w .slots ≡ true → Leaves entity m lost w fs (nodeStep C entity (held lost m) w v fs)
+unfolding nodeStep lookBy
 look-leaves C entity m lost Nothing v fs e = no (sym e)
 look-leaves C entity m lost Counted v fs e = no (sym e)
 look-leaves C entity m lost OneScalar v fs e = no (sym e)
@@ -144,7 +144,7 @@ look-leaves C entity m lost Judgments v fs e = no (sym e)
 look-leaves C entity m lost Choice v fs e = no (sym e)
 look-leaves C entity m lost Aggregate v fs e = aggregate-leaves entity m lost fs (turn (C .tables) v entity (currentOf fs) (relatedOf fs))
 look-leaves C entity m lost OnlyRelated v fs e = only-leaves entity m lost (C .input) fs (turn (C .tables) v entity (currentOf fs) (relatedOf fs))
-look-leaves C entity m lost Slots v fs e = test-leaves entity m lost fs (direction.member (C .tables) v (held lost m) (currentOf fs) (relatedOf fs))
+look-leaves C entity m lost Slots v fs e = test-leaves entity m lost fs (direction.memberDirection (C .tables) v (held lost m) (currentOf fs) (relatedOf fs))
 look-leaves C entity m lost Atom v fs e = no (sym e)
 look-leaves C entity m lost Exists v fs e = no (sym e)
 
@@ -191,12 +191,12 @@ module _ (front tail : List ℕ) (k v : ℕ) (fs : Fields) (at : ℕ) (here : le
   value-there = ap valueOf (getD-at front (wordOf k v) (fieldWords fs ++ tail) 0 at here) ∙ omega arith
 
   read-node : (C : Citing) (entity : ℕ) (m : Membership) → length fs ≡ length (fieldsOf (entryOf k .follows)) → ValuesFit fs
-      → stepAt C entity m (stands front k v fs tail) at ≡ stepBy C entity m (entryOf k .follows) v fs
+      → stepAt C entity m (stands front k v fs tail) at ≡ nodeStep C entity m (entryOf k .follows) v fs
   unfolding stepAt
   read-node C entity m many fit =
       let rest : drop (at + 1) (stands front k v fs tail) ≡ fieldWords fs ++ tail = rw (← here) (drop-append-add front (wordOf k v ∷ (fieldWords fs ++ tail)) 1) in
       let read : fieldsAt (stands front k v fs tail) (at + 1) (length (fieldsOf (entryOf k .follows))) ≡ fs = rw (rest, ← many) (read-fields fs tail fit) in
-      rw (kind-there, value-there) (ap (stepBy C entity m (entryOf k .follows) v) read)
+      rw (kind-there, value-there) (ap (nodeStep C entity m (entryOf k .follows) v) read)
 
 -- other words put in the place of some
 put : (xs ys : List ℕ) (before tail : List ℕ) (at : ℕ) → length xs ≡ length ys → length before ≡ at → sets (before ++ (xs ++ tail)) at ys ≡ before ++ (ys ++ tail)
@@ -229,7 +229,7 @@ apart before tail k v fs = sym (append-assoc before (wordOf k v ∷ fieldWords f
 
 -- ---- notes one after the other
 
-module _ (K : Known) (ws : List ℕ) where
+module _ (K : KnownTables) (ws : List ℕ) where
   then-others : (o : Outcome Work) (f g all : Work → Outcome Work) → ((s : Work) → all s ≡ andThen (f s) g) → andThen o all ≡ andThen (andThen o f) g
   then-others (done s) f g all h = h s
   then-others (refused r) f g all h = refl
@@ -259,7 +259,7 @@ module _ (results : List ℕ) (i inside entity : ℕ) (room : suc i ≤ length r
 
 -- ---- in a rule or relation
 
-module _ (K : Known) (root : Root) (ws : List ℕ) where
+module _ (K : KnownTables) (root : Root) (ws : List ℕ) where
   abbrev C : Citing
   C = citing K root
 
@@ -361,7 +361,7 @@ module _ (K : Known) (root : Root) (ws : List ℕ) where
       unfolding notesOf
       its-room = rw (slotted-noted k slots) at room
 
-      stepped : (s : Step) → Leaves entity m lost (entryOf k .follows) fs s
+      stepped : (s : NodeStep) → Leaves entity m lost (entryOf k .follows) fs s
           → Flat treeWords before after (1 + length fs + sizes f) i results root (atNode C at s (λ fs′ e first rest. mapDone (node k v fs′) (resolveForest C e first rest (at + 1 + length fs) f)))
           (andThen (turnedBy (lookOf k .opens) i at (work (stands before k v fs tail) results root) s) (turned (suc i) (under (suc i) (within k i inside))))
       stepped (stops number other) leaves = refl
@@ -383,10 +383,10 @@ module _ (K : Known) (root : Root) (ws : List ℕ) where
       slotted : Shown
       unfolding notesOf resolveTree size turnNotes turnNote turnNode
       slotted =
-          let reading : stepAt C entity (held lost m) ws at ≡ stepBy C entity (held lost m) (entryOf k .follows) v fs =
+          let reading : stepAt C entity (held lost m) ws at ≡ nodeStep C entity (held lost m) (entryOf k .follows) v fs =
           ap (λ (l : List ℕ). stepAt C entity (held lost m) l at) reads ∙ read-node front (forestWords f ++ back) k v fs at ahead small C entity (held lost m) many fit in
           rw (slotted-noted k slots, node-words before after k v fs f, ne-eqb inside 0 (λ z. omega arith), kind-is, slots, its, reading)
-          (stepped (stepBy C entity (held lost m) (entryOf k .follows) v fs) (look-leaves C entity m lost (entryOf k .follows) v fs slots))
+          (stepped (nodeStep C entity (held lost m) (entryOf k .follows) v fs) (look-leaves C entity m lost (entryOf k .follows) v fs slots))
 
     node-case : Shown
     node-case = go (lookOf k .slots) refl (noted k) refl

@@ -10,7 +10,7 @@ use lib.Dec.{eqb}
 use borrow.Author.Tests.{eqb-true, eqb-false}
 use Rattle.definitions.specs.Records.{Pack}
 use Rattle.definitions.specs.Pack.{WellFormed, yes, read, words}
-use Rattle.chains.specs.AllKinds.{BlocksAt}
+use Rattle.chains.specs.PackDirectory.{BlocksAt}
 use Rattle.filtered.specs.Acts.{ActsOf}
 use Rattle.chains.specs.Record.{valueAt}
 use Rattle.filtered.specs.Taking as taking
@@ -23,7 +23,7 @@ use Rattle.inputs.proofs.BlocksStand.{reads-inputs}
 use Rattle.directions.proofs.Numbers.{OfInput, input-numbered}
 use Rattle.directions.proofs.CheckedTables.{tables-are}
 use Rattle.turning.specs.Notes.{Note, notesOfPack}
-use Rattle.turning.specs.Turns.{Known, knownOf}
+use Rattle.turning.specs.Turns.{KnownTables, knownOf}
 use Rattle.turning.specs.Steps.{orNot, knownIn, Stands, Placed}
 use Rattle.turning.specs.Asked.{InWords}
 use Rattle.turning.proofs.PlacedLaws.{all-placed}
@@ -49,7 +49,7 @@ number-again (some zero) h = absurd (omega (arith, h .0))
 number-again (some (suc n)) h = refl
 
 -- the tables and the inputs are what is known of the pack
-pub known-is : (ws acts taken : List ℕ) (p : Pack) → read ws ≡ yes p → ActsOf ws acts → taking.Known ws taken → {at : ℕ} → BlocksAt ws at → knownIn ws acts taken (at + 1) (valueAt ws at) ≡ knownOf p
+pub known-is : (ws acts taken : List ℕ) (p : Pack) → read ws ≡ yes p → ActsOf ws acts → taking.KnowsEntities ws taken → {at : ℕ} → BlocksAt ws at → knownIn ws acts taken (at + 1) (valueAt ws at) ≡ knownOf p
 known-is ws acts taken p h says knows {at} e =
     let t : tablesIn ws acts taken ≡ tables (p .relations) = tables-are ws acts taken p h says knows in
     let r = reads-inputs ws p h e in

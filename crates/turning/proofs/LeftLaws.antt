@@ -16,18 +16,18 @@ use Rattle.definitions.specs.Pack.{WellFormed, yes, read, total, body, rule}
 use Rattle.pack.proofs.PackLaws.{words-read, words-length}
 use Rattle.reading.specs.Noting.{push, nextNote, noteTree, pushAll}
 use Rattle.reading.proofs.NotesLaws.{push-long, push-count, all-long, all-count, all-append, all-sets, shaped, noted-tree}
-use Rattle.records.specs.Directory.{hops, notesAll, relationsAt, rulesAt, Clear, layoutOf}
+use Rattle.records.specs.Directory.{notesAll, relationsAt, rulesAt, Clear, layoutOf}
 use Rattle.records.specs.declared.directory.Layout.{Layout}
 use Rattle.records.specs.declared.directory.Laid.{Laid}
 use Rattle.records.specs.declared.directory.Laid.the-variants.{Yes}
 use Rattle.checking.specs.Checked.{CheckedNotes}
 use Rattle.records.specs.Notes.{opened, inside, noteBody, bodyAt, noteBodies, noteRule, noteRules, noteOptional, notePredicate, notePredicates, relationsLeft, notesLeft}
 use Rattle.checking.proofs.CheckLaws.{clear-zeros}
-use Rattle.definitions.specs.Places.{relationWords, firstRelation}
-use Rattle.chains.proofs.PackIndex.{parts}
+use Rattle.definitions.specs.Places.{relationWords, firstRelation, hops}
+use Rattle.chains.proofs.PackParts.{parts}
 use Rattle.chains.proofs.EntryLaws.{rules-there}
 use Rattle.definitions.specs.Resolving.{predicatePlace, ruleWords, firstRule}
-use Rattle.directions.specs.Records.{All, bodyWords, RelationKeeps}
+use Rattle.directions.specs.RecordRuns.{EachKeeps, bodyWords, RelationKeeps}
 use Rattle.directions.proofs.RuleLaws.{body-words, rule-parts}
 use Rattle.directions.proofs.RelationLaws.{predicate-kept}
 use Rattle.directions.proofs.TurnedPack.{defaulted-many, rules-keep, relations-keep}
@@ -80,7 +80,7 @@ module _ {A : Type 0} (W X : A → List ℕ) (write : ℕ → ℕ → A → List
       ∙ ap (λ (ns : List Note). pushAll (codes ns) d₁) e
       ∙ sym (codes-append mine its d)
 
-  pub run-left : Leaves → (l : List A) → All Keeps l → (j at : ℕ) (d : List ℕ) → 0 < length d → many d + length (notesRun X N (many d + 1) at l) ≤ 8192
+  pub run-left : Leaves → (l : List A) → EachKeeps Keeps l → (j at : ℕ) (d : List ℕ) → 0 < length d → many d + length (notesRun X N (many d + 1) at l) ≤ 8192
       → notesAll W write j at l d ≡ pushAll (codes (notesRun X N (many d + 1) at l)) d
   unfolding notesAll notesRun
   run-left leaves [] h j at d long room = refl

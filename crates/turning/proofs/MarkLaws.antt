@@ -10,7 +10,7 @@ use lib.Seq.{set-out}
 use lib.Dec.{eqb, leb}
 use borrow.Author.Tests.{eq-eqb, ne-eqb, eqb-false, lt-leb, le-leb}
 use Rattle.turning.specs.Notes.{Note, noteCode, Held}
-use Rattle.turning.specs.Turns.{insideOf, valueIn, kindIn}
+use Rattle.turning.specs.Turns.{insideOf, valueIn, kindHere}
 use Rattle.turning.specs.Asked.{relationAfter, atomMarked, roleMarked, markNote, markNotes, InWords, MarkAsked, NoteMarked, MarksAsked, NotesMarked}
 use Rattle.turning.proofs.CodeLaws.{code-parts}
 
@@ -40,23 +40,23 @@ module _ (ws : List ℕ) (code current : ℕ) (t : List ℕ) where
     none-inside : (n : Note) → code ≡ noteCode n → n .place + 1 < 8192 → eqb (n .inside) 0 ≡ true
     none-inside n is near = eq-eqb (n .inside) 0 (sym (mark-inside n is near) ∙ root)
 
-    pub relation-marked : kindIn ws at ≡ 6 → NoteMarked ws code current t (valueIn ws at) t
+    pub relation-marked : kindHere ws at ≡ 6 → NoteMarked ws code current t (valueIn ws at) t
     unfolding relationAfter markNote
     relation-marked k =
         record {
           each = λ n is near.
               let p = mark-place n is near in
-              (rw (none-inside n is near, eq-eqb (kindIn ws (n .place)) 6 (sym (ap (kindIn ws) p) ∙ k)) (ap (valueIn ws) p), rw (none-inside n is near) refl);
+              (rw (none-inside n is near, eq-eqb (kindHere ws (n .place)) 6 (sym (ap (kindHere ws) p) ∙ k)) (ap (valueIn ws) p), rw (none-inside n is near) refl);
           long = refl;
         }
 
-    pub rule-marked : (kindIn ws at ≡ 6 → ⊥) → NoteMarked ws code current t 4096 t
+    pub rule-marked : (kindHere ws at ≡ 6 → ⊥) → NoteMarked ws code current t 4096 t
     unfolding relationAfter markNote
     rule-marked k =
         record {
           each = λ n is near.
               let p = mark-place n is near in
-              (rw (none-inside n is near, ne-eqb (kindIn ws (n .place)) 6 (λ e. k (ap (kindIn ws) p ∙ e))) refl, rw (none-inside n is near) refl);
+              (rw (none-inside n is near, ne-eqb (kindHere ws (n .place)) 6 (λ e. k (ap (kindHere ws) p ∙ e))) refl, rw (none-inside n is near) refl);
           long = refl;
         }
 
@@ -65,27 +65,27 @@ module _ (ws : List ℕ) (code current : ℕ) (t : List ℕ) where
     some-inside : (n : Note) → code ≡ noteCode n → n .place + 1 < 8192 → eqb (n .inside) 0 ≡ false
     some-inside n is near = ne-eqb (n .inside) 0 (λ e. away (mark-inside n is near ∙ e))
 
-    node-marked : {left : List ℕ} → length left ≡ length t → left ≡ roleMarked (kindIn ws at) (valueIn ws at) current (atomMarked (kindIn ws at) (valueIn ws at) t) → NoteMarked ws code current t current left
+    node-marked : {left : List ℕ} → length left ≡ length t → left ≡ roleMarked (kindHere ws at) (valueIn ws at) current (atomMarked (kindHere ws at) (valueIn ws at) t) → NoteMarked ws code current t current left
     unfolding relationAfter markNote
     node-marked {left} l e =
         record {
           long = l;
           each = λ n is near.
               let p = mark-place n is near in
-              (rw (some-inside n is near) refl, e ∙ rw (some-inside n is near) (ap (λ (x : ℕ). roleMarked (kindIn ws x) (valueIn ws x) current (atomMarked (kindIn ws x) (valueIn ws x) t)) p));
+              (rw (some-inside n is near) refl, e ∙ rw (some-inside n is near) (ap (λ (x : ℕ). roleMarked (kindHere ws x) (valueIn ws x) current (atomMarked (kindHere ws x) (valueIn ws x) t)) p));
         }
 
     and-false : (b : Bool) → (b && false) ≡ false
     and-false true = refl
     and-false false = refl
 
-    pub low-marked : kindIn ws at < 102 → NoteMarked ws code current t current t
-    low-marked h = node-marked refl (sym (rw (lt-leb 102 (kindIn ws at) h, ne-eqb (kindIn ws at) 102 (λ e. omega arith), ne-eqb (kindIn ws at) 103 (λ e. omega arith)) refl))
+    pub low-marked : kindHere ws at < 102 → NoteMarked ws code current t current t
+    low-marked h = node-marked refl (sym (rw (lt-leb 102 (kindHere ws at) h, ne-eqb (kindHere ws at) 102 (λ e. omega arith), ne-eqb (kindHere ws at) 103 (λ e. omega arith)) refl))
 
-    pub high-marked : 104 < kindIn ws at → NoteMarked ws code current t current t
-    high-marked h = node-marked refl (sym (rw (lt-leb (kindIn ws at) 104 h, and-false (leb 102 (kindIn ws at)), ne-eqb (kindIn ws at) 102 (λ e. omega arith), ne-eqb (kindIn ws at) 103 (λ e. omega arith)) refl))
+    pub high-marked : 104 < kindHere ws at → NoteMarked ws code current t current t
+    high-marked h = node-marked refl (sym (rw (lt-leb (kindHere ws at) 104 h, and-false (leb 102 (kindHere ws at)), ne-eqb (kindHere ws at) 102 (λ e. omega arith), ne-eqb (kindHere ws at) 103 (λ e. omega arith)) refl))
 
-    pub same-marked : kindIn ws at ≡ 104 → {left : List ℕ} → left ≡ set t current 1 → NoteMarked ws code current t current left
+    pub same-marked : kindHere ws at ≡ 104 → {left : List ℕ} → left ≡ set t current 1 → NoteMarked ws code current t current left
     same-marked k {left} e = node-marked (ap length e ∙ length-set t current 1) (e ∙ sym (rw (k) refl))
 
     atom-kind : (k : ℕ) → 102 ≤ k → k ≤ 104 → (k ≡ 104 → ⊥) → (eqb k 102 || eqb k 103) ≡ true
@@ -95,9 +95,9 @@ module _ (ws : List ℕ) (code current : ℕ) (t : List ℕ) where
         go true e = refl
         go false e = eq-eqb k 103 (let z = eqb-false k 102 e in omega arith)
 
-    pub atom-marked : 102 ≤ kindIn ws at → kindIn ws at ≤ 104 → (kindIn ws at ≡ 104 → ⊥) → {middle left : List ℕ} → middle ≡ set t (valueIn ws at) 1 → left ≡ set middle current 1 → NoteMarked ws code current t current left
+    pub atom-marked : 102 ≤ kindHere ws at → kindHere ws at ≤ 104 → (kindHere ws at ≡ 104 → ⊥) → {middle left : List ℕ} → middle ≡ set t (valueIn ws at) 1 → left ≡ set middle current 1 → NoteMarked ws code current t current left
     atom-marked a b c {middle} {left} d e =
-        node-marked (ap length e ∙ length-set middle current 1 ∙ ap length d ∙ length-set t (valueIn ws at) 1) (e ∙ ap (λ (l : List ℕ). set l current 1) d ∙ sym (rw (le-leb 102 (kindIn ws at) a, le-leb (kindIn ws at) 104 b, atom-kind (kindIn ws at) a b c) refl))
+        node-marked (ap length e ∙ length-set middle current 1 ∙ ap length d ∙ length-set t (valueIn ws at) 1) (e ∙ ap (λ (l : List ℕ). set l current 1) d ∙ sym (rw (le-leb 102 (kindHere ws at) a, le-leb (kindHere ws at) 104 b, atom-kind (kindHere ws at) a b c) refl))
 
 -- ---- the loop
 

@@ -18,14 +18,14 @@ use Rattle.definitions.specs.Pack.{WellFormed, words, body, rule, blocks}
 use Rattle.definitions.specs.Kinds.{find}
 use Rattle.definitions.specs.Places.{relationWords, firstRelation}
 use Rattle.definitions.specs.Lean.{any}
-use Rattle.chains.proofs.PackIndex.{EachFound, all-found}
+use Rattle.chains.proofs.PackParts.{EachFound, all-found}
 use Rattle.definitions.specs.Resolving.{holds, held, roleJudgment, atomOf, inDerivation, inRule, atomNames, ruleWords, predicatePlace, firstRule}
-use Rattle.directions.specs.Records.{wordsOf, All, bodyWords, RelationKeeps}
+use Rattle.directions.specs.RecordRuns.{runWords, EachKeeps, bodyWords, RelationKeeps}
 use Rattle.directions.proofs.RuleLaws.{bodiesOf, head, rule-parts}
 use Rattle.directions.proofs.RelationLaws.{lead, lead-words, lead-long, predicate-kept}
 use Rattle.directions.proofs.TurnedPack.{front, pack-words, front-long, front22, pack-words-22, front22-long, rules-keep, relations-keep}
 use Rattle.turning.specs.Notes.{Note, note, lookOf, noted, within, notesOf, notesIn, notesRun, bodyNotes, ruleNotes, derivedNotes, relationNotes, relationsNoted, rulesNoted, notesOfPack}
-use Rattle.turning.specs.Turns.{valueIn, kindIn}
+use Rattle.turning.specs.Turns.{valueIn, kindHere}
 use Rattle.turning.specs.Asked.{someNote, relationAfter, atomMarked, roleMarked, markNote, markNotes}
 use Rattle.turning.proofs.RecordFlat.{sound, value-is, kind-is, its-derivation, name-below}
 use Rattle.turning.proofs.AskedLaws.{AllNoted, role-others, atom-others, tree-asked, body-asked, run-asked}
@@ -37,7 +37,7 @@ abbrev marksAs : ℕ → ℕ → ℕ → ℕ → Bool
 marksAs m current k v = atomOf m k v || (roleJudgment k v && eqb current m)
 
 abbrev hits : List ℕ → Note → ℕ → ℕ → Bool
-hits ws n current m = pick (eqb (n .inside) 0) false (marksAs m current (kindIn ws (n .place)) (valueIn ws (n .place)))
+hits ws n current m = pick (eqb (n .inside) 0) false (marksAs m current (kindHere ws (n .place)) (valueIn ws (n .place)))
 
 unfoldable marked : List ℕ → List Note → ℕ → ℕ → Bool
 marked ws [] current m = false
@@ -74,13 +74,13 @@ module _ (ws : List ℕ) (m : ℕ) where
   note-mark n current t h = go (eqb (n .inside) 0)
     where
       k : ℕ
-      k = kindIn ws (n .place)
+      k = kindHere ws (n .place)
 
       v : ℕ
       v = valueIn ws (n .place)
 
-      go : (b : Bool) → getD (pick b t (roleMarked (kindIn ws (n .place)) (valueIn ws (n .place)) current (atomMarked (kindIn ws (n .place)) (valueIn ws (n .place)) t))) m 0
-          ≡ pick (pick b false (marksAs m current (kindIn ws (n .place)) (valueIn ws (n .place)))) 1 (getD t m 0)
+      go : (b : Bool) → getD (pick b t (roleMarked (kindHere ws (n .place)) (valueIn ws (n .place)) current (atomMarked (kindHere ws (n .place)) (valueIn ws (n .place)) t))) m 0
+          ≡ pick (pick b false (marksAs m current (kindHere ws (n .place)) (valueIn ws (n .place)))) 1 (getD t m 0)
       go true = refl
       go false =
           test-mark (roleJudgment k v) (atomMarked k v t) current m (let l = test-long (eqb k 102 || eqb k 103) t v in omega arith)
@@ -91,11 +91,11 @@ module _ (ws : List ℕ) (m : ℕ) where
   unfolding markNote
   note-long n current t = go (eqb (n .inside) 0)
     where
-      go : (b : Bool) → length (pick b t (roleMarked (kindIn ws (n .place)) (valueIn ws (n .place)) current (atomMarked (kindIn ws (n .place)) (valueIn ws (n .place)) t))) ≡ length t
+      go : (b : Bool) → length (pick b t (roleMarked (kindHere ws (n .place)) (valueIn ws (n .place)) current (atomMarked (kindHere ws (n .place)) (valueIn ws (n .place)) t))) ≡ length t
       go true = refl
       go false =
-          test-long (roleJudgment (kindIn ws (n .place)) (valueIn ws (n .place))) (atomMarked (kindIn ws (n .place)) (valueIn ws (n .place)) t) current
-          ∙ test-long (eqb (kindIn ws (n .place)) 102 || eqb (kindIn ws (n .place)) 103) t (valueIn ws (n .place))
+          test-long (roleJudgment (kindHere ws (n .place)) (valueIn ws (n .place))) (atomMarked (kindHere ws (n .place)) (valueIn ws (n .place)) t) current
+          ∙ test-long (eqb (kindHere ws (n .place)) 102 || eqb (kindHere ws (n .place)) 103) t (valueIn ws (n .place))
 
   marks-read : (ns : List Note) (current : ℕ) (t : List ℕ) → m < length t → getD (markNotes ws ns current t) m 0 ≡ pick (marked ws ns current m) 1 (getD t m 0)
   unfolding markNotes marked
@@ -163,7 +163,7 @@ module _ (ws : List ℕ) (m : ℕ) where
   inside-marked (n ∷ ns) current h =
       let e : eqb (n .inside) 0 ≡ false = ne-eqb (n .inside) 0 (λ z. let q = h .0 in omega arith) in
       let r = inside-marked ns current (h .1) in
-      (rw e (ap (λ (b : Bool). marksAs m current (kindIn ws (n .place)) (valueIn ws (n .place)) || b) (r .0)), rw e (r .1))
+      (rw e (ap (λ (b : Bool). marksAs m current (kindHere ws (n .place)) (valueIn ws (n .place)) || b) (r .0)), rw e (r .1))
 
 -- a sort of nodes that are all noted
 marks-noted : (m current : ℕ) → AllNoted (marksAs m current)
@@ -175,25 +175,25 @@ module _ (ws : List ℕ) (m : ℕ) where
   abbrev Told : {A : Type 0} → (A → List ℕ) → (ℕ → ℕ → A → List Note) → (A → Bool) → A → Type 0
   Told W N g a = (front back : List ℕ) (i at current : ℕ) → ws ≡ front ++ (W a ++ back) → length front ≡ at → 1 ≤ i → marked ws (N i at a) current m ≡ g a
 
-  run-told : {A : Type 0} (W : A → List ℕ) (N : ℕ → ℕ → A → List Note) (g : A → Bool) (Keeps : A → Type 0) → ((a : A) → Keeps a → Told W N g a) → (l : List A) → All Keeps l → Told (wordsOf W) (notesRun W N) (any g) l
+  run-told : {A : Type 0} (W : A → List ℕ) (N : ℕ → ℕ → A → List Note) (g : A → Bool) (Keeps : A → Type 0) → ((a : A) → Keeps a → Told W N g a) → (l : List A) → EachKeeps Keeps l → Told (runWords W) (notesRun W N) (any g) l
   unfolding notesRun marked
   run-told W N g Keeps each [] h front back i at current source ahead least = refl
   run-told W N g Keeps each (a ∷ l) h front back i at current source ahead least =
-      let apiece : ws ≡ front ++ (W a ++ (wordsOf W l ++ back)) = source ∙ ap (λ (x : List ℕ). front ++ x) (append-assoc (W a) (wordsOf W l) back) in
+      let apiece : ws ≡ front ++ (W a ++ (runWords W l ++ back)) = source ∙ ap (λ (x : List ℕ). front ++ x) (append-assoc (W a) (runWords W l) back) in
       let start : length (front ++ W a) ≡ at + length (W a) = length-append front (W a) ∙ omega arith in
       let theirs : List Note = notesRun W N (i + length (N i at a)) (at + length (W a)) l in
       marked-append ws m (N i at a) theirs current
-      ∙ ap (λ (b : Bool). b || marked ws theirs (after-all ws (N i at a) current) m) (each a (h .0) front (wordsOf W l ++ back) i at current apiece ahead least)
+      ∙ ap (λ (b : Bool). b || marked ws theirs (after-all ws (N i at a) current) m) (each a (h .0) front (runWords W l ++ back) i at current apiece ahead least)
       ∙ ap (λ (b : Bool). g a || b)
-      (run-told W N g Keeps each l (h .1) (front ++ W a) back (i + length (N i at a)) (at + length (W a)) (after-all ws (N i at a) current) (apiece ∙ sym (append-assoc front (W a) (wordsOf W l ++ back))) start (omega arith))
+      (run-told W N g Keeps each l (h .1) (front ++ W a) back (i + length (N i at a)) (at + length (W a)) (after-all ws (N i at a) current) (apiece ∙ sym (append-assoc front (W a) (runWords W l ++ back))) start (omega arith))
 
   rule-told : (n : ℕ) (r : Rule) → Fine (rule n) r → Told (ruleWords n) ruleNotes (inRule (marksAs m 4096)) r
   unfolding ruleNotes marked relationAfter
   rule-told n r fine front back i at current source ahead least =
       let its = rule-parts n r fine in
-      let tail : List ℕ = wordsOf bodyWords (bodiesOf r) ++ back in
-      let headed : ws ≡ front ++ (head r ++ tail) = source ∙ ap (λ (l : List ℕ). front ++ (l ++ back)) (its .words) ∙ ap (λ (l : List ℕ). front ++ l) (append-assoc (head r) (wordsOf bodyWords (bodiesOf r)) back) in
-      let kind : kindIn ws at ≡ 23 = kind-is ws front _ 23 (r .citing) at headed ahead (its .citing) in
+      let tail : List ℕ = runWords bodyWords (bodiesOf r) ++ back in
+      let headed : ws ≡ front ++ (head r ++ tail) = source ∙ ap (λ (l : List ℕ). front ++ (l ++ back)) (its .words) ∙ ap (λ (l : List ℕ). front ++ l) (append-assoc (head r) (runWords bodyWords (bodiesOf r)) back) in
+      let kind : kindHere ws at ≡ 23 = kind-is ws front _ 23 (r .citing) at headed ahead (its .citing) in
       let inner : List Note = notesRun bodyWords (bodyNotes i) (suc i) (at + 4) (bodiesOf r) in
       let told = run-asked (marksAs m 4096) (marks-noted m 4096) ws bodyWords (bodyNotes i) (λ (b : Body). holds (marksAs m 4096) (b .tree)) (λ b. Fine (body n) b) (λ b f. body-asked (marksAs m 4096) (marks-noted m 4096) ws n i b f) (bodiesOf r) (its .bodies) (front ++ head r) back (suc i) (at + 4)
       (headed ∙ sym (append-assoc front (head r) tail)) (length-append front (head r) ∙ omega arith) in
@@ -209,7 +209,7 @@ module _ (ws : List ℕ) (m : ℕ) where
         let fine : Fine (tree n 32 judgment) (d .predicate) = predicate-kept n (r .derivation) d e (its-derivation p w ws r k) in
         let L : List ℕ = lead n r d in
         let opened : ws ≡ front ++ (L ++ (treeWords (d .predicate) ++ back)) = source ∙ ap (λ (l : List ℕ). front ++ (l ++ back)) (lead-words n r d e fine) ∙ ap (λ (l : List ℕ). front ++ l) (append-assoc L (treeWords (d .predicate)) back) in
-        let kind : kindIn ws at ≡ 6 = kind-is ws front _ 6 (r .name) at opened ahead (name-below p w ws r k) in
+        let kind : kindHere ws at ≡ 6 = kind-is ws front _ 6 (r .name) at opened ahead (name-below p w ws r k) in
         let name : valueIn ws at ≡ r .name = value-is ws front _ 6 (r .name) at opened ahead (name-below p w ws r k) in
         let inner : List Note = notesOf (suc i) i false (at + predicatePlace r d) (d .predicate) in
         let told = tree-asked (marksAs m (r .name)) (marks-noted m (r .name)) ws (d .predicate) (sound (d .predicate) n 32 judgment fine) (front ++ L) back (suc i) i (at + predicatePlace r d) false (opened ∙ sym (append-assoc front L (treeWords (d .predicate) ++ back)))

@@ -12,14 +12,14 @@ use borrow.Author.Tests.{eq-eqb, ne-eqb, eqb-true, eqb-false}
 use Rattle.definitions.specs.Table.{pick, wordOf, entryOf, fieldsOf}
 use Rattle.definitions.specs.Direction.{relatedKind, Membership}
 use Rattle.definitions.specs.Tree.{Fields, fieldWords}
-use Rattle.definitions.specs.Turning.{Outcome, done, refused, Citing, currentOf, relatedOf, withSlots, Step, goes, stops, stepBy}
+use Rattle.definitions.specs.ResolvingTrees.{Outcome, done, refused, Citing, currentOf, relatedOf, withSlots, NodeStep, goes, stops, nodeStep}
 use Rattle.directions.specs.Words.{memberIn}
 use Rattle.turning.specs.declared.step.Out.{Out}
 use Rattle.turning.specs.declared.step.Out.the-variants.{Opens, Sets, Passes, Stops}
 use Rattle.turning.specs.declared.root.Root as code
 use Rattle.turning.specs.declared.turns.Next.the-variants as next
 use Rattle.turning.specs.Notes.{Note, lookOf, noteCode}
-use Rattle.turning.specs.Turns.{insideOf, Known, Root, citing, Work, work, valueIn, kindIn, ruleRoot, relationRoot, held, fieldsAt, stepAt, turnedBy, openRoot, turnNode, turnNote}
+use Rattle.turning.specs.Turns.{insideOf, KnownTables, Root, citing, Work, work, valueIn, kindHere, ruleRoot, relationRoot, held, fieldsAt, stepAt, turnedBy, openRoot, turnNode, turnNote}
 use Rattle.turning.specs.Steps.{knownIn, NodeStands, Stands, outBy, outAt, OutFits, StepTaken, rootIn, RootStands, RootOpened, NextBy, NoteAsked, NoteTurned}
 use Rattle.turning.proofs.FlatLaws.{Leaves, look-leaves}
 use Rattle.turning.proofs.CodeLaws.{code-parts}
@@ -36,41 +36,41 @@ applied i at s (Sets c r) = done (work (sets (s .words) (at + 1) (slotWords c r)
 applied i at s Passes = done s
 applied i at s (Stops number other) = refused (record { number = number; place = at; name = s .root .name; other = other })
 
-module _ (C : Citing) (ws : List ℕ) (at i : ℕ) (s : Work) (st : NodeStands ws at) (has : lookOf (kindIn ws at) .slots ≡ true) where
-  slotted-words : (fs : Fields) (n c r : ℕ) → length (fieldsOf (entryOf (kindIn ws at) .follows)) ≡ suc (suc n) → fs ≡ withSlots c r (fieldsAt ws (at + 1) (suc (suc n))) → take 2 (fieldWords fs) ≡ slotWords (currentOf fs) (relatedOf fs)
+module _ (C : Citing) (ws : List ℕ) (at i : ℕ) (s : Work) (st : NodeStands ws at) (has : lookOf (kindHere ws at) .slots ≡ true) where
+  slotted-words : (fs : Fields) (n c r : ℕ) → length (fieldsOf (entryOf (kindHere ws at) .follows)) ≡ suc (suc n) → fs ≡ withSlots c r (fieldsAt ws (at + 1) (suc (suc n))) → take 2 (fieldWords fs) ≡ slotWords (currentOf fs) (relatedOf fs)
   slotted-words fs n c r e q =
       let k = st .slots has in
       let f : fs ≡ (80, c) ∷ (81, r) ∷ fieldsAt ws (at + 3) n = q ∙ ap (withSlots c r) (two-fields ws at n (three-words st has)) ∙ λ j. (k .0 j, c) ∷ (k .1 j, r) ∷ fieldsAt ws (at + 3) n in
       rw f refl
 
-  by-step : (entity : ℕ) (m : Membership) (lost : Bool) (n : ℕ) → length (fieldsOf (entryOf (kindIn ws at) .follows)) ≡ suc (suc n) → (p : Step) → Leaves entity m lost (entryOf (kindIn ws at) .follows) (fieldsAt ws (at + 1) (suc (suc n))) p → (b : Bool)
+  by-step : (entity : ℕ) (m : Membership) (lost : Bool) (n : ℕ) → length (fieldsOf (entryOf (kindHere ws at) .follows)) ≡ suc (suc n) → (p : NodeStep) → Leaves entity m lost (entryOf (kindHere ws at) .follows) (fieldsAt ws (at + 1) (suc (suc n))) p → (b : Bool)
       → turnedBy b i at s p ≡ applied i at s (outBy b p)
   by-step entity m lost n e (stops number other) l true = refl
   by-step entity m lost n e (stops number other) l false = refl
   by-step entity m lost n e (goes fs k first rest) l true = ap (λ (x : List ℕ). done (work (sets (s .words) (at + 1) x) (set (s .results) i k) (s .root))) (slotted-words fs n (l .2 .0) (l .2 .1) e (l .2 .2))
   by-step entity m lost n e (goes fs k first rest) l false = ap (λ (x : List ℕ). done (work (sets (s .words) (at + 1) x) (s .results) (s .root))) (slotted-words fs n (l .2 .0) (l .2 .1) e (l .2 .2))
 
-  slots-turned : (entity : ℕ) (m : Membership) (lost : Bool) → turnedBy (lookOf (kindIn ws at) .opens) i at s (stepAt C entity (held lost m) ws at) ≡ applied i at s (outBy (lookOf (kindIn ws at) .opens) (stepAt C entity (held lost m) ws at))
+  slots-turned : (entity : ℕ) (m : Membership) (lost : Bool) → turnedBy (lookOf (kindHere ws at) .opens) i at s (stepAt C entity (held lost m) ws at) ≡ applied i at s (outBy (lookOf (kindHere ws at) .opens) (stepAt C entity (held lost m) ws at))
   unfolding stepAt
-  slots-turned entity m lost = by (length (fieldsOf (entryOf (kindIn ws at) .follows))) refl (two-or-more (entryOf (kindIn ws at) .follows) has)
+  slots-turned entity m lost = by (length (fieldsOf (entryOf (kindHere ws at) .follows))) refl (two-or-more (entryOf (kindHere ws at) .follows) has)
     where
-      by : (n : ℕ) → length (fieldsOf (entryOf (kindIn ws at) .follows)) ≡ n → 2 ≤ n
-          → turnedBy (lookOf (kindIn ws at) .opens) i at s (stepBy C entity (held lost m) (entryOf (kindIn ws at) .follows) (valueIn ws at) (fieldsAt ws (at + 1) n))
-          ≡ applied i at s (outBy (lookOf (kindIn ws at) .opens) (stepBy C entity (held lost m) (entryOf (kindIn ws at) .follows) (valueIn ws at) (fieldsAt ws (at + 1) n)))
+      by : (n : ℕ) → length (fieldsOf (entryOf (kindHere ws at) .follows)) ≡ n → 2 ≤ n
+          → turnedBy (lookOf (kindHere ws at) .opens) i at s (nodeStep C entity (held lost m) (entryOf (kindHere ws at) .follows) (valueIn ws at) (fieldsAt ws (at + 1) n))
+          ≡ applied i at s (outBy (lookOf (kindHere ws at) .opens) (nodeStep C entity (held lost m) (entryOf (kindHere ws at) .follows) (valueIn ws at) (fieldsAt ws (at + 1) n)))
       by zero e h = absurd (omega arith)
       by (suc zero) e h = absurd (omega arith)
       by (suc (suc n)) e h =
-          by-step entity m lost n e (stepBy C entity (held lost m) (entryOf (kindIn ws at) .follows) (valueIn ws at) (fieldsAt ws (at + 1) (suc (suc n))))
-          (look-leaves C entity m lost (entryOf (kindIn ws at) .follows) (valueIn ws at) (fieldsAt ws (at + 1) (suc (suc n))) has) (lookOf (kindIn ws at) .opens)
+          by-step entity m lost n e (nodeStep C entity (held lost m) (entryOf (kindHere ws at) .follows) (valueIn ws at) (fieldsAt ws (at + 1) (suc (suc n))))
+          (look-leaves C entity m lost (entryOf (kindHere ws at) .follows) (valueIn ws at) (fieldsAt ws (at + 1) (suc (suc n))) has) (lookOf (kindHere ws at) .opens)
 
-node-turned : (K : Known) (ws : List ℕ) (i : ℕ) (n : Note) (s : Work) → NodeStands ws (n .place)
+node-turned : (K : KnownTables) (ws : List ℕ) (i : ℕ) (n : Note) (s : Work) → NodeStands ws (n .place)
     → turnNode K ws i n s ≡ applied i (n .place) s (outAt (citing K (s .root)) (getD (s .results) (n .inside) 0) (held (n .lost) (s .root .member)) ws (n .place))
 unfolding turnNode outAt
-node-turned K ws i n s st = go (lookOf (kindIn ws (n .place)) .slots) refl
+node-turned K ws i n s st = go (lookOf (kindHere ws (n .place)) .slots) refl
   where
-    go : (b : Bool) → lookOf (kindIn ws (n .place)) .slots ≡ b
-        → pick b (turnedBy (lookOf (kindIn ws (n .place)) .opens) i (n .place) s (stepAt (citing K (s .root)) (getD (s .results) (n .inside) 0) (held (n .lost) (s .root .member)) ws (n .place))) (done s)
-        ≡ applied i (n .place) s (pick b (outBy (lookOf (kindIn ws (n .place)) .opens) (stepAt (citing K (s .root)) (getD (s .results) (n .inside) 0) (held (n .lost) (s .root .member)) ws (n .place))) Passes)
+    go : (b : Bool) → lookOf (kindHere ws (n .place)) .slots ≡ b
+        → pick b (turnedBy (lookOf (kindHere ws (n .place)) .opens) i (n .place) s (stepAt (citing K (s .root)) (getD (s .results) (n .inside) 0) (held (n .lost) (s .root .member)) ws (n .place))) (done s)
+        ≡ applied i (n .place) s (pick b (outBy (lookOf (kindHere ws (n .place)) .opens) (stepAt (citing K (s .root)) (getD (s .results) (n .inside) 0) (held (n .lost) (s .root .member)) ws (n .place))) Passes)
     go true e = slots-turned (citing K (s .root)) ws (n .place) i s st e (getD (s .results) (n .inside) 0) (s .root .member) (n .lost)
     go false e = refl
 
@@ -105,7 +105,7 @@ module _ {ws words notes : List ℕ} {blocks count i : ℕ} (a : NoteAsked ws wo
   root-stands h = rw (its-place notes (a .n) (a .is) (a .stands)) (a .stands .root (sym (its-inside notes (a .n) (a .is) (a .stands)) ∙ h))
 
 module _ (ws acts taken words notes : List ℕ) (blocks count i : ℕ) (r : code.Root) where
-  abbrev K : Known
+  abbrev K : KnownTables
   K = knownIn ws acts taken blocks count
 
   -- a rule or relation
@@ -114,12 +114,12 @@ module _ (ws acts taken words notes : List ℕ) (blocks count i : ℕ) (r : code
   opens-root h {x} o = record { each = each; long = refl; wide = length-set notes i (x .entity); others = λ j q. getD-set-other notes i j (x .entity) 0 q }
     where
       each : (n : Note) → getD notes i 0 ≡ noteCode n → Stands ws i n → NextBy ws (turnNote K ws i n (work words notes (rootIn ws r))) (next.On x) words (set notes i (x .entity))
-      each n is st = rw (eq-eqb (n .inside) 0 (sym (its-inside notes n is st) ∙ h)) (go (eqb (kindIn ws (n .place)) 23) refl (subst (λ (y : ℕ). RootOpened ws acts y x) (its-place notes n is st) o))
+      each n is st = rw (eq-eqb (n .inside) 0 (sym (its-inside notes n is st) ∙ h)) (go (eqb (kindHere ws (n .place)) 23) refl (subst (λ (y : ℕ). RootOpened ws acts y x) (its-place notes n is st) o))
         where
-          go : (b : Bool) → eqb (kindIn ws (n .place)) 23 ≡ b → RootOpened ws acts (n .place) x
+          go : (b : Bool) → eqb (kindHere ws (n .place)) 23 ≡ b → RootOpened ws acts (n .place) x
               → NextBy ws (done (pick b (work words (set notes i (valueIn ws (n .place + 2))) (ruleRoot ws (n .place))) (work words (set notes i (relatedKind (K .tables .derived (valueIn ws (n .place))))) (relationRoot K ws (n .place))))) (next.On x) words (set notes i (x .entity))
-          go true e p = let q = p .rule (eqb-true (kindIn ws (n .place)) 23 e) in (x, refl, q .1, refl, ap (set notes i) (q .0))
-          go false e p = let q = p .relation (eqb-false (kindIn ws (n .place)) 23 e) taken blocks count in (x, refl, q .1, refl, ap (set notes i) (q .0))
+          go true e p = let q = p .rule (eqb-true (kindHere ws (n .place)) 23 e) in (x, refl, q .1, refl, ap (set notes i) (q .0))
+          go false e p = let q = p .relation (eqb-false (kindHere ws (n .place)) 23 e) taken blocks count in (x, refl, q .1, refl, ap (set notes i) (q .0))
 
   -- a node: what came of its step
   module _ (h : insideOf (getD notes i 0) ≡ 0 → ⊥) (μ : ℕ) (keep : (n : Note) → getD notes i 0 ≡ noteCode n → n .place + 1 < 8192 → (v : List ℕ) → memberIn v μ ≡ held (n .lost) (memberIn v (r .own))) {o : Out}
@@ -172,20 +172,20 @@ pub set-fits : {o : Out} {c r : ℕ} → o ≡ Sets c r → OutFits o → (c < 1
 set-fits e h = rw e at h
 
 -- a node whose slots are set has them
-pub sets-slots : (C : Citing) (entity : ℕ) (m : Membership) (ws : List ℕ) (at : ℕ) {o : Out} → o ≡ outAt C entity m ws at → (o ≡ Passes → ⊥) → lookOf (kindIn ws at) .slots ≡ true
+pub sets-slots : (C : Citing) (entity : ℕ) (m : Membership) (ws : List ℕ) (at : ℕ) {o : Out} → o ≡ outAt C entity m ws at → (o ≡ Passes → ⊥) → lookOf (kindHere ws at) .slots ≡ true
 unfolding outAt
-sets-slots C entity m ws at {o} e h = go (lookOf (kindIn ws at) .slots) refl e
+sets-slots C entity m ws at {o} e h = go (lookOf (kindHere ws at) .slots) refl e
   where
-    go : (b : Bool) → lookOf (kindIn ws at) .slots ≡ b → o ≡ pick b (outBy (lookOf (kindIn ws at) .opens) (stepAt C entity m ws at)) Passes → lookOf (kindIn ws at) .slots ≡ true
+    go : (b : Bool) → lookOf (kindHere ws at) .slots ≡ b → o ≡ pick b (outBy (lookOf (kindHere ws at) .opens) (stepAt C entity m ws at)) Passes → lookOf (kindHere ws at) .slots ≡ true
     go true q e = q
     go false q e = absurd (h e)
 
 module _ {ws acts taken : List ℕ} {blocks count origin entity : ℕ} {m : Membership} {at : ℕ} {o : Out} (t : StepTaken ws acts taken blocks count origin entity m at o) where
-  its-slots : (o ≡ Passes → ⊥) → lookOf (kindIn ws at) .slots ≡ true
+  its-slots : (o ≡ Passes → ⊥) → lookOf (kindHere ws at) .slots ≡ true
   its-slots h = sets-slots (citing (knownIn ws acts taken blocks count) (record { name = 0; origin = origin; member = none })) entity m ws at (t .each (record { name = 0; origin = origin; member = none }) refl) h
 
-  pub opens-some : {c r k : ℕ} → o ≡ Opens c r k → lookOf (kindIn ws at) .slots ≡ true
+  pub opens-some : {c r k : ℕ} → o ≡ Opens c r k → lookOf (kindHere ws at) .slots ≡ true
   opens-some e = its-slots (λ q. let z : _≡_ {A = ℕ} 0 1 = cc in omega arith)
 
-  pub sets-some : {c r : ℕ} → o ≡ Sets c r → lookOf (kindIn ws at) .slots ≡ true
+  pub sets-some : {c r : ℕ} → o ≡ Sets c r → lookOf (kindHere ws at) .slots ≡ true
   sets-some e = its-slots (λ q. let z : _≡_ {A = ℕ} 0 1 = cc in omega arith)

@@ -10,18 +10,18 @@ use Rattle.definitions.specs.Form.{wordsBy, Fine}
 use Rattle.definitions.specs.Records.{Relation, Rule, Pack}
 use Rattle.definitions.specs.Pack.{WellFormed, words, rule, blocks}
 use Rattle.definitions.specs.Places.{relationWords, firstRelation}
-use Rattle.chains.proofs.PackIndex.{EachFound, all-found}
-use Rattle.definitions.specs.Turning.{Outcome, done, refused, andThen, mapDone}
+use Rattle.chains.proofs.PackParts.{EachFound, all-found}
+use Rattle.definitions.specs.ResolvingTrees.{Outcome, done, refused, andThen, mapDone}
 use Rattle.definitions.specs.Resolving.{ruleWords, resolveRule, resolveRelation, firstRule}
-use Rattle.directions.specs.Records.{wordsOf, runBy, All, RelationKeeps, withRecords, turned}
+use Rattle.directions.specs.RecordRuns.{runWords, runBy, EachKeeps, RelationKeeps, withRecords, treesResolved}
 use Rattle.directions.proofs.RunLaws.{run-length}
 use Rattle.directions.proofs.TurnedPack.{front, pack-words, front-long, front22, pack-words-22, front22-long, rules-run, relations-run, rules-keep, relations-keep, again-words}
 use Rattle.turning.specs.Notes.{ruleNotes, relationNotes, relationsNoted, rulesNoted, notesOfPack}
-use Rattle.turning.specs.Turns.{Known, knownOf, Work, afresh, turnNotes, turnPack, TurnedInto}
+use Rattle.turning.specs.Turns.{KnownTables, knownOf, Work, afresh, turnNotes, turnPack, TurnedInto}
 use Rattle.turning.proofs.RunFlat.{Ran, RanBy, run-flat}
 use Rattle.turning.proofs.RecordFlat.{Free, rule-flat, RelationFine, relation-flat}
 
-all-relations : (p : Pack) (w : WellFormed p) (ws : List ℕ) (l : List Relation) → All (RelationKeeps p) l → EachFound (p .relations) l → All (RelationFine p w ws) l
+all-relations : (p : Pack) (w : WellFormed p) (ws : List ℕ) (l : List Relation) → EachKeeps (RelationKeeps p) l → EachFound (p .relations) l → EachKeeps (RelationFine p w ws) l
 all-relations p w ws [] h f = tt
 all-relations p w ws (r ∷ l) h f = ((h .0, f .0), all-relations p w ws l (h .1) (f .1))
 
@@ -29,14 +29,14 @@ module _ (p : Pack) (w : WellFormed p) (s : Work) (copied : s .words ≡ words p
   abbrev n : ℕ
   n = p .names
 
-  abbrev K : Known
+  abbrev K : KnownTables
   K = knownOf p
 
   abbrev R : List Relation → List ℕ
-  R l = wordsOf (relationWords n) l
+  R l = runWords (relationWords n) l
 
   abbrev U : List Rule → List ℕ
-  U l = wordsOf (ruleWords n) l
+  U l = runWords (ruleWords n) l
 
   abbrev B : List ℕ
   B = wordsBy (blocks n) (p .blocks)
@@ -95,8 +95,8 @@ module _ (p : Pack) (w : WellFormed p) (s : Work) (copied : s .words ≡ words p
   by-rules (done rls) e h = rw (h .is) (whole rls e h (runBy (relationWords n) by-relation (firstRelation p) (p .relations)) refl (relations-ran rls e h))
 
   -- THE LAW
-  pub flattening : TurnedInto (turned p) (turnPack K (words p) (relationsNoted p) (rulesNoted p) s)
-  unfolding turned turnPack
+  pub flattening : TurnedInto (treesResolved p) (turnPack K (words p) (relationsNoted p) (rulesNoted p) s)
+  unfolding treesResolved turnPack
   flattening =
       rw (rules-run p (firstRule p) (p .rules), relations-run p (firstRelation p) (p .relations))
       (by-rules (runBy (ruleWords n) by-rule (firstRule p) (p .rules)) refl rules-ran)

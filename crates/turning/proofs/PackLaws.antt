@@ -19,17 +19,17 @@ use Rattle.pack.proofs.PackLaws.{words-read, words-length}
 use Rattle.reading.proofs.NotesLaws.{few-tree}
 use Rattle.definitions.specs.Places.{relationWords, firstRelation}
 use Rattle.chains.proofs.CheckedLaws.{same-pack}
-use Rattle.definitions.specs.Turning.{Outcome, done, refused, andThen}
+use Rattle.definitions.specs.ResolvingTrees.{Outcome, done, refused, andThen}
 use Rattle.definitions.specs.Resolving.{ruleWords, predicatePlace, firstRule}
 use Rattle.directions.proofs.TreeWords.{size-is}
-use Rattle.directions.specs.Records.{wordsOf, All, bodyWords, RelationKeeps, turned}
+use Rattle.directions.specs.RecordRuns.{runWords, EachKeeps, bodyWords, RelationKeeps, treesResolved}
 use Rattle.directions.proofs.RuleLaws.{bodiesOf, head, rule-parts}
 use Rattle.directions.proofs.RelationLaws.{lead, lead-words, lead-long, predicate-kept}
 use Rattle.directions.proofs.TurnedPack.{front, pack-words, rules-keep, relations-keep}
 use Rattle.turning.specs.declared.turns.Ended.{Ended}
 use Rattle.turning.specs.declared.turns.Ended.the-variants as ended
 use Rattle.turning.specs.Notes.{Note, note, lookOf, noted, within, notesOf, notesIn, notesRun, bodyNotes, ruleNotes, derivedNotes, relationNotes, relationsNoted, rulesNoted, notesOfPack, Held}
-use Rattle.turning.specs.Turns.{Known, knownOf, Work, work, nowhere, afresh, turnNotes, turnPack, TurnedInto}
+use Rattle.turning.specs.Turns.{KnownTables, knownOf, Work, work, nowhere, afresh, turnNotes, turnPack, TurnedInto}
 use Rattle.turning.specs.Steps.{knownIn, Placed, EndedBy, TurnsAsked, NotesTurned, PackAsked, TurnedAs, PackTurned}
 use Rattle.turning.proofs.RecordFlat.{its-derivation}
 use Rattle.turning.proofs.PackFlat.{flattening}
@@ -37,19 +37,19 @@ use Rattle.turning.proofs.PlacedLaws.{both-placed}
 
 -- ---- there are no more notes than words
 
-run-few : {A : Type 0} (W : A → List ℕ) (N : ℕ → ℕ → A → List Note) (Keeps : A → Type 0) → ((a : A) → Keeps a → (i at : ℕ) → length (N i at a) ≤ length (W a)) → (l : List A) → All Keeps l → (i at : ℕ) → length (notesRun W N i at l) ≤ length (wordsOf W l)
+run-few : {A : Type 0} (W : A → List ℕ) (N : ℕ → ℕ → A → List Note) (Keeps : A → Type 0) → ((a : A) → Keeps a → (i at : ℕ) → length (N i at a) ≤ length (W a)) → (l : List A) → EachKeeps Keeps l → (i at : ℕ) → length (notesRun W N i at l) ≤ length (runWords W l)
 unfolding notesRun
 run-few W N Keeps each [] h i at = omega arith
 run-few W N Keeps each (a ∷ l) h i at =
     let theirs : List Note = notesRun W N (i + length (N i at a)) (at + length (W a)) l in
-    omega (arith, length-append (N i at a) theirs, length-append (W a) (wordsOf W l), each a (h .0) i at, run-few W N Keeps each l (h .1) (i + length (N i at a)) (at + length (W a)))
+    omega (arith, length-append (N i at a) theirs, length-append (W a) (runWords W l), each a (h .0) i at, run-few W N Keeps each l (h .1) (i + length (N i at a)) (at + length (W a)))
 
 rule-few : (n : ℕ) (r : records.Rule) → Fine (pack.rule n) r → (i at : ℕ) → length (ruleNotes i at r) ≤ length (ruleWords n r)
 unfolding ruleNotes
 rule-few n r fine i at =
     let its = rule-parts n r fine in
     let b = run-few bodyWords (bodyNotes i) (λ b. Fine (pack.body n) b) (λ b f j x. let t = few-tree (b .tree) j i false (x + 1) in omega (arith, size-is (b .tree))) (bodiesOf r) (its .bodies) (suc i) (at + 4) in
-    omega (arith, ap length (its .words), length-append (head r) (wordsOf bodyWords (bodiesOf r)))
+    omega (arith, ap length (its .words), length-append (head r) (runWords bodyWords (bodiesOf r)))
 
 derived-few : (p : Pack) → WellFormed p → (r : Relation) → RelationKeeps p r → (o : Option Derivation) → r .derivation ≡ o → (i at : ℕ) → length (derivedNotes i at r o) ≤ length (relationWords (p .names) r)
 derived-few p w r k none e i at = omega arith
@@ -66,8 +66,8 @@ relation-few p w r k i at = derived-few p w r k (r .derivation) refl i at
 pub notes-short : (p : Pack) → WellFormed p → length (notesOfPack p) ≤ total p
 unfolding relationsNoted rulesNoted
 notes-short p w =
-    let R : List ℕ = wordsOf (relationWords (p .names)) (p .relations) in
-    let U : List ℕ = wordsOf (ruleWords (p .names)) (p .rules) in
+    let R : List ℕ = runWords (relationWords (p .names)) (p .relations) in
+    let U : List ℕ = runWords (ruleWords (p .names)) (p .rules) in
     let B : List ℕ = wordsBy (blocks (p .names)) (p .blocks) in
     let a = run-few (relationWords (p .names)) relationNotes (RelationKeeps p) (λ r k. relation-few p w r k) (p .relations) (relations-keep p w .all) 1 (firstRelation p) in
     let b = run-few (ruleWords (p .names)) ruleNotes (Fine (pack.rule (p .names))) (λ r f. rule-few (p .names) r f) (p .rules) (rules-keep p w .all) (1 + length (relationsNoted p)) (firstRule p) in
@@ -142,11 +142,11 @@ module _ (ws acts taken words₀ notes₀ : List ℕ) (blocks count relations al
   pub rules-asked : TurnsAsked ws words₀ notes₀ blocks count (relations + 1) (all + 1)
   rules-asked = record { low = a .low; few = a .few; same = ap length (a .copied); inside = few-notes; ns = rls; are = rules-held; many = last-is; placed = rules-stand }
 
-  abbrev K : Known
+  abbrev K : KnownTables
   K = knownOf p
 
   -- the whole, by the law
-  law : TurnedInto (turned p) (turnPack K (words p) rels rls (work words₀ notes₀ nowhere))
+  law : TurnedInto (treesResolved p) (turnPack K (words p) rels rls (work words₀ notes₀ nowhere))
   law = flattening p w (work words₀ notes₀ nowhere) (a .copied ∙ same-words) (let r = a .noted .room in omega (arith, a .noted .many))
 
   abbrev rules-outcome : Outcome Work
@@ -168,8 +168,8 @@ module _ (ws acts taken words₀ notes₀ : List ℕ) (blocks count relations al
     all-not : {x : Refusal} → ended.All ≡ ended.Refused x → ⊥
     all-not e = let z : _≡_ {A = ℕ} 0 1 = cc in omega arith
 
-    of-pack : (left : List ℕ) (r : Ended) → TurnedAs (turned p) r left → PackTurned ws r left
-    of-pack left r h = record { each = λ q e. subst (λ (x : Pack). TurnedAs (turned x) r left) (same-pack ws (a .checked) e) h }
+    of-pack : (left : List ℕ) (r : Ended) → TurnedAs (treesResolved p) r left → PackTurned ws r left
+    of-pack left r h = record { each = λ q e. subst (λ (x : Pack). TurnedAs (treesResolved x) r left) (same-pack ws (a .checked) e) h }
 
     -- a rule is refused
     module _ (no : o ≡ ended.All → ⊥) where
@@ -180,7 +180,7 @@ module _ (ws acts taken words₀ notes₀ : List ℕ) (blocks count relations al
       refused-by (refused y) e h (done q) l = let u = sym (ap (λ (v : Outcome Work). andThen v (λ u. turnNotes K whole 1 rels (afresh u))) e) ∙ l .1 in let z : _≡_ {A = ℕ} 0 1 = cc in absurd (omega arith)
 
       pub pack-stopped : PackTurned ws o words
-      pack-stopped = of-pack words o (refused-by rules-outcome refl rules-ended (turned p) law)
+      pack-stopped = of-pack words o (refused-by rules-outcome refl rules-ended (treesResolved p) law)
 
     -- all are turned: then relations
     module _ (yes-all : o ≡ ended.All) where
@@ -220,5 +220,5 @@ module _ (ws acts taken words₀ notes₀ : List ℕ) (blocks count relations al
 
         pub pack-ended : PackTurned ws r left
         pack-ended =
-            of-pack left r (ends-with (turnNotes K whole 1 rels (work words notes nowhere)) relations-ended (turned p)
-            (subst (TurnedInto (turned p)) (then-relations rules-outcome refl rules-ended) law))
+            of-pack left r (ends-with (turnNotes K whole 1 rels (work words notes nowhere)) relations-ended (treesResolved p)
+            (subst (TurnedInto (treesResolved p)) (then-relations rules-outcome refl rules-ended) law))

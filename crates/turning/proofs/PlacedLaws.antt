@@ -8,8 +8,8 @@ use mathlib.Core.Option.{Option, none, some}
 use lib.ListN.{length, length-append}
 use lib.Dec.{ltb, leb}
 use borrow.Author.Tests.{ltb-true, ltb-false, lt-leb}
-use Rattle.definitions.specs.declared.table.Rule.{Rule}
-use Rattle.definitions.specs.declared.table.Rule.the-variants.{Name}
+use Rattle.definitions.specs.declared.table.Values.{Values}
+use Rattle.definitions.specs.declared.table.Values.the-variants.{Name}
 use Rattle.definitions.specs.declared.table.Follows.{Follows}
 use Rattle.definitions.specs.declared.table.Follows.the-variants.{Nothing, Counted, OneScalar, TwoScalars, Scalars, Patterns, Periods, OneJudgment, Judgments, Choice, Aggregate, OnlyRelated, Slots, Atom, Exists}
 use Rattle.definitions.specs.Table.{pick, wordOf, judgment, allowed, table, entryOf, fieldsOf, childrenOf}
@@ -23,17 +23,17 @@ use Rattle.definitions.specs.Pack as pack
 use Rattle.pack.proofs.Listed.{in-range}
 use Rattle.pack.proofs.PackLaws.{words-length}
 use Rattle.definitions.specs.Places.{relationWords, firstRelation}
-use Rattle.chains.proofs.RelationScan.{kept}
-use Rattle.chains.proofs.PackIndex.{parts}
+use Rattle.chains.proofs.RelationForm.{kept}
+use Rattle.chains.proofs.PackParts.{parts}
 use Rattle.definitions.specs.Resolving.{ruleWords, predicatePlace, firstRule}
 use Rattle.directions.proofs.KeepsForm.{FieldsFine, only-one, open-node, no-level, head-fine}
 use Rattle.directions.proofs.TreeWords.{fields-count, size-is, fields-length}
-use Rattle.directions.specs.Records.{wordsOf, All, bodyWords, RelationKeeps}
+use Rattle.directions.specs.RecordRuns.{runWords, EachKeeps, bodyWords, RelationKeeps}
 use Rattle.directions.proofs.RuleLaws.{bodiesOf, head, rule-parts}
 use Rattle.directions.proofs.RelationLaws.{lead, lead-words, lead-long, predicate-kept}
 use Rattle.directions.proofs.TurnedPack.{front, pack-words, front-long, front22, pack-words-22, front22-long, rules-keep, relations-keep}
 use Rattle.turning.specs.Notes.{Note, note, lookBy, lookOf, noted, within, notesOf, notesIn, notesRun, bodyNotes, ruleNotes, derivedNotes, relationNotes, relationsNoted, rulesNoted, notesOfPack}
-use Rattle.turning.specs.Turns.{valueIn, kindIn}
+use Rattle.turning.specs.Turns.{valueIn, kindHere}
 use Rattle.turning.specs.Steps.{NodeStands, RootStands, Stands, Placed}
 use Rattle.turning.proofs.FlatLaws.{kind-there, value-there}
 use Rattle.turning.proofs.RecordFlat.{value-is, kind-is, its-derivation, name-below}
@@ -90,8 +90,8 @@ module _ (ws : List ℕ) (short : length ws ≤ 8192) (n : ℕ) (most : n ≤ 40
     unfolding treeWords
     apart = stands ∙ simp append-assoc
 
-    kind : kindIn ws at ≡ k
-    kind = ap (λ (l : List ℕ). kindIn l at) apart ∙ kind-there front (forestWords f ++ back) k v fs at here small
+    kind : kindHere ws at ≡ k
+    kind = ap (λ (l : List ℕ). kindHere l at) apart ∙ kind-there front (forestWords f ++ back) k v fs at here small
 
     value : valueIn ws at ≡ v
     value = ap (λ (l : List ℕ). valueIn l at) apart ∙ value-there front (forestWords f ++ back) k v fs at here small
@@ -103,7 +103,7 @@ module _ (ws : List ℕ) (short : length ws ≤ 8192) (n : ℕ) (most : n ≤ 40
         let c = length-append (forestWords f) back in
         omega (arith, fields-length fs)
 
-    slots-at : (gs : Fields) → fs ≡ gs → (kss : List (List ℕ)) → FieldsFine n kss gs → SlotFields gs → (kindIn ws (at + 1) ≡ 80) × (kindIn ws (at + 2) ≡ 81)
+    slots-at : (gs : Fields) → fs ≡ gs → (kss : List (List ℕ)) → FieldsFine n kss gs → SlotFields gs → (kindHere ws (at + 1) ≡ 80) × (kindHere ws (at + 2) ≡ 81)
     slots-at [] e kss h s = absurd s
     slots-at (a ∷ []) e kss h s = absurd s
     slots-at (a ∷ b ∷ gs) e kss h s =
@@ -188,14 +188,14 @@ module _ (ws : List ℕ) (short : length ws ≤ 8192) (n : ℕ) (most : n ≤ 40
   abbrev PlacedAt : {A : Type 0} → ℕ → (A → List ℕ) → (ℕ → ℕ → A → List Note) → A → Type 0
   PlacedAt low W N a = (front back : List ℕ) (i at : ℕ) → ws ≡ front ++ (W a ++ back) → length front ≡ at → 0 < length back → low ≤ i → Placed ws i (N i at a)
 
-  run-placed : {A : Type 0} (low : ℕ) (W : A → List ℕ) (N : ℕ → ℕ → A → List Note) (Keeps : A → Type 0) → ((a : A) → Keeps a → PlacedAt low W N a) → (l : List A) → All Keeps l → PlacedAt low (wordsOf W) (notesRun W N) l
+  run-placed : {A : Type 0} (low : ℕ) (W : A → List ℕ) (N : ℕ → ℕ → A → List Note) (Keeps : A → Type 0) → ((a : A) → Keeps a → PlacedAt low W N a) → (l : List A) → EachKeeps Keeps l → PlacedAt low (runWords W) (notesRun W N) l
   unfolding notesRun
   run-placed low W N Keeps each [] h front back i at s e b low-i = tt
   run-placed low W N Keeps each (a ∷ l) h front back i at s e b low-i =
-      let q = s ∙ ap (λ (y : List ℕ). front ++ y) (append-assoc (W a) (wordsOf W l) back) in
+      let q = s ∙ ap (λ (y : List ℕ). front ++ y) (append-assoc (W a) (runWords W l) back) in
       let r : length (front ++ W a) ≡ at + length (W a) = length-append front (W a) ∙ omega arith in
-      placed-append ws (N i at a) (notesRun W N (i + length (N i at a)) (at + length (W a)) l) i (i + length (N i at a)) refl (each a (h .0) front (wordsOf W l ++ back) i at q e (longer (wordsOf W l) back b) low-i)
-      (run-placed low W N Keeps each l (h .1) (front ++ W a) back (i + length (N i at a)) (at + length (W a)) (q ∙ sym (append-assoc front (W a) (wordsOf W l ++ back))) r b (omega arith))
+      placed-append ws (N i at a) (notesRun W N (i + length (N i at a)) (at + length (W a)) l) i (i + length (N i at a)) refl (each a (h .0) front (runWords W l ++ back) i at q e (longer (runWords W l) back b) low-i)
+      (run-placed low W N Keeps each l (h .1) (front ++ W a) back (i + length (N i at a)) (at + length (W a)) (q ∙ sym (append-assoc front (W a) (runWords W l ++ back))) r b (omega arith))
 
   body-placed : (inside : ℕ) → 1 ≤ inside → (b : Body) → Fine (body n) b → PlacedAt (suc inside) bodyWords (bodyNotes inside) b
   unfolding body root Fine
@@ -210,8 +210,8 @@ module _ (ws : List ℕ) (short : length ws ≤ 8192) (n : ℕ) (most : n ≤ 40
   unfolding ruleNotes
   rule-placed r fine front back i at s e b l =
       let its = rule-parts n r fine in
-      let tail : List ℕ = wordsOf bodyWords (bodiesOf r) ++ back in
-      let headed : ws ≡ front ++ (head r ++ tail) = s ∙ ap (λ (x : List ℕ). front ++ (x ++ back)) (its .words) ∙ ap (λ (x : List ℕ). front ++ x) (append-assoc (head r) (wordsOf bodyWords (bodiesOf r)) back) in
+      let tail : List ℕ = runWords bodyWords (bodiesOf r) ++ back in
+      let headed : ws ≡ front ++ (head r ++ tail) = s ∙ ap (λ (x : List ℕ). front ++ (x ++ back)) (its .words) ∙ ap (λ (x : List ℕ). front ++ x) (append-assoc (head r) (runWords bodyWords (bodiesOf r)) back) in
       let long = ap length headed ∙ length-append front (head r ++ tail) in (
         root-placed i at l (record { fields = let x = length-append (head r) tail in omega arith }),
         run-placed (suc i) bodyWords (bodyNotes i) (λ b. Fine (body n) b) (λ b f. body-placed i l b f) (bodiesOf r) (its .bodies) (front ++ head r) back (suc i) (at + 4) (headed ∙ sym (append-assoc front (head r) tail)) (length-append front (head r) ∙ omega arith) b (omega arith),

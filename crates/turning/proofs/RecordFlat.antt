@@ -15,22 +15,22 @@ use Rattle.definitions.specs.Records.{Derivation, Relation, Body, Rule, Pack}
 use Rattle.definitions.specs.Pack.{WellFormed, body, rule, relationTail, optionalDerivation}
 use Rattle.definitions.specs.Kinds.{find, kindsOf}
 use Rattle.definitions.specs.Places.{relationWords}
-use Rattle.chains.proofs.RelationScan.{kept}
-use Rattle.chains.proofs.PackIndex.{parts}
+use Rattle.chains.proofs.RelationForm.{kept}
+use Rattle.chains.proofs.PackParts.{parts}
 use Rattle.definitions.specs.Filtered.{kindAt}
 use Rattle.definitions.specs.Tables.{tables}
 use Rattle.definitions.specs.Direction.{membership, kindOrZero}
-use Rattle.definitions.specs.Turning.{Outcome, done, refused, mapDone, resolveTree}
+use Rattle.definitions.specs.ResolvingTrees.{Outcome, done, refused, mapDone, resolveTree}
 use Rattle.definitions.specs.Resolving.{cites, resolveBody, resolveRule, ruleWords, predicatePlace, withPredicate, predicateBy, resolveDerivation, resolveRelation}
 use Rattle.directions.proofs.KeepsForm.{Good, FieldsFine, open-node, no-level, tree-good, head-fine}
 use Rattle.directions.proofs.TreeWords.{fields-count, size-is}
 use Rattle.directions.proofs.ResolvedFine.{rule-good, tail-derivation, tables-fit}
-use Rattle.directions.specs.Records.{wordsOf, runBy, bodyWords, RelationKeeps}
+use Rattle.directions.specs.RecordRuns.{runWords, runBy, bodyWords, RelationKeeps}
 use Rattle.directions.proofs.RuleLaws.{bodiesOf, head, RuleParts, rule-parts, again, rule-run}
 use Rattle.directions.proofs.RunLaws.{run-length}
 use Rattle.directions.proofs.RelationLaws.{lead, lead-words, lead-long, predicate-kept}
 use Rattle.turning.specs.Notes.{Note, notesOf, notesRun, bodyNotes, ruleNotes, derivedNotes, relationNotes}
-use Rattle.turning.specs.Turns.{Known, knownOf, Root, citing, Work, work, valueIn, kindIn, openRoot, turnNote, turnNotes}
+use Rattle.turning.specs.Turns.{KnownTables, knownOf, Root, citing, Work, work, valueIn, kindHere, openRoot, turnNote, turnNotes}
 use Rattle.turning.proofs.FlatLaws.{ValuesFit, Sound, Sounds, Flat, flat-tree}
 use Rattle.turning.proofs.RunFlat.{RanBy, FlatAt, run-flat}
 
@@ -65,7 +65,7 @@ module _ (ws pre rest : List ℕ) (k v at : ℕ) (stands : ws ≡ pre ++ (wordOf
   pub value-is : valueIn ws at ≡ v
   value-is = ap valueOf word-is ∙ omega arith
 
-  pub kind-is : kindIn ws at ≡ k
+  pub kind-is : kindHere ws at ≡ k
   kind-is = ap kindOf word-is ∙ omega arith
 
 -- ---- bodies
@@ -74,7 +74,7 @@ module _ (ws pre rest : List ℕ) (k v at : ℕ) (stands : ws ≡ pre ++ (wordOf
 abbrev pub InRoot : Root → ℕ → ℕ → Work → Type 0
 InRoot root inside entity s = (s .root ≡ root) × (getD (s .results) inside 0 ≡ entity)
 
-module _ (K : Known) (root : Root) (ws : List ℕ) (inside entity : ℕ) (some-note : 1 ≤ inside) where
+module _ (K : KnownTables) (root : Root) (ws : List ℕ) (inside entity : ℕ) (some-note : 1 ≤ inside) where
   -- a tree at the end of a record's words
   tree-ran : {A : Type 0} (W : A → List ℕ) (mk : Tree → A) (t : Tree) (lead before after results : List ℕ) (i all : ℕ) (o : Outcome Tree) (r : Outcome Work) → inside < i → getD results inside 0 ≡ entity → all ≡ length lead + size t
       → Good (λ t′. W (mk t′) ≡ lead ++ treeWords t′) o → Flat treeWords (before ++ lead) after (size t) i results root o r → RanBy (InRoot root inside entity) W before after all (length results) (mapDone mk o) r
@@ -121,7 +121,7 @@ body-tree n b f = sound (b .tree) n 32 (b .sort) (f .1)
 abbrev pub ruleIn : ℕ → ℕ → Root
 ruleIn name origin = record { name = name; origin = origin; member = none }
 
-body-flat : (K : Known) (ws : List ℕ) (name origin inside entity n : ℕ) → 1 ≤ inside → (b : Body) → Fine (body n) b
+body-flat : (K : KnownTables) (ws : List ℕ) (name origin inside entity n : ℕ) → 1 ≤ inside → (b : Body) → Fine (body n) b
     → FlatAt K ws (InRoot (ruleIn name origin) inside entity) (suc inside) bodyWords (bodyNotes inside) (λ at b. resolveBody (citing K (ruleIn name origin)) entity at b) b
 body-flat K ws name origin inside entity n least b f front back before after i at s source ahead here stands lowest room keeps =
     let mk : Tree → Body = λ t. record { sort = b .sort; tree = t } in
@@ -137,7 +137,7 @@ module _ (p : Pack) (w : WellFormed p) (ws : List ℕ) where
   abbrev n : ℕ
   n = p .names
 
-  abbrev K : Known
+  abbrev K : KnownTables
   K = knownOf p
 
   module _ (r : Rule) (fine : Fine (rule n) r) (front back before after : List ℕ) (i at : ℕ) (s : Work) (source : ws ≡ front ++ (ruleWords n r ++ back)) (ahead : length front ≡ at) (here : length before ≡ at)
@@ -154,19 +154,19 @@ module _ (p : Pack) (w : WellFormed p) (ws : List ℕ) where
     abbrev by : ℕ → Body → Outcome Body
     by x b = resolveBody (citing K in-rule) (r .entity) x b
 
-    headed : (x y : List ℕ) → x ++ (ruleWords n r ++ y) ≡ x ++ (head r ++ (wordsOf bodyWords bs ++ y))
-    headed x y = ap (λ (l : List ℕ). x ++ (l ++ y)) (its .words) ∙ ap (λ (l : List ℕ). x ++ l) (append-assoc (head r) (wordsOf bodyWords bs) y)
+    headed : (x y : List ℕ) → x ++ (ruleWords n r ++ y) ≡ x ++ (head r ++ (runWords bodyWords bs ++ y))
+    headed x y = ap (λ (l : List ℕ). x ++ (l ++ y)) (its .words) ∙ ap (λ (l : List ℕ). x ++ l) (append-assoc (head r) (runWords bodyWords bs) y)
 
-    past-head : (x y : List ℕ) → x ++ (ruleWords n r ++ y) ≡ (x ++ head r) ++ (wordsOf bodyWords bs ++ y)
-    past-head x y = headed x y ∙ sym (append-assoc x (head r) (wordsOf bodyWords bs ++ y))
+    past-head : (x y : List ℕ) → x ++ (ruleWords n r ++ y) ≡ (x ++ head r) ++ (runWords bodyWords bs ++ y)
+    past-head x y = headed x y ∙ sym (append-assoc x (head r) (runWords bodyWords bs ++ y))
 
     abbrev later : List ℕ
-    later = wordsOf bodyWords bs ++ back
+    later = runWords bodyWords bs ++ back
 
     abbrev w25 : List ℕ
     w25 = wordOf 25 (r .entity) ∷ wordOf 26 (suc (length (r .versions))) ∷ later
 
-    is-rule : kindIn ws at ≡ 23
+    is-rule : kindHere ws at ≡ 23
     is-rule = kind-is ws front (wordOf 24 (r .origin) ∷ w25) 23 (r .citing) at (source ∙ headed front back) ahead (its .citing)
 
     name-is : valueIn ws at ≡ r .citing
@@ -200,16 +200,16 @@ module _ (p : Pack) (w : WellFormed p) (ws : List ℕ) where
     unfolding ruleNotes turnNotes turnNote
     notes-on = ap (turnNotes K ws (suc i) inner) opened
 
-    bodies-ran : RanBy (InRoot in-rule i (r .entity)) (wordsOf bodyWords) (before ++ head r) after (length (wordsOf bodyWords bs)) (length (s .results)) (runBy bodyWords by (at + 4) bs) (turnNotes K ws (suc i) inner inside-it)
+    bodies-ran : RanBy (InRoot in-rule i (r .entity)) (runWords bodyWords) (before ++ head r) after (length (runWords bodyWords bs)) (length (s .results)) (runBy bodyWords by (at + 4) bs) (turnNotes K ws (suc i) inner inside-it)
     bodies-ran =
         let same : length (set (s .results) i (r .entity)) ≡ length (s .results) = length-set (s .results) i (r .entity) in
         let q = its-room in
         let h = run-flat K ws (InRoot in-rule i (r .entity)) (suc i) bodyWords (bodyNotes i) by (λ b. Fine (body n) b) (λ b f. body-flat K ws (r .citing) (r .origin) i (r .entity) n lowest b f) bs (its .bodies) (front ++ head r) back (before ++ head r) after (suc i) (at + 4) inside-it
         (source ∙ past-head front back) (length-append front (head r) ∙ omega arith) (length-append before (head r) ∙ omega arith) (stands ∙ past-head before after) (omega arith) (omega arith) (refl, getD-set-same (s .results) i (r .entity) 0 (omega arith)) in
-        subst (λ (x : ℕ). RanBy (InRoot in-rule i (r .entity)) (wordsOf bodyWords) (before ++ head r) after (length (wordsOf bodyWords bs)) x (runBy bodyWords by (at + 4) bs) (turnNotes K ws (suc i) inner inside-it)) same h
+        subst (λ (x : ℕ). RanBy (InRoot in-rule i (r .entity)) (runWords bodyWords) (before ++ head r) after (length (runWords bodyWords bs)) x (runBy bodyWords by (at + 4) bs) (turnNotes K ws (suc i) inner inside-it)) same h
 
     rule-ran : (o : Outcome (List Body)) (x : Outcome Work) → runBy bodyWords by (at + 4) bs ≡ o → Good (Fine (rule n)) (mapDone (again r) o)
-        → RanBy (InRoot in-rule i (r .entity)) (wordsOf bodyWords) (before ++ head r) after (length (wordsOf bodyWords bs)) (length (s .results)) o x
+        → RanBy (InRoot in-rule i (r .entity)) (runWords bodyWords) (before ++ head r) after (length (runWords bodyWords bs)) (length (s .results)) o x
         → RanBy Free (ruleWords n) before after (length (ruleWords n r)) (length (s .results)) (mapDone (again r) o) x
     rule-ran (refused y) x e g h = h
     rule-ran (done []) x e g h = let z = run-length bodyWords by (at + 4) bs [] e in absurd (omega arith)
@@ -217,12 +217,12 @@ module _ (p : Pack) (w : WellFormed p) (ws : List ℕ) where
         let many : length m ≡ length (r .versions) = let z = run-length bodyWords by (at + 4) bs (b ∷ m) e in omega arith in
         let theirs = rule-parts n (again r (b ∷ m)) g in
         let heads : head (again r (b ∷ m)) ≡ head r = ap (λ (y : ℕ). wordOf 23 (r .citing) ∷ wordOf 24 (r .origin) ∷ wordOf 25 (r .entity) ∷ wordOf 26 (suc y) ∷ []) many in
-        let is : ruleWords n (again r (b ∷ m)) ≡ head r ++ wordsOf bodyWords (b ∷ m) = theirs .words ∙ ap (λ (l : List ℕ). l ++ wordsOf bodyWords (b ∷ m)) heads in
+        let is : ruleWords n (again r (b ∷ m)) ≡ head r ++ runWords bodyWords (b ∷ m) = theirs .words ∙ ap (λ (l : List ℕ). l ++ runWords bodyWords (b ∷ m)) heads in
         record {
           state = h .state;
           is = h .is;
-          stands = h .stands ∙ append-assoc before (head r) (wordsOf bodyWords (b ∷ m) ++ after) ∙ ap (λ (l : List ℕ). before ++ l) (sym (append-assoc (head r) (wordsOf bodyWords (b ∷ m)) after)) ∙ ap (λ (l : List ℕ). before ++ (l ++ after)) (sym is);
-          long = ap length is ∙ length-append (head r) (wordsOf bodyWords (b ∷ m)) ∙ (let y = h .long in omega (arith, ap length (its .words), length-append (head r) (wordsOf bodyWords bs)));
+          stands = h .stands ∙ append-assoc before (head r) (runWords bodyWords (b ∷ m) ++ after) ∙ ap (λ (l : List ℕ). before ++ l) (sym (append-assoc (head r) (runWords bodyWords (b ∷ m)) after)) ∙ ap (λ (l : List ℕ). before ++ (l ++ after)) (sym is);
+          long = ap length is ∙ length-append (head r) (runWords bodyWords (b ∷ m)) ∙ (let y = h .long in omega (arith, ap length (its .words), length-append (head r) (runWords bodyWords bs)));
           same = h .same;
           keeps = tt;
         }
@@ -284,7 +284,7 @@ module _ (p : Pack) (w : WellFormed p) (ws : List ℕ) where
     name-small : r .name < 16777216
     name-small = name-below r (fine .0)
 
-    relation-is : kindIn ws at ≡ 6
+    relation-is : kindHere ws at ≡ 6
     relation-is = kind-is ws front (wordOf 7 (r .origin) ∷ begins .0) 6 (r .name) at (begins .1) ahead name-small
 
     relation-name : valueIn ws at ≡ r .name

@@ -14,25 +14,25 @@ use Rattle.definitions.specs.declared.table.Follows.the-variants.{Nothing, Coun
 use Rattle.definitions.specs.Table.{pick, kindOf, valueOf, entryOf, table, fieldsOf}
 use Rattle.pack.proofs.Listed.{in-range}
 use Rattle.definitions.specs.declared.direction.Direction.{Direction}
-use Rattle.definitions.specs.declared.direction.Direction.the-variants.{Turned, Open}
+use Rattle.definitions.specs.declared.direction.Direction.the-variants.{Directed, Open}
 use Rattle.definitions.specs.Direction.{Membership}
 use Rattle.definitions.specs.Direction as direction
 use Rattle.definitions.specs.Tree.{Fields}
-use Rattle.definitions.specs.Turning.{withSlots, stops, aggregate, allowedInput, onlyRelated, membershipTest, stepBy}
+use Rattle.definitions.specs.ResolvingTrees.{withSlots, stops, aggregate, allowedInput, onlyRelated, membershipTest, nodeStep}
 use Rattle.directions.specs.Words.{derivedIn, tablesIn, memberIn, MemberTurned, SlotsFit}
 use Rattle.inputs.specs.Blocks.{inputIn}
 use Rattle.directions.proofs.SlotLaws.{member-fits-code}
 use Rattle.turning.specs.declared.step.Out.{Out}
 use Rattle.turning.specs.declared.step.Out.the-variants.{Opens, Passes, Stops}
 use Rattle.turning.specs.Notes.{Note, lookBy, lookOf, noteCode}
-use Rattle.turning.specs.Turns.{lostOf, valueIn, kindIn, held, fieldsAt, stepAt}
+use Rattle.turning.specs.Turns.{lostOf, valueIn, kindHere, held, fieldsAt, stepAt}
 use Rattle.turning.specs.Steps.{orNot, NodeStands, turnAt, outBy, outAt, wentBy, testedBy, allowedBy, onlyBy, OutFits, StepTaken}
 use Rattle.turning.proofs.CodeLaws.{code-parts}
 
 -- ---- fields read from the words
 
 abbrev fieldAt : List ℕ → ℕ → ℕ × ℕ
-fieldAt ws at = (kindIn ws at, valueIn ws at)
+fieldAt ws at = (kindHere ws at, valueIn ws at)
 
 one-field : (ws : List ℕ) (at n : ℕ) → at < length ws → fieldsAt ws at (suc n) ≡ fieldAt ws at ∷ fieldsAt ws (at + 1) n
 one-field ws at n h = rw (drop-cons ws at 0 h, add-one) refl
@@ -101,10 +101,10 @@ two-or-more Slots e = omega arith
 two-or-more Atom e = no (sym e)
 two-or-more Exists e = no (sym e)
 
-pub three-words : {ws : List ℕ} {at : ℕ} → NodeStands ws at → lookOf (kindIn ws at) .slots ≡ true → at + 2 < length ws
-three-words {ws} {at} s e = omega (arith, two-or-more (entryOf (kindIn ws at) .follows) e, s .fields)
+pub three-words : {ws : List ℕ} {at : ℕ} → NodeStands ws at → lookOf (kindHere ws at) .slots ≡ true → at + 2 < length ws
+three-words {ws} {at} s e = omega (arith, two-or-more (entryOf (kindHere ws at) .follows) e, s .fields)
 
-pub four-words : {ws : List ℕ} {at : ℕ} → NodeStands ws at → entryOf (kindIn ws at) .follows ≡ OnlyRelated → at + 3 < length ws
+pub four-words : {ws : List ℕ} {at : ℕ} → NodeStands ws at → entryOf (kindHere ws at) .follows ≡ OnlyRelated → at + 3 < length ws
 unfolding fieldsOf
 four-words {ws} {at} s e = let h = s .fields in let l = ap (λ (w : Follows). length (fieldsOf w)) e in omega arith
 
@@ -135,17 +135,17 @@ test-slots = refl
 -- ---- the steps by their directions
 
 went-out : (a b : ℕ × ℕ) (fs : Fields) (d : Direction) → wentBy d ≡ outBy true (aggregate (a ∷ b ∷ fs) d)
-went-out a b fs (Turned c r k) = refl
+went-out a b fs (Directed c r k) = refl
 went-out a b fs (Open o) = refl
 
 test-out : (a b : ℕ × ℕ) (fs : Fields) (entity : ℕ) (m : Membership) (d : Direction) → testedBy d ≡ outBy false (membershipTest (a ∷ b ∷ fs) entity m d)
-test-out a b fs entity m (Turned c r k) = refl
+test-out a b fs entity m (Directed c r k) = refl
 test-out a b fs entity m (Open o) = refl
 
 only-out : (number : ℕ → ℕ → ℕ) (a b : ℕ × ℕ) (word : ℕ) (fs : Fields) (d : Direction)
     → onlyBy number word d ≡ outBy true (onlyRelated (λ owner n. orNot (number owner n)) (a ∷ b ∷ (kindOf word, valueOf word) ∷ fs) d)
 only-out number a b word fs (Open o) = refl
-only-out number a b word fs (Turned c r owner) = go (eqb (kindOf word) 84) (number owner (valueOf word))
+only-out number a b word fs (Directed c r owner) = go (eqb (kindOf word) 84) (number owner (valueOf word))
   where
     go : (x : Bool) (n : ℕ)
         → pick x (Stops 11 (valueOf word)) (allowedBy c r (valueOf word) n)
@@ -155,16 +155,16 @@ only-out number a b word fs (Turned c r owner) = go (eqb (kindOf word) 84) (numb
     go false (suc n) = refl
 
 went-fits : (d : Direction) → SlotsFit d → OutFits (wentBy d)
-went-fits (Turned c r k) h = h
+went-fits (Directed c r k) h = h
 went-fits (Open o) h = tt
 
 test-fits : (d : Direction) → SlotsFit d → OutFits (testedBy d)
-test-fits (Turned c r k) h = h
+test-fits (Directed c r k) h = h
 test-fits (Open o) h = tt
 
 only-fits : (number : ℕ → ℕ → ℕ) (word : ℕ) (d : Direction) → SlotsFit d → OutFits (onlyBy number word d)
 only-fits number word (Open o) h = tt
-only-fits number word (Turned c r owner) h = go (eqb (kindOf word) 84) (number owner (valueOf word))
+only-fits number word (Directed c r owner) h = go (eqb (kindOf word) 84) (number owner (valueOf word))
   where
     go : (x : Bool) (n : ℕ) → OutFits (pick x (Stops 11 (valueOf word)) (allowedBy c r (valueOf word) n))
     go true n = tt
@@ -172,9 +172,9 @@ only-fits number word (Turned c r owner) h = go (eqb (kindOf word) 84) (number o
     go false (suc n) = tt
 
 module _ {ws acts taken : List ℕ} {blocks count origin entity at : ℕ} {m : Membership} (s : NodeStands ws at) where
-  pub went-taken : entryOf (kindIn ws at) .follows ≡ Aggregate → {d : Direction} → d ≡ turnAt (tablesIn ws acts taken) ws at entity → SlotsFit d → {o : Out} → o ≡ wentBy d
+  pub went-taken : entryOf (kindHere ws at) .follows ≡ Aggregate → {d : Direction} → d ≡ turnAt (tablesIn ws acts taken) ws at entity → SlotsFit d → {o : Out} → o ≡ wentBy d
       → StepTaken ws acts taken blocks count origin entity m at o
-  unfolding outAt stepAt stepBy fieldsOf turnAt lookBy
+  unfolding outAt stepAt nodeStep fieldsOf turnAt lookBy
   went-taken e {d} t fits {o} q =
       record {
         each = λ root same. q ∙ rw (e, two-fields ws at 2 (three-words s (slots-of e aggregate-slots)))
@@ -182,9 +182,9 @@ module _ {ws acts taken : List ℕ} {blocks count origin entity at : ℕ} {m : M
         fits = rw q (went-fits d fits);
       }
 
-  pub only-taken : entryOf (kindIn ws at) .follows ≡ OnlyRelated → {d : Direction} → d ≡ turnAt (tablesIn ws acts taken) ws at entity → SlotsFit d → {o : Out} → o ≡ onlyBy (inputIn ws blocks count origin) (getD ws (at + 3) 0) d
+  pub only-taken : entryOf (kindHere ws at) .follows ≡ OnlyRelated → {d : Direction} → d ≡ turnAt (tablesIn ws acts taken) ws at entity → SlotsFit d → {o : Out} → o ≡ onlyBy (inputIn ws blocks count origin) (getD ws (at + 3) 0) d
       → StepTaken ws acts taken blocks count origin entity m at o
-  unfolding outAt stepAt stepBy fieldsOf turnAt lookBy
+  unfolding outAt stepAt nodeStep fieldsOf turnAt lookBy
   only-taken e {d} t fits {o} q =
       record {
         each = λ root same. q ∙ rw (e, same, two-fields ws at 1 (three-words s (slots-of e only-slots)), one-field ws (at + 3) 0 (four-words s e))
@@ -192,26 +192,26 @@ module _ {ws acts taken : List ℕ} {blocks count origin entity at : ℕ} {m : M
         fits = rw q (only-fits (inputIn ws blocks count origin) (getD ws (at + 3) 0) d fits);
       }
 
-  pub test-taken : entryOf (kindIn ws at) .follows ≡ Slots → {d : Direction} → MemberTurned ws acts (valueIn ws at) m (valueIn ws (at + 1)) (valueIn ws (at + 2)) d → {o : Out} → o ≡ testedBy d
+  pub test-taken : entryOf (kindHere ws at) .follows ≡ Slots → {d : Direction} → MemberTurned ws acts (valueIn ws at) m (valueIn ws (at + 1)) (valueIn ws (at + 2)) d → {o : Out} → o ≡ testedBy d
       → StepTaken ws acts taken blocks count origin entity m at o
-  unfolding outAt stepAt stepBy fieldsOf lookBy
+  unfolding outAt stepAt nodeStep fieldsOf lookBy
   test-taken e {d} t {o} q =
       record {
         each = λ root same. q ∙ rw (e, two-fields ws at 0 (three-words s (slots-of e test-slots)))
-            (ap testedBy (t .each taken) ∙ test-out (fieldAt ws (at + 1)) (fieldAt ws (at + 2)) [] entity m (direction.member (tablesIn ws acts taken) (valueIn ws at) m (valueIn ws (at + 1)) (valueIn ws (at + 2))));
+            (ap testedBy (t .each taken) ∙ test-out (fieldAt ws (at + 1)) (fieldAt ws (at + 2)) [] entity m (direction.memberDirection (tablesIn ws acts taken) (valueIn ws at) m (valueIn ws (at + 1)) (valueIn ws (at + 2))));
         fits = rw q (test-fits d (member-fits-code ws acts (valueIn ws at) m (valueIn ws (at + 1)) (valueIn ws (at + 2)) (omega arith) (omega arith) t));
       }
 
-  pub none-taken : lookOf (kindIn ws at) .slots ≡ false → StepTaken ws acts taken blocks count origin entity m at Passes
+  pub none-taken : lookOf (kindHere ws at) .slots ≡ false → StepTaken ws acts taken blocks count origin entity m at Passes
   unfolding outAt
   none-taken e = record { each = λ root same. rw e refl; fits = tt }
 
 -- ---- directions
 
-pub derived-out : (number : ℕ → ℕ → ℕ) (word : ℕ) {c r owner : ℕ} {d : Direction} → d ≡ Turned c r owner → kindOf word ≡ 84 → Stops 11 (valueOf word) ≡ onlyBy number word d
+pub derived-out : (number : ℕ → ℕ → ℕ) (word : ℕ) {c r owner : ℕ} {d : Direction} → d ≡ Directed c r owner → kindOf word ≡ 84 → Stops 11 (valueOf word) ≡ onlyBy number word d
 derived-out number word e h = rw (e, eq-eqb _ _ h) refl
 
-module _ (number : ℕ → ℕ → ℕ) (word : ℕ) {c r owner n : ℕ} {d : Direction} (e : d ≡ Turned c r owner) (h : kindOf word ≡ 84 → ⊥) (q : n ≡ number owner (valueOf word)) where
+module _ (number : ℕ → ℕ → ℕ) (word : ℕ) {c r owner n : ℕ} {d : Direction} (e : d ≡ Directed c r owner) (h : kindOf word ≡ 84 → ⊥) (q : n ≡ number owner (valueOf word)) where
   pub input-out : n ≡ 0 → Opens c r 0 ≡ onlyBy number word d
   input-out z = rw (e, ne-eqb _ _ h, ← q, z) refl
 

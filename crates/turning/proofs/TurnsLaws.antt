@@ -6,13 +6,13 @@ use mathlib.Core.Path.{_≡_, refl, ap, sym, _∙_}
 use mathlib.Core.List.{List, [], _∷_}
 use lib.ListN.{length, getD}
 use Rattle.definitions.specs.declared.answer.Refusal.{Refusal}
-use Rattle.definitions.specs.Turning.{Outcome, done, refused, andThen}
+use Rattle.definitions.specs.ResolvingTrees.{Outcome, done, refused, andThen}
 use Rattle.turning.specs.declared.root.Root as code
 use Rattle.turning.specs.declared.turns.Next.{Next}
 use Rattle.turning.specs.declared.turns.Next.the-variants as next
 use Rattle.turning.specs.declared.turns.Ended.the-variants as ended
 use Rattle.turning.specs.Notes.{Note, noteCode, Held}
-use Rattle.turning.specs.Turns.{Known, Root, Work, work, nowhere, turnNote, turnNotes}
+use Rattle.turning.specs.Turns.{KnownTables, Root, Work, work, nowhere, turnNote, turnNotes}
 use Rattle.directions.specs.Words.{derivedIn, memberIn}
 use Rattle.turning.specs.Steps.{knownIn, Stands, rootIn, NextBy, NoteAsked, NoteTurned, Placed, EndedBy, TurnsAsked, NotesTurned}
 
@@ -31,7 +31,7 @@ refusal-is : {x y : Refusal} → next.Refused x ≡ next.Refused y → x ≡ y
 refusal-is {x} {y} e = let z : x ≡ y = cc in z
 
 module _ (ws acts taken : List ℕ) (blocks count from to : ℕ) (words₀ notes₀ : List ℕ) where
-  abbrev K : Known
+  abbrev K : KnownTables
   K = knownIn ws acts taken blocks count
 
   -- what is left to do of these notes

@@ -9,11 +9,11 @@ use Rattle.definitions.specs.Table.{pick}
 use Rattle.definitions.specs.Lean.{any}
 use Rattle.definitions.specs.Resolving.{roleJudgment, atomOf}
 use Rattle.turning.specs.Notes.{Note, noteCode, Held}
-use Rattle.turning.specs.Turns.{valueIn, kindIn}
+use Rattle.turning.specs.Turns.{valueIn, kindHere}
 
 -- whether some note's word is of a sort
 abbrev pub someNote : (ℕ → ℕ → Bool) → List ℕ → List Note → Bool
-someNote is ws ns = any (λ (n : Note). is (kindIn ws (n .place)) (valueIn ws (n .place))) ns
+someNote is ws ns = any (λ (n : Note). is (kindHere ws (n .place)) (valueIn ws (n .place))) ns
 
 -- an atom or Exists of a name
 abbrev pub namedIn : List ℕ → List Note → ℕ → Bool
@@ -27,7 +27,7 @@ rolesIn ws ns = someNote roleJudgment ws ns
 
 -- the relation in whose predicate the notes after this one stand, 4096 for none
 unfoldable pub relationAfter : List ℕ → Note → ℕ → ℕ
-relationAfter ws n current = pick (eqb (n .inside) 0) (pick (eqb (kindIn ws (n .place)) 6) (valueIn ws (n .place)) 4096) current
+relationAfter ws n current = pick (eqb (n .inside) 0) (pick (eqb (kindHere ws (n .place)) 6) (valueIn ws (n .place)) 4096) current
 
 -- an atom or Exists marks the name that it names, and any of the kinds 102 to 104 the relation in whose predicate it stands
 abbrev pub atomMarked : ℕ → ℕ → List ℕ → List ℕ
@@ -39,7 +39,7 @@ roleMarked k v current t = pick (roleJudgment k v) (set t current 1) t
 unfoldable pub markNote : List ℕ → Note → ℕ → List ℕ → List ℕ
 markNote ws n current t =
     pick (eqb (n .inside) 0) t
-    (roleMarked (kindIn ws (n .place)) (valueIn ws (n .place)) current (atomMarked (kindIn ws (n .place)) (valueIn ws (n .place)) t))
+    (roleMarked (kindHere ws (n .place)) (valueIn ws (n .place)) current (atomMarked (kindHere ws (n .place)) (valueIn ws (n .place)) t))
 
 unfoldable pub markNotes : List ℕ → List Note → ℕ → List ℕ → List ℕ
 markNotes ws [] current t = t

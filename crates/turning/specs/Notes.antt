@@ -8,7 +8,7 @@ use lib.ListN.{length, getD}
 use Rattle.definitions.specs.Records.{Derivation, Relation, Body, Rule, Pack}
 use Rattle.definitions.specs.Places.{relationWords, firstRelation}
 use Rattle.definitions.specs.Resolving.{predicatePlace, ruleWords, firstRule}
-use Rattle.directions.specs.Records.{bodyWords}
+use Rattle.directions.specs.RecordRuns.{bodyWords}
 pub use Rattle.reading.specs.Notes.{Look, lookOf, Note, note, within, contextOf, noteCode}
 unfoldable pub use Rattle.definitions.specs.Tree.{size}
 unfoldable pub use Rattle.reading.specs.Notes.{lookBy, noted, notesOf, notesIn}

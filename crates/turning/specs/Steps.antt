@@ -10,13 +10,13 @@ use Rattle.definitions.specs.Records.{Pack}
 use Rattle.definitions.specs.Pack.{yes, read, words}
 use Rattle.inputs.specs.Blocks.{inputIn}
 use Rattle.definitions.specs.declared.direction.Direction.{Direction}
-use Rattle.definitions.specs.declared.direction.Direction.the-variants.{Turned, Open}
+use Rattle.definitions.specs.declared.direction.Direction.the-variants.{Directed, Open}
 use Rattle.definitions.specs.Tables.{Tables}
 use Rattle.definitions.specs.Direction.{turn, Membership, relatedKind}
 use mathlib.Core.Option.{Option, none, some}
-use Rattle.definitions.specs.Turning.{Outcome, done, refused, Citing, currentOf, relatedOf, Step, goes, stops}
+use Rattle.definitions.specs.ResolvingTrees.{Outcome, done, refused, Citing, currentOf, relatedOf, NodeStep, goes, stops}
 use Rattle.directions.specs.Words.{tablesIn, memberIn}
-use Rattle.directions.specs.Records.{turned}
+use Rattle.directions.specs.RecordRuns.{treesResolved}
 use Rattle.turning.specs.declared.step.Out.{Out}
 use Rattle.turning.specs.declared.step.Out.the-variants.{Opens, Sets, Passes, Stops}
 use Rattle.turning.specs.declared.root.Root as code
@@ -25,7 +25,7 @@ use Rattle.turning.specs.declared.turns.Next.the-variants as next
 use Rattle.turning.specs.declared.turns.Ended.{Ended}
 use Rattle.turning.specs.declared.turns.Ended.the-variants as ended
 use Rattle.turning.specs.Notes.{Note, lookOf, noteCode, Held, NotesIn}
-use Rattle.turning.specs.Turns.{Known, knownOf, Root, citing, Work, work, nowhere, valueIn, kindIn, ruleRoot, relationRoot, stepAt, turnNote, turnNotes}
+use Rattle.turning.specs.Turns.{KnownTables, knownOf, Root, citing, Work, work, nowhere, valueIn, kindHere, ruleRoot, relationRoot, stepAt, turnNote, turnNotes}
 
 -- a number, 0 for none
 abbrev pub orNot : ℕ → Option ℕ
@@ -33,15 +33,15 @@ orNot zero = none
 orNot (suc n) = some (suc n)
 
 -- what is known of the pack, as the code has it
-abbrev pub knownIn : List ℕ → List ℕ → List ℕ → ℕ → ℕ → Known
+abbrev pub knownIn : List ℕ → List ℕ → List ℕ → ℕ → ℕ → KnownTables
 knownIn ws acts taken blocks count = record { tables = tablesIn ws acts taken; input = λ origin owner n. orNot (inputIn ws blocks count origin owner n) }
 
 -- ---- where notes stand
 
 -- a noted node: all its fields are there
 pub record NodeStands (ws : List ℕ) (at : ℕ) : Type 0 where
-  pub fields : at + length (fieldsOf (entryOf (kindIn ws at) .follows)) < length ws
-  pub slots : lookOf (kindIn ws at) .slots ≡ true → (kindIn ws (at + 1) ≡ 80) × (kindIn ws (at + 2) ≡ 81)
+  pub fields : at + length (fieldsOf (entryOf (kindHere ws at) .follows)) < length ws
+  pub slots : lookOf (kindHere ws at) .slots ≡ true → (kindHere ws (at + 1) ≡ 80) × (kindHere ws (at + 2) ≡ 81)
   pub short : length ws ≤ 8192
 
 -- a rule or relation: its origin and what follows are there
@@ -62,22 +62,22 @@ unfoldable pub turnAt : Tables → List ℕ → ℕ → ℕ → Direction
 turnAt T ws at entity = turn T (valueIn ws at) entity (valueIn ws (at + 1)) (valueIn ws (at + 2))
 
 -- what comes of a step, if its children stand inside the node or not
-abbrev pub outBy : Bool → Step → Out
+abbrev pub outBy : Bool → NodeStep → Out
 outBy true (goes fs entity first rest) = Opens (currentOf fs) (relatedOf fs) entity
 outBy false (goes fs entity first rest) = Sets (currentOf fs) (relatedOf fs)
 outBy true (stops number other) = Stops number other
 outBy false (stops number other) = Stops number other
 
 unfoldable pub outAt : Citing → ℕ → Membership → List ℕ → ℕ → Out
-outAt C entity m ws at = pick (lookOf (kindIn ws at) .slots) (outBy (lookOf (kindIn ws at) .opens) (stepAt C entity m ws at)) Passes
+outAt C entity m ws at = pick (lookOf (kindHere ws at) .slots) (outBy (lookOf (kindHere ws at) .opens) (stepAt C entity m ws at)) Passes
 
 -- the same by a direction: of an aggregate, of a test of membership, and of an OnlyRelated with its value's word
 abbrev pub wentBy : Direction → Out
-wentBy (Turned c r kind) = Opens c r kind
+wentBy (Directed c r kind) = Opens c r kind
 wentBy (Open other) = Stops 10 other
 
 abbrev pub testedBy : Direction → Out
-testedBy (Turned c r kind) = Sets c r
+testedBy (Directed c r kind) = Sets c r
 testedBy (Open other) = Stops 10 other
 
 abbrev pub allowedBy : ℕ → ℕ → ℕ → ℕ → Out
@@ -85,7 +85,7 @@ allowedBy c r name zero = Opens c r 0
 allowedBy c r name (suc n) = Stops (suc n) name
 
 abbrev pub onlyBy : (ℕ → ℕ → ℕ) → ℕ → Direction → Out
-onlyBy number word (Turned c r owner) = pick (eqb (kindOf word) 84) (Stops 11 (valueOf word)) (allowedBy c r (valueOf word) (number owner (valueOf word)))
+onlyBy number word (Directed c r owner) = pick (eqb (kindOf word) 84) (Stops 11 (valueOf word)) (allowedBy c r (valueOf word) (number owner (valueOf word)))
 onlyBy number word (Open other) = Stops 10 other
 
 abbrev pub OutFits : Out → Type 0
@@ -105,8 +105,8 @@ abbrev pub rootIn : List ℕ → code.Root → Root
 rootIn ws r = record { name = r .name; origin = r .origin; member = memberIn ws (r .own) }
 
 pub record RootOpened (ws acts : List ℕ) (at : ℕ) (r : code.Root) : Type 0 where
-  pub rule : kindIn ws at ≡ 23 → (r .entity ≡ valueIn ws (at + 2)) × (rootIn ws r ≡ ruleRoot ws at)
-  pub relation : (kindIn ws at ≡ 23 → ⊥) → (taken : List ℕ) (blocks count : ℕ)
+  pub rule : kindHere ws at ≡ 23 → (r .entity ≡ valueIn ws (at + 2)) × (rootIn ws r ≡ ruleRoot ws at)
+  pub relation : (kindHere ws at ≡ 23 → ⊥) → (taken : List ℕ) (blocks count : ℕ)
       → (r .entity ≡ relatedKind (tablesIn ws acts taken .derived (valueIn ws at))) × (rootIn ws r ≡ relationRoot (knownIn ws acts taken blocks count) ws at)
 
 -- ---- notes
@@ -177,4 +177,4 @@ TurnedAs (done q) o left = (o ≡ ended.All) × (left ≡ words q)
 TurnedAs (refused r) o left = o ≡ ended.Refused r
 
 pub record PackTurned (ws : List ℕ) (o : Ended) (left : List ℕ) : Type 0 where
-  pub each : (p : Pack) → read ws ≡ yes p → TurnedAs (turned p) o left
+  pub each : (p : Pack) → read ws ≡ yes p → TurnedAs (treesResolved p) o left

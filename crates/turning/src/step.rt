@@ -12,7 +12,7 @@ ghost use Rattle.inputs.specs.Blocks.{inputIn};
 ghost use Rattle.directions.specs.Words.{SlotsFit};
 ghost use Rattle.turning.specs.Steps.{NodeStands, turnAt, wentBy, testedBy, onlyBy, StepTaken};
 ghost use Rattle.turning.specs.Notes.{lookOf};
-ghost use Rattle.turning.specs.Turns.{kindIn};
+ghost use Rattle.turning.specs.Turns.{kindHere};
 ghost use mathlib.Core.Bool.{true};
 
 // Its slots and the entity of what stands inside it; its slots, where nothing stands inside it; nothing, where it has no slots;
@@ -45,7 +45,7 @@ pub struct Node {
 
 // Its direction as an aggregate.
 fn turned(pack: &[u32], acts: &[u32], taken: &[u32], at: usize, entity: u32) -> Direction
-    requires { ⌜ NodeStands (now pack) at × (lookOf (kindIn (now pack) at) .slots ≡ true) ⌝ }
+    requires { ⌜ NodeStands (now pack) at × (lookOf (kindHere (now pack) at) .slots ≡ true) ⌝ }
     ensures { λ r. ⌜ (r ≡ turnAt (tablesIn (now (pack .entry)) (now (acts .entry)) (now (taken .entry))) (now (pack .entry)) at entity) × SlotsFit r ⌝ }
 {
     let relation = (pack[at] % Pack::VALUES) as usize;
@@ -59,7 +59,7 @@ fn went(d: Direction) -> Out
     ensures { λ r. ⌜ r ≡ wentBy d ⌝ }
 {
     match d {
-        Direction::Turned(c, r, kind) => Out::Opens(c, r, kind),
+        Direction::Directed(c, r, kind) => Out::Opens(c, r, kind),
         Direction::Open(other) => Out::Stops(Number::DIRECTION_OPEN, other),
     }
 }
@@ -69,7 +69,7 @@ fn tested(d: Direction) -> Out
     ensures { λ r. ⌜ r ≡ testedBy d ⌝ }
 {
     match d {
-        Direction::Turned(c, r, _) => Out::Sets(c, r),
+        Direction::Directed(c, r, _) => Out::Sets(c, r),
         Direction::Open(other) => Out::Stops(Number::DIRECTION_OPEN, other),
     }
 }
@@ -79,7 +79,7 @@ fn only(pack: &[u32], cited: Cited, d: Direction, word: u32) -> Out
     requires { ⌜ (cited .blocks .at ≤ 65536) × (cited .blocks .count ≤ 64) ⌝ }
     ensures { λ r. ⌜ r ≡ onlyBy (inputIn (now (pack .entry)) (cited .blocks .at) (cited .blocks .count) (cited .origin)) word d ⌝ }
 {
-    let Direction::Turned(c, r, owner) = d else {
+    let Direction::Directed(c, r, owner) = d else {
         return went(d);
     };
     let name = word % Pack::VALUES;

@@ -12,7 +12,7 @@ use Rattle.definitions.specs.declared.answer.Answer.{Answer}
 use Rattle.definitions.specs.declared.answer.Answer.the-variants.{Given, Refused}
 use Rattle.definitions.specs.Table.{pick}
 use Rattle.definitions.specs.Bytes.{wordsOf, encode, areWords, notWords, overBytes, outAfter, outBytes, Gives}
-use Rattle.wire.specs.Loading.{loadedOf, Loaded, Holds, Tried, Fits}
+use Rattle.wire.specs.Loading.{loadedOf, Loaded, Holds, Tried, FitsOutput}
 use Rattle.wire.proofs.ByteLaws.{words-length}
 use Rattle.wire.proofs.Room.{Within, Writes}
 
@@ -54,7 +54,7 @@ pub answered : (answer : List ℕ → Answer) → answer [] ≡ notWords → {by
 answered answer none {bytes} l e h = h ∙ ap encode (e ∙ ap answer (l .front) ∙ overs answer none bytes)
 
 -- an answer that says no more words than a part has, for which an output has room: they fit it, and what stands past the part is not given
-fits : (a : Answer) (part rest : List ℕ) (b : ℕ) → Within a (length part) → length part ≤ b / 4 → Fits a (length (part ++ rest)) b
+fits : (a : Answer) (part rest : List ℕ) (b : ℕ) → Within a (length part) → length part ≤ b / 4 → FitsOutput a (length (part ++ rest)) b
 fits (Given n steps) part rest b h e = (omega (arith, length-append part rest), omega arith)
 fits (Refused r) part rest b h e = tt
 
@@ -73,7 +73,7 @@ unchanged (Refused r) written out e = refl
 module _ {answer : List ℕ → ℕ → Answer} {buffer : List ℕ → List ℕ → List ℕ} (W : Writes answer buffer) where
   -- what it writes fits the output
   pub fits-out : (ws blank part : List ℕ) (m b : ℕ) {a : Answer} → m ≡ min (b / 4) (length blank) → a ≡ answer ws (length (take m blank)) → length part ≡ length (take m blank)
-      → Fits a (length (part ++ drop m blank)) b
+      → FitsOutput a (length (part ++ drop m blank)) b
   fits-out ws blank part m b {a} l e s =
       let t : length part ≡ m = s ∙ length-take-le m blank (omega arith) in
       fits a part (drop m blank) b (rw (e, ← s) (W .fits ws (length part))) (omega arith)

@@ -27,6 +27,6 @@ pub record Tried (answer : List ℕ → ℕ → Answer) (buffer : List ℕ → L
   pub leaves : after ≡ outAfter (answer (loadedOf bytes) (min (length out / 4) most)) (buffer (loadedOf bytes) (wordsOf out)) out
 
 -- as many words as an answer says are there, and their bytes fit the output
-abbrev pub Fits : Answer → ℕ → ℕ → Type 0
-Fits (Given n steps) words bytes = (n ≤ words) × (4 * n ≤ bytes)
-Fits (Refused r) words bytes = Unit {0}
+abbrev pub FitsOutput : Answer → ℕ → ℕ → Type 0
+FitsOutput (Given n steps) words bytes = (n ≤ words) × (4 * n ≤ bytes)
+FitsOutput (Refused r) words bytes = Unit {0}

@@ -4,7 +4,7 @@ use definitions::answer::Answer;
 ghost use mathlib.Core.Path.{_≡_};
 ghost use lib.ListN.{length};
 ghost use Rattle.definitions.specs.Bytes.{inBits, encode, outAfter};
-ghost use Rattle.wire.specs.Loading.{Fits};
+ghost use Rattle.wire.specs.Loading.{FitsOutput};
 
 // The fields of an answer's number, the lowest first: how many values each has, and what one of it counts.
 pub struct Field {}
@@ -44,7 +44,7 @@ pub fn encode(a: Answer) -> u64
 
 // An answer, with as many of the words as it says as bytes in the output.
 pub fn give(a: Answer, words: &[u32], out: &mut [u8]) -> u64
-    requires { ⌜ Fits a (length (now words)) (length (now out)) ⌝ }
+    requires { ⌜ FitsOutput a (length (now words)) (length (now out)) ⌝ }
     ensures { λ r. ⌜ (r ≡ encode a) × (now (out .exit) ≡ outAfter a (now (words .entry)) (now (out .entry))) ⌝ }
 {
     let Answer::Given(n, _) = a else {

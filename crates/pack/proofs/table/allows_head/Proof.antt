@@ -9,8 +9,8 @@ use lib.ListN.{getD}
 use borrow.Author.Needs.{needs}
 use borrow.Author.Tests.{lt-ltb, ne-eqb, ltb-true, ltb-false}
 use Rattle.definitions.specs.declared.table.Entry.{Entry}
-use Rattle.definitions.specs.declared.table.Rule.{Rule}
-use Rattle.definitions.specs.declared.table.Rule.the-variants.{Unused, Any, AtMost, FromOne, AtMostOrNone, Total, Name, NameOrNone}
+use Rattle.definitions.specs.declared.table.Values.{Values}
+use Rattle.definitions.specs.declared.table.Values.the-variants.{Unused, Any, AtMost, FromOne, AtMostOrNone, Total, Name, NameOrNone}
 use Rattle.definitions.specs.Table.{pick, allowed, entryOf, table}
 use Rattle.definitions.specs.Form.{allowedHere}
 use Rattle.pack.specs.Packed.{ruleFrom, Tabled, Bounded}
@@ -19,7 +19,7 @@ use Rattle.pack.proofs.table.allows_head.Statement.{statement}
 use Rattle.pack.proofs.table.allows_head.Tie as tie
 
 -- the three rules
-abbrev plain : Rule → Bool
+abbrev plain : Values → Bool
 plain Unused = false
 plain Any = true
 plain (AtMost m) = true
@@ -29,10 +29,10 @@ plain Total = false
 plain Name = true
 plain NameOrNone = false
 
-heads-plain : (k : ℕ) → k < 256 → entryOf k .sort < 2 → plain (entryOf k .rule) ≡ true
+heads-plain : (k : ℕ) → k < 256 → entryOf k .sort < 2 → plain (entryOf k .values) ≡ true
 unfolding entryOf table
 heads-plain k h s =
-    let e : pick (ltb (entryOf k .sort) 2) (plain (entryOf k .rule)) true ≡ true = in-range (λ (k : ℕ). pick (ltb (entryOf k .sort) 2) (plain (entryOf k .rule)) true) true 0 256 refl k (omega arith) h in
+    let e : pick (ltb (entryOf k .sort) 2) (plain (entryOf k .values)) true ≡ true = in-range (λ (k : ℕ). pick (ltb (entryOf k .sort) 2) (plain (entryOf k .values)) true) true 0 256 refl k (omega arith) h in
     rw (lt-ltb (entryOf k .sort) 2 s) at e
 
 -- and is one of those of trees
@@ -59,9 +59,9 @@ third false false false false true l n v p = absurd (no p)
 third false false false false false l n v p = absurd (no p)
 
 module _ (t : List ℕ) (kind n v : ℕ) (tabled : Tabled t) (h : kind < 256) where
-  rule-there : ruleFrom (getD t kind 0) ≡ entryOf kind .rule
+  rule-there : ruleFrom (getD t kind 0) ≡ entryOf kind .values
   unfolding Tabled
-  rule-there = ap (λ (e : Entry). e .rule) (tabled kind h)
+  rule-there = ap (λ (e : Entry). e .values) (tabled kind h)
 
   any : getD t kind 0 % 8 ≡ 1 → true ≡ allowedHere n kind v
   unfolding allowedHere

@@ -10,10 +10,10 @@ use lib.Dec.{eqb, ltb}
 use borrow.Author.Needs.{needs}
 use borrow.Author.Tests.{eqb-true, eqb-false, ltb-true, ltb-false}
 use Rattle.definitions.specs.declared.table.Entry.{Entry}
-use Rattle.definitions.specs.declared.table.Rule.{Rule}
-use Rattle.definitions.specs.declared.table.Rule.the-variants.{Unused, Any, AtMost, FromOne, AtMostOrNone, Total, Name, NameOrNone}
+use Rattle.definitions.specs.declared.table.Values.{Values}
+use Rattle.definitions.specs.declared.table.Values.the-variants.{Unused, Any, AtMost, FromOne, AtMostOrNone, Total, Name, NameOrNone}
 use Rattle.definitions.specs.Table.{table, entryOf}
-use Rattle.pack.specs.Packed.{ruleFrom, entryFrom, Tabled, Bounded}
+use Rattle.pack.specs.Packed.{ruleFrom, entryFrom, Tabled, lastOfTrees, Bounded}
 use Rattle.pack.proofs.Listed.{in-range}
 use Rattle.pack.proofs.table.table_for.Statement.{statement}
 use Rattle.pack.proofs.table.table_for.Tie as tie
@@ -23,13 +23,13 @@ record Filled (n kind : ℕ) (t : List ℕ) : Type 0 where
   pub tabled : Tabled t
   pub long : length t ≡ 256
   pub low : 64 ≤ kind
-  pub high : kind ≤ 107
+  pub high : kind ≤ lastOfTrees + 1
   pub held : (k : ℕ) → 64 ≤ k → k < kind → getD t k 0 % 8 ≡ 6 → getD t k 0 / 8 % 8192 ≡ n
 
 filled : (n : ℕ) (t : List ℕ) → Tabled t → length t ≡ 256 → Filled n 64 t
 filled n t h l = record { tabled = h; long = l; low = omega arith; high = omega arith; held = λ k a b. absurd (omega arith) }
 
-module _ (n kind r : ℕ) (t : List ℕ) (f : Filled n kind t) (last : kind ≤ 106) (same : entryFrom r ≡ entryFrom (getD t kind 0)) (bound : r % 8 ≡ 6 → r / 8 % 8192 ≡ n) where
+module _ (n kind r : ℕ) (t : List ℕ) (f : Filled n kind t) (last : kind ≤ lastOfTrees) (same : entryFrom r ≡ entryFrom (getD t kind 0)) (bound : r % 8 ≡ 6 → r / 8 % 8192 ≡ n) where
   here : getD (set t kind r) kind 0 ≡ r
   here = getD-set-same t kind r 0 (omega (arith, f .long))
 
@@ -52,7 +52,7 @@ module _ (n kind r : ℕ) (t : List ℕ) (f : Filled n kind t) (last : kind ≤ 
   next = record { tabled = still; long = length-set t kind r ∙ f .long; low = omega (arith, f .low); high = omega arith; held = holds }
 
 -- no kind past those of trees takes a name
-abbrev unused : Rule → Bool
+abbrev unused : Values → Bool
 unused Unused = true
 unused Any = false
 unused (AtMost m) = false
@@ -65,15 +65,15 @@ unused NameOrNone = false
 no : true ≡ false → ⊥
 no e = let z : _≡_ {A = ℕ} 0 1 = cc in omega arith
 
-past : (t : List ℕ) → Tabled t → (k : ℕ) → 107 ≤ k → k < 256 → getD t k 0 % 8 ≡ 6 → ⊥
+past : (t : List ℕ) → Tabled t → (k : ℕ) → lastOfTrees + 1 ≤ k → k < 256 → getD t k 0 % 8 ≡ 6 → ⊥
 unfolding Tabled entryOf table
 past t h k lo hi e =
-    let u : unused (entryOf k .rule) ≡ true = in-range (λ (k : ℕ). unused (entryOf k .rule)) true 107 149 refl k lo hi in
+    let u : unused (entryOf k .values) ≡ true = in-range (λ (k : ℕ). unused (entryOf k .values)) true (lastOfTrees + 1) (255 - lastOfTrees) refl k lo hi in
     let r : ruleFrom (getD t k 0) ≡ Name = rw e refl in
-    let s : ruleFrom (getD t k 0) ≡ entryOf k .rule = ap (λ (e : Entry). e .rule) (h k hi) in
+    let s : ruleFrom (getD t k 0) ≡ entryOf k .values = ap (λ (e : Entry). e .values) (h k hi) in
     no (sym u ∙ ap unused (sym s ∙ r))
 
-whole : (n kind : ℕ) (t : List ℕ) → Filled n kind t → 106 < kind → Bounded n t
+whole : (n kind : ℕ) (t : List ℕ) → Filled n kind t → lastOfTrees < kind → Bounded n t
 unfolding Bounded
 whole n kind t f z k lo hi e = go (ltb k kind) refl
   where
@@ -85,7 +85,7 @@ abbrev Inv-loop : tie.InvT-loop
 Inv-loop n t₀ kind₀ t kind = Filled n kind t
 
 abbrev μ-loop : tie.MeasureT-loop
-μ-loop n t₀ kind₀ t kind = 107 - kind
+μ-loop n t₀ kind₀ t kind = lastOfTrees + 1 - kind
 
 table-requires : tie.Need-table-requires Inv-loop μ-loop
 table-requires c κs = search needs

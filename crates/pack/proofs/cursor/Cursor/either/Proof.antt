@@ -2,7 +2,7 @@
 use mathlib.Core.Path.{refl, sym, _∙_}
 use native.Mathlib.Omega.{arith}
 use mathlib.Core.Logic.{⊎-elim}
-use Rattle.pack.proofs.StepLaws.{word-stop, word-turned, word-value, word-on}
+use Rattle.pack.proofs.StepLaws.{word-stop, word-rejected, word-value, word-on}
 use Rattle.pack.proofs.FormLaws.{either-other, either-first, either-second}
 use Rattle.definitions.specs.Form.{allowedHere}
 use borrow.Author.Needs.{needs}
@@ -25,7 +25,7 @@ stop-requires : tie.Need-stop-requires
 stop-requires c κs = search needs
 
 returns-2 : tie.Need-returns-2
-returns-2 c = (c .stop .ensures) ∙ word-turned _ _ _ _ _ (c .before .before .before .before .before .before .word .ensures) (c .before .before .before .before .f .given .1) (either-other _ _ _ (c .before .before .if1 .taken) (c .before .if2 .taken)) (λ h. omega arith)
+returns-2 c = (c .stop .ensures) ∙ word-rejected _ _ _ _ _ (c .before .before .before .before .before .before .word .ensures) (c .before .before .before .before .f .given .1) (either-other _ _ _ (c .before .before .if1 .taken) (c .before .if2 .taken)) (λ h. omega arith)
 
 allows-requires : tie.Need-allows-requires
 allows-requires c κs = search needs

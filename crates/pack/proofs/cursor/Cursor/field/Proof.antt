@@ -1,7 +1,7 @@
 -- `pack::cursor::Cursor::field` meets its contract.
 use mathlib.Core.Path.{refl, sym, _∙_}
 use native.Mathlib.Omega.{arith}
-use Rattle.pack.proofs.StepLaws.{word-stop, word-turned, word-value, word-on, field-word}
+use Rattle.pack.proofs.StepLaws.{word-stop, word-rejected, word-value, word-on, field-word}
 use Rattle.pack.proofs.FormLaws.{only-same, only-other}
 use Rattle.definitions.specs.Form.{allowedHere}
 use borrow.Author.Needs.{needs}
@@ -24,7 +24,7 @@ stop-requires : tie.Need-stop-requires
 stop-requires c κs = search needs
 
 returns-2 : tie.Need-returns-2
-returns-2 c = (c .stop .ensures) ∙ word-turned _ _ _ _ _ (c .before .before .before .before .before .word .ensures) (c .before .before .before .f .given .1) (only-other _ _ (c .before .if1 .taken)) (λ h. omega arith) ∙ field-word _ _ _ _ _
+returns-2 c = (c .stop .ensures) ∙ word-rejected _ _ _ _ _ (c .before .before .before .before .before .word .ensures) (c .before .before .before .f .given .1) (only-other _ _ (c .before .if1 .taken)) (λ h. omega arith) ∙ field-word _ _ _ _ _
 
 allows-requires : tie.Need-allows-requires
 allows-requires c κs = search needs

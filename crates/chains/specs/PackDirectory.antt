@@ -15,7 +15,7 @@ use Rattle.checking.specs.Checked.{namesSaid}
 use Rattle.definitions.specs.Chain.{mapped}
 use Rattle.definitions.specs.Kinds.{find, declared, kindStep, allKinds, ownAnswer}
 use Rattle.definitions.specs.Places.{startOf, firstRelation, relationsEnd, hops, placeOf}
-use Rattle.chains.specs.Declaration.{coded}
+use Rattle.chains.specs.Declaration.{codedLink}
 use Rattle.chains.specs.Entry.{Reaches, startsIn, slotsIn, declarationsIn, namesIn}
 
 -- the words are those of a pack
@@ -48,7 +48,7 @@ unfoldable pub slotsOf : Pack → ℕ → ℕ
 slotsOf p m = slotsFor (startOf (p .names) m (firstRelation p) (p .relations)) (find m (p .relations))
 
 -- the relations' names in record order, and by name the places where their records start
-pub record Noted (ws names starts : List ℕ) : Type 0 where
+pub record RelationsNoted (ws names starts : List ℕ) : Type 0 where
   pub named : (p : Pack) → read ws ≡ yes p → names ≡ declared (p .relations)
   pub placed : (p : Pack) → read ws ≡ yes p → (m : ℕ) → getD starts m 0 ≡ recordOf p m
 
@@ -61,15 +61,15 @@ pub record BlocksAt (ws : List ℕ) (at : ℕ) : Type 0 where
   pub after : (p : Pack) → read ws ≡ yes p → at ≡ blocksAt (p .names) 2 (toRow p .1)
 
 -- a table with a word for each of so many names, all 0
-pub record Lent (names : ℕ) (t : List ℕ) : Type 0 where
+pub record ClearTable (names : ℕ) (t : List ℕ) : Type 0 where
   pub long : names ≤ length t
   pub short : length t ≤ 4096
   pub clear : (m : ℕ) → getD t m 0 ≡ 0
 
 -- a clear directory and a clear table by name, as long as the words ask, and the table no longer than the directory's names
-pub record Room (ws dir t : List ℕ) : Type 0 where
+pub record DirectoryRoom (ws dir t : List ℕ) : Type 0 where
   pub clear : Clear (namesSaid ws) dir
-  pub lent : Lent (namesSaid ws) t
+  pub lent : ClearTable (namesSaid ws) t
   pub reaches : Reaches dir (length t)
 
 -- the layout and the directory of a pack: what they say of its records
@@ -80,9 +80,9 @@ pub record IsDirectory (ws : List ℕ) (l : Layout) (dir : List ℕ) : Type 0 wh
   pub counted : Counted ws (l .relations)
   pub ruled : RulesAt ws (l .rules)
   pub blocked : BlocksAt ws (l .blocks)
-  pub noted : Noted ws (namesIn dir (l .relations)) (startsIn dir)
+  pub noted : RelationsNoted ws (namesIn dir (l .relations)) (startsIn dir)
   pub slotted : (p : Pack) → read ws ≡ yes p → (m : ℕ) → getD (slotsIn dir) m 0 ≡ slotsOf p m
-  pub says : (p : Pack) → read ws ≡ yes p → (m : ℕ) → getD (declarationsIn dir) m 0 ≡ coded (mapped (placeOf p) (kindStep (p .relations) m))
+  pub says : (p : Pack) → read ws ≡ yes p → (m : ℕ) → getD (declarationsIn dir) m 0 ≡ codedLink (mapped (placeOf p) (kindStep (p .relations) m))
 
 -- the relations' names in record order, marks by name that are 2 and the place of the list that settles the name, and the number of declarations read
 pub record KindsMarked (ws : List ℕ) (steps : ℕ) (names marks : List ℕ) : Type 0 where

@@ -10,29 +10,29 @@ use Rattle.definitions.specs.Records.{Relation, Body, Rule, Pack}
 use Rattle.definitions.specs.Pack.{yes, read, relation}
 use Rattle.definitions.specs.Kinds.{declared, kindsOf}
 use Rattle.definitions.specs.Places.{relationWords, firstRelation, namesAt}
-use Rattle.chains.specs.AllKinds.{IsPack}
+use Rattle.chains.specs.PackDirectory.{IsPack}
 use Rattle.filtered.specs.Acts.{actList}
 use Rattle.filtered.specs.Taking.{Filled}
 use Rattle.definitions.specs.Tree.{treeWords}
-use Rattle.definitions.specs.Turning.{Outcome, done, andThen, mapDone}
+use Rattle.definitions.specs.ResolvingTrees.{Outcome, done, andThen, mapDone}
 use Rattle.definitions.specs.Resolving.{resolveRules, resolveRelations, firstRule}
 
 -- a run of records, one after the other
-abbrev pub wordsOf : {A : Type 0} → (A → List ℕ) → List A → List ℕ
-wordsOf W [] = []
-wordsOf W (a ∷ l) = W a ++ wordsOf W l
+abbrev pub runWords : {A : Type 0} → (A → List ℕ) → List A → List ℕ
+runWords W [] = []
+runWords W (a ∷ l) = W a ++ runWords W l
 
 unfoldable pub runBy : {A : Type 0} → (A → List ℕ) → (ℕ → A → Outcome A) → ℕ → List A → Outcome (List A)
 runBy W resolve at [] = done []
 runBy W resolve at (a ∷ l) = andThen (resolve at a) (λ b. mapDone (λ m. b ∷ m) (runBy W resolve (at + length (W a)) l))
 
-abbrev pub All : {A : Type 0} → (A → Type 0) → List A → Type 0
-All Keeps [] = Unit {0}
-All Keeps (a ∷ l) = Keeps a × All Keeps l
+abbrev pub EachKeeps : {A : Type 0} → (A → Type 0) → List A → Type 0
+EachKeeps Keeps [] = Unit {0}
+EachKeeps Keeps (a ∷ l) = Keeps a × EachKeeps Keeps l
 
 pub record Many {A : Type 0} (Keeps : A → Type 0) (count : ℕ) (l : List A) : Type 0 where
   pub many : length l ≡ count
-  pub all : All Keeps l
+  pub all : EachKeeps Keeps l
 
 -- ---- bodies
 
@@ -62,15 +62,15 @@ abbrev pub withRecords : Pack → List Relation → List Rule → Pack
 withRecords p relations rules = record { edition = p .edition; names = p .names; defaulted = p .defaulted; relations = relations; rules = rules; blocks = p .blocks }
 
 -- the second and third step of Resolving: the trees of rules, then those of relations
-unfoldable pub turned : Pack → Outcome Pack
-turned p = andThen (resolveRules p (firstRule p) (p .rules)) (λ rules. mapDone (λ relations. withRecords p relations rules) (resolveRelations p (firstRelation p) (p .relations)))
+unfoldable pub treesResolved : Pack → Outcome Pack
+treesResolved p = andThen (resolveRules p (firstRule p) (p .rules)) (λ rules. mapDone (λ relations. withRecords p relations rules) (resolveRelations p (firstRelation p) (p .relations)))
 
 -- where all relations of a pack start
 abbrev pub placesIn : Pack → List ℕ
 placesIn p = placesFrom (p .names) (firstRelation p) (p .relations)
 
 -- the tables of a checked pack: where the records of relations start, what aggregates over them do, and what entities take
-pub record Tabled (ws records acts taken : List ℕ) (steps : ℕ) : Type 0 where
+pub record TablesFilled (ws records acts taken : List ℕ) (steps : ℕ) : Type 0 where
   pub checked : IsPack ws
   pub declares : List ℕ
   pub filled : Filled ws declares records acts taken steps

@@ -20,15 +20,15 @@ unfoldable pub stepOf : {A : Type 0} → (A → ℕ) → Form A → List ℕ →
 stepOf f F ws at = stepBy f (readBy F at (drop at ws))
 
 -- a form that is walked over
-abbrev pub walk : {A : Type 0} → Form A → List ℕ → ℕ → Step
-walk F = stepOf (λ a. 0) F
+abbrev pub skipOver : {A : Type 0} → Form A → List ℕ → ℕ → Step
+skipOver F = stepOf (λ a. 0) F
 
-abbrev pub same : ℕ → ℕ
-same v = v
+abbrev pub itself : ℕ → ℕ
+itself v = v
 
 -- a word of a kind: its value
 abbrev pub fieldStep : ℕ → ℕ → List ℕ → ℕ → Step
-fieldStep n kind = stepOf same (field n kind)
+fieldStep n kind = stepOf itself (field n kind)
 
 abbrev pub nextWord : ℕ → List ℕ → Step
 nextWord at [] = Refused (record { number = 3; place = at; name = 0; other = 0 })
@@ -43,9 +43,9 @@ abbrev pub wholeWord : ℕ × ℕ → ℕ
 wholeWord t = wordOf (t .0) (t .1)
 
 -- a step in one number: the place after what was read; from 65536 on, a refusal's number and place
-unfoldable pub coded : Step → ℕ
-coded (On v k) = k .at
-coded (Refused r) = 65536 * (r .number + 1) + r .place
+unfoldable pub codedStep : Step → ℕ
+codedStep (On v k) = k .at
+codedStep (Refused r) = 65536 * (r .number + 1) + r .place
 
 -- the same of a word that is only tested: 0 where it was read
 unfoldable pub fault : Step → ℕ
@@ -57,8 +57,8 @@ unfoldable pub decoded : ℕ → Step
 decoded c = pick (ltb c 65536) (On 0 (record { at = c })) (Refused (record { number = c / 65536 - 1; place = c % 65536; name = 0; other = 0 }))
 
 -- so many that follow one another
-unfoldable pub walkAll : {S A : Type 0} → (S → A → S) → (S → Form A) → ℕ → S → List ℕ → ℕ → Step
-walkAll step F n s ws at = stepBy (λ l. 0) (readAll step (λ u b vs. readBy (F u) b vs) n s at (drop at ws))
+unfoldable pub skipAll : {S A : Type 0} → (S → A → S) → (S → Form A) → ℕ → S → List ℕ → ℕ → Step
+skipAll step F n s ws at = stepBy (λ l. 0) (readAll step (λ u b vs. readBy (F u) b vs) n s at (drop at ws))
 
 -- whether a name's mark is set
 abbrev pub marked : List ℕ → ℕ → Bool

@@ -13,12 +13,12 @@ use Rattle.definitions.specs.Table as table
 use Rattle.definitions.specs.Form.{among, allowedHere, wordsAll, FineAll, count, items, wordsBy, Fine}
 use Rattle.definitions.specs.Records.{Hop, Derivation, Relation, Edition, undated, Pack}
 use Rattle.definitions.specs.Pack.{firstKind, above, newName, nextUsed, relation, rule, defaultedName, defaulted, relations, rules, blocks, records, inner, layout, total, words, WellFormed}
-use Rattle.definitions.specs.Chain.{Step, end, next, mapped}
-use Rattle.definitions.specs.Kinds.{Which, list9, list21, Answer, from, inherits, derived, declares, find}
+use Rattle.definitions.specs.Chain.{Link, end, next, mapped}
+use Rattle.definitions.specs.Kinds.{Which, list9, list21, KindsFound, from, inherits, derived, declares, find}
 use Rattle.definitions.specs.Places.{relationWords, startOf, firstRelation}
 use Rattle.pack.proofs.PackLaws.{words-length}
 use Rattle.chains.proofs.Names.{neither, or-right}
-use Rattle.chains.proofs.RelationScan.{RelationsFine, relationsWords, Kept, kept}
+use Rattle.chains.proofs.RelationForm.{RelationsFine, relationsWords, Kept, kept}
 
 -- ---- the words before the relations
 
@@ -113,7 +113,7 @@ relations-room p w =
 -- ---- places
 
 -- what holds of each way in which a declaration goes holds of the declaration; a list that settles it is not empty
-module _ (P : Step Answer → Type 0) (n : ℕ) (nowhere : P (end none)) where
+module _ (P : Link KindsFound → Type 0) (n : ℕ) (nowhere : P (end none)) where
   pub each-way-listed : (ks : List ℕ) (o : Option Derivation) → (0 < length ks → P (from n list9)) → ((d : Derivation) → o ≡ some d → 0 < length (d .slotEntities) → P (from n list21))
       → ((d : Derivation) → o ≡ some d → eqb (d .source) table.none ≡ false → P (next (d .source))) → P (declares n ks o)
   each-way-listed [] none nine twentyOne leads = nowhere
@@ -138,7 +138,7 @@ module _ (P : Step Answer → Type 0) (n : ℕ) (nowhere : P (end none)) where
   each-way nine ks o twentyOne leads = each-way-listed ks o (λ h. nine) (λ d e h. twentyOne d e) leads
 
 -- a declaration's answers are those of its own relation
-pub mapped-alike : {S : Type 0} (g h : Answer → S) (n : ℕ) → g none ≡ h none → ((w : Which) → g (some (record { owner = n; which = w })) ≡ h (some (record { owner = n; which = w })))
+pub mapped-alike : {S : Type 0} (g h : KindsFound → S) (n : ℕ) → g none ≡ h none → ((w : Which) → g (some (record { owner = n; which = w })) ≡ h (some (record { owner = n; which = w })))
     → (ks : List ℕ) (o : Option Derivation) → mapped g (declares n ks o) ≡ mapped h (declares n ks o)
 mapped-alike g h n a b ks o = each-way (λ s. mapped g s ≡ mapped h s) n (ap end a) (ap end (b list9)) ks o (λ d e. ap end (b list21)) (λ d e f. refl)
 

@@ -11,9 +11,9 @@ use Rattle.definitions.specs.Table.{pick, wordOf, entryOf}
 use Rattle.definitions.specs.Tree.{Tree, Forest, node, more, Fields, size}
 use Rattle.definitions.specs.Tree as trees
 use Rattle.definitions.specs.declared.direction.Direction.{Direction}
-use Rattle.definitions.specs.declared.direction.Direction.the-variants.{Turned, Open}
+use Rattle.definitions.specs.declared.direction.Direction.the-variants.{Directed, Open}
 use Rattle.definitions.specs.Tables.{Tables}
-use Rattle.definitions.specs.Direction.{turn, Membership, member}
+use Rattle.definitions.specs.Direction.{turn, Membership, memberDirection}
 
 -- what resolving something comes to
 pub data Outcome (A : Type 0) : Type 0 where
@@ -66,49 +66,49 @@ valueOfNode (c ∷ r ∷ []) = (0, 0)
 valueOfNode (c ∷ r ∷ v ∷ fs) = v
 
 -- what a node does: it goes on with these fields, the entity of its children, and the memberships of its first child and of the others; or it stops
-pub data Step : Type 0 where
-  goes : Fields → ℕ → Membership → Membership → Step
-  stops : ℕ → ℕ → Step
+pub data NodeStep : Type 0 where
+  goes : Fields → ℕ → Membership → Membership → NodeStep
+  stops : ℕ → ℕ → NodeStep
 
 -- "A where tree is handed on .., with the resulting kind as entity"; "Membership is lost in where trees"
-abbrev pub aggregate : Fields → Direction → Step
-aggregate fs (Turned c r kind) = goes (withSlots c r fs) kind none none
+abbrev pub aggregate : Fields → Direction → NodeStep
+aggregate fs (Directed c r kind) = goes (withSlots c r fs) kind none none
 aggregate fs (Open entity) = stops 10 entity
 
 -- "OnlyRelated after its aggregate step: 11, 12, 13, 14, 15 in this order"
-abbrev pub allowedInput : Fields → ℕ → Option ℕ → Step
+abbrev pub allowedInput : Fields → ℕ → Option ℕ → NodeStep
 allowedInput fs n none = goes fs 0 none none
 allowedInput fs n (some number) = stops number n
 
-abbrev pub onlyRelated : (ℕ → ℕ → Option ℕ) → Fields → Direction → Step
+abbrev pub onlyRelated : (ℕ → ℕ → Option ℕ) → Fields → Direction → NodeStep
 onlyRelated input fs (Open entity) = stops 10 entity
-onlyRelated input fs (Turned c r owner) =
+onlyRelated input fs (Directed c r owner) =
     pick (eqb (valueOfNode fs .0) 84) (stops 11 (valueOfNode fs .1)) (allowedInput (withSlots c r fs) (valueOfNode fs .1) (input owner (valueOfNode fs .1)))
 
-abbrev pub membershipTest : Fields → ℕ → Membership → Direction → Step
-membershipTest fs entity m (Turned c r kind) = goes (withSlots c r fs) entity m m
+abbrev pub membershipTest : Fields → ℕ → Membership → Direction → NodeStep
+membershipTest fs entity m (Directed c r kind) = goes (withSlots c r fs) entity m m
 membershipTest fs entity m (Open kind) = stops 10 kind
 
 -- "Membership is lost in where trees, NoMatch patterns and both parts of OverPeriods."
-unfoldable pub stepBy : Citing → ℕ → Membership → Follows → ℕ → Fields → Step
-stepBy C entity m Nothing v fs = goes fs entity m m
-stepBy C entity m Counted v fs = goes fs entity m m
-stepBy C entity m OneScalar v fs = goes fs entity m m
-stepBy C entity m TwoScalars v fs = goes fs entity m m
-stepBy C entity m Scalars v fs = goes fs entity m m
-stepBy C entity m Patterns v fs = goes fs entity m none
-stepBy C entity m Periods v fs = goes fs entity none none
-stepBy C entity m OneJudgment v fs = goes fs entity m m
-stepBy C entity m Judgments v fs = goes fs entity m m
-stepBy C entity m Choice v fs = goes fs entity m m
-stepBy C entity m Aggregate v fs = aggregate fs (turn (C .tables) v entity (currentOf fs) (relatedOf fs))
-stepBy C entity m OnlyRelated v fs = onlyRelated (C .input) fs (turn (C .tables) v entity (currentOf fs) (relatedOf fs))
-stepBy C entity m Slots v fs = membershipTest fs entity m (member (C .tables) v m (currentOf fs) (relatedOf fs))
-stepBy C entity m Atom v fs = goes fs entity m m
-stepBy C entity m Exists v fs = goes fs entity m m
+unfoldable pub nodeStep : Citing → ℕ → Membership → Follows → ℕ → Fields → NodeStep
+nodeStep C entity m Nothing v fs = goes fs entity m m
+nodeStep C entity m Counted v fs = goes fs entity m m
+nodeStep C entity m OneScalar v fs = goes fs entity m m
+nodeStep C entity m TwoScalars v fs = goes fs entity m m
+nodeStep C entity m Scalars v fs = goes fs entity m m
+nodeStep C entity m Patterns v fs = goes fs entity m none
+nodeStep C entity m Periods v fs = goes fs entity none none
+nodeStep C entity m OneJudgment v fs = goes fs entity m m
+nodeStep C entity m Judgments v fs = goes fs entity m m
+nodeStep C entity m Choice v fs = goes fs entity m m
+nodeStep C entity m Aggregate v fs = aggregate fs (turn (C .tables) v entity (currentOf fs) (relatedOf fs))
+nodeStep C entity m OnlyRelated v fs = onlyRelated (C .input) fs (turn (C .tables) v entity (currentOf fs) (relatedOf fs))
+nodeStep C entity m Slots v fs = membershipTest fs entity m (memberDirection (C .tables) v m (currentOf fs) (relatedOf fs))
+nodeStep C entity m Atom v fs = goes fs entity m m
+nodeStep C entity m Exists v fs = goes fs entity m m
 
 -- a node at a place that goes on, or that stops there: "place the node, name the citing rule or relation, other the entity", or "the input or derived name"
-abbrev pub atNode : Citing → ℕ → Step → (Fields → ℕ → Membership → Membership → Outcome Tree) → Outcome Tree
+abbrev pub atNode : Citing → ℕ → NodeStep → (Fields → ℕ → Membership → Membership → Outcome Tree) → Outcome Tree
 atNode C at (goes fs entity first rest) on = on fs entity first rest
 atNode C at (stops number other) on = refused (record { number = number; place = at; name = C .name; other = other })
 
@@ -116,7 +116,7 @@ atNode C at (stops number other) on = refused (record { number = number; place =
 unfoldable mutual
   pub resolveTree : Citing → ℕ → Membership → ℕ → Tree → Outcome Tree
   resolveTree C entity m at (node k v fs f) =
-      atNode C at (stepBy C entity m (entryOf k .follows) v fs)
+      atNode C at (nodeStep C entity m (entryOf k .follows) v fs)
       (λ fs′ entity′ first rest. mapDone (node k v fs′) (resolveForest C entity′ first rest (at + 1 + length fs) f))
 
   pub resolveForest : Citing → ℕ → Membership → Membership → ℕ → Forest → Outcome Forest
