@@ -10,7 +10,7 @@ use lib.ListN.{length, length-append}
 use Rattle.definitions.specs.Table.{pick}
 use Rattle.definitions.specs.Form.{among}
 use Rattle.definitions.specs.Dealt.{InAnyOrder}
-use Rattle.definitions.specs.Chain.{Link, end, next, nothing, own, AllWalked, walkAll, Distinct, OnlyDeclaredLead, outside}
+use Rattle.definitions.specs.Chain.{Link, end, next, ChainAnswer, nothing, own, AllWalked, walkAll, Distinct, OnlyDeclaredLead, outside}
 use Rattle.chains.proofs.Names.{shuffled-among, apart, or-cases, or-left, both-ways, false-of, among-append, distinct-append, same-number}
 use Rattle.chains.proofs.Outside.{Outside, outside-is}
 use Rattle.chains.proofs.Walks.{answer-end, answer-back, answer-alike, Entry, Kept, Read, reads, own-answer}
@@ -30,6 +30,13 @@ module _ {R : Type 0} (stuck : R) (along : R → R) (back : along stuck ≡ stuc
 
   pub own-next : (n m : ℕ) → step n ≡ next m → ownOf n ≡ along (ownOf m)
   own-next n m e = answer-alike along step (own-answer stuck along step back declared leads n) (answer-back along step stuck back e (own-answer stuck along step back declared leads m))
+
+  -- the walk, which computes with fuel, answers what the chain says without, and nothing else
+  pub own-means : (n : ℕ) (r : R) → ownOf n ≡ r → ChainAnswer along step stuck n r
+  own-means n r e = subst (λ (x : R). ChainAnswer along step stuck n x) e (own-answer stuck along step back declared leads n)
+
+  pub own-only : (n : ℕ) (r : R) → ChainAnswer along step stuck n r → ownOf n ≡ r
+  own-only n r a = answer-alike along step (own-answer stuck along step back declared leads n) a
 
   abbrev all : List ℕ → AllWalked R
   all starts = walkAll stuck along step declared starts nothing 0

@@ -11,7 +11,7 @@ use lib.Dec.{eqb}
 use borrow.Author.Tests.{eqb-true, eqb-false, eq-eqb, ne-eqb}
 use Rattle.definitions.specs.Table.{pick}
 use Rattle.definitions.specs.Form.{among}
-use Rattle.definitions.specs.Chain.{Link, end, next, Settled, nothing, put, Walked, walk, own, AllWalked, walkAll, Distinct, OnlyDeclaredLead, walksFrom}
+use Rattle.definitions.specs.Chain.{Link, end, next, Ends, here, further, ChainAnswer, ended, endless, Settled, nothing, put, Walked, walk, own, AllWalked, walkAll, Distinct, OnlyDeclaredLead, walksFrom}
 use Rattle.chains.proofs.Names.{apart, or-cases, or-left, or-right, nor-right, or-swap, false-of, among-append}
 
 -- how many names of a list are not on a path: with more fuel than that a walk goes on
@@ -41,17 +41,12 @@ unseen-falls n p (x ∷ ns) = go (eqb x n) (among x p) refl refl (unseen-falls n
 
 -- the answers that names have
 module _ {R : Type 0} (along : R → R) (step : ℕ → Link R) where
-  -- the chain from a name ends, and its answer comes back along each link
-  pub data Ends : ℕ → R → Type 0 where
-    here : {n : ℕ} {r : R} → step n ≡ end r → Ends n r
-    further : {n m : ℕ} {r s : R} → step n ≡ next m → Ends m r → s ≡ along r → Ends n s
-
-  ends-alike : {n : ℕ} {r s : R} → Ends n r → Ends n s → r ≡ s
+  ends-alike : {n : ℕ} {r s : R} → Ends along step n r → Ends along step n s → r ≡ s
   ends-alike (here e) (here f) = cc
   ends-alike (here e) (further f d q) = cc
   ends-alike (further e d q) (here f) = cc
   ends-alike (further {m = m} e d q) (further {m = k} {r = u} f d′ q′) =
-      let i : k ≡ m = cc in q ∙ ap along (ends-alike d (subst (λ x. Ends x u) i d′)) ∙ sym q′
+      let i : k ≡ m = cc in q ∙ ap along (ends-alike d (subst (λ x. Ends along step x u) i d′)) ∙ sym q′
 
   -- a path behind a name, the last first: each leads on to the one before it
   abbrev Behind : List ℕ → ℕ → Type 0
@@ -69,7 +64,7 @@ module _ {R : Type 0} (along : R → R) (step : ℕ → Link R) where
       go false e j rest = let f = rest j in (f .0, f .1, or-right (eqb (f .0) n) (f .2))
 
   -- a name on its own path never ends
-  ring-endless : {n : ℕ} {r : R} → Ends n r → (p : List ℕ) → Behind p n → among n p ≡ true → ⊥
+  ring-endless : {n : ℕ} {r : R} → Ends along step n r → (p : List ℕ) → Behind p n → among n p ≡ true → ⊥
   ring-endless {n} (here e) p b i = let f = follows p n n b i in let q = f .1 in let z : _≡_ {A = ℕ} 0 1 = cc in omega arith
   ring-endless {n} (further {m = m} e d q) p b i =
       let f = follows p n n b i in
@@ -77,28 +72,23 @@ module _ {R : Type 0} (along : R → R) (step : ℕ → Link R) where
       let h : m ≡ f .0 = cc in
       ring-endless d (n ∷ p) (e, b) (subst (λ x. among x (n ∷ p) ≡ true) (sym h) (f .2))
 
-  -- the answer of a name: that of its chain's end, or `stuck` where it has none
-  pub data Answer (stuck : R) : ℕ → R → Type 0 where
-    ended : {n : ℕ} {r : R} → Ends n r → Answer stuck n r
-    endless : {n : ℕ} {r : R} → ((s : R) → Ends n s → ⊥) → r ≡ stuck → Answer stuck n r
-
-  pub answer-alike : {stuck : R} {n : ℕ} {r s : R} → Answer stuck n r → Answer stuck n s → r ≡ s
+  pub answer-alike : {stuck : R} {n : ℕ} {r s : R} → ChainAnswer along step stuck n r → ChainAnswer along step stuck n s → r ≡ s
   answer-alike (ended d) (ended d′) = ends-alike d d′
   answer-alike {r = r} (ended d) (endless h e) = absurd (h r d)
   answer-alike {s = s} (endless h e) (ended d) = absurd (h s d)
   answer-alike (endless h e) (endless h′ e′) = e ∙ sym e′
 
-  pub answer-end : (stuck : R) {n : ℕ} {r : R} → step n ≡ end r → Answer stuck n r
+  pub answer-end : (stuck : R) {n : ℕ} {r : R} → step n ≡ end r → ChainAnswer along step stuck n r
   answer-end stuck e = ended (here e)
 
   -- it comes back over a link
-  pub answer-back : (stuck : R) → along stuck ≡ stuck → {n m : ℕ} {r : R} → step n ≡ next m → Answer stuck m r → Answer stuck n (along r)
+  pub answer-back : (stuck : R) → along stuck ≡ stuck → {n m : ℕ} {r : R} → step n ≡ next m → ChainAnswer along step stuck m r → ChainAnswer along step stuck n (along r)
   answer-back stuck a e (ended d) = ended (further e d refl)
   answer-back stuck a {n} {m} e (endless h q) = endless none-ends (ap along q ∙ a)
     where
-      none-ends : (s : R) → Ends n s → ⊥
+      none-ends : (s : R) → Ends along step n s → ⊥
       none-ends s (here f) = let z : _≡_ {A = ℕ} 0 1 = cc in omega arith
-      none-ends s (further {m = k} {r = u} f d _) = let i : k ≡ m = cc in h u (subst (λ x. Ends x u) i d)
+      none-ends s (further {m = k} {r = u} f d _) = let i : k ≡ m = cc in h u (subst (λ x. Ends along step x u) i d)
 
 -- a test that goes along with every step
 abbrev pub Kept : {R : Type 0} → (ℕ → Link R) → (ℕ → Bool) → Type 0
@@ -107,18 +97,18 @@ Kept step P = (n m : ℕ) → step n ≡ next m → P n ≡ true → P m ≡ tru
 module _ {R : Type 0} (stuck : R) (along : R → R) (step : ℕ → Link R) where
   -- what is settled for a name: its answer where it was read, else nothing
   abbrev pub Entry : ℕ → Bool → Option R → Type 0
-  Entry n true o = (r : R) × (o ≡ some r) × Answer along step stuck n r
+  Entry n true o = (r : R) × (o ≡ some r) × ChainAnswer along step stuck n r
   Entry n false o = o ≡ none
 
   -- the names of a list are settled with their answers, and no others
   abbrev pub Holds : List ℕ → Settled R → Type 0
   Holds ns t = (n : ℕ) → Entry n (among n ns) (t n)
 
-  holds-put : (n : ℕ) (r : R) (ns : List ℕ) (t : Settled R) → Answer along step stuck n r → Holds ns t → Holds (n ∷ ns) (put n r t)
+  holds-put : (n : ℕ) (r : R) (ns : List ℕ) (t : Settled R) → ChainAnswer along step stuck n r → Holds ns t → Holds (n ∷ ns) (put n r t)
   holds-put n r ns t a h m = go (eqb m n) refl
     where
       go : (b : Bool) → eqb m n ≡ b → Entry m (b || among m ns) (pick b (some r) (t m))
-      go true e = (r, refl, subst (λ x. Answer along step stuck x r) (sym (eqb-true m n e)) a)
+      go true e = (r, refl, subst (λ x. ChainAnswer along step stuck x r) (sym (eqb-true m n e)) a)
       go false e = h m
 
   -- the names `read` by a walk from n, with the path p behind it and the names ns settled before it
@@ -167,7 +157,7 @@ module _ {R : Type 0} (stuck : R) (along : R → R) (step : ℕ → Link R) wher
     read : List ℕ
     trail : Trail ns p n read
     counts : w .steps ≡ length read
-    answers : Answer along step stuck n (w .answer)
+    answers : ChainAnswer along step stuck n (w .answer)
     holds : Holds (read ++ ns) (w .settled)
     found : (among n read || (among n p || among n ns)) ≡ true
 
@@ -186,7 +176,7 @@ module _ {R : Type 0} (stuck : R) (along : R → R) (step : ℕ → Link R) wher
         Rest = (m : ℕ) → among n p ≡ false → step n ≡ next m → Went ns (n ∷ p) m (walk stuck along step fuel t (n ∷ p) m)
 
         -- nothing is read
-        stays : (r : R) → Answer along step stuck n r → (among n p || among n ns) ≡ true → Went ns p n (record { answer = r; settled = t; steps = 0 })
+        stays : (r : R) → ChainAnswer along step stuck n r → (among n p || among n ns) ≡ true → Went ns p n (record { answer = r; settled = t; steps = 0 })
         stays r a i = record { read = []; trail = no-trail ns p n once; counts = refl; answers = a; holds = held; found = i }
 
         at-step : t n ≡ none → among n ns ≡ false → among n p ≡ false → (s : Link R) → step n ≡ s → Rest → Goal
@@ -221,7 +211,7 @@ module _ {R : Type 0} (stuck : R) (along : R → R) (step : ℕ → Link R) wher
         -- what is settled was read before
         at-names : (o : Option R) → t n ≡ o → (i : Bool) → among n ns ≡ i → Entry n i (t n) → Rest → Goal
         at-names (some r) e true i h rest =
-            let f = h .1 in let g : h .0 ≡ r = cc in rw (e, walk) (stays r (subst (λ s. Answer along step stuck n s) g (h .2)) (or-right (among n p) i))
+            let f = h .1 in let g : h .0 ≡ r = cc in rw (e, walk) (stays r (subst (λ s. ChainAnswer along step stuck n s) g (h .2)) (or-right (among n p) i))
         at-names (some r) e false i h rest = let z : _≡_ {A = ℕ} 0 1 = cc in absurd (omega arith)
         at-names none e true i h rest = let f = h .1 in let z : _≡_ {A = ℕ} 0 1 = cc in absurd (omega arith)
         at-names none e false i h rest = at-path e i (among n p) refl rest
@@ -301,6 +291,6 @@ module _ {R : Type 0} (stuck : R) (along : R → R) (step : ℕ → Link R) wher
     pub reads : (starts : List ℕ) → Read [] starts (walkAll stuck along step declared starts nothing 0)
     reads starts = reads-all starts [] nothing 0 tt refl (λ n. refl) (λ n m e i. apart i refl)
 
-    pub own-answer : (n : ℕ) → Answer along step stuck n (own stuck along step declared n)
+    pub own-answer : (n : ℕ) → ChainAnswer along step stuck n (own stuck along step declared n)
     unfolding own
     own-answer n = from-start n [] nothing tt (λ n. refl) .answers

@@ -23,6 +23,22 @@ mapped g (next n) = next n
 abbrev pub same : {R : Type 0} → R → R
 same r = r
 
+-- ---- what a walk gives
+
+module _ {R : Type 0} (along : R → R) (step : ℕ → Link R) where
+  -- the chain from a name ends, and its answer comes back along each link
+  pub data Ends : ℕ → R → Type 0 where
+    here : {n : ℕ} {r : R} → step n ≡ end r → Ends n r
+    further : {n m : ℕ} {r s : R} → step n ≡ next m → Ends m r → s ≡ along r → Ends n s
+
+  -- The answer of a name: that of its chain's end, or `stuck` where the chain has no end, since it comes to a ring.
+  -- A walk computes it (`own`, below; that they agree is `own-means`).
+  pub data ChainAnswer (stuck : R) : ℕ → R → Type 0 where
+    ended : {n : ℕ} {r : R} → Ends n r → ChainAnswer stuck n r
+    endless : {n : ℕ} {r : R} → ((s : R) → Ends n s → ⊥) → r ≡ stuck → ChainAnswer stuck n r
+
+-- ---- the walk
+
 -- the answers settled so far, by name
 abbrev pub Settled : Type 0 → Type 0
 Settled R = ℕ → Option R

@@ -1,11 +1,8 @@
 -- The operations: what each answers of any words, and what it leaves in the lent slice.
 use Prim.Native.Nat.{ℕ}
-use mathlib.Core.List.{List, _++_}
-use mathlib.Core.Bool.{_&&_}
-use lib.ListN.{length, drop}
+use mathlib.Core.List.{List}
 use lib.Dec.{ltb, leb}
 use Rattle.definitions.specs.declared.answer.Answer.{Answer}
-use Rattle.definitions.specs.declared.answer.Answer.the-variants.{Refused}
 use Rattle.definitions.specs.declared.operation.Filter.{Filter}
 use Rattle.definitions.specs.declared.operation.Question.{Question}
 use Rattle.definitions.specs.declared.operation.Question.the-variants.{Check, KindsOf, Lean}
@@ -14,22 +11,24 @@ use Rattle.definitions.specs.declared.operation.Writing.the-variants.{Re
 use Rattle.definitions.specs.Table.{pick}
 use Rattle.definitions.specs.Records.{Pack}
 use Rattle.definitions.specs.Pack.{total, words, read}
-use Rattle.definitions.specs.Answers.{answer, buffer, wordsWritten, wordsAndSteps, placeFound, noRoom, writeAnswer, writeBuffer, unknown, yesOrNo}
+use Rattle.definitions.specs.Answers.{answer, placeFound, unknown, yesOrNo, Outcome, done, mapDone, Output, allOf, given, written, Operation, answerBy, bufferBy}
 use Rattle.definitions.specs.Checking.{checkAnswer, rewriteAnswer, rewriteBuffer}
 use Rattle.definitions.specs.Kinds.{allKinds, ownAnswer}
 use Rattle.definitions.specs.Places.{placeOf, allKindsWords}
 use Rattle.definitions.specs.Lean.{leans}
 use Rattle.definitions.specs.Filtered.{filterWords}
-use Rattle.definitions.specs.ResolvingTrees.{Outcome, done, refused}
 use Rattle.definitions.specs.Resolving.{resolved}
 
 -- "All kinds gives Check's refusals, then 16 if the slice has fewer words than relations. It writes, per relation in record order, the place ..;
 -- the answer carries the number of declarations it read."
+abbrev pub allKindsWriting : Operation
+allKindsWriting = record { makes = λ p. done (allOf (allKindsWords p)); steps = λ p. allKinds (p .relations) .steps }
+
 unfoldable pub allKindsAnswer : List ℕ → ℕ → Answer
-allKindsAnswer ws room = answer (read ws) (λ p. writeAnswer (allKindsWords p) (allKinds (p .relations) .steps) room)
+allKindsAnswer ws room = answerBy allKindsWriting ws room
 
 unfoldable pub allKindsBuffer : List ℕ → List ℕ → List ℕ
-allKindsBuffer ws lent = buffer (read ws) (λ p. writeBuffer (allKindsWords p) lent) lent
+allKindsBuffer ws lent = bufferBy allKindsWriting ws lent
 
 -- "Kinds of one name (answer: the place as above)"
 unfoldable pub kindsOfAnswer : List ℕ → ℕ → Answer
@@ -43,29 +42,35 @@ leanAnswer ws a b =
     (λ p. pick (ltb a (p .names)) (pick (ltb b (p .names)) (yesOrNo (leans (p .relations) a b)) (unknown b)) (unknown a))
 
 -- "Filtered tables .. give Check's refusals, then 16 if the slice has fewer than N words. N words are written, the rest kept."
+abbrev pub filtering : Filter → Operation
+filtering f = record { makes = λ p. done (allOf (filterWords f p)); steps = λ p. 0 }
+
 unfoldable pub filterAnswer : Filter → List ℕ → ℕ → Answer
-filterAnswer f ws room = answer (read ws) (λ p. pick (leb (length (filterWords f p)) room) (wordsWritten (length (filterWords f p))) noRoom)
+filterAnswer f ws room = answerBy (filtering f) ws room
 
 unfoldable pub filterBuffer : Filter → List ℕ → List ℕ → List ℕ
-filterBuffer f ws lent = buffer (read ws) (λ p. writeBuffer (filterWords f p) lent) lent
+filterBuffer f ws lent = bufferBy (filtering f) ws lent
 
--- "Then 16: the result needs over 8,192 words or more than the output slice has."
-abbrev pub givenOut : ℕ → ℕ → Outcome Pack → Answer
-givenOut steps room (refused r) = Refused r
-givenOut steps room (done q) = pick (leb (total q) 8192 && leb (total q) room) (wordsAndSteps (total q) steps) noRoom
+-- "Then 16: the result needs over 8,192 words or more than the output slice has. Otherwise it writes the whole pack in record order, slots and lists as
+-- Resolving leaves them, the total the result's own length, all else as it stood, and answers length and step count (the number All kinds carries)"
+abbrev pub wholePack : Pack → Output
+wholePack q = record { words = words q; count = total q; allowed = leb (total q) 8192 }
 
--- "Otherwise it writes the whole pack in record order, slots and lists as Resolving leaves them, the total the result's own length, all else as it stood,
--- and answers length and step count (the number All kinds carries)"
+abbrev pub resolving : Operation
+resolving = record { makes = λ p. mapDone wholePack (resolved p); steps = λ p. allKinds (p .relations) .steps }
+
 unfoldable pub resolveAnswer : List ℕ → ℕ → Answer
-resolveAnswer ws room = answer (read ws) (λ p. givenOut (allKinds (p .relations) .steps) room (resolved p))
-
--- "output past the length is untouched"
-abbrev pub writtenOut : List ℕ → Outcome Pack → List ℕ
-writtenOut lent (refused r) = lent
-writtenOut lent (done q) = pick (leb (total q) 8192 && leb (total q) (length lent)) (words q ++ drop (total q) lent) lent
+resolveAnswer ws room = answerBy resolving ws room
 
 unfoldable pub resolveBuffer : List ℕ → List ℕ → List ℕ
-resolveBuffer ws lent = buffer (read ws) (λ p. writtenOut lent (resolved p)) lent
+resolveBuffer ws lent = bufferBy resolving ws lent
+
+-- the same by what resolving comes to
+abbrev pub givenOut : ℕ → ℕ → Outcome Pack → Answer
+givenOut steps room o = given steps room (mapDone wholePack o)
+
+abbrev pub writtenOut : List ℕ → Outcome Pack → List ℕ
+writtenOut lent o = written lent (mapDone wholePack o)
 
 -- ---- all of them
 

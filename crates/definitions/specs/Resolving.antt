@@ -19,7 +19,8 @@ use Rattle.definitions.specs.Places.{relationWords, startOf, firstRelati
 use Rattle.definitions.specs.Tables.{Derived, Tables, tables}
 use Rattle.definitions.specs.Direction.{kindOrZero, membership}
 use Rattle.definitions.specs.Inputs.{input}
-use Rattle.definitions.specs.ResolvingTrees.{Outcome, done, refused, andThen, mapDone, Citing, resolveTree}
+use Rattle.definitions.specs.Answers.{Outcome, done, refused, andThen, mapDone}
+use Rattle.definitions.specs.ResolvingTrees.{Citing, resolveTree}
 
 -- a rule or relation of a name and an origin, in a pack
 abbrev pub cites : Pack → ℕ → ℕ → Citing

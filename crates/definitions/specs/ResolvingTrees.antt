@@ -12,26 +12,9 @@ use Rattle.definitions.specs.Tree.{Tree, Forest, node, more, Fields, siz
 use Rattle.definitions.specs.Tree as trees
 use Rattle.definitions.specs.declared.direction.Direction.{Direction}
 use Rattle.definitions.specs.declared.direction.Direction.the-variants.{Directed, Open}
+use Rattle.definitions.specs.Answers.{Outcome, done, refused, andThen, mapDone}
 use Rattle.definitions.specs.Tables.{Tables}
 use Rattle.definitions.specs.Direction.{turn, Membership, memberDirection}
-
--- what resolving something comes to
-pub data Outcome (A : Type 0) : Type 0 where
-  done : A → Outcome A
-  refused : Refusal → Outcome A
-
-abbrev pub andThen : {A B : Type 0} → Outcome A → (A → Outcome B) → Outcome B
-andThen (done a) f = f a
-andThen (refused r) f = refused r
-
-abbrev pub mapDone : {A B : Type 0} → (A → B) → Outcome A → Outcome B
-mapDone f (done a) = done (f a)
-mapDone f (refused r) = refused r
-
--- what it resolves to, if it does
-abbrev pub result : {A : Type 0} → Outcome A → Option A
-result (done a) = some a
-result (refused r) = none
 
 -- the numbers by which trees are refused: 10 to 15
 abbrev pub InRange : ℕ → Type 0

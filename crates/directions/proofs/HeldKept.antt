@@ -9,7 +9,8 @@ use Rattle.definitions.specs.Tree.{Tree, Forest, node, more, size}
 use Rattle.definitions.specs.Tree as trees
 use Rattle.definitions.specs.Records.{Derivation, Relation, Pack}
 use Rattle.definitions.specs.Direction.{Membership}
-use Rattle.definitions.specs.ResolvingTrees.{done, mapDone, Citing, NodeStep, goes, stops, nodeStep, atNode, resolveTree, resolveForest}
+use Rattle.definitions.specs.Answers.{done, mapDone}
+use Rattle.definitions.specs.ResolvingTrees.{Citing, NodeStep, goes, stops, nodeStep, atNode, resolveTree, resolveForest}
 use Rattle.definitions.specs.Resolving.{holds, held, inDerivation, withPredicate, predicateBy, resolvePredicate, resolveDerivation, resolveRelation}
 use Rattle.filtered.specs.Acts.{partAt}
 use Rattle.directions.proofs.KeepsForm.{Good, map-good, then-good}

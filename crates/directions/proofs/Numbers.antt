@@ -17,7 +17,8 @@ use Rattle.definitions.specs.Lean.{any}
 use Rattle.definitions.specs.Places.{relationWords, firstRelation}
 use Rattle.definitions.specs.Direction.{Membership, turn}
 use Rattle.definitions.specs.Inputs.{ofOrigin, noSequence, declarations, owned, input}
-use Rattle.definitions.specs.ResolvingTrees.{Outcome, done, refused, andThen, mapDone, Citing, currentOf, relatedOf, withSlots, valueOfNode, NodeStep, goes, stops, aggregate, allowedInput, onlyRelated, membershipTest, nodeStep, atNode, resolveTree, resolveForest, InRange}
+use Rattle.definitions.specs.Answers.{Outcome, done, refused, andThen, mapDone}
+use Rattle.definitions.specs.ResolvingTrees.{Citing, currentOf, relatedOf, withSlots, valueOfNode, NodeStep, goes, stops, aggregate, allowedInput, onlyRelated, membershipTest, nodeStep, atNode, resolveTree, resolveForest, InRange}
 use Rattle.definitions.specs.declared.direction.Direction.{Direction}
 use Rattle.definitions.specs.declared.direction.Direction.the-variants.{Directed, Open}
 use Rattle.definitions.specs.Tables.{tables}

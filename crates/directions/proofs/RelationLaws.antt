@@ -13,7 +13,8 @@ use Rattle.definitions.specs.Pack.{WellFormed, newName, nameList, optionalDeriv
 use Rattle.definitions.specs.Places.{relationWords}
 use Rattle.chains.proofs.ListAt.{nameWords, list-words, path-words, early, late, derived-fine, option-words}
 use Rattle.definitions.specs.Direction.{membership, orElse}
-use Rattle.definitions.specs.ResolvingTrees.{Outcome, done, refused, mapDone, Citing, resolveTree}
+use Rattle.definitions.specs.Answers.{Outcome, done, refused, mapDone}
+use Rattle.definitions.specs.ResolvingTrees.{Citing, resolveTree}
 use Rattle.definitions.specs.Resolving.{cites, predicatePlace, withPredicate, predicateBy, resolvePredicate, resolveDerivation, resolveRelation}
 use Rattle.directions.specs.RecordRuns.{placesFrom, RelationKeeps}
 use Rattle.directions.proofs.KeepsForm.{Good, tree-good}

@@ -10,7 +10,8 @@ use Rattle.definitions.specs.Form.{wordsAll, FineAll, wordsBy, Fine}
 use Rattle.definitions.specs.Tree.{root, tree, Tree, size}
 use Rattle.definitions.specs.Records.{Body, Rule, Pack}
 use Rattle.definitions.specs.Pack.{WellFormed, body, bodies, rule}
-use Rattle.definitions.specs.ResolvingTrees.{Outcome, done, refused, andThen, mapDone, Citing, resolveTree}
+use Rattle.definitions.specs.Answers.{Outcome, done, refused, andThen, mapDone}
+use Rattle.definitions.specs.ResolvingTrees.{Citing, resolveTree}
 use Rattle.definitions.specs.Resolving.{cites, resolveBody, resolveBodies, bodySize, ruleBy, resolveRule, ruleWords}
 use Rattle.directions.specs.RecordRuns.{runWords, runBy, EachKeeps, bodyWords}
 use Rattle.directions.proofs.KeepsForm.{Good}

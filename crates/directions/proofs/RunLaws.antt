@@ -4,7 +4,7 @@ use native.Mathlib.Omega.{arith}
 use mathlib.Core.Path.{_≡_, refl, ap, sym, _∙_, subst}
 use mathlib.Core.List.{List, [], _∷_, _++_}
 use lib.ListN.{length, length-append}
-use Rattle.definitions.specs.ResolvingTrees.{Outcome, done, refused, andThen, mapDone}
+use Rattle.definitions.specs.Answers.{Outcome, done, refused, andThen, mapDone}
 use Rattle.directions.specs.RecordRuns.{runWords, runBy, EachKeeps}
 
 pub run-length : {A : Type 0} (W : A → List ℕ) (by : ℕ → A → Outcome A) (at : ℕ) (l m : List A) → runBy W by at l ≡ done m → length m ≡ length l

@@ -15,7 +15,8 @@ use Rattle.definitions.specs.Tree.{Tree, Forest, node, more, ofForest, lastFiel
 use Rattle.definitions.specs.declared.direction.Direction.{Direction}
 use Rattle.definitions.specs.declared.direction.Direction.the-variants.{Directed, Open}
 use Rattle.definitions.specs.Direction.{turn, Membership}
-use Rattle.definitions.specs.ResolvingTrees.{mapDone, Citing, currentOf, relatedOf, withSlots, valueOfNode, NodeStep, goes, stops, aggregate, allowedInput, onlyRelated, membershipTest, nodeStep, atNode, resolveTree, resolveForest}
+use Rattle.definitions.specs.Answers.{mapDone}
+use Rattle.definitions.specs.ResolvingTrees.{Citing, currentOf, relatedOf, withSlots, valueOfNode, NodeStep, goes, stops, aggregate, allowedInput, onlyRelated, membershipTest, nodeStep, atNode, resolveTree, resolveForest}
 use Rattle.directions.proofs.KeepsForm.{Good, map-good, then-good, FieldsFine, open-node, no-level}
 use Rattle.definitions.specs.Tree as trees
 use Rattle.definitions.specs.Direction as direction

@@ -16,7 +16,7 @@ use Rattle.definitions.specs.Kinds.{declared}
 use Rattle.definitions.specs.Places.{relationWords, firstRelation, relationsEnd}
 use Rattle.chains.proofs.RelationForm.{relationsWords, RelationsFine}
 use Rattle.chains.proofs.PackParts.{parts}
-use Rattle.definitions.specs.ResolvingTrees.{Outcome, andThen, mapDone}
+use Rattle.definitions.specs.Answers.{Outcome, andThen, mapDone}
 use Rattle.definitions.specs.Resolving.{ruleWords, resolveRule, resolveRules, resolveRelation, resolveRelations, firstRule}
 use Rattle.directions.specs.RecordRuns.{runWords, runBy, EachKeeps, Many, RelationKeeps, withRecords}
 use Rattle.inputs.proofs.BlocksStand.{first-kind}

@@ -14,7 +14,7 @@ use Rattle.chains.specs.PackDirectory.{IsPack}
 use Rattle.filtered.specs.Acts.{actList}
 use Rattle.filtered.specs.Taking.{Filled}
 use Rattle.definitions.specs.Tree.{treeWords}
-use Rattle.definitions.specs.ResolvingTrees.{Outcome, done, andThen, mapDone}
+use Rattle.definitions.specs.Answers.{Outcome, done, andThen, mapDone}
 use Rattle.definitions.specs.Resolving.{resolveRules, resolveRelations, firstRule}
 
 -- a run of records, one after the other

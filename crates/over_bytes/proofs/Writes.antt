@@ -12,7 +12,7 @@ use Rattle.definitions.specs.declared.answer.Answer.the-variants.{Given}
 use Rattle.definitions.specs.Table.{pick}
 use Rattle.definitions.specs.Records.{Pack}
 use Rattle.definitions.specs.Pack.{Reading, yes, refuse, read, total, words}
-use Rattle.definitions.specs.Answers.{answer, buffer, noRoom, writeAnswer, writeBuffer}
+use Rattle.definitions.specs.Answers.{answer, buffer, noRoom, writeAnswer, writeBuffer, Outcome, done, refused}
 use Rattle.definitions.specs.Checking.{checkAnswer, rewriteAnswer, rewriteBuffer}
 use Rattle.pack.proofs.PackLaws.{words-length, words-read}
 use Rattle.definitions.specs.Kinds.{allKinds}
@@ -22,7 +22,6 @@ use Rattle.definitions.specs.Filtered.{filterSays, filterWords}
 use Rattle.definitions.specs.declared.operation.Filter.{Filter}
 use Rattle.chains.proofs.PackParts.{parts}
 use Rattle.chains.proofs.FillLaws.{table-length}
-use Rattle.definitions.specs.ResolvingTrees.{Outcome, done, refused}
 use Rattle.definitions.specs.Resolving.{resolved}
 use Rattle.resolve.proofs.ResolveLaws.{given-enough}
 use Rattle.definitions.specs.Bytes.{notWords, outAfter}

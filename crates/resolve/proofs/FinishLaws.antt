@@ -16,14 +16,13 @@ use Rattle.definitions.specs.Form.{count, items, says, wordsBy, Fine}
 use Rattle.definitions.specs.Records.{Relation, Rule, Pack}
 use Rattle.definitions.specs.Rows.{toRow}
 use Rattle.definitions.specs.Pack.{WellFormed, yes, read, words, total, relations, rules, blocks, records, inner, rule}
-use Rattle.definitions.specs.Answers.{noRoom}
+use Rattle.definitions.specs.Answers.{noRoom, Outcome, done, refused, andThen, mapDone}
 use Rattle.pack.proofs.PackLaws.{words-read, words-length}
 use Rattle.definitions.specs.Kinds.{allKinds}
 use Rattle.definitions.specs.Places.{relationWords, firstRelation, relationsEnd}
 use Rattle.chains.proofs.RelationForm.{RelationsFine}
 use Rattle.chains.proofs.PackParts.{parts, all-found}
 use Rattle.chains.proofs.CheckedLaws.{same-pack}
-use Rattle.definitions.specs.ResolvingTrees.{Outcome, done, refused, andThen, mapDone}
 use Rattle.definitions.specs.Resolving.{stamp, ruleWords, resolveRule, resolveRules, resolveRelation, resolveRelations, firstRule}
 use Rattle.chains.specs.Record.{Recorded}
 use Rattle.stamping.specs.Stamping.{listsFor, addedBy, Listed}

@@ -16,7 +16,7 @@ use Rattle.definitions.specs.Table.{pick}
 use Rattle.definitions.specs.Table as table
 use Rattle.definitions.specs.Records.{Relation, Rule, Pack}
 use Rattle.definitions.specs.Pack.{WellFormed, Reading, yes, refuse, read, words, total}
-use Rattle.definitions.specs.Answers.{answer, buffer, wordsAndSteps, noRoom, writtenOf, Answered}
+use Rattle.definitions.specs.Answers.{answer, buffer, wordsAndSteps, noRoom, writtenOf, Answered, Outcome, done, refused, andThen, mapDone}
 use Rattle.definitions.specs.Checking.{checkAnswer}
 use Rattle.checking.proofs.OperationLaws.{turned-away}
 use Rattle.pack.proofs.PackLaws.{words-read, words-length}
@@ -38,7 +38,6 @@ use Rattle.turning.proofs.LeftLaws.{noted-there}
 use Rattle.inputs.proofs.BlocksStand.{reads-inputs}
 use Rattle.chains.proofs.PackParts.{parts, zero-at, find-name, find-kept}
 use Rattle.definitions.specs.Tables.{Tables, derivedAt, tables}
-use Rattle.definitions.specs.ResolvingTrees.{Outcome, done, refused, andThen, mapDone}
 use Rattle.definitions.specs.Resolving.{equalKinds, defaultedEqual, equalRefusal, resolveRules, resolveRelations, stamp, firstRule, resolveRecords, resolved}
 use Rattle.definitions.specs.Operations.{givenOut, writtenOut, resolveAnswer, resolveBuffer}
 use Rattle.directions.specs.Words.{derivedIn, tablesIn, firstEqual}

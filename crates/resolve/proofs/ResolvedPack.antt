@@ -13,7 +13,7 @@ use Rattle.pack.proofs.PackLaws.{read-words}
 use Rattle.definitions.specs.Places.{firstRelation}
 use Rattle.chains.proofs.RelationForm.{RelationsFine}
 use Rattle.definitions.specs.Tables.{tables}
-use Rattle.definitions.specs.ResolvingTrees.{done, refused}
+use Rattle.definitions.specs.Answers.{done, refused}
 use Rattle.definitions.specs.Resolving.{defaultedEqual, resolveRules, resolveRelations, equalRefusal, stamp, firstRule, resolveRecords, resolved}
 use Rattle.directions.proofs.KeepsForm.{Good, map-good, then-good}
 use Rattle.directions.proofs.ResolvedFine.{RulesFine, rules-good, relations-good}

@@ -16,7 +16,7 @@ use Rattle.definitions.specs.Kinds.{find, declared, kindsOf}
 use Rattle.definitions.specs.Places.{relationWords, startOf, firstRelation, namesAt}
 use Rattle.chains.proofs.RelationForm.{RelationsFine, kept}
 use Rattle.chains.proofs.PackParts.{EachFound, parts}
-use Rattle.definitions.specs.ResolvingTrees.{Outcome, done}
+use Rattle.definitions.specs.Answers.{Outcome, done}
 use Rattle.definitions.specs.Resolving.{atomNames, roleJudgment, inDerivation, stamp, resolveRelation}
 use Rattle.stamping.specs.Stamping.{StampedBy, listFor, listsFor}
 use Rattle.resolve.specs.Writing.{lengths, Stamped, no-more, one-more}

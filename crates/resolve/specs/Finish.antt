@@ -17,11 +17,10 @@ use Rattle.records.specs.declared.directory.Layout.{Layout}
 use Rattle.records.specs.Directory.{Clear}
 use Rattle.checking.specs.Checked.{namesSaid}
 use Rattle.chains.specs.PackDirectory.{ClearTable, IsDirectory}
-use Rattle.definitions.specs.Answers.{tableFrom}
+use Rattle.definitions.specs.Answers.{tableFrom, Outcome, done, refused}
 use Rattle.chains.specs.Record.{valueAt}
 use Rattle.chains.specs.Entry.{Reaches, startsIn, namesIn}
 use Rattle.filtered.specs.Taking.{NamesLow, Filled}
-use Rattle.definitions.specs.ResolvingTrees.{Outcome, done, refused}
 use Rattle.definitions.specs.Tables.{tables}
 use Rattle.definitions.specs.Resolving.{defaultedEqual, equalRefusal, stamp, atomNames, inDerivation, roleJudgment}
 use Rattle.definitions.specs.Operations.{givenOut, writtenOut, resolveAnswer, resolveBuffer}

@@ -14,7 +14,7 @@ use Rattle.definitions.specs.Table.{pick}
 use Rattle.definitions.specs.Form.{among}
 use Rattle.definitions.specs.Records.{Relation, Pack}
 use Rattle.definitions.specs.Pack.{WellFormed, Reading, yes, refuse, read, total, words}
-use Rattle.definitions.specs.Answers.{answer, noRoom, writeAnswer, unknown, yesNo}
+use Rattle.definitions.specs.Answers.{answer, noRoom, writeAnswer, unknown, yesNo, Outcome, done, refused}
 use Rattle.definitions.specs.Checking.{checkAnswer, rewriteAnswer}
 use Rattle.pack.proofs.PackLaws.{words-read}
 use Rattle.pack.proofs.Refusals.{read-numbers}
@@ -30,7 +30,6 @@ use Rattle.chains.proofs.KindLaws.{kinds-steps, distinct-names}
 use Rattle.chains.proofs.PackParts.{parts}
 use Rattle.chains.proofs.PlaceBounds.{end-small}
 use Rattle.chains.proofs.ListAt.{own-holds}
-use Rattle.definitions.specs.ResolvingTrees.{Outcome, done, refused}
 use Rattle.definitions.specs.Resolving.{resolved}
 use Rattle.directions.proofs.Numbers.{refused-number}
 use Rattle.theorems.proofs.RefusalNames.{Told, resolved-told}

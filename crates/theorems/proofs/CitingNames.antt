@@ -5,7 +5,8 @@ use lib.ListN.{length}
 use Rattle.definitions.specs.Table.{entryOf}
 use Rattle.definitions.specs.Tree.{Tree, Forest, node, more, Fields, size}
 use Rattle.definitions.specs.Direction.{Membership}
-use Rattle.definitions.specs.ResolvingTrees.{Outcome, done, refused, andThen, mapDone, Citing, NodeStep, goes, stops, nodeStep, atNode, resolveTree, resolveForest}
+use Rattle.definitions.specs.Answers.{Outcome, done, refused, andThen, mapDone}
+use Rattle.definitions.specs.ResolvingTrees.{Citing, NodeStep, goes, stops, nodeStep, atNode, resolveTree, resolveForest}
 use Rattle.definitions.specs.Tree as trees
 
 abbrev pub NamedBy : {A : Type 0} → ℕ → Outcome A → Type 0

@@ -9,7 +9,7 @@ use Rattle.definitions.specs.Pack.{WellFormed}
 use Rattle.definitions.specs.Dealt.{Shuffled, nil, cons, swap, trans, InAnyOrder, SameBlock, Dealt}
 use Rattle.definitions.specs.Places.{firstRelation}
 use Rattle.definitions.specs.Tables.{tables}
-use Rattle.definitions.specs.ResolvingTrees.{Outcome, done, refused, andThen, mapDone, result}
+use Rattle.definitions.specs.Answers.{Outcome, done, refused, andThen, mapDone, result}
 use Rattle.definitions.specs.Resolving.{defaultedEqual, equalRefusal, resolveRules, resolveRelation, resolveRelations, stamp, firstRule, resolveRecords, resolved}
 use Rattle.theorems.specs.Demand3.{relationOut, ruleOut, Each, ComesOut, beside, SameBlocks, SameOut}
 use Rattle.theorems.specs.Demand3 as demand

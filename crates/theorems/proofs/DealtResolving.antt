@@ -19,7 +19,8 @@ use Rattle.chains.proofs.Names.{shuffled-any, shuffled-map}
 use Rattle.chains.proofs.KindLaws.{kinds-dealt, distinct-names}
 use Rattle.filtered.proofs.FilteredLaws.{filtered-dealt}
 use Rattle.definitions.specs.Tables.{derivedAt, typedAt, Tables, tables}
-use Rattle.definitions.specs.ResolvingTrees.{Outcome, done, refused, andThen, mapDone, Citing, InRange, result}
+use Rattle.definitions.specs.Answers.{Outcome, done, refused, andThen, mapDone, result}
+use Rattle.definitions.specs.ResolvingTrees.{Citing, InRange}
 use Rattle.definitions.specs.Resolving.{cites, defaultedEqual, equalRefusal, ruleBy, resolveRule, resolveRules, predicateBy, withPredicate, resolveDerivation, resolveRelation, resolveRelations, holds, roleJudgment, atomOf, inDerivation, inRule, atomNames, empty, stampBy, stampDerived, stamp, firstRule, resolveRecords, resolved}
 use Rattle.theorems.proofs.OutcomeLaws.{result-map, allDone, Alike, all-dealt}
 use Rattle.theorems.proofs.PlaceFree.{rules-each, relations-each}

@@ -11,7 +11,7 @@ use Rattle.definitions.specs.declared.answer.Answer.the-variants.{Given}
 use Rattle.definitions.specs.Table.{pick}
 use Rattle.definitions.specs.Records.{Relation, Pack}
 use Rattle.definitions.specs.Pack.{WellFormed, yes, read, words, total}
-use Rattle.definitions.specs.Answers.{noRoom}
+use Rattle.definitions.specs.Answers.{noRoom, Outcome, done, refused}
 use Rattle.definitions.specs.Dealt.{Checked, Dealt}
 use Rattle.pack.proofs.PackLaws.{words-read}
 use Rattle.theorems.proofs.DealtLaws.{dealt-total, dealt-again, dealt-checked}
@@ -21,7 +21,6 @@ use Rattle.definitions.specs.Operations.{allKindsAnswer, allKindsBuffer, givenO
 use Rattle.chains.proofs.KindLaws.{kinds-dealt, distinct-names, words-own, kinds-steps}
 use Rattle.chains.proofs.ListAt.{walk-end, place-holds}
 use Rattle.theorems.proofs.DealtChains.{chains-dealt}
-use Rattle.definitions.specs.ResolvingTrees.{Outcome, done, refused}
 use Rattle.definitions.specs.Resolving.{resolved}
 use Rattle.theorems.specs.Demand3.{Left, ResolveAlike, bothResolve, bothEqual, bothRoom, bothOpen, KindsWritten, no-more, one-more, stepSum, StepsAreSum, Demand3}
 use Rattle.theorems.proofs.DealtResolving.{ResolvedAlike, bothDone, bothRefused, resolve-dealt}

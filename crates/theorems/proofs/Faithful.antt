@@ -10,11 +10,7 @@ use Rattle.definitions.specs.declared.answer.Answer.{Answer}
 use Rattle.definitions.specs.declared.answer.Answer.the-variants.{Given, Refused}
 use Rattle.definitions.specs.Table.{pick}
 use Rattle.definitions.specs.Bytes.{wordFrom, wordsOf, bytesOf, inBits, encode, areWords, notWords, overBytes}
-
--- numbers below a limit
-abbrev pub All : ℕ → List ℕ → Type 0
-All m [] = Unit {0}
-All m (x ∷ xs) = (x < m) × All m xs
+use Rattle.theorems.specs.RoundTrips.{Below}
 
 -- the bytes of a word one after the other
 halves : (w : ℕ) → (w / 65536 ≡ w / 256 / 256) × (w / 16777216 ≡ w / 256 / 256 / 256)
@@ -23,7 +19,7 @@ halves w = (sym (div-div-eq-div-mul w 256 256), sym (ap (λ (v : ℕ). v / 256) 
 word-again : (w : ℕ) → w < 2 ^ 32 → wordFrom (w % 256) (w / 256 % 256) (w / 65536 % 256) (w / 16777216 % 256) ≡ w
 word-again w h = rw (halves w .0, halves w .1) (omega arith)
 
-pub words-again : (ws : List ℕ) → All (2 ^ 32) ws → wordsOf (bytesOf ws) ≡ ws
+pub words-again : (ws : List ℕ) → Below (2 ^ 32) ws → wordsOf (bytesOf ws) ≡ ws
 unfolding wordsOf bytesOf
 words-again [] h = refl
 words-again (w ∷ ws) h = rw (word-again w (h .0), words-again ws (h .1))
@@ -42,7 +38,7 @@ module _ (a b c d : ℕ) (ha : a < 256) (hb : b < 256) (hc : c < 256) (hd : d < 
   fourth : wordFrom a b c d / 16777216 % 256 ≡ d
   fourth = let e : wordFrom a b c d / 16777216 ≡ d = omega arith in omega arith
 
-pub bytes-again : (bytes : List ℕ) → All 256 bytes → length bytes % 4 ≡ 0 → bytesOf (wordsOf bytes) ≡ bytes
+pub bytes-again : (bytes : List ℕ) → Below 256 bytes → length bytes % 4 ≡ 0 → bytesOf (wordsOf bytes) ≡ bytes
 unfolding wordsOf bytesOf
 bytes-again [] h k = refl
 bytes-again (a ∷ []) h k = absurd (omega arith)

@@ -16,7 +16,7 @@ use Rattle.definitions.specs.Form.{among}
 use Rattle.definitions.specs.Records.{Derivation, Relation, Rule, Pack}
 use Rattle.definitions.specs.Pack.{WellFormed, yes, read, total}
 use Rattle.definitions.specs.Tree.{Tree}
-use Rattle.definitions.specs.Answers.{noRoom}
+use Rattle.definitions.specs.Answers.{noRoom, Outcome, done, refused, andThen, mapDone, result}
 use Rattle.pack.proofs.PackLaws.{words-read}
 use Rattle.definitions.specs.Chain.{end, same}
 use Rattle.definitions.specs.Kinds.{list9, list21, declares, listOf, find, kindStep, declared, allKinds, ownAnswer, namesOf, kindsOf}
@@ -28,7 +28,6 @@ use Rattle.chains.proofs.KindLaws.{kind-leads}
 use Rattle.chains.proofs.PackParts.{parts, find-name, EachFound, all-found}
 use Rattle.definitions.specs.Filtered.{kindAt, listed, entityIs, takes, takenFrom, taken, single, direct}
 use Rattle.definitions.specs.Tables.{Derived, Tables, derivedBy, derivedAt, pair, typedBy, typedAt, tables}
-use Rattle.definitions.specs.ResolvingTrees.{Outcome, done, refused, andThen, mapDone, result}
 use Rattle.definitions.specs.Resolving.{sameKind, equalKinds, defaultedEqual, equalRefusal, resolveRules, predicateBy, resolvePredicate, resolveDerivation, resolveRelation, withPredicate, resolveRelations, empty, unlike, passedOver, orKinds, stampedWith, stampBy, stampDerived, stamp, firstRule, resolveRecords, resolved}
 use Rattle.directions.proofs.Numbers.{Numbered, rules-numbered, relations-numbered}
 use Rattle.definitions.specs.Operations.{givenOut, resolveAnswer}

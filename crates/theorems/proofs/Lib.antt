@@ -21,3 +21,5 @@ pub mod WrongResolves
 pub mod TurningCases
 pub mod WireCases
 pub mod Faithful
+pub mod WalksLaws
+pub mod RoundTripLaws

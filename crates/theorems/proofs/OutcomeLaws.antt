@@ -4,7 +4,7 @@ use mathlib.Core.List.{List, [], _∷_}
 use mathlib.Core.Option.{Option, none, some, Option·map}
 use Rattle.definitions.specs.Dealt.{nil, cons, swap, trans, InAnyOrder}
 use Rattle.chains.proofs.Names.{shuffled-same}
-use Rattle.definitions.specs.ResolvingTrees.{Outcome, done, refused, andThen, mapDone, result}
+use Rattle.definitions.specs.Answers.{Outcome, done, refused, andThen, mapDone, result}
 
 abbrev pub bound : {A B : Type 0} → Option A → (A → Option B) → Option B
 bound none f = none

@@ -11,7 +11,8 @@ use Rattle.definitions.specs.Records.{Derivation, Relation, Body, Rule, Pack}
 use Rattle.definitions.specs.Kinds.{kindsOf}
 use Rattle.definitions.specs.Places.{relationWords}
 use Rattle.definitions.specs.Direction.{Membership}
-use Rattle.definitions.specs.ResolvingTrees.{Outcome, andThen, mapDone, Citing, NodeStep, goes, stops, nodeStep, atNode, resolveTree, resolveForest, result}
+use Rattle.definitions.specs.Answers.{Outcome, andThen, mapDone, result}
+use Rattle.definitions.specs.ResolvingTrees.{Citing, NodeStep, goes, stops, nodeStep, atNode, resolveTree, resolveForest}
 use Rattle.definitions.specs.Resolving.{cites, predicatePlace, withPredicate, resolveBody, resolveBodies, bodySize, ruleBy, resolveRule, ruleWords, resolveRules, predicateBy, resolvePredicate, resolveDerivation, resolveRelation, resolveRelations}
 use Rattle.theorems.proofs.OutcomeLaws.{bound, result-map, result-then, allDone}
 

@@ -21,7 +21,8 @@ use Rattle.chains.proofs.RelationForm.{kept}
 use Rattle.chains.proofs.PackParts.{parts, find-name, find-kept, start-within, opening, relationsPart, split, opening-length}
 use Rattle.definitions.specs.Direction.{Membership, kindOrZero, membership}
 use Rattle.definitions.specs.Tables.{Derived, derivedBy, derivedAt, pair, typedBy, typedAt, tables}
-use Rattle.definitions.specs.ResolvingTrees.{Outcome, done, refused, andThen, mapDone, Citing, resolveTree}
+use Rattle.definitions.specs.Answers.{Outcome, done, refused, andThen, mapDone}
+use Rattle.definitions.specs.ResolvingTrees.{Citing, resolveTree}
 use Rattle.definitions.specs.Inputs.{input}
 use Rattle.definitions.specs.Resolving.{cites, defaultedEqual, equalRefusal, resolveBody, resolveRule, ruleWords, resolveRules, predicatePlace, predicateBy, resolvePredicate, resolveDerivation, resolveRelation, resolveRelations, firstRule, resolveRecords, resolved}
 use Rattle.directions.specs.RecordRuns.{runWords, runBy, EachKeeps, bodyWords, RelationKeeps}

@@ -15,7 +15,7 @@ use Rattle.definitions.specs.Table.{pick}
 use Rattle.definitions.specs.Form.{among}
 use Rattle.definitions.specs.Records.{Pack}
 use Rattle.definitions.specs.Pack.{Reading, yes, refuse, read, total, words}
-use Rattle.definitions.specs.Answers.{answer, buffer, noRoom, writeAnswer, writeBuffer, unknown}
+use Rattle.definitions.specs.Answers.{answer, buffer, noRoom, writeAnswer, writeBuffer, unknown, Outcome, done, refused}
 use Rattle.definitions.specs.Checking.{rewriteAnswer, rewriteBuffer}
 use Rattle.pack.proofs.Refusals.{CheckRefuses, check-numbers, rewrite-numbers}
 use Rattle.definitions.specs.Kinds.{allKinds}
@@ -25,7 +25,6 @@ use Rattle.definitions.specs.Operations.{allKindsAnswer, allKindsBuffer, filter
 use Rattle.theorems.proofs.KindsNumbers.{all-kinds-numbers, kinds-of-numbers, lean-numbers}
 use Rattle.definitions.specs.Filtered.{filterWords}
 use Rattle.filtered.proofs.FilterLaws.{filter-numbers}
-use Rattle.definitions.specs.ResolvingTrees.{Outcome, done, refused}
 use Rattle.definitions.specs.Resolving.{resolved}
 use Rattle.theorems.proofs.ResolveNumbers.{ResolveRefuses, checks, equal-kinds, open-direction, no-room, resolve-numbers}
 use Rattle.definitions.specs.Bytes.{wordsOf, encode, areWords, notWords, overBytes, outAfter, inRoom}

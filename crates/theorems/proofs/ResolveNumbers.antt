@@ -12,11 +12,11 @@ use Rattle.definitions.specs.declared.answer.Answer.the-variants.{Given, Refuse
 use Rattle.definitions.specs.Table.{pick}
 use Rattle.definitions.specs.Records.{Pack}
 use Rattle.definitions.specs.Pack.{Reading, yes, refuse, read, total}
-use Rattle.definitions.specs.Answers.{answer, noRoom}
+use Rattle.definitions.specs.Answers.{answer, noRoom, Outcome, done, refused}
 use Rattle.pack.proofs.PackLaws.{words-length, words-read}
 use Rattle.pack.proofs.Refusals.{CheckRefuses, read-numbers}
 use Rattle.definitions.specs.Kinds.{allKinds}
-use Rattle.definitions.specs.ResolvingTrees.{Outcome, done, refused, InRange}
+use Rattle.definitions.specs.ResolvingTrees.{InRange}
 use Rattle.definitions.specs.Resolving.{resolved}
 use Rattle.definitions.specs.Operations.{givenOut, resolveAnswer}
 use Rattle.directions.proofs.Numbers.{refused-number}

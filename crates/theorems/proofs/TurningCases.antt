@@ -12,7 +12,8 @@ use Rattle.definitions.specs.Tree as trees
 use Rattle.definitions.specs.Records.{Derivation, Relation, Rule}
 use Rattle.definitions.specs.Tables.{Derived}
 use Rattle.definitions.specs.Direction.{turn, memberDirection}
-use Rattle.definitions.specs.ResolvingTrees.{done, refused, nodeStep}
+use Rattle.definitions.specs.Answers.{done, refused}
+use Rattle.definitions.specs.ResolvingTrees.{nodeStep}
 use Rattle.turning.specs.Notes.{Note, note, lookBy, noted, notesOf, notesRun, ruleNotes, relationNotes}
 use Rattle.turning.specs.Turns.{KnownTables, Root, work, nowhere, openRoot, stepAt, turnNode, turnNote, turnNotes}
 

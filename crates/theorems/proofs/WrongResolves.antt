@@ -15,7 +15,7 @@ use Rattle.definitions.specs.Form.{wordsBy, count, items}
 use Rattle.definitions.specs.Tree.{tree, root, follow, fields, heads, size}
 use Rattle.definitions.specs.Records.{Relation, Rule, Block, Pack}
 use Rattle.definitions.specs.Pack.{words, total, layout, inner, records, defaulted, defaultedName, relations, relation, newName, relationTail, nameList, optionalDerivation, derivation, chain, path, hop, member, rules, rule, bodies, body, blocks, block, blockItems, item}
-use Rattle.definitions.specs.Answers.{wordsAndSteps}
+use Rattle.definitions.specs.Answers.{wordsAndSteps, done}
 use Rattle.definitions.specs.Chain.{walk, own}
 use Rattle.definitions.specs.Kinds.{find, kindStep, kindsOf}
 use Rattle.definitions.specs.Places.{startOf}
@@ -24,7 +24,7 @@ use Rattle.definitions.specs.Tables.{tables}
 use Rattle.definitions.specs.Direction.{turn}
 use Rattle.definitions.specs.Direction as direction
 use Rattle.definitions.specs.Inputs.{input}
-use Rattle.definitions.specs.ResolvingTrees.{done, nodeStep, resolveTree}
+use Rattle.definitions.specs.ResolvingTrees.{nodeStep, resolveTree}
 use Rattle.definitions.specs.Resolving.{defaultedEqual, resolveBodies, ruleBy, resolveRules, predicateBy, resolveRelation, resolveRelations, holds, atomNames, stamp, resolved}
 use Rattle.theorems.specs.Demand3.{Left, ResolveAlike, bothResolve, bothEqual, bothRoom, bothOpen, DerivedRelation, KindsUsed}
 use Rattle.theorems.specs.Starred.{withoutDerivation, saysNothing, counting, withDerivation, ruled, packed}

@@ -12,7 +12,7 @@ use Rattle.definitions.specs.declared.answer.Answer.the-variants.{Refused}
 use Rattle.definitions.specs.Form.{among}
 use Rattle.definitions.specs.Records.{Derivation, Relation, Rule, Block, Pack}
 use Rattle.definitions.specs.Pack.{total, words}
-use Rattle.definitions.specs.Answers.{wordsAndSteps}
+use Rattle.definitions.specs.Answers.{wordsAndSteps, result}
 use Rattle.definitions.specs.Dealt.{Checked, Shuffled, InAnyOrder, SameBlock}
 use Rattle.definitions.specs.Kinds.{list21, listOf, find, undeclaredSources, ownAnswer, kindsOf}
 use Rattle.definitions.specs.Places.{namesAt, SettledAt}
@@ -20,7 +20,7 @@ use Rattle.definitions.specs.Operations.{allKindsAnswer, allKindsBuffer, resolv
 use Rattle.definitions.specs.Filtered.{kindAt}
 use Rattle.definitions.specs.Tables.{Derived, tables}
 use Rattle.definitions.specs.Direction.{kindOrZero, membership}
-use Rattle.definitions.specs.ResolvingTrees.{InRange, result, resolveTree}
+use Rattle.definitions.specs.ResolvingTrees.{InRange, resolveTree}
 use Rattle.definitions.specs.Resolving.{cites, resolveRule, predicatePlace, resolvePredicate, resolveRelation, orKinds, stamp}
 
 -- ---- what comes out

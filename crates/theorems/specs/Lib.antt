@@ -1,3 +1,5 @@
 pub mod Demand3
 pub mod Starred
 pub mod Refusing
+pub mod Walks
+pub mod RoundTrips

@@ -10,7 +10,7 @@ use Rattle.definitions.specs.Records.{Hop, Relation, Rule, Pack, undated}
 use Rattle.definitions.specs.Kinds.{namesOf, allKinds, kindsOf}
 use Rattle.definitions.specs.Places.{settledOf}
 use Rattle.definitions.specs.Filtered.{direct, innermost}
-use Rattle.definitions.specs.ResolvingTrees.{Outcome, done, refused}
+use Rattle.definitions.specs.Answers.{Outcome, done, refused}
 use Rattle.definitions.specs.Resolving.{resolved}
 
 -- ---- what the cases are made of

@@ -18,7 +18,8 @@ use Rattle.definitions.specs.declared.direction.Direction.{Direction}
 use Rattle.definitions.specs.declared.direction.Direction.the-variants.{Directed, Open}
 use Rattle.definitions.specs.Direction.{turn, Membership}
 use Rattle.definitions.specs.Direction as direction
-use Rattle.definitions.specs.ResolvingTrees.{Outcome, done, refused, andThen, mapDone, Citing, currentOf, relatedOf, withSlots, valueOfNode, NodeStep, goes, stops, aggregate, allowedInput, onlyRelated, membershipTest, nodeStep, atNode, resolveTree, resolveForest}
+use Rattle.definitions.specs.Answers.{Outcome, done, refused, andThen, mapDone}
+use Rattle.definitions.specs.ResolvingTrees.{Citing, currentOf, relatedOf, withSlots, valueOfNode, NodeStep, goes, stops, aggregate, allowedInput, onlyRelated, membershipTest, nodeStep, atNode, resolveTree, resolveForest}
 use Rattle.directions.proofs.TreeWords.{size-is, fields-length}
 use Rattle.turning.specs.Notes.{Note, lookBy, lookOf, noted, within, notesOf, notesIn}
 use Rattle.turning.specs.Turns.{KnownTables, Root, citing, Work, work, held, fieldsAt, stepAt, turnedBy, turnNode, turnNote, turnNotes}

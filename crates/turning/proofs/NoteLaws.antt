@@ -12,7 +12,8 @@ use borrow.Author.Tests.{eq-eqb, ne-eqb, eqb-true, eqb-false}
 use Rattle.definitions.specs.Table.{pick, wordOf, entryOf, fieldsOf}
 use Rattle.definitions.specs.Direction.{relatedKind, Membership}
 use Rattle.definitions.specs.Tree.{Fields, fieldWords}
-use Rattle.definitions.specs.ResolvingTrees.{Outcome, done, refused, Citing, currentOf, relatedOf, withSlots, NodeStep, goes, stops, nodeStep}
+use Rattle.definitions.specs.Answers.{Outcome, done, refused}
+use Rattle.definitions.specs.ResolvingTrees.{Citing, currentOf, relatedOf, withSlots, NodeStep, goes, stops, nodeStep}
 use Rattle.directions.specs.Words.{memberIn}
 use Rattle.turning.specs.declared.step.Out.{Out}
 use Rattle.turning.specs.declared.step.Out.the-variants.{Opens, Sets, Passes, Stops}

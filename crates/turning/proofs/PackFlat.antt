@@ -11,7 +11,7 @@ use Rattle.definitions.specs.Records.{Relation, Rule, Pack}
 use Rattle.definitions.specs.Pack.{WellFormed, words, rule, blocks}
 use Rattle.definitions.specs.Places.{relationWords, firstRelation}
 use Rattle.chains.proofs.PackParts.{EachFound, all-found}
-use Rattle.definitions.specs.ResolvingTrees.{Outcome, done, refused, andThen, mapDone}
+use Rattle.definitions.specs.Answers.{Outcome, done, refused, andThen, mapDone}
 use Rattle.definitions.specs.Resolving.{ruleWords, resolveRule, resolveRelation, firstRule}
 use Rattle.directions.specs.RecordRuns.{runWords, runBy, EachKeeps, RelationKeeps, withRecords, treesResolved}
 use Rattle.directions.proofs.RunLaws.{run-length}

@@ -19,7 +19,7 @@ use Rattle.pack.proofs.PackLaws.{words-read, words-length}
 use Rattle.reading.proofs.NotesLaws.{few-tree}
 use Rattle.definitions.specs.Places.{relationWords, firstRelation}
 use Rattle.chains.proofs.CheckedLaws.{same-pack}
-use Rattle.definitions.specs.ResolvingTrees.{Outcome, done, refused, andThen}
+use Rattle.definitions.specs.Answers.{Outcome, done, refused, andThen}
 use Rattle.definitions.specs.Resolving.{ruleWords, predicatePlace, firstRule}
 use Rattle.directions.proofs.TreeWords.{size-is}
 use Rattle.directions.specs.RecordRuns.{runWords, EachKeeps, bodyWords, RelationKeeps, treesResolved}

@@ -20,7 +20,8 @@ use Rattle.chains.proofs.PackParts.{parts}
 use Rattle.definitions.specs.Filtered.{kindAt}
 use Rattle.definitions.specs.Tables.{tables}
 use Rattle.definitions.specs.Direction.{membership, kindOrZero}
-use Rattle.definitions.specs.ResolvingTrees.{Outcome, done, refused, mapDone, resolveTree}
+use Rattle.definitions.specs.Answers.{Outcome, done, refused, mapDone}
+use Rattle.definitions.specs.ResolvingTrees.{resolveTree}
 use Rattle.definitions.specs.Resolving.{cites, resolveBody, resolveRule, ruleWords, predicatePlace, withPredicate, predicateBy, resolveDerivation, resolveRelation}
 use Rattle.directions.proofs.KeepsForm.{Good, FieldsFine, open-node, no-level, tree-good, head-fine}
 use Rattle.directions.proofs.TreeWords.{fields-count, size-is}

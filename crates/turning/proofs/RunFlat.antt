@@ -4,7 +4,7 @@ use native.Mathlib.Omega.{arith}
 use mathlib.Core.Path.{_≡_, refl, ap, sym, _∙_}
 use mathlib.Core.List.{List, [], _∷_, _++_, append-assoc}
 use lib.ListN.{length, length-append}
-use Rattle.definitions.specs.ResolvingTrees.{Outcome, done, refused, andThen, mapDone}
+use Rattle.definitions.specs.Answers.{Outcome, done, refused, andThen, mapDone}
 use Rattle.directions.specs.RecordRuns.{runWords, runBy, EachKeeps}
 use Rattle.turning.specs.Notes.{Note, notesRun}
 use Rattle.turning.specs.Turns.{KnownTables, Work, turnNotes}

@@ -6,7 +6,7 @@ use mathlib.Core.Path.{_≡_, refl, ap, sym, _∙_}
 use mathlib.Core.List.{List, [], _∷_}
 use lib.ListN.{length, getD}
 use Rattle.definitions.specs.declared.answer.Refusal.{Refusal}
-use Rattle.definitions.specs.ResolvingTrees.{Outcome, done, refused, andThen}
+use Rattle.definitions.specs.Answers.{Outcome, done, refused, andThen}
 use Rattle.turning.specs.declared.root.Root as code
 use Rattle.turning.specs.declared.turns.Next.{Next}
 use Rattle.turning.specs.declared.turns.Next.the-variants as next

@@ -14,7 +14,8 @@ use Rattle.definitions.specs.declared.direction.Direction.the-variants.{Directe
 use Rattle.definitions.specs.Tables.{Tables}
 use Rattle.definitions.specs.Direction.{turn, Membership, relatedKind}
 use mathlib.Core.Option.{Option, none, some}
-use Rattle.definitions.specs.ResolvingTrees.{Outcome, done, refused, Citing, currentOf, relatedOf, NodeStep, goes, stops}
+use Rattle.definitions.specs.Answers.{Outcome, done, refused}
+use Rattle.definitions.specs.ResolvingTrees.{Citing, currentOf, relatedOf, NodeStep, goes, stops}
 use Rattle.directions.specs.Words.{tablesIn, memberIn}
 use Rattle.directions.specs.RecordRuns.{treesResolved}
 use Rattle.turning.specs.declared.step.Out.{Out}

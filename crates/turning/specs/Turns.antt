@@ -15,7 +15,8 @@ use Rattle.definitions.specs.Inputs.{input}
 use Rattle.definitions.specs.Tables.{Derived, Tables, tables}
 use Rattle.definitions.specs.Direction.{Membership, relatedKind, memberKinds}
 use Rattle.definitions.specs.Tree.{Fields, fieldWords}
-use Rattle.definitions.specs.ResolvingTrees.{Outcome, done, refused, andThen, Citing, NodeStep, goes, stops, nodeStep}
+use Rattle.definitions.specs.Answers.{Outcome, done, refused, andThen}
+use Rattle.definitions.specs.ResolvingTrees.{Citing, NodeStep, goes, stops, nodeStep}
 use Rattle.turning.specs.Notes.{Note, lookOf}
 
 -- ---- a note taken out of its number
