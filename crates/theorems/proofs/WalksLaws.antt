@@ -28,4 +28,4 @@ innermost-means direct names n =
     }
 
 pub lean-means : (rs : List Relation) (a b : ℕ) → LeanMeans rs a b
-lean-means rs a b = record { means = leans-computes rs a b .0; only = leans-computes rs a b .1 }
+lean-means rs a b = record { means = leans-computes rs a b .sound; only = leans-computes rs a b .complete }
