@@ -22,7 +22,8 @@ ghost use lib.ListN.{length};
 ghost use Rattle.definitions.specs.Bytes.{encode, overBytes, Gives};
 ghost use Rattle.wire.specs.Loading.{Holds, Tried};
 ghost use Rattle.definitions.specs.Operations.{resolveAnswer, resolveBuffer, answerTo, answerOf, bufferOf};
-ghost use Rattle.over_bytes.specs.Operations.{asWriting, Ran, RoomIn};
+ghost use Rattle.definitions.specs.Answers.{Answered};
+ghost use Rattle.over_bytes.specs.Operations.{asWriting, RoomIn};
 
 // Those of them that leave their slice alone where they refuse.
 pub enum Plain {
@@ -74,7 +75,7 @@ pub fn ask(q: Question, pack: &[u8]) -> u64
 }
 
 fn run(w: Plain, words: &[u32], out: &mut [u32]) -> Answer
-    ensures { λ r. ⌜ Ran (asWriting w) (now (words .entry)) (now (out .entry)) r (now (out .exit)) ⌝ }
+    ensures { λ r. ⌜ Answered (answerOf (asWriting w)) (bufferOf (asWriting w)) (now (words .entry)) (now (out .entry)) r (now (out .exit)) ⌝ }
 {
     match w {
         Plain::Rewrite => rewrite(words, out),
