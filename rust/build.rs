@@ -3,9 +3,6 @@ use std::env;
 use std::path::{Path, PathBuf};
 use std::process::exit;
 
-/// The library as `tools/install` and as the toolchain call it.
-const NAMES: [&str; 2] = ["cogunwa", "host"];
-
 fn main() {
     println!("cargo:rerun-if-env-changed=COGUNWA_LIB_DIR");
     refuse_other_targets();
@@ -13,14 +10,12 @@ fn main() {
         Some(folder) => PathBuf::from(folder),
         None => Path::new(&env::var_os("CARGO_MANIFEST_DIR").unwrap()).join("../target/staticlib"),
     };
-    for name in NAMES {
-        let library = folder.join(format!("lib{name}.a"));
-        println!("cargo:rerun-if-changed={}", library.display());
-        if let Ok(library) = library.canonicalize() {
-            println!("cargo:rustc-link-search=native={}", library.parent().unwrap().display());
-            println!("cargo:rustc-link-lib=static={name}");
-            return;
-        }
+    let library = folder.join("libcogunwa.a");
+    println!("cargo:rerun-if-changed={}", library.display());
+    println!("cargo:rustc-link-lib=static=cogunwa");
+    if let Ok(library) = library.canonicalize() {
+        println!("cargo:rustc-link-search=native={}", library.parent().unwrap().display());
+        return;
     }
     // Documentation and checks do not link, so this is no error yet.
     println!(
@@ -28,7 +23,6 @@ fn main() {
          another folder. Without it only `cargo doc` and `cargo check` work.",
         folder.display()
     );
-    println!("cargo:rustc-link-lib=static={}", NAMES[0]);
 }
 
 /// The library has the code of one kind of machine.

@@ -2,7 +2,7 @@
 // `ok LENGTH STEPS` and then the words, or `refused NUMBER PLACE NAME OTHER`.
 mod report;
 
-use host::cogunwa_resolve;
+use cogunwa::cogunwa_resolve;
 use pack::kinds::Pack;
 
 fn main() {
