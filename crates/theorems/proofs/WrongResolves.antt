@@ -10,7 +10,7 @@ use Rattle.definitions.specs.declared.answer.Refusal.{Refusal}
 use Rattle.definitions.specs.declared.answer.Answer.{Answer}
 use Rattle.definitions.specs.declared.answer.Answer.the-variants.{Given, Refused}
 use Rattle.definitions.specs.Table.{wordOf, entryOf, table, fieldsOf, childrenOf}
-use Rattle.pack.specs.Table as tables256
+use Rattle.definitions.specs.Table as tables256
 use Rattle.definitions.specs.Form.{wordsBy, count, items}
 use Rattle.definitions.specs.Tree.{tree, root, follow, fields, heads, size}
 use Rattle.definitions.specs.Records.{Relation, Rule, Block, Pack}
