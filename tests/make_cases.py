@@ -6,20 +6,26 @@ that is known by its label is changed. So the answer that document 01 gives to a
 What the chain operations and Resolve answer follows from the records, by the models below. The last part of the list is not
 made here: it is the file of the original's answers, tests/oracle/answers.txt.
 
-A line of the list is a comment, which begins with #, a case, or a call on the pack of the case above it:
+The list is of words, four bytes each, low byte first. It is a row of entries, each of twelve words:
 
-    NAME | ok, or refused NUMBER PLACE NAME OTHER | WORDS | ROOM .. | the words of the pack
-    NAME > OPERATION ARGUMENT .. | given VALUE STEPS, or refused NUMBER PLACE NAME OTHER | the words written
+    operation, room, first, second, number, place, name, other, kept, count, times, word
 
-Check and Rewrite are run on the pack of every case. A call runs one of the other operations: all_kinds, direct, innermost,
-alias, unresolved and resolve write, and their argument is the room they are lent; the argument of kinds_of is a name, lean has
-two names. --folder says where the two files are written.
+and `count` words that follow. The words of all entries stand in one row: an entry leaves the first `kept` as they are, puts the words
+that follow after these, and after those its last field, `times` over. Its words are all up to there. What it is, by its operation:
 
-The number of words, the rooms for Rewrite and the arguments are decimal, the words hexadecimal. `W*N` is the word W N times,
-`(V W)*N` the words V W N times, and a word with `+S` is larger by S each time.
+    0        a part: its words are there for the next entry to keep
+    1        a pack, its words: a new case, on which the calls up to the next are made
+    2        Check
+    3 to 11  Rewrite, all_kinds, kinds_of, lean, direct, innermost, alias, unresolved, resolve
+    12       the end of the list; nothing stands after it
+
+A call has to answer number, place, name and other: those of a refusal, or 0, 0, a value and the steps. An operation that writes is lent
+`room` words; what it has to write are the entry's words, and nothing after them. kinds_of takes the first name, lean both.
+
+The program tells a call by two numbers, both from 1: that of its case, and its own among the calls of the case. --print lists every call
+with them, --case N those of one case, with all words. --folder says where the two files are written.
 """
 import argparse
-import functools
 import os
 from collections import Counter, namedtuple
 
@@ -472,15 +478,16 @@ class Resolving:
 
 # ---- the list
 
-Case = namedtuple('Case', 'name expected words rooms')
+# rooms: for Rewrite; calls: of the other operations; headings: of the sections that begin with this case
+Case = namedtuple('Case', 'name expected words rooms calls headings')
 Call = namedtuple('Call', 'case operation args expected words')
-lines = []
 cases = []
 calls = []
+headings = []
 
 
 def section(text):
-    lines.append('# ' + text)
+    headings.append(text)
 
 
 def add(name, p, expected, rooms=None):
@@ -489,10 +496,10 @@ def add(name, p, expected, rooms=None):
     assert expected != 'ok' or 6 <= n <= 8192, name
     if rooms is None:
         rooms = [0, n - 1, n, n + 3] if expected == 'ok' else [0, n]
-    case = Case(name, expected, words, rooms)
+    case = Case(name, expected, words, rooms, [], headings[:])
     assert ' ' not in name and all(c.name != name for c in cases), name
     cases.append(case)
-    lines.append(case)
+    headings.clear()
 
 
 def ok(name, p, rooms=None):
@@ -513,7 +520,7 @@ def call(case, operation, args, expected, words=()):
     """A call on the pack of the last case."""
     assert case == cases[-1].name and all(0 <= a < 2 ** 32 for a in args)
     calls.append(Call(case, operation, args, expected, words))
-    lines.append(calls[-1])
+    cases[-1].calls.append(calls[-1])
 
 
 def ask_resolve(name, model, rooms):
@@ -554,45 +561,93 @@ def ask_refused(name, n, k):
         call(name, 'lean', (x, n), cases[-1].expected)
 
 
-# ---- writing words short
+# ---- the entries of the list
 
-def turns(words, i, g):
-    """How often the g words at i come in a row, each larger by the same small step each time, and the steps."""
-    if i + g >= len(words) or not 0 <= words[i + g] - words[i] <= 255:
-        return 1, None
-    steps = [words[i + g + k] - words[i + k] if i + g + k < len(words) else -1 for k in range(g)]
-    if any(s < 0 or s > 255 for s in steps):
-        return 1, None
-    n = 1
-    while i + (n + 1) * g <= len(words) and all(words[i + n * g + k] == words[i + k] + n * steps[k] for k in range(g)):
-        n += 1
-    return n, steps
+OPERATIONS = ('part', 'pack', 'check', 'rewrite', 'all_kinds', 'kinds_of', 'lean', 'direct', 'innermost', 'alias', 'unresolved',
+              'resolve', 'end')
+HEAD = 12  # the words of an entry that brings none
+WORDS, ROOM = 8448, 10240  # the words that the program has room for, and can lend
 
 
-@functools.cache
-def short(words, digits=8):
-    out, i = [], 0
-    while i < len(words):
-        best = (8, 1, 1, [0])
-        for g in range(1, 28):
-            n, steps = turns(words, i, g)
-            if n >= 3 and (n - 1) * g > best[0]:
-                best = ((n - 1) * g, g, n, steps)
-        _, g, n, steps = best
-        texts = [f'{w:0{digits}X}' + (f'+{s}' if s else '') for w, s in zip(words[i:i + g], steps)]
-        out.append(texts[0] if g == 1 else '(' + ' '.join(texts) + ')')
-        out[-1] += f'*{n}' if n > 1 else ''
-        i += g * n
-    return ' '.join(out)
+def rewritten(case, room):
+    """Rewrite's answer, and the words it writes."""
+    n = len(case.words)
+    if case.expected != 'ok':
+        return case.expected, ()
+    return (f'given {n} 0', case.words) if n <= room else ('refused 16 0 0 0', ())
 
 
-def text_of(line):
-    if isinstance(line, Call):
-        args = ' '.join(map(str, line.args))
-        return f'{line.case} > {line.operation} {args} | {line.expected} | {short(tuple(line.words), 1)}'.rstrip()
-    case = line
-    rooms = ' '.join(map(str, case.rooms))
-    return f'{case.name} | {case.expected} | {len(case.words)} | {rooms} | {short(tuple(case.words))}'.rstrip()
+def calls_of(case):
+    """The calls of a case in the order of the list."""
+    yield Call(case.name, 'check', (), case.expected, ())
+    for room in case.rooms:
+        yield Call(case.name, 'rewrite', (room,), *rewritten(case, room))
+    yield from case.calls
+
+
+def fields(expected):
+    """The four fields of an answer."""
+    how, *numbers = ['given', '1', '0'] if expected == 'ok' else expected.split()
+    return [0] * (how == 'given') * 2 + [int(n) for n in numbers]
+
+
+class Entries:
+    """The words of a list, and the row that the next entry may keep words of."""
+
+    def __init__(self):
+        self.list, self.kept = [], []
+
+    def entry(self, operation, words=(), args=(), answer=(0, 0, 0, 0)):
+        *parts, last = self.parts(list(words))
+        for part in parts:
+            self.put('part', (0, 0, 0), (0, 0, 0, 0), *part)
+        names = operation in ('kinds_of', 'lean')
+        self.put(operation, ([0, *args, 0] if names else [*args, 0, 0, 0])[:3], answer, *last)
+        self.kept[:len(words)] = words
+
+    def put(self, operation, args, answer, kept, brought, times, word):
+        self.list += [OPERATIONS.index(operation), *args, *answer, kept, len(brought), times, word, *brought]
+
+    def parts(self, words):
+        """What an entry keeps, brings and repeats; more than one where a word that comes again and again has others after it."""
+        at = 0
+        while at < len(words) and self.kept[at:at + 1] == words[at:at + 1]:
+            at += 1
+        start, parts = at, []
+        while at < len(words):
+            end = at + 1
+            while end < len(words) and words[end] == words[at]:
+                end += 1
+            if end - at > HEAD or end == len(words):
+                parts.append((start, words[start:at], end - at, words[at]))
+                start = end
+            at = end
+        return parts or [(at, [], 0, 0)]
+
+
+def entries():
+    out = Entries()
+    for case in cases:
+        assert len(case.words) <= WORDS
+        out.entry('pack', case.words)
+        for c in calls_of(case):
+            assert len(c.words) <= WORDS and (c.operation in ('kinds_of', 'lean') or max(c.args, default=0) <= ROOM), c
+            out.entry(c.operation, c.words, c.args, fields(c.expected))
+    out.entry('end')
+    return out.list
+
+
+def listed(only=None):
+    """The calls by their numbers, under the headings of their sections; of one case alone, with all words."""
+    for i, case in enumerate(cases, 1):
+        if only in (None, i):
+            for heading in case.headings:
+                print('#', heading)
+            words = f'{len(case.words)} words' if only is None else ' '.join(f'{w:08X}' for w in case.words)
+            print(f'{i} {case.name}: {words}')
+            for k, c in enumerate(calls_of(case), 1):
+                words = '' if only is None else ''.join(f' {w:08X}' for w in c.words)
+                print(f'{i}.{k} {case.name} > {" ".join(map(str, [c.operation, *c.args]))} | {c.expected}' + (words and ' |' + words))
 
 
 # ---- packs that many cases start from
@@ -2237,7 +2292,13 @@ def resolve_by_chance():
 # ---- the original's answers
 
 def originals():
-    """The lines of tests/oracle/answers.txt, which tests/oracle wrote from the original's answers, as they stand there."""
+    """The packs and calls of tests/oracle/answers.txt, which tests/oracle wrote from the original's answers.
+
+    A line there is a comment, which begins with #, a case, or a call on the pack of the case above it; the words are hexadecimal:
+
+        NAME | ok | how many words the pack has | ROOM .. for Rewrite | the words of the pack
+        NAME > OPERATION ARGUMENT | given VALUE STEPS, or refused NUMBER PLACE NAME OTHER | the words written
+    """
     here = os.path.dirname(os.path.abspath(__file__))
     with open(os.path.join(here, 'oracle', 'answers.txt')) as f:
         texts = f.read().splitlines()
@@ -2245,7 +2306,7 @@ def originals():
     for text in texts:
         head, *rest = [part.strip() for part in text.split('|')]
         if text.startswith('#'):
-            lines.append(text)
+            section(text[2:])
         elif len(rest) == 4:
             expected, length, rooms, pack_words = rest
             add(head, words(pack_words), expected, [int(r) for r in rooms.split()])
@@ -2269,6 +2330,8 @@ def main():
     here = os.path.dirname(os.path.abspath(__file__))
     parser = argparse.ArgumentParser(description='Writes the list of packs and what the program that replays it must write.')
     parser.add_argument('--folder', default=os.path.join(here, '..', 'crates', 'cases'), help='where stdin and stdout are written')
+    parser.add_argument('--print', action='store_true', help='list the calls by their numbers, and write no file')
+    parser.add_argument('--case', type=int, help='list the calls of the case of this number, with all words, and write no file')
     options = parser.parse_args()
     for part in (lengths, limits, names, values, counts, any_values, depth, order, rising, used, places, heads, by_chance,
                  worked, graphs, lists, large_chains, sizes, entities, damaged_chains, chains_by_chance):
@@ -2277,12 +2340,13 @@ def main():
     for part in RESOLVE:
         part()
     originals()
+    if options.print or options.case:
+        listed(options.case)
+        return
     folder = options.folder
     words = [w for c in cases for w in c.words]
-    texts = [t if isinstance(t, str) else text_of(t) for t in lines]
-    assert max(map(len, texts)) < 65536  # the program's buffer
-    with open(os.path.join(folder, 'stdin'), 'w') as f:
-        f.write(''.join(t + '\n' for t in texts))
+    with open(os.path.join(folder, 'stdin'), 'wb') as f:
+        f.write(b''.join(w.to_bytes(4, 'little') for w in entries()))
     with open(os.path.join(folder, 'stdout'), 'w') as f:
         f.write(f'{len(words)} words, sum {sum(words) % 2 ** 32:08x}, {sum(len(c.rooms) for c in cases)} rewrites, {len(calls)} calls\n')
         f.write(f'{len(cases)} cases, 0 differ\n')

@@ -2,91 +2,69 @@
 use definitions::answer::Answer;
 use definitions::answer::Refusal;
 
-// Whether two answers are alike in every field.
-pub fn same(a: Answer, b: Answer) -> bool {
+// What a buffer holds before a call: words of the kind 222, which no pack has, that begin with this one and grow by 1.
+pub const MARK: u32 = 0xDEAD0000;
+
+// What came of a call: an answer or a word of the buffer may be another than the one expected, which stands before it.
+pub enum Found {
+    Same,
+    Answer(Refusal, Refusal),
+    Word(usize, u32, u32),
+    IllFormed,
+}
+
+// An answer as an entry has it.
+pub fn fields(a: Answer) -> Refusal {
     match a {
-        Answer::Given(v, s) => match b {
-            Answer::Given(w, t) => v == w && s == t,
-            Answer::Refused(_) => false,
-        },
-        Answer::Refused(r) => match b {
-            Answer::Given(_, _) => false,
-            Answer::Refused(q) => same_refusal(r, q),
-        },
-    }
-}
-
-fn same_refusal(r: Refusal, q: Refusal) -> bool {
-    r.number == q.number && r.place == q.place && r.name == q.name && r.other == q.other
-}
-
-// What Rewrite has to answer where Check answers this, the pack has `length` words and the buffer `room`.
-pub fn rewrite_answer(check: Answer, length: u32, room: u32) -> Answer {
-    let Answer::Given(_, _) = check else {
-        return check;
-    };
-    if room < length {
-        return Answer::Refused(Refusal {
-            number: 16,
+        Answer::Given(value, steps) => Refusal {
+            number: 0,
             place: 0,
-            name: 0,
-            other: 0,
-        });
-    }
-    Answer::Given(length, 0)
-}
-
-// How many words an answer of Rewrite says to be written.
-pub fn written(a: Answer) -> usize {
-    match a {
-        Answer::Given(n, _) => n as usize,
-        Answer::Refused(_) => 0,
+            name: value,
+            other: steps,
+        },
+        Answer::Refused(r) => r,
     }
 }
 
-// What a buffer holds before: words of the kind 222, which no pack has.
-pub fn before(i: usize) -> u32 {
-    (i % 65536) as u32 + 0xDEAD0000
+pub fn same(a: Refusal, b: Refusal) -> bool {
+    a.number == b.number && a.place == b.place && a.name == b.name && a.other == b.other
 }
 
-pub fn fill(out: &mut [u32]) {
+// Words that begin with this one and grow by a step.
+pub fn fill(words: &mut [u32], first: u32, step: u32) {
+    let mut word = first;
     let mut i = 0;
-    while i < out.len() {
-        out[i] = before(i);
+    while i < words.len() {
+        words[i] = word;
+        word = std::num::wrapping_add_u32(word, step);
         i += 1;
     }
 }
 
-// What a buffer has to hold at i, where so many of these words are written.
-fn after(words: &[u32], count: usize, i: usize) -> u32 {
-    if count <= i {
-        return before(i);
-    }
-    if words.len() <= i {
-        return before(i);
-    }
-    words[i]
-}
-
-// The first place of the buffer that is not as it has to be, or its length.
-pub fn unlike(out: &[u32], words: &[u32], count: usize) -> usize {
+// The first word of a buffer that is not as it has to be, where these words are written and the rest is as it was before.
+pub fn unlike(out: &[u32], words: &[u32]) -> Found {
+    let mut before = MARK;
     let mut i = 0;
     while i < out.len() {
-        if out[i] != after(words, count, i) {
-            return i;
+        let expected = if i < words.len() { words[i] } else { before };
+        if out[i] != expected {
+            return Found::Word(i, expected, out[i]);
         }
+        before = std::num::wrapping_add_u32(before, 1);
         i += 1;
     }
-    i
+    Found::Same
 }
 
-// The sum of the words, which wraps.
-pub fn sum(pack: &[u32], from: u32) -> u32 {
-    let mut s = from;
+// Copies the words to the front of the pack, and adds them to a sum, which wraps.
+pub fn take_up(words: &[u32], pack: &mut [u32], from: u32) -> u32 {
+    let mut sum = from;
     let mut i = 0;
-    while i < pack.len() {
-        s = std::num::wrapping_add_u32(s, pack[i]);
+    while i < words.len() && i < pack.len() {
+        let w = words[i];
+        pack[i] = w;
+        sum = std::num::wrapping_add_u32(sum, w);
         i += 1;
     }
-    s
+    sum
 }

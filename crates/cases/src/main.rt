@@ -1,21 +1,17 @@
-// Replays a list of packs with the answers that document 01 gives to them: Check, Rewrite into buffers of several lengths,
-// and calls of the operations on chains: All kinds, Kinds of one name, Lean, and the tables of direct and innermost kinds,
-// of aliases and of entities that are unresolved; and of Resolve.
+// Replays a list of packs, of calls on them and of the answers that document 01 gives: Check, Rewrite, All kinds, Kinds of one
+// name, Lean, the tables of direct and innermost kinds, of aliases and of entities that are unresolved, and Resolve.
 // It reads the list, which tests/make_cases.py makes and describes, from standard input.
 mod call;
 mod compare;
-mod input;
-mod line;
+mod list;
+mod operation;
 mod report;
 mod run;
-mod text;
-mod words;
 
 fn main() {
-    let mut buf = io::large_buffer();
-    let mut pack = [0u32; 8448];
-    let mut steps = [0u32; 8448];
+    let mut bytes = io::large_buffer();
     let mut words = [0u32; 8448];
-    let mut out = [0u32; 8448];
-    run::run_list(&mut buf, &mut pack, &mut steps, &mut words, &mut out);
+    let mut pack = [0u32; 8448];
+    let mut out = [0u32; 10240];
+    run::run_list(&mut bytes, &mut words, &mut pack, &mut out);
 }

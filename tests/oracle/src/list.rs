@@ -1,4 +1,4 @@
-//! The fixed list of the original's answers, in the form of crates/cases/stdin, which tests/make_cases.py takes up.
+//! The fixed list of the original's answers, lines of text that tests/make_cases.py takes up.
 
 use crate::cases;
 use crate::chance::{self, Chance, Made};

@@ -12,43 +12,30 @@ pub struct Case {
     pub words: Vec<u32>,
 }
 
-/// Every case of the list that begins a line of its own; calls on a case are left out.
+/// Every case of the list, by its number; `tests/make_cases.py` says what the list's words are.
 pub fn replayed() -> Vec<Case> {
     let list = concat!(env!("CARGO_MANIFEST_DIR"), "/../../crates/cases/stdin");
-    let list = std::fs::read_to_string(list).unwrap();
-    let fields = |line: &str| line.split('|').map(|field| field.trim().to_string()).collect::<Vec<_>>();
-    let lines = list.lines().filter(|line| !line.starts_with('#')).map(fields);
-    let case = |fields: Vec<String>| {
-        let words = words(&fields[4]);
-        assert_eq!(words.len(), fields[2].parse().unwrap(), "{}", fields[0]);
-        Case { name: fields[0].clone(), accepted: fields[1] == "ok", words }
-    };
-    lines.filter(|fields| fields.len() == 5).map(case).collect()
-}
-
-/// `W*N` is the word W N times, `(V W)*N` the words V W N times; a word with `+S` is larger by S each time.
-fn words(text: &str) -> Vec<u32> {
-    let mut out = vec![];
-    let mut rest = text.trim();
-    while !rest.is_empty() {
-        let (group, more) = match rest.strip_prefix('(') {
-            Some(inner) => inner.split_once(')').unwrap(),
-            None => rest.split_at(rest.find([' ', '*']).unwrap_or(rest.len())),
-        };
-        let (times, more) = match more.strip_prefix('*') {
-            Some(more) => more.split_at(more.find(' ').unwrap_or(more.len())),
-            None => ("1", more),
-        };
-        let number = |digits: &str| u32::from_str_radix(digits, 16).unwrap();
-        for i in 0..times.parse().unwrap() {
-            for word in group.split_whitespace() {
-                let (word, step) = word.split_once('+').unwrap_or((word, "0"));
-                out.push(number(word) + i * number(step));
-            }
+    let list = std::fs::read(list).unwrap();
+    let mut list = list.chunks_exact(4).map(|bytes| u32::from_le_bytes(bytes.try_into().unwrap()));
+    let mut row = vec![0; 8448];
+    let mut cases = vec![];
+    loop {
+        let head: [u32; 12] = std::array::from_fn(|_| list.next().unwrap());
+        let [operation, .., kept, count, times, word] = head;
+        let (from, to, end) = (kept as usize, (kept + count) as usize, (kept + count + times) as usize);
+        row[from..to].fill_with(|| list.next().unwrap());
+        row[to..end].fill(word);
+        match operation {
+            1 => cases.push(Case {
+                name: format!("case {}", cases.len() + 1),
+                accepted: false,
+                words: row[..end].to_vec(),
+            }),
+            2 => cases.last_mut().unwrap().accepted = head[4] == 0,
+            12 => return cases,
+            _ => {}
         }
-        rest = more.trim_start();
     }
-    out
 }
 
 /// So many packs made by chance, of the sorts that the wrapper's tests use.

@@ -1,4 +1,4 @@
--- `cases::compare::fill` is safe and ends. The buffer keeps its length; the measure is what is left of it.
+-- `cases::compare::fill` is safe and ends. The slice keeps its length; the measure is what is left of it.
 use borrow.Author.Needs.{needs}
 use Prim.Native.Nat.{_-_}
 use mathlib.Core.Path.{_≡_}
@@ -7,37 +7,10 @@ use Rattle.cases.proofs.compare.fill.Statement.{statement}
 use Rattle.cases.proofs.compare.fill.Tie as tie
 
 abbrev Inv-loop : tie.InvT-loop
-Inv-loop out₀ i₀ out i = length out ≡ length out₀
+Inv-loop words₀ first step word₀ i₀ words word i = length words ≡ length words₀
 
 abbrev μ-loop : tie.MeasureT-loop
-μ-loop out₀ i₀ out i = length out₀ - i
-
-loop-holds : tie.Need-loop-holds Inv-loop μ-loop
-loop-holds c = search needs
-
-before-requires : tie.Need-before-requires Inv-loop μ-loop
-before-requires c κs = search needs
-
-mul-out : tie.Need-mul-out Inv-loop μ-loop
-mul-out c = search needs
-
-slice-write-out : tie.Need-slice-write-out Inv-loop μ-loop
-slice-write-out c = search needs
-
-add-i : tie.Need-add-i Inv-loop μ-loop
-add-i c = search needs
-
-loop-less : tie.Need-loop-less Inv-loop μ-loop
-loop-less c = search needs
-
-loop-again : tie.Need-loop-again Inv-loop μ-loop
-loop-again c = search needs
-
-same-length : tie.Need-same-length Inv-loop μ-loop
-same-length c = search needs
-
-returns : tie.Need-returns Inv-loop μ-loop
-returns c = search needs
+μ-loop words₀ first step word₀ i₀ words word i = length words₀ - i
 
 pub fill-spec : {M : Type 1} → statement M
 fill-spec =
@@ -45,12 +18,12 @@ fill-spec =
     (tie.spec
     Inv-loop
     μ-loop
-    loop-holds
-    before-requires
-    mul-out
-    slice-write-out
-    add-i
-    loop-less
-    loop-again
-    same-length
-    returns)
+    (λ c. search needs)
+    (λ c. search needs)
+    (λ c. search needs)
+    (λ c κs. search needs)
+    (λ c. search needs)
+    (λ c. search needs)
+    (λ c. search needs)
+    (λ c. search needs)
+    (λ c. search needs))
