@@ -1,9 +1,10 @@
 //! Cases that document 01 names, packs at the limits, and all small graphs.
 
-use crate::chance::Made;
 use crate::compare::{self, Counts};
 use crate::original::Refused;
-use crate::records::{Block, Derivation, Item, Pack, Relation, Rule, Tree, NONE};
+use cogunwa_model::generate::Made;
+use cogunwa_model::packs::{count, derivation, derived, leaf, member, rule, same, typed};
+use cogunwa_model::records::{Block, Derivation, Item, NONE, Pack, Relation, Rule, Tree};
 
 /// Plain texts for n names: no origins.
 pub fn plain_texts(n: u32) -> Vec<String> {
@@ -14,54 +15,8 @@ pub fn plain(pack: Pack) -> Made {
     Made { texts: plain_texts(pack.n), pack }
 }
 
-pub fn holds() -> Tree {
-    Tree::leaf(106, 0)
-}
-
-pub fn typed(name: u32, kinds: &[u32]) -> Relation {
-    Relation { name, origin: NONE, arity: kinds.len() as u32, kinds: kinds.to_vec(), derived: None }
-}
-
-pub fn derivation(source: u32) -> Derivation {
-    Derivation {
-        source,
-        path: None,
-        current: 0,
-        related: 1,
-        entity: NONE,
-        member: NONE,
-        kinds: vec![],
-        predicate: holds(),
-    }
-}
-
-pub fn derived(name: u32, d: Derivation) -> Relation {
-    Relation { name, origin: NONE, arity: 2, kinds: vec![], derived: Some(d) }
-}
-
-pub fn rule(name: u32, entity: u32, bodies: Vec<Tree>) -> Rule {
-    Rule { name, origin: NONE, entity, bodies }
-}
-
-pub fn count(relation: u32, slots: (u32, u32), inner: Option<Tree>) -> Tree {
-    let fields = [(80, slots.0), (81, slots.1), (86, 0), (83, inner.is_some() as u32)];
-    Tree::new(74, relation, &fields, inner.into_iter().collect())
-}
-
-pub fn member(relation: u32, slots: (u32, u32)) -> Tree {
-    Tree::new(101, relation, &[(80, slots.0), (81, slots.1)], vec![])
-}
-
 fn only(relation: u32, kind: u8, name: u32) -> Tree {
     Tree::new(78, relation, &[(80, 7), (81, 9), (kind, name)], vec![])
-}
-
-fn same(a: Tree, b: Tree) -> Tree {
-    Tree::new(96, 0, &[], vec![a, b])
-}
-
-fn leaf() -> Tree {
-    Tree::leaf(64, 3)
 }
 
 fn small(relations: Vec<Relation>, rules: Vec<Rule>) -> Pack {
@@ -346,7 +301,7 @@ pub fn run_named() -> Counts {
     let mut counts = Counts::default();
     for (name, pack, wanted) in named().into_iter().chain(at_limits()).chain(most_nodes()) {
         let made = plain(pack);
-        let (alike, told) = compare::pack(&made, 8192, &mut counts);
+        let (alike, told) = compare::pack(&name, &made, 8192, &mut counts);
         let right = meets(&made.pack, &told, &wanted);
         if alike && !right {
             counts.differ += 1;
@@ -427,7 +382,7 @@ fn run_graphs(graph: u32, full: bool) -> Counts {
         let rules = [1, 3].map(|entity| rule(8, entity, vec![Tree::new(68, graph, &[], reads.clone())]));
         let defaulted = if counts.packs % 4 == 0 { vec![FIRST, FIRST + 1] } else { vec![] };
         let pack = Pack { n: 10, defaulted, relations, rules: rules.to_vec(), blocks: vec![] };
-        compare::pack(&plain(pack), 8192, &mut counts);
+        compare::pack("a graph", &plain(pack), 8192, &mut counts);
     });
     counts
 }
@@ -452,7 +407,7 @@ fn run_filters() -> Counts {
         relations.push(typed(9, &[1, 2]));
         let rules = (1..=3).map(|entity| rule(8, entity, vec![count(9, (7, 9), None)])).collect();
         let pack = Pack { n: 10, relations, rules, ..Pack::default() };
-        compare::pack(&plain(pack), 8192, &mut counts);
+        compare::pack("a graph", &plain(pack), 8192, &mut counts);
     });
     counts
 }
@@ -489,7 +444,7 @@ fn run_trees() -> Counts {
             ..derivation(NONE)
         };
         let relations = vec![typed(5, &[1 + c[6], 1 + c[7]]), derived(6, d)];
-        compare::pack(&plain(small(relations, vec![])), 8192, &mut counts);
+        compare::pack("a tree", &plain(small(relations, vec![])), 8192, &mut counts);
     });
     counts
 }

@@ -5,7 +5,6 @@
 //! back from the pack where the form is the one that they chose.
 
 use crate::model::{JudgmentExpr, Program, RelationDerivation, RelationPathStep, RelationSchema};
-use crate::records::{Block, Derivation, Item, NONE, Pack, Relation, Rule, Tree};
 use crate::relation_direction::{self, DirectionError};
 use crate::relation_typing::{self, ChainStep};
 use crate::spec::{
@@ -14,6 +13,7 @@ use crate::spec::{
     ScalarExprSpec, ScalarValueSpec, TermSpec,
 };
 use chrono::NaiveDate;
+use cogunwa_model::records::{Block, Derivation, Item, NONE, Pack, Relation, Rule, Tree};
 use serde_yaml::{Mapping, Value};
 use std::collections::{BTreeMap, HashMap, HashSet};
 use std::mem::discriminant;
