@@ -1,8 +1,9 @@
 //! The stack that a call takes, measured over the packs that take most of it, is within `STACK_BYTES`.
-mod packs;
-
 use cogunwa::{Refusal, STACK_BYTES, bytes_of, resolve_vec};
-use packs::{Chance, NONE, Words, graph, relation_named};
+use cogunwa_model::generate::{self, Form};
+use cogunwa_model::limits::limits;
+use cogunwa_model::packs::{self, Words, graph, named};
+use cogunwa_model::{Chance, NONE};
 use std::hint::black_box;
 use std::thread;
 
@@ -120,26 +121,27 @@ fn all_packs() -> Vec<(&'static str, Vec<u32>)> {
         ("blocks", blocks()),
     ];
     all.extend(deep_trees().into_iter().map(|words| ("a deep tree", words)));
-    let mut c = Chance(7);
+    let mut c = Chance::new(7);
     for _ in 0..60 {
-        all.push(("a mixed pack", packs::mixed(&mut c)));
-        all.push(("a tangled pack", packs::tangled(&mut c)));
-        all.push(("a pack of entities", packs::entities(&mut c)));
-        all.push(("a turning pack", packs::turning(&mut c)));
+        all.push(("a mixed pack", generate::words(&mut c, Form::Mixed)));
+        all.push(("a tangled pack", generate::words(&mut c, Form::Tangled)));
+        all.push(("a pack of entities", generate::words(&mut c, Form::Entities)));
+        all.push(("a turning pack", generate::words(&mut c, Form::Turning)));
+        all.push(("a program's pack", generate::words(&mut c, Form::Program)));
     }
+    all.extend(limits().into_iter().map(|words| ("a pack at a limit", words)));
     all
 }
 
 /// As many relations as there can be, each with a source and an entity.
 fn sources(source: impl Fn(u32) -> u32) -> Vec<u32> {
-    let relations: Vec<_> = (0..512).map(|name| relation_named(name).source(source(name)).entity(name)).collect();
+    let relations: Vec<_> = (0..512).map(|name| named(name).source(source(name)).entity(name)).collect();
     graph(4096, &relations)
 }
 
 /// As many entities as there can be with one kind each, which leads on to the next.
 fn kinds_in_a_row() -> Vec<u32> {
-    let relations: Vec<_> =
-        (0..512).map(|name| relation_named(name).kinds(&[name + 1]).derived().entity(name)).collect();
+    let relations: Vec<_> = (0..512).map(|name| named(name).kinds(&[name + 1]).derived().entity(name)).collect();
     graph(4096, &relations)
 }
 

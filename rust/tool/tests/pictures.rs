@@ -94,7 +94,7 @@ fn look(name: &str, words: &[u32]) -> (usize, usize) {
 
 #[test]
 fn nothing_overlaps() {
-    let mut c = Chance(2220);
+    let mut c = Chance::new(2220);
     let mut count = (0, 0);
     let mut add = |(boxes, arrows): (usize, usize)| count = (count.0 + boxes, count.1 + arrows);
     add(look("sample", &cases::packs::household()));

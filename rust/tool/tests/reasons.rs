@@ -95,7 +95,7 @@ fn every_replayed_pack() {
 #[test]
 fn packs_by_chance() {
     let mut met = Met::default();
-    let mut c = Chance(2202);
+    let mut c = Chance::new(2202);
     for (i, words) in cases::by_chance(&mut c, 2500).iter().enumerate() {
         hold(&format!("pack {i}"), words, &mut met);
     }

@@ -26,7 +26,7 @@ fn names_of(words: &[u32]) -> u32 {
 
 #[test]
 fn every_replayed_pack() {
-    let mut c = Chance(22);
+    let mut c = Chance::new(22);
     let mut count = 0;
     for case in cases::replayed().iter().filter(|case| case.accepted) {
         round(&case.name, &case.words, &Naming::Numbers);
@@ -40,7 +40,7 @@ fn every_replayed_pack() {
 
 #[test]
 fn packs_by_chance() {
-    let mut c = Chance(2201);
+    let mut c = Chance::new(2201);
     let packs = cases::by_chance(&mut c, 2500);
     let mut count = 0;
     for (i, words) in packs.iter().enumerate() {

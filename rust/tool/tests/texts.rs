@@ -50,7 +50,7 @@ fn strewn(text: &str, tokens: &[Token], c: &mut Chance, between: &mut dyn FnMut(
 
 #[test]
 fn the_layout_does_not_matter() {
-    let mut c = Chance(2210);
+    let mut c = Chance::new(2210);
     for text in some_texts(&mut c, 250) {
         let plain = formatted(
             &text
@@ -71,7 +71,7 @@ fn the_layout_does_not_matter() {
 
 #[test]
 fn comments_are_kept() {
-    let mut c = Chance(2211);
+    let mut c = Chance::new(2211);
     let mut kept = 0;
     for text in some_texts(&mut c, 300) {
         let lexed = lex(&text).unwrap();
@@ -101,7 +101,7 @@ fn comments_are_kept() {
 /// Damaged texts end in a pack or in a place within the text, never in a panic. Those that still make a pack make it again.
 #[test]
 fn damaged_texts() {
-    let mut c = Chance(2212);
+    let mut c = Chance::new(2212);
     let texts = some_texts(&mut c, 300);
     let (mut good, mut wrong) = (0, 0);
     for i in 0..8_000 {
@@ -148,7 +148,7 @@ fn damaged(text: &str, c: &mut Chance) -> String {
 /// Every refused pack of the list, and packs damaged by chance: refused in words, with the library's number.
 #[test]
 fn refused_words() {
-    let mut c = Chance(2213);
+    let mut c = Chance::new(2213);
     let mut refused: Vec<Vec<u32>> =
         cases::replayed().into_iter().filter(|case| !case.accepted).map(|case| case.words).collect();
     assert!(refused.len() > 500);

@@ -1,10 +1,9 @@
 //! The packs of the replayed cases (`crates/cases/stdin`), packs made by chance, and names for them.
 #![allow(dead_code)]
 
-#[path = "../../../tests/packs/mod.rs"]
-pub mod packs;
+use cogunwa_model::generate::{self, Form};
 
-pub use packs::Chance;
+pub use cogunwa_model::{Chance, packs};
 
 pub struct Case {
     pub name: String,
@@ -51,15 +50,16 @@ fn words(text: &str) -> Vec<u32> {
     out
 }
 
-/// So many packs made by chance, of the sorts that the wrapper's tests use.
+/// So many packs made by chance, of every form.
 pub fn by_chance(c: &mut Chance, count: u32) -> Vec<Vec<u32>> {
-    let one = |i: u32, c: &mut Chance| match i % 8 {
-        0 => packs::tangled(c),
-        1 => packs::entities(c),
-        2..=4 => packs::mixed(c),
-        _ => packs::turning(c),
+    let form = |i: u32| match i % 8 {
+        0 => Form::Tangled,
+        1 => Form::Entities,
+        2..=4 => Form::Mixed,
+        5 => Form::Program,
+        _ => Form::Turning,
     };
-    (0..count).map(|i| one(i, c)).filter(|words| words.len() <= 8192).collect()
+    (0..count).map(|i| generate::words(c, form(i))).collect()
 }
 
 /// So many texts for names, in byte order, the first of them empty: plain ones, such with an origin, and odd ones.

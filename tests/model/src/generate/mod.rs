@@ -146,7 +146,7 @@ fn first_form(r: &mut Chance, form: Form) -> Made {
             (Names::with_texts(r, about), relations)
         }
         Form::Turning => (Names::numbers(r, form), 1 + r.below(18)),
-        Form::Mixed => (Names::numbers(r, form), 1 + r.below(13)),
+        Form::Mixed => (Names::numbers(r, form), 1 + r.below(20)),
         Form::Tangled | Form::Entities => (Names::numbers(r, form), 512),
     };
     let Names { n, used, origins, texts } = names;

@@ -152,7 +152,7 @@ impl Making<'_> {
     }
 
     pub fn some_tree(&mut self, scalar: bool) -> Tree {
-        if self.form == Form::Mixed && self.r.often(60) {
+        if self.form == Form::Mixed && self.r.often(90) {
             let depth = 1 + self.r.below(32);
             return self.slender(scalar, depth);
         }
