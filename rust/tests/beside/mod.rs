@@ -12,11 +12,14 @@ pub fn said<T>(answer: Outcome<T>) -> Result<T, Refusal> {
     answer.map_err(|r| Refusal { number: r.number, place: r.place, name: r.name, other: r.other })
 }
 
-/// An operation that writes, of the library and of the model: the words and the steps, 0 where it counts none.
+/// The words that an operation writes and its steps, 0 where it counts none.
+type Given = (Vec<u32>, u32);
+
+/// An operation that writes, of the library and of the model.
 struct Operation {
     name: &'static str,
     library: fn(&[u8], &mut [u8]) -> Result<Written, Refusal>,
-    model: fn(&Reading, usize) -> Outcome<(Vec<u32>, u32)>,
+    model: fn(&Reading, usize) -> Outcome<Given>,
 }
 
 macro_rules! operation {
@@ -38,8 +41,8 @@ const RESOLVE: Operation = operation!(resolve, with steps);
 const TABLES: [Operation; 4] = [operation!(direct), operation!(innermost), operation!(alias), operation!(unresolved)];
 
 impl Operation {
-    /// Into a buffer of this many bytes: the words that are written and the steps.
-    fn held(&self, pack: &[u8], reading: &Outcome<Reading>, room: usize) -> Result<(Vec<u32>, u32), Refusal> {
+    /// Into a buffer of this many bytes.
+    fn held(&self, pack: &[u8], reading: &Outcome<Reading>, room: usize) -> Result<Given, Refusal> {
         let _tried = Tried(pack);
         let name = self.name;
         let before: Vec<u8> = (0..room).map(|i| (i * 7 + 3) as u8).collect();

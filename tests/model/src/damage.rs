@@ -10,7 +10,7 @@ const VALUES: [u32; 22] =
 
 /// How many ways there are to damage a pack at a word. The first `EACH` drop it, double it, and change its kind, its value
 /// twice, and both by one alike.
-pub const WAYS: u32 = 18;
+pub const WAYS: u32 = 20;
 pub const EACH: u32 = 6;
 
 /// A pack damaged at one word, in one of the ways; the total made right again more often than not, as a wrong one hides what
@@ -52,6 +52,8 @@ pub fn damage(r: &mut Chance, words: &[u32], at: usize, way: u32) -> Vec<u32> {
         }
         15 => out[at] = kind << 24 | r.below(1 << 24),
         16 => out[at] = kind << 24 | r.below(4200),
+        17 => out[at] ^= 1 << r.below(32),
+        18 => out.insert(at, r.number() as u32),
         _ => out[at] = r.number() as u32,
     }
     if r.below(4) > 0 && !out.is_empty() && at != 0 { with_total(out) } else { out }

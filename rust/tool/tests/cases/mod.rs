@@ -1,9 +1,8 @@
-//! The packs of the replayed cases (`crates/cases/stdin`), packs made by chance, and names for them.
+//! The packs of the replayed cases (`crates/cases/stdin`), and names for packs.
 #![allow(dead_code)]
 
-use cogunwa_model::generate::{self, Form};
-
-pub use cogunwa_model::{Chance, packs};
+use cogunwa_model::Chance;
+use cogunwa_model::generate::Form;
 
 pub struct Case {
     pub name: String,
@@ -50,17 +49,9 @@ fn words(text: &str) -> Vec<u32> {
     out
 }
 
-/// So many packs made by chance, of every form.
-pub fn by_chance(c: &mut Chance, count: u32) -> Vec<Vec<u32>> {
-    let form = |i: u32| match i % 8 {
-        0 => Form::Tangled,
-        1 => Form::Entities,
-        2..=4 => Form::Mixed,
-        5 => Form::Program,
-        _ => Form::Turning,
-    };
-    (0..count).map(|i| generate::words(c, form(i))).collect()
-}
+/// What packs by chance are of, in turn.
+pub const FORMS: [Form; 8] =
+    [Form::Tangled, Form::Entities, Form::Mixed, Form::Mixed, Form::Mixed, Form::Program, Form::Turning, Form::Turning];
 
 /// So many texts for names, in byte order, the first of them empty: plain ones, such with an origin, and odd ones.
 pub fn texts(c: &mut Chance, count: u32) -> Vec<Vec<u8>> {
