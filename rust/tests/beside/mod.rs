@@ -52,7 +52,10 @@ impl Operation {
         let written = expected.as_ref().map_or(vec![], |(words, _)| bytes_of(words));
         let length = expected.as_ref().map(|(words, steps)| Written { words: words.len(), steps: *steps });
         assert_eq!(answer.as_ref(), length.as_ref().map_err(|r| *r), "{name} into {room} bytes");
-        assert_eq!(words_of(&out[..written.len()]), words_of(&written), "{name}: what is written into {room} bytes");
+        let pairs = words_of(&out).into_iter().zip(words_of(&written)).enumerate();
+        for (place, (found, expected)) in pairs {
+            assert!(found == expected, "{name} into {room} bytes: word {place} is {found:08X}, not {expected:08X}");
+        }
         assert_eq!(out[written.len()..], before[written.len()..], "{name}: the rest of {room} bytes");
         expected
     }
@@ -105,4 +108,28 @@ pub fn lean(pack: &[u8], reading: &Outcome<Reading>, a: u32, b: u32) -> Result<b
     let answer = cogunwa::lean(pack, a, b);
     assert_eq!(answer, said(reading.as_ref().map_err(|r| *r).and_then(|reading| reading.lean(a, b))), "{a} on {b}");
     answer
+}
+
+/// Every operation, in rooms about what it needs and about the most that any does; names up to two that the pack does not
+/// have, not all of them where they are many.
+pub fn every_operation(words: &[u32]) {
+    let pack = bytes_of(words);
+    let reading = read_bytes(&pack);
+    let _ = check(&pack);
+    let model = reading.as_ref().ok();
+    let (n, relations) = model.map_or((1, 0), |model| (model.pack.n, model.pack.relations.len()));
+    let result = model.map_or(0, |model| model.resolve(8192).map_or(0, |(result, _)| result.len()));
+    for needs in [words.len(), result, n as usize, relations, 0, 8192] {
+        for room in [(4 * needs).saturating_sub(1), 4 * needs, 4 * needs + 1, 4 * needs + 7] {
+            for operation in [REWRITE, ALL_KINDS, RESOLVE].iter().chain(&TABLES) {
+                let _ = operation.held(&pack, &reading, room);
+            }
+        }
+    }
+    for name in (0..n).step_by(1 + n as usize / 64).chain([n - 1, n, n + 1]) {
+        let _ = kinds_of(&pack, &reading, name);
+        for other in (0..n).step_by(1 + n as usize / 16).chain([n - 1, n, n + 1]) {
+            let _ = lean(&pack, &reading, name, other);
+        }
+    }
 }

@@ -11,12 +11,14 @@
 //! Packs:
 //!
 //! - `packs`: packs built by hand, small ones, deep ones and large ones
+//! - `cases`: document 01's cases by name, and large packs, with what they come to
 //! - `limits`: packs one below each limit, at it and one above
 //! - `chance`, `generate`: packs by chance
 //! - `damage`: packs damaged at a word
 //! - `dealt`: packs dealt out again
 //! - `replay`: what shows a pack on which a test fails, and runs it again
 
+pub mod cases;
 pub mod chains;
 pub mod chance;
 pub mod damage;

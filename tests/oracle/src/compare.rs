@@ -8,7 +8,7 @@ use cogunwa_model::generate::{self, Form, Made};
 use cogunwa_model::replay::hex;
 use cogunwa_model::{Chance, Outcome, Pack, Reading, Refusal, read};
 use std::collections::BTreeMap;
-use std::fmt::Display;
+use std::fmt::{Debug, Display};
 use std::ops::Range;
 
 /// How many packs had which outcome, and how many differed.
@@ -88,7 +88,16 @@ pub fn model_differs(words: &[u32], told: &Told, room: usize) -> Option<String> 
         return Some((*name).into());
     }
     let ours = reading.resolve(room).map_err(without_place);
-    (ours != told.answer(room)).then(|| format!("resolve: the model {ours:?}, the original {:?}", told.answer(room)))
+    let theirs = told.answer(room);
+    (ours != theirs).then(|| format!("resolve: the model {}, the original {}", answered(&ours), answered(&theirs)))
+}
+
+/// The steps and the words of an answer, or the refusal.
+fn answered<R: Debug>(answer: &Result<(Vec<u32>, u32), R>) -> String {
+    match answer {
+        Ok((words, steps)) => format!("{steps} steps, {}", hex(words)),
+        Err(refusal) => format!("{refusal:?}"),
+    }
 }
 
 /// What an operation writes by the model, and the steps; 0 where it counts none.
@@ -112,7 +121,8 @@ pub fn library_differs(words: &[u32], room: usize) -> Option<String> {
     let reading = read(words);
     let reading = reading.as_ref().map_err(|refusal| *refusal);
     if library::check(&bytes) != reading.map(|_| ()) {
-        return Some(format!("check: library {:?}, model {:?}", library::check(&bytes), reading.err()));
+        let (library, model) = (library::check(&bytes), reading.err());
+        return Some(format!("check: the library {library:?}, the model {model:?}"));
     }
     let n = reading.map_or(3, |reading| reading.pack.n);
     for operation in OPERATIONS {
@@ -126,7 +136,8 @@ pub fn library_differs(words: &[u32], room: usize) -> Option<String> {
         match library::run(operation, &bytes, room) {
             Err(message) => return Some(message),
             Ok(answer) if answer != expected => {
-                return Some(format!("{operation:?}: library {answer:?}, model {expected:?}"));
+                let (library, model) = (answered(&answer), answered(&expected));
+                return Some(format!("{operation:?}: the library {library}, the model {model}"));
             }
             Ok(_) => {}
         }
@@ -231,10 +242,7 @@ pub fn show(words: &[u32], room: usize) {
         Ok(reading) => {
             for operation in OPERATIONS {
                 let room = if operation == Operation::Resolve { room } else { usize::MAX };
-                match expected(&reading, operation, room) {
-                    Ok((words, steps)) => println!("  {operation:?}: steps {steps}, {}", hex(&words)),
-                    Err(refusal) => println!("  {operation:?}: {refusal:?}"),
-                }
+                println!("  {operation:?}: {}", answered(&expected(&reading, operation, room)));
             }
         }
     }

@@ -2,6 +2,7 @@
 
 use crate::cases;
 use crate::compare::{self, Counts, Told};
+use cogunwa_model::cases::{Case, named};
 use cogunwa_model::generate::{self, Form, Made};
 use cogunwa_model::{Chance, read};
 use std::collections::BTreeMap;
@@ -78,7 +79,7 @@ fn lines(out: &mut String, name: &str, made: &Made, told: &Told, room: usize) {
 pub fn write(file: &str) -> bool {
     let mut out = String::from(HEAD);
     let mut counts = Counts::default();
-    for (name, pack) in cases::named_packs() {
+    for Case { name, pack, .. } in named() {
         let made = cases::plain(pack);
         let (_, told) = compare::pack(&name, &made, 8192, &mut counts);
         lines(&mut out, &format!("original-{}", name.replace([' ', '\''], "-")), &made, &told, 8192);
