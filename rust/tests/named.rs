@@ -2,7 +2,7 @@
 mod beside;
 
 use cogunwa::{bytes_of, resolve_vec};
-use cogunwa_model::cases;
+use cogunwa_model::{cases, large};
 
 #[test]
 fn every_case() {
@@ -19,4 +19,16 @@ fn every_case() {
         count += 1;
     }
     assert_eq!(count, 63);
+}
+
+#[test]
+fn large_packs() {
+    let mut accepted = 0;
+    for (_, words) in large::all() {
+        beside::every_operation(&words);
+        accepted += usize::from(cogunwa::check(&bytes_of(&words)).is_ok());
+    }
+    // All but one large pack, and of each deep tree the one that is not too deep.
+    let all = large::all().len();
+    assert_eq!(accepted, 11 + (all - 12) / 2);
 }

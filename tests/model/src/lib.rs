@@ -12,6 +12,7 @@
 //!
 //! - `packs`: packs built by hand, small ones, deep ones and large ones
 //! - `cases`: document 01's cases by name, and large packs, with what they come to
+//! - `large`: packs that go as far as they can
 //! - `limits`: packs one below each limit, at it and one above
 //! - `chance`, `generate`: packs by chance
 //! - `damage`: packs damaged at a word
@@ -25,6 +26,7 @@ pub mod damage;
 pub mod dealt;
 pub mod faults;
 pub mod generate;
+pub mod large;
 pub mod limits;
 pub mod packs;
 pub mod read;
