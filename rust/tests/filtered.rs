@@ -65,16 +65,16 @@ fn slots_and_lists() {
         let kinds: Vec<u32> = (10..10 + count).collect();
         for slot in [0, 1, 2, 6, 7, 8, 9, 65_536, 0xFF_FFFF] {
             let expected = if slot < count { resolved(10 + slot) } else { open.clone() };
-            assert_eq!(said(20, &[named(3).entity(5).current(slot).kinds(&kinds)], 5), expected);
-            assert_eq!(said(20, &[named(3).entity(5).current(slot).entities(&kinds)], 5), expected);
-            let inherits = [named(2).kinds(&kinds), named(3).entity(5).current(slot).source(2)];
+            assert_eq!(said(20, &[named(3).entity(5).current_slot(slot).kinds(&kinds)], 5), expected);
+            assert_eq!(said(20, &[named(3).entity(5).current_slot(slot).entities(&kinds)], 5), expected);
+            let inherits = [named(2).kinds(&kinds), named(3).entity(5).current_slot(slot).source(2)];
             assert_eq!(said(20, &inherits, 5), expected);
             let through = [named(4).source(3), inherits[1].clone(), inherits[0].clone()];
             assert_eq!(said(20, &through, 5), expected);
         }
     }
     // List 21 goes before list 9. The kind of a slot counts, not the list of another relation.
-    let both = named(3).entity(5).kinds(&[6, 7]).entities(&[8, 9]).current(1);
+    let both = named(3).entity(5).kinds(&[6, 7]).entities(&[8, 9]).current_slot(1);
     assert_eq!(said(20, &[both], 5), resolved(9));
     // No kinds: no list, a path of any count, a ring, an undeclared source.
     let derived = named(3).entity(5);
@@ -109,7 +109,7 @@ fn kinds_equal_and_unlike() {
         assert_eq!(given(unlike), [NONE, NONE, 1, 0], "{unlike:?}");
     }
     // One that takes none counts for nothing beside one that takes a kind, before it or after it.
-    let slack = takes(9, 5, 8).current(1);
+    let slack = takes(9, 5, 8).current_slot(1);
     assert_eq!(said(20, &[slack.clone(), takes(0, 5, 7)], 5), [7, 7, 1, 0]);
     assert_eq!(said(20, &[takes(0, 5, 7), slack.clone()], 5), [7, 7, 1, 0]);
     assert_eq!(said(20, &[takes(0, 5, 5), slack.clone()], 5), [5, 5, 0, 0]);

@@ -49,7 +49,7 @@ fn lists_and_paths_do_not_matter() {
             relation.clone().entities(&[2]),
             relation.clone().path(0),
             relation.clone().path(8),
-            relation.clone().entity(4).current(7),
+            relation.clone().entity(4).current_slot(7),
         ];
         for changed in changes {
             let mut relations = plain.clone();

@@ -97,7 +97,7 @@ fn filtered_tables() {
             takes(6, 10, 1),
             takes(7, 10, 2),
             takes(8, 7, 6),
-            takes(9, 11, 1).current(1),
+            takes(9, 11, 1).current_slot(1),
             named(10).source(11).entity(2),
         ],
     );
@@ -111,7 +111,7 @@ fn filtered_tables() {
     assert_eq!(pack.unresolved(11), no_room);
     // An inherited list counts, and so does a kind 0.
     let pack =
-        read(4, &[named(1).kinds(&[0, 2]), named(2).source(1).entity(3).current(1), named(3).source(1).entity(2)]);
+        read(4, &[named(1).kinds(&[0, 2]), named(2).source(1).entity(3).current_slot(1), named(3).source(1).entity(2)]);
     assert_eq!(pack.direct(4), Ok(vec![no, no, 0, 2]));
     assert_eq!(pack.innermost(4), Ok(vec![no, no, 0, 0]));
 }

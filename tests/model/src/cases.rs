@@ -86,11 +86,11 @@ pub fn named() -> Vec<Case> {
     add("A4 refused", small(vec![typed(5, &[2, 2]), filtered(6, 3, &[2, 1])], counts(5, 3)), Refused(10, 8, 3));
     add("A5", small(vec![typed(5, &[1, 2, 3])], counts(5, 2)), Slots(7, 9));
     add("M1", small(vec![typed(5, &[2, 1]), derived(6, keeping(member(5, (7, 9))))], vec![]), Slots(1, 0));
-    let equal = small(vec![typed(5, &[1, 2]), derived(6, Derivation { related: 0, ..derivation(5) })], vec![]);
+    let equal = small(vec![typed(5, &[1, 2]), derived(6, Derivation { related_slot: 0, ..derivation(5) })], vec![]);
     add("G1", Pack { defaulted: vec![6], ..equal }, Refused(9, 6, 0));
     add(
         "S1",
-        small(vec![typed(5, &[1, 2]), derived(6, Derivation { related: 5, ..derivation(5) })], vec![]),
+        small(vec![typed(5, &[1, 2]), derived(6, Derivation { related_slot: 5, ..derivation(5) })], vec![]),
         Stamped(4),
     );
     let ring = vec![filtered(6, 3, &[4, 1]), filtered(7, 4, &[3, 1]), filtered(8, 5, &[3, 1])];
@@ -99,7 +99,7 @@ pub fn named() -> Vec<Case> {
     // What is tempting.
     let chain = vec![typed(5, &[4, 2]), filtered(6, 3, &[4, 1]), filtered(7, 4, &[2, 1])];
     add("innermost for direct", small(chain, counts(5, 3)), Slots(0, 1));
-    let path = Derivation { path: Some(vec![]), current: 0, related: 1, ..derivation(5) };
+    let path = Derivation { path: Some(vec![]), current_slot: 0, related_slot: 1, ..derivation(5) };
     add("an empty path for no path", small(vec![typed(5, &[1, 2]), derived(6, path)], vec![]), Stamped(0));
     let feeders = vec![
         derived(5, derivation(6)),

@@ -44,8 +44,8 @@ impl Reading {
         if d.source != NONE && no_path { Step::Leads(d.source) } else { Step::Settles(nine) }
     }
 
-    /// A relation's own walk, with nothing settled before.
-    pub fn kinds(&self, name: u32) -> Option<List<'_>> {
+    /// A relation's effective kinds: its own walk, with nothing settled before.
+    pub fn effective_kinds(&self, name: u32) -> Option<List<'_>> {
         let mut path = BTreeSet::new();
         let mut at = name;
         while path.insert(at) {
@@ -59,7 +59,7 @@ impl Reading {
 
     pub fn kinds_of(&self, name: u32) -> Outcome<Option<usize>> {
         self.known(name)?;
-        Ok(self.kinds(name).map(|list| list.place))
+        Ok(self.effective_kinds(name).map(|list| list.place))
     }
 
     /// The places, 0 for none, and the steps.

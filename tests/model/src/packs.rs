@@ -52,8 +52,8 @@ pub fn derivation(source: u32) -> Derivation {
     Derivation {
         source,
         path: None,
-        current: 0,
-        related: 1,
+        current_slot: 0,
+        related_slot: 1,
         entity: NONE,
         member: NONE,
         kinds: vec![],
@@ -127,8 +127,8 @@ impl Relation {
         self.derive(|d| d.kinds = kinds.to_vec())
     }
 
-    pub fn current(self, slot: u32) -> Relation {
-        self.derive(|d| d.current = slot)
+    pub fn current_slot(self, slot: u32) -> Relation {
+        self.derive(|d| d.current_slot = slot)
     }
 
     pub fn entity(self, entity: u32) -> Relation {

@@ -184,11 +184,11 @@ impl Reader<'_> {
             Some(steps) => Some((0..steps).map(|_| self.step()).collect::<Outcome<_>>()?),
             None => None,
         };
-        let (current, related) = (self.any(17)?, self.any(18)?);
+        let (current_slot, related_slot) = (self.any(17)?, self.any(18)?);
         let (entity, member) = (self.name_or_none(19)?, self.name_or_none(20)?);
         let kinds = self.list(21)?;
         let predicate = self.tree(false, 1)?;
-        Ok(Derivation { source, path, current, related, entity, member, kinds, predicate })
+        Ok(Derivation { source, path, current_slot, related_slot, entity, member, kinds, predicate })
     }
 
     fn step(&mut self) -> Outcome<[u32; 3]> {

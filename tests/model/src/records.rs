@@ -21,9 +21,8 @@ pub struct Derivation {
     pub source: u32,
     /// Steps of a relation and two slots; no path where the count is none.
     pub path: Option<Vec<[u32; 3]>>,
-    /// The current and the related slot.
-    pub current: u32,
-    pub related: u32,
+    pub current_slot: u32,
+    pub related_slot: u32,
     pub entity: u32,
     pub member: u32,
     /// List 21.
@@ -147,7 +146,7 @@ impl Relation {
         for step in d.path.iter().flatten() {
             out.extend([word(14, step[0]), word(15, step[1]), word(16, step[2])]);
         }
-        out.extend([word(17, d.current), word(18, d.related), word(19, d.entity), word(20, d.member)]);
+        out.extend([word(17, d.current_slot), word(18, d.related_slot), word(19, d.entity), word(20, d.member)]);
         placed.own_kinds = out.len();
         write_list(out, 21, &d.kinds);
         placed.predicate = out.len();

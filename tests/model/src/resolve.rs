@@ -87,7 +87,7 @@ impl Resolving<'_> {
 
     /// The kinds at a derivation's slots.
     fn slot_kinds(&self, name: u32, d: &Derivation) -> (Option<u32>, Option<u32>) {
-        (self.reading.kind_at(name, d.current), self.reading.kind_at(name, d.related))
+        (self.reading.kind_at(name, d.current_slot), self.reading.kind_at(name, d.related_slot))
     }
 
     // ---- 1: defaulted names
@@ -182,7 +182,7 @@ impl Resolving<'_> {
         let written = slots(node);
         if let Some(d) = self.derived(node.value) {
             let (_, related) = self.slot_kinds(node.value, d);
-            let slots = if mistaken(SlotsKept) { written } else { (d.current, d.related) };
+            let slots = if mistaken(SlotsKept) { written } else { (d.current_slot, d.related_slot) };
             return Ok((slots, related.unwrap_or(0)));
         }
         let Some(kinds) = self.typed(node.value) else { return Ok((written, 0)) };
@@ -210,7 +210,7 @@ impl Resolving<'_> {
     fn member(&self, node: &Tree, place: usize, citing: Citing, membership: Membership) -> Outcome<Slots> {
         let written = slots(node);
         if let Some(d) = self.derived(node.value) {
-            return Ok(if mistaken(MemberSlotsKept) { written } else { (d.current, d.related) });
+            return Ok(if mistaken(MemberSlotsKept) { written } else { (d.current_slot, d.related_slot) });
         }
         let Some((Some(current), Some(related))) = membership else { return Ok(written) };
         let Some(kinds) = self.typed(node.value) else { return Ok(written) };
@@ -288,7 +288,7 @@ impl Resolving<'_> {
     /// The kinds that a relation's lists become, where they do.
     fn stamped(&self, relation: &Relation, atoms: &BTreeSet<u32>) -> Option<Vec<u32>> {
         let d = relation.derived.as_ref().filter(|d| d.kinds.is_empty())?;
-        let kinds = self.reading.kinds(relation.name)?.names;
+        let kinds = self.reading.effective_kinds(relation.name)?.names;
         if mistaken(StampAll) {
             return Some(kinds.to_vec());
         }
@@ -299,8 +299,8 @@ impl Resolving<'_> {
         if empty && (named || holds) {
             return None;
         }
-        let current = kinds.get(d.current as usize)?;
-        let unlike = match kinds.get(d.related as usize) {
+        let current = kinds.get(d.current_slot as usize)?;
+        let unlike = match kinds.get(d.related_slot as usize) {
             Some(related) => related != current,
             None => !mistaken(RangeIsEqual),
         };

@@ -16,9 +16,9 @@ pub struct Tables {
 }
 
 impl Reading {
-    /// The kind at a slot of a relation's kinds, where it is in range.
+    /// The effective kind at a slot of a relation, where it is in range.
     pub(crate) fn kind_at(&self, relation: u32, slot: u32) -> Option<u32> {
-        self.kinds(relation)?.names.get(slot as usize).copied()
+        self.effective_kinds(relation)?.names.get(slot as usize).copied()
     }
 
     pub fn tables(&self) -> Tables {
@@ -28,7 +28,7 @@ impl Reading {
         for relation in &self.pack.relations {
             let Some(d) = relation.derived.as_ref().filter(|d| d.entity != NONE) else { continue };
             named[d.entity as usize] = true;
-            let slot = if mistaken(RelatedTaken) { d.related } else { d.current };
+            let slot = if mistaken(RelatedTaken) { d.related_slot } else { d.current_slot };
             taken[d.entity as usize].extend(self.kind_at(relation.name, slot));
         }
         let one = |kinds: &Vec<u32>| kinds.iter().all(|kind| *kind == kinds[0]);

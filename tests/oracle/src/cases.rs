@@ -67,13 +67,13 @@ fn options(name: u32, graph: u32, full: bool) -> Vec<Option<Relation>> {
         for path in paths {
             for own in own {
                 for nine in nines {
-                    for &(current, related) in slots {
+                    for &(current_slot, related_slot) in slots {
                         for &entity in entities {
                             let kinds = own.to_vec();
                             let d = Derivation {
                                 path: path.clone(),
-                                current,
-                                related,
+                                current_slot,
+                                related_slot,
                                 entity,
                                 kinds,
                                 ..derivation(source)
@@ -159,8 +159,8 @@ fn run_trees() -> Counts {
         let nested = same(of_scalar[c[0] as usize](asked(inner)), count(5, (9, 7), None));
         let d = Derivation {
             kinds: vec![1 + c[2], 1 + c[3]],
-            current: c[4],
-            related: c[5],
+            current_slot: c[4],
+            related_slot: c[5],
             predicate: nested,
             ..derivation(NONE)
         };

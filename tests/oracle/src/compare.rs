@@ -70,7 +70,7 @@ fn without_place(refusal: Refusal) -> Refused {
 pub fn model_differs(words: &[u32], told: &Told, room: usize) -> Option<String> {
     let Ok(reading) = read(words) else { return Some("check".into()) };
     for (name, kinds) in (0..).zip(&told.tables.kinds) {
-        if reading.kinds(name).map(|list| list.names) != kinds.as_deref().filter(|kinds| !kinds.is_empty()) {
+        if reading.effective_kinds(name).map(|list| list.names) != kinds.as_deref().filter(|kinds| !kinds.is_empty()) {
             return Some(format!("kinds of {name}"));
         }
     }

@@ -27,12 +27,12 @@ impl Making<'_> {
     }
 
     fn derivation(&mut self, source: u32) -> Derivation {
-        let (current, related) = self.slots();
+        let (current_slot, related_slot) = self.slots();
         Derivation {
             source,
             path: None,
-            current,
-            related,
+            current_slot,
+            related_slot,
             entity: if self.r.once(3) { self.kind() } else { NONE },
             member: if self.r.once(6) { self.name() } else { NONE },
             kinds: vec![],
@@ -153,7 +153,7 @@ impl Making<'_> {
             }
             let next = (at + 1) % kinds.len();
             d.entity = kinds[at % kinds.len()];
-            d.current = 0;
+            d.current_slot = 0;
             match shape {
                 // A chain or a ring of entities, each filtering the next.
                 0 => d.kinds = vec![kinds[next], d.entity],
@@ -188,7 +188,7 @@ impl Making<'_> {
             let slot = self.r.below(count);
             let list: Vec<u32> = (0..count).map(|i| if i == slot { kind } else { self.name() }).collect();
             let mut d = self.derivation(NONE);
-            d.current = if self.r.often(astray / 4) { self.slot() } else { slot };
+            d.current_slot = if self.r.often(astray / 4) { self.slot() } else { slot };
             d.entity = if self.r.often(95) { entity } else { NONE };
             let mut kinds = vec![];
             match out.last() {
