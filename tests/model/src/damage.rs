@@ -45,6 +45,11 @@ pub fn damage(r: &mut Chance, words: &[u32], at: usize, way: u32) -> Vec<u32> {
             let names = n.max(1);
             out.splice(at + 1..at + 1, [word(4, r.below(names)), word(4, r.below(names))]);
         }
+        // A defaulted name twice, and counted.
+        13 | 14 if kind == 4 && at > 2 => {
+            out[2] = words[2].wrapping_add(1);
+            out.insert(at, words[at]);
+        }
         // One level more of a tree, above the first node from here on.
         13 | 14 => {
             let node = (at..words.len()).find(|&i| matches!(words[i] >> 24, 64..=78 | 96..=106)).unwrap_or(at);
