@@ -22,6 +22,10 @@ fn records(out: &[u8], words: usize) -> Pack {
     read(&words_of(&out[..4 * words])).unwrap().pack
 }
 
+fn in_order<T: Clone>(records: &[T], order: &[usize]) -> Vec<T> {
+    order.iter().map(|&i| records[i].clone()).collect()
+}
+
 #[test]
 fn in_whatever_order() {
     let (mut resolved, mut refused) = (0, 0);
@@ -29,6 +33,7 @@ fn in_whatever_order() {
     forms[0] = Form::Mixed;
     let all = by_chance(14_142, 4000, &forms, |words, chance| {
         let before = read(words).unwrap().pack;
+        assert_eq!(before.words(), words);
         let (again, orders) = dealt_with(chance, &before);
         assert_eq!(again.sorted(), before.sorted());
         let dealt = again.words();
@@ -38,7 +43,7 @@ fn in_whatever_order() {
         // The same kinds of every relation, and the same steps.
         let (own, dealt_own) = (kinds(words), kinds(&dealt));
         assert_eq!(dealt_own.1, own.1);
-        assert!(orders.relations.iter().zip(&dealt_own.0).all(|(&i, kinds)| *kinds == own.0[i]));
+        assert_eq!(dealt_own.0, in_order(&own.0, &orders.relations));
 
         for room in [4 * words.len(), 4 * words.len() + chance.below(200) as usize, 32_768] {
             let (mut out, mut dealt_out) = (vec![0; room], vec![0; room]);
@@ -49,8 +54,8 @@ fn in_whatever_order() {
                     let whole = records(&out, written.words);
                     let other = records(&dealt_out, written.words);
                     assert_eq!((other.n, &other.defaulted), (whole.n, &whole.defaulted));
-                    assert!(orders.relations.iter().zip(&other.relations).all(|(&i, r)| *r == whole.relations[i]));
-                    assert!(orders.rules.iter().zip(&other.rules).all(|(&i, r)| *r == whole.rules[i]));
+                    assert_eq!(other.relations, in_order(&whole.relations, &orders.relations));
+                    assert_eq!(other.rules, in_order(&whole.rules, &orders.rules));
                     // Blocks, with their items as they were dealt, come out as they stood.
                     assert_eq!(whole.blocks, before.blocks);
                     assert_eq!(other.blocks, again.blocks);
