@@ -5,11 +5,10 @@
 //!
 //! Check of the same pack, which each of them starts with, and a plain copy of the pack's bytes are measured beside them,
 //! in the same rounds. A pack without relations shows what a call takes however small the pack is.
-#[path = "../tests/packs/mod.rs"]
-mod packs;
 mod timed;
 
-use packs::{Relation, graph, relation_named as named};
+use cogunwa_model::packs::{graph, named};
+use cogunwa_model::records::Relation;
 use std::hint::black_box;
 use timed::{ROUND, ROUNDS, Timed, median};
 

@@ -4,10 +4,9 @@
 //!
 //! The library takes bytes, so the times include turning them into words, and Resolve's turning words into bytes again. A
 //! plain loop that does only the first, and a plain copy of the bytes, are measured beside them, in the same rounds.
-#[path = "../tests/packs/mod.rs"]
-mod packs;
 mod timed;
 
+use cogunwa_model::packs;
 use std::hint::black_box;
 use timed::{ROUND, ROUNDS, Timed, median};
 

@@ -1,32 +1,19 @@
 //! All kinds over the static library: its answer, and every byte of the buffer after it.
-mod packs;
-mod plain;
+mod beside;
 
-use cogunwa::{Refusal, Written, all_kinds, bytes_of, words_of};
-use packs::{Chance, Relation, graph, relation_named as named};
-
-fn before(room: usize) -> Vec<u8> {
-    (0..room).map(|i| (i * 7 + 3) as u8).collect()
-}
-
-/// All kinds into a buffer of this many bytes: holds the answer and the buffer to what they must be, and answers it.
-fn try_all_kinds(pack: &[u8], room: usize) -> Result<Written, Refusal> {
-    let before = before(room);
-    let mut out = before.clone();
-    let answer = all_kinds(pack, &mut out);
-    let expected = plain::read_bytes(pack).and_then(|p| p.all_kinds(room / 4));
-    let places = expected.as_ref().map_or(vec![], |(places, _)| bytes_of(places));
-    let expected = expected.map(|(places, steps)| Written { words: places.len(), steps });
-    assert_eq!(answer, expected, "{} bytes into {room}", pack.len());
-    assert_eq!(out[..places.len()], places[..], "the places, into {room} bytes");
-    assert_eq!(out[places.len()..], before[places.len()..], "the rest of {room} bytes");
-    answer
-}
+use beside::NO_ROOM;
+use cogunwa::{Written, all_kinds, bytes_of, words_of};
+use cogunwa_model::damage::damaged;
+use cogunwa_model::generate::Form;
+use cogunwa_model::packs::{self, graph, named};
+use cogunwa_model::records::Relation;
+use cogunwa_model::replay::by_chance;
+use cogunwa_model::{Chance, read};
 
 /// The places and the steps of a graph, with just room enough.
 fn settled(names: u32, relations: &[Relation]) -> (Vec<u32>, u32) {
     let pack = bytes_of(&graph(names, relations));
-    try_all_kinds(&pack, 4 * relations.len()).unwrap();
+    beside::all_kinds(&pack, 4 * relations.len()).unwrap();
     let mut out = vec![0; 4 * relations.len()];
     let written = all_kinds(&pack, &mut out).unwrap();
     (words_of(&out), written.steps)
@@ -100,10 +87,10 @@ fn chains() {
         let undeclared = chain(length, named(length - 1).source(599));
         assert_eq!(settled(600, &undeclared), (vec![0; length as usize], steps + 1));
         // In any order every relation of the chain has the one place.
-        let mut chance = Chance(u64::from(length));
+        let mut chance = Chance::new(u64::from(length));
         for _ in 0..5 {
             let mut relations = kinds.clone();
-            packs::mix(&mut relations, &mut chance);
+            chance.mix(&mut relations);
             let (places, steps) = settled(600, &relations);
             assert!(places.iter().all(|&place| place == places[0] && place != 0));
             assert_eq!(steps, length);
@@ -116,7 +103,7 @@ fn rings() {
     for length in [1, 2, 3, 512] {
         let mut ring = chain(length, named(length - 1).source(0));
         assert_eq!(settled(600, &ring), (vec![0; length as usize], length));
-        packs::mix(&mut ring, &mut Chance(u64::from(length)));
+        Chance::new(u64::from(length)).mix(&mut ring);
         assert_eq!(settled(600, &ring), (vec![0; length as usize], length));
     }
     // Relations that lead into a ring, at its start, at its end and one after the other; first and last in the order.
@@ -172,19 +159,18 @@ fn undeclared_sources() {
 
 #[test]
 fn buffers_of_every_length() {
-    let no_room = Err(Refusal { number: 16, place: 0, name: 0, other: 0 });
     for words in [packs::smallest(), packs::household(), graph(9, &chain(5, named(4).kinds(&[1])))] {
         let pack = bytes_of(&words);
-        let relations = plain::read(&words).unwrap().relations.len();
+        let relations = read(&words).unwrap().pack.relations.len();
         for room in 0..4 * relations + 20 {
-            let answer = try_all_kinds(&pack, room);
+            let answer = beside::all_kinds(&pack, room);
             assert_eq!(answer.is_ok(), room >= 4 * relations);
-            assert!(answer.is_ok() || answer == no_room);
+            assert!(answer.is_ok() || answer == Err(NO_ROOM));
         }
     }
     let most = bytes_of(&graph(4096, &chain(512, named(511).kinds(&[1]))));
     for room in (2040..2060).chain([0, 32_767, 32_768, 32_769, 65_536]) {
-        assert_eq!(try_all_kinds(&most, room).is_ok(), room >= 2048);
+        assert_eq!(beside::all_kinds(&most, room).is_ok(), room >= 2048);
     }
 }
 
@@ -193,35 +179,32 @@ fn refused_packs_leave_the_buffer() {
     let household = bytes_of(&packs::household());
     for length in 0..household.len() {
         for room in [0, length, 40_000] {
-            assert!(try_all_kinds(&household[..length], room).is_err());
+            assert!(beside::all_kinds(&household[..length], room).is_err());
         }
     }
     let longer = bytes_of(&packs::of_length(8193));
     for length in 32_765..=32_772 {
         let number = if length == 32_768 { 4 } else { 1 };
-        assert_eq!(try_all_kinds(&longer[..length], 40_000).unwrap_err().number, number, "{length} bytes");
+        assert_eq!(beside::all_kinds(&longer[..length], 40_000).unwrap_err().number, number, "{length} bytes");
     }
     // Check's refusals come before 16.
     let mut damaged = household.clone();
     damaged[4] = 0;
     for room in [0, 1, 40_000] {
-        assert_eq!(try_all_kinds(&damaged, room).unwrap_err().number, 4);
+        assert_eq!(beside::all_kinds(&damaged, room).unwrap_err().number, 4);
     }
 }
 
 #[test]
 fn packs_made_by_chance() {
-    let mut chance = Chance(31_415);
-    for turn in 0..3000 {
-        let words = if turn % 3 == 0 { packs::mixed(&mut chance) } else { packs::tangled(&mut chance) };
-        let pack = bytes_of(&words);
-        let exact = 4 * plain::read(&words).unwrap().relations.len();
+    by_chance(31_415, 3000, &[Form::Mixed, Form::Tangled, Form::Tangled], |words, chance| {
+        let pack = bytes_of(words);
+        let exact = 4 * read(words).unwrap().pack.relations.len();
         for room in [exact, exact + 1 + chance.below(9) as usize, exact.saturating_sub(1), 32_768] {
-            try_all_kinds(&pack, room).ok();
+            assert_eq!(beside::all_kinds(&pack, room).is_ok(), room >= exact);
         }
         for _ in 0..5 {
-            let damaged = packs::damaged(&words, &mut chance);
-            try_all_kinds(&bytes_of(&damaged), exact + 4).ok();
+            let _ = beside::all_kinds(&bytes_of(&damaged(chance, words)), exact + 4);
         }
-    }
+    });
 }

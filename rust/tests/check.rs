@@ -1,9 +1,10 @@
 //! Check over the static library.
-mod packs;
-mod plain;
+mod beside;
 
 use cogunwa::{Refusal, bytes_of, check};
-use packs::{NONE, Words};
+use cogunwa_model::NONE;
+use cogunwa_model::packs::{self, Words};
+use std::collections::BTreeMap;
 
 fn refused(number: u32, place: usize) -> Result<(), Refusal> {
     Err(Refusal { number, place, name: 0, other: 0 })
@@ -157,21 +158,39 @@ fn limits() {
 #[test]
 fn every_change_of_one_word_of_the_sample() {
     let sample = packs::household();
+    let held = |words: &[u32]| _ = beside::check(&bytes_of(words));
     for place in 0..sample.len() {
         for kind in 0..256 {
             let mut words = sample.clone();
             words[place] = words[place] & NONE | kind << 24;
-            assert_eq!(check_words(&words), plain::check(&words), "kind {kind} at {place}");
+            held(&words);
         }
         for value in (0..70).chain([511, 512, 513, 1023, 1024, 1025, 4095, 4096, 4097, NONE - 1, NONE]) {
             let mut words = sample.clone();
             words[place] = words[place] & !NONE | value;
-            assert_eq!(check_words(&words), plain::check(&words), "value {value} at {place}");
+            held(&words);
         }
-        for words in
-            [packs::with_total(sample[..place.max(1)].to_vec()), [&sample[..place], &sample[place + 1..]].concat()]
-        {
-            assert_eq!(check_words(&words), plain::check(&words), "cut at {place}");
+        held(&packs::with_total(sample[..place.max(1)].to_vec()));
+        held(&[&sample[..place], &sample[place + 1..]].concat());
+    }
+}
+
+/// One below each limit, at it and one above, as they are and cut short.
+#[test]
+fn packs_at_the_limits() {
+    let mut tally: BTreeMap<u32, usize> = BTreeMap::new();
+    for words in cogunwa_model::limits::limits() {
+        let mut held = |words: &[u32]| {
+            let answer = beside::check(&bytes_of(words));
+            *tally.entry(answer.map_or_else(|r| r.number, |()| 0)).or_default() += 1;
+        };
+        held(&words);
+        for cut in 1..4 {
+            let short = &words[..words.len() - cut];
+            held(short);
+            held(&packs::with_total(short.to_vec()));
         }
     }
+    // 0 stands for yes. No word is left over in any of them.
+    assert_eq!(tally.keys().copied().collect::<Vec<_>>(), [0, 1, 2, 3, 4, 5, 6, 7], "{tally:?}");
 }

@@ -1,49 +1,18 @@
 //! The filtered tables over the static library: their answers, and every byte of the buffer after them.
-mod packs;
-mod plain;
+mod beside;
 
-use cogunwa::{NONE, Refusal, alias, bytes_of, direct, innermost, unresolved};
-use packs::{Chance, Relation, graph, relation_named as named};
-use plain::chains::Pack;
-
-type Table = fn(&[u8], &mut [u8]) -> Result<usize, Refusal>;
-type Plain = fn(&Pack, usize) -> Result<Vec<u32>, Refusal>;
-
-const TABLES: [(&str, Table, Plain); 4] = [
-    ("direct", direct, Pack::direct),
-    ("innermost", innermost, Pack::innermost),
-    ("alias", alias, Pack::alias),
-    ("unresolved", unresolved, Pack::unresolved),
-];
-
-const NO_ROOM: Refusal = Refusal { number: 16, place: 0, name: 0, other: 0 };
-
-fn before(room: usize) -> Vec<u8> {
-    (0..room).map(|i| (i * 7 + 3) as u8).collect()
-}
-
-/// The four tables into buffers of this many bytes: holds each answer and buffer to what they must be, and answers the
-/// tables, or the refusal, which is the same for all.
-fn try_tables(pack: &[u8], room: usize) -> Result<Vec<Vec<u32>>, Refusal> {
-    let read = plain::read_bytes(pack);
-    let before = before(room);
-    let mut tables = vec![];
-    for (name, table, plain) in TABLES {
-        let mut out = before.clone();
-        let answer = table(pack, &mut out);
-        let expected = read.as_ref().map_err(|r| *r).and_then(|p| plain(p, room / 4));
-        let written = expected.as_ref().map_or(vec![], |words| bytes_of(words));
-        assert_eq!(answer, expected.as_ref().map(Vec::len).map_err(|r| *r), "{name}: {} bytes into {room}", pack.len());
-        assert_eq!(out[..written.len()], written[..], "{name}: the words, into {room} bytes");
-        assert_eq!(out[written.len()..], before[written.len()..], "{name}: the rest of {room} bytes");
-        tables.push(expected);
-    }
-    tables.into_iter().collect()
-}
+use beside::NO_ROOM;
+use cogunwa::{NONE, bytes_of};
+use cogunwa_model::damage::damaged;
+use cogunwa_model::generate::Form;
+use cogunwa_model::packs::{self, graph, named};
+use cogunwa_model::records::Relation;
+use cogunwa_model::replay::by_chance;
+use cogunwa_model::{Chance, read};
 
 /// The tables of a graph, with just room enough.
 fn tables(names: u32, relations: &[Relation]) -> Vec<Vec<u32>> {
-    try_tables(&bytes_of(&graph(names, relations)), 4 * names as usize).unwrap()
+    beside::tables(&bytes_of(&graph(names, relations)), 4 * names as usize).unwrap()
 }
 
 /// What the tables say of one name.
@@ -82,8 +51,8 @@ fn worked_cases() {
 #[test]
 fn the_sample() {
     let household = bytes_of(&packs::household());
-    let names = plain::read_bytes(&household).unwrap().names as usize;
-    try_tables(&household, 4 * names).unwrap();
+    let names = read(&packs::household()).unwrap().pack.n as usize;
+    beside::tables(&household, 4 * names).unwrap();
 }
 
 #[test]
@@ -96,16 +65,16 @@ fn slots_and_lists() {
         let kinds: Vec<u32> = (10..10 + count).collect();
         for slot in [0, 1, 2, 6, 7, 8, 9, 65_536, 0xFF_FFFF] {
             let expected = if slot < count { resolved(10 + slot) } else { open.clone() };
-            assert_eq!(said(20, &[named(3).entity(5).current(slot).kinds(&kinds)], 5), expected);
-            assert_eq!(said(20, &[named(3).entity(5).current(slot).entities(&kinds)], 5), expected);
-            let inherits = [named(2).kinds(&kinds), named(3).entity(5).current(slot).source(2)];
+            assert_eq!(said(20, &[named(3).entity(5).current_slot(slot).kinds(&kinds)], 5), expected);
+            assert_eq!(said(20, &[named(3).entity(5).current_slot(slot).entities(&kinds)], 5), expected);
+            let inherits = [named(2).kinds(&kinds), named(3).entity(5).current_slot(slot).source(2)];
             assert_eq!(said(20, &inherits, 5), expected);
             let through = [named(4).source(3), inherits[1].clone(), inherits[0].clone()];
             assert_eq!(said(20, &through, 5), expected);
         }
     }
     // List 21 goes before list 9. The kind of a slot counts, not the list of another relation.
-    let both = named(3).entity(5).kinds(&[6, 7]).entities(&[8, 9]).current(1);
+    let both = named(3).entity(5).kinds(&[6, 7]).entities(&[8, 9]).current_slot(1);
     assert_eq!(said(20, &[both], 5), resolved(9));
     // No kinds: no list, a path of any count, a ring, an undeclared source.
     let derived = named(3).entity(5);
@@ -140,7 +109,7 @@ fn kinds_equal_and_unlike() {
         assert_eq!(given(unlike), [NONE, NONE, 1, 0], "{unlike:?}");
     }
     // One that takes none counts for nothing beside one that takes a kind, before it or after it.
-    let slack = takes(9, 5, 8).current(1);
+    let slack = takes(9, 5, 8).current_slot(1);
     assert_eq!(said(20, &[slack.clone(), takes(0, 5, 7)], 5), [7, 7, 1, 0]);
     assert_eq!(said(20, &[takes(0, 5, 7), slack.clone()], 5), [7, 7, 1, 0]);
     assert_eq!(said(20, &[takes(0, 5, 5), slack.clone()], 5), [5, 5, 0, 0]);
@@ -161,7 +130,7 @@ fn long_ways() {
             assert_eq!(chain[1][e as usize], if on { count } else { NONE });
             assert_eq!(chain[2][e as usize], u32::from(on));
         }
-        packs::mix(&mut relations, &mut Chance(u64::from(names)));
+        Chance::new(u64::from(names)).mix(&mut relations);
         assert_eq!(tables(names, &relations), chain);
         // The last leads back to the first, or is its own.
         let last = relations.len() as u32 - 1;
@@ -185,9 +154,9 @@ fn long_ways() {
 fn buffers_of_every_length() {
     for words in [packs::smallest(), packs::household(), graph(9, &[takes(1, 2, 3), takes(2, 3, 3)])] {
         let pack = bytes_of(&words);
-        let exact = 4 * plain::read(&words).unwrap().names as usize;
+        let exact = 4 * read(&words).unwrap().pack.n as usize;
         for room in 0..exact + 20 {
-            let answer = try_tables(&pack, room);
+            let answer = beside::tables(&pack, room);
             assert_eq!(answer.is_ok(), room >= exact);
             assert!(answer.is_ok() || answer == Err(NO_ROOM));
         }
@@ -196,7 +165,7 @@ fn buffers_of_every_length() {
         let most = bytes_of(&graph(names, &[takes(1, 2, 3)]));
         let exact = 4 * names as usize;
         for room in (exact - 9..exact + 9).chain([0, 32_767, 32_768, 32_769, 65_536]) {
-            assert_eq!(try_tables(&most, room).is_ok(), room >= exact);
+            assert_eq!(beside::tables(&most, room).is_ok(), room >= exact);
         }
     }
 }
@@ -207,19 +176,19 @@ fn refused_packs_leave_the_buffer() {
     for length in 0..household.len() {
         for room in [0, length, 40_000] {
             let number = if length < 24 || length % 4 != 0 { 1 } else { 4 };
-            assert_eq!(try_tables(&household[..length], room).unwrap_err().number, number, "{length} bytes");
+            assert_eq!(beside::tables(&household[..length], room).unwrap_err().number, number, "{length} bytes");
         }
     }
     let longer = bytes_of(&packs::of_length(8193));
     for length in 32_765..=32_772 {
         let number = if length == 32_768 { 4 } else { 1 };
-        assert_eq!(try_tables(&longer[..length], 40_000).unwrap_err().number, number, "{length} bytes");
+        assert_eq!(beside::tables(&longer[..length], 40_000).unwrap_err().number, number, "{length} bytes");
     }
     // Check's refusals come before 16.
     let mut damaged = household.clone();
     damaged[4] = 0;
     for room in [0, 1, 40_000] {
-        assert_eq!(try_tables(&damaged, room).unwrap_err().number, 4);
+        assert_eq!(beside::tables(&damaged, room).unwrap_err().number, 4);
     }
 }
 
@@ -248,27 +217,21 @@ impl Tally {
 
 #[test]
 fn packs_made_by_chance() {
-    let mut chance = Chance(57_721);
     let mut tally = Tally::default();
-    for turn in 0..3000 {
-        let words = match turn % 4 {
-            0 => packs::mixed(&mut chance),
-            1 => packs::tangled(&mut chance),
-            _ => packs::entities(&mut chance),
-        };
-        let pack = bytes_of(&words);
-        let exact = 4 * plain::read(&words).unwrap().names as usize;
-        tally.count(&try_tables(&pack, exact).unwrap());
-        try_tables(&pack, exact + 1 + chance.below(9) as usize).unwrap();
-        assert_eq!(try_tables(&pack, exact - 1), Err(NO_ROOM));
+    let forms = [Form::Mixed, Form::Tangled, Form::Entities, Form::Entities];
+    let all = by_chance(57_721, 3000, &forms, |words, chance| {
+        let pack = bytes_of(words);
+        let exact = 4 * read(words).unwrap().pack.n as usize;
+        tally.count(&beside::tables(&pack, exact).unwrap());
+        beside::tables(&pack, exact + 1 + chance.below(9) as usize).unwrap();
+        assert_eq!(beside::tables(&pack, exact - 1), Err(NO_ROOM));
         for _ in 0..5 {
-            let damaged = packs::damaged(&words, &mut chance);
-            try_tables(&bytes_of(&damaged), exact + 4).ok();
+            let _ = beside::tables(&bytes_of(&damaged(chance, words)), exact + 4);
         }
-    }
+    });
     // The packs are not all alike.
     let Tally { unresolved, several, own, in_a_ring, on_the_way } = tally;
     for count in [unresolved, several, own, in_a_ring, on_the_way] {
-        assert!(count > 500, "{tally:?}");
+        assert!(!all || count > 500, "{tally:?}");
     }
 }

@@ -1,22 +1,26 @@
 //! Kinds of one name over the static library.
-mod packs;
-mod plain;
+mod beside;
 
 use cogunwa::{Refusal, all_kinds, bytes_of, kinds_of, words_of};
-use packs::{Chance, graph, relation_named as named};
+use cogunwa_model::damage::damaged;
+use cogunwa_model::generate::Form;
+use cogunwa_model::packs::{self, graph, named};
+use cogunwa_model::records::Relation;
+use cogunwa_model::replay::by_chance;
+use cogunwa_model::{read, read_bytes};
 
 fn unknown(name: u32) -> Result<Option<usize>, Refusal> {
     Err(Refusal { number: 17, place: 0, name, other: 0 })
 }
 
-fn expected(pack: &[u8], name: u32) -> Result<Option<usize>, Refusal> {
-    plain::read_bytes(pack)?.kinds_of(name)
+fn held(pack: &[u8], name: u32) -> Result<Option<usize>, Refusal> {
+    beside::kinds_of(pack, &read_bytes(pack), name)
 }
 
 #[test]
 fn worked_cases() {
     let first = named(5).kinds(&[1, 2]);
-    let of = |relations: &[packs::Relation], name| kinds_of(&bytes_of(&graph(10, relations)), name);
+    let of = |relations: &[Relation], name| kinds_of(&bytes_of(&graph(10, relations)), name);
     let inherits = [first.clone(), named(6).source(5)];
     assert_eq!(of(&inherits, 5), Ok(Some(7)));
     assert_eq!(of(&inherits, 6), Ok(Some(7)));
@@ -55,7 +59,7 @@ fn names_around_n() {
 fn long_chains_and_rings() {
     for length in [1, 2, 3, 512] {
         let link = |name: u32| named(name).source(name + 1);
-        let mut relations: Vec<packs::Relation> = (0..length - 1).map(link).collect();
+        let mut relations: Vec<Relation> = (0..length - 1).map(link).collect();
         relations.push(named(length - 1).kinds(&[1, 2, 3]));
         let chain = bytes_of(&graph(600, &relations));
         *relations.last_mut().unwrap() = named(length - 1).source(0);
@@ -73,8 +77,7 @@ fn bytes_that_are_no_pack() {
     let household = bytes_of(&packs::household());
     for length in 0..household.len() {
         for name in [0, 1, u32::MAX] {
-            let answer = kinds_of(&household[..length], name);
-            assert_eq!(answer, expected(&household[..length], name), "{length} bytes");
+            let answer = held(&household[..length], name);
             assert_eq!(answer.unwrap_err().number, if length < 24 || length % 4 != 0 { 1 } else { 4 });
         }
     }
@@ -91,27 +94,22 @@ fn bytes_that_are_no_pack() {
 
 #[test]
 fn packs_made_by_chance() {
-    let mut chance = Chance(16_180);
-    for turn in 0..1500 {
-        let words = if turn % 3 == 0 { packs::mixed(&mut chance) } else { packs::tangled(&mut chance) };
-        let pack = bytes_of(&words);
-        let plain = plain::read(&words).unwrap();
+    by_chance(16_180, 1500, &[Form::Mixed, Form::Tangled, Form::Tangled], |words, chance| {
+        let pack = bytes_of(words);
+        let reading = read(words);
+        let model = &reading.as_ref().unwrap().pack;
         // The names of relations, and some of the others; each relation's place is the one that All kinds writes.
-        let mut out = vec![0; 4 * plain.relations.len()];
+        let mut out = vec![0; 4 * model.relations.len()];
         all_kinds(&pack, &mut out).unwrap();
-        for (relation, place) in plain.relations.iter().zip(words_of(&out)) {
-            let answer = kinds_of(&pack, relation.name);
-            assert_eq!(answer, plain.kinds_of(relation.name), "{words:08X?}");
+        for (relation, place) in model.relations.iter().zip(words_of(&out)) {
+            let answer = beside::kinds_of(&pack, &reading, relation.name);
             assert_eq!(answer.unwrap().unwrap_or(0), place as usize);
         }
         for _ in 0..20 {
-            let name = chance.below(plain.names + 5);
-            assert_eq!(kinds_of(&pack, name), plain.kinds_of(name), "{words:08X?}");
+            let _ = beside::kinds_of(&pack, &reading, chance.below(model.n + 5));
         }
         for _ in 0..10 {
-            let damaged = bytes_of(&packs::damaged(&words, &mut chance));
-            let name = chance.below(plain.names);
-            assert_eq!(kinds_of(&damaged, name), expected(&damaged, name));
+            let _ = held(&bytes_of(&damaged(chance, words)), chance.below(model.n));
         }
-    }
+    });
 }

@@ -1,16 +1,20 @@
 //! Lean over the static library.
-mod packs;
-mod plain;
+mod beside;
 
 use cogunwa::{Refusal, bytes_of, lean};
-use packs::{Chance, Relation, graph, relation_named as named};
+use cogunwa_model::damage::damaged;
+use cogunwa_model::generate::Form;
+use cogunwa_model::packs::{self, graph, named};
+use cogunwa_model::records::Relation;
+use cogunwa_model::replay::by_chance;
+use cogunwa_model::{Chance, read, read_bytes};
 
 fn unknown(name: u32) -> Result<bool, Refusal> {
     Err(Refusal { number: 17, place: 0, name, other: 0 })
 }
 
-fn expected(pack: &[u8], a: u32, b: u32) -> Result<bool, Refusal> {
-    plain::read_bytes(pack)?.lean(a, b)
+fn held(pack: &[u8], a: u32, b: u32) -> Result<bool, Refusal> {
+    beside::lean(pack, &read_bytes(pack), a, b)
 }
 
 /// Which names of a small pack lean on which, as pairs.
@@ -45,7 +49,7 @@ fn lists_and_paths_do_not_matter() {
             relation.clone().entities(&[2]),
             relation.clone().path(0),
             relation.clone().path(8),
-            relation.clone().entity(4).current(7),
+            relation.clone().entity(4).current_slot(7),
         ];
         for changed in changes {
             let mut relations = plain.clone();
@@ -106,8 +110,7 @@ fn bytes_that_are_no_pack() {
     let household = bytes_of(&packs::household());
     for length in 0..household.len() {
         for (a, b) in [(0, 1), (1, u32::MAX), (u32::MAX, 0)] {
-            let answer = lean(&household[..length], a, b);
-            assert_eq!(answer, expected(&household[..length], a, b), "{length} bytes");
+            let answer = held(&household[..length], a, b);
             assert_eq!(answer.unwrap_err().number, if length < 24 || length % 4 != 0 { 1 } else { 4 });
         }
     }
@@ -124,35 +127,29 @@ fn bytes_that_are_no_pack() {
 
 #[test]
 fn packs_made_by_chance() {
-    let mut chance = Chance(14_142);
     let mut counts = [0; 2];
-    for turn in 0..1500 {
-        let words = if turn % 3 == 0 { packs::mixed(&mut chance) } else { packs::tangled(&mut chance) };
-        let pack = bytes_of(&words);
-        let plain = plain::read(&words).unwrap();
-        let relations = plain.relations.len() as u32;
+    let all = by_chance(14_142, 1500, &[Form::Mixed, Form::Tangled, Form::Tangled], |words, chance| {
+        let pack = bytes_of(words);
+        let reading = read(words);
+        let model = &reading.as_ref().unwrap().pack;
         for _ in 0..60 {
             // Mostly names of relations, now and then any.
             let name = |chance: &mut Chance| {
-                let known = relations > 0 && chance.often(85);
+                let known = !model.relations.is_empty() && chance.often(85);
                 if known {
-                    plain.relations[chance.below(relations) as usize].name
+                    model.relations[chance.below(model.relations.len() as u32) as usize].name
                 } else {
-                    chance.below(plain.names + 2)
+                    chance.below(model.n + 2)
                 }
             };
-            let (a, b) = (name(&mut chance), name(&mut chance));
-            let answer = lean(&pack, a, b);
-            assert_eq!(answer, plain.lean(a, b), "{a} on {b} in {words:08X?}");
-            if let Ok(leans) = answer {
+            let (a, b) = (name(chance), name(chance));
+            if let Ok(leans) = beside::lean(&pack, &reading, a, b) {
                 counts[usize::from(leans)] += 1;
             }
         }
         for _ in 0..10 {
-            let damaged = bytes_of(&packs::damaged(&words, &mut chance));
-            let (a, b) = (chance.below(plain.names), chance.below(plain.names));
-            assert_eq!(lean(&damaged, a, b), expected(&damaged, a, b));
+            let _ = held(&bytes_of(&damaged(chance, words)), chance.below(model.n), chance.below(model.n));
         }
-    }
-    assert!(counts[0] > 5_000 && counts[1] > 5_000, "{counts:?}");
+    });
+    assert!(!all || counts[0] > 5_000 && counts[1] > 5_000, "{counts:?}");
 }

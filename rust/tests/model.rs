@@ -1,13 +1,15 @@
-//! The plain walks by themselves, on cases with known answers. The library is compared with them in the other tests.
-mod packs;
-mod plain;
+//! The model by itself, on cases with known answers. The library is compared with it in the other tests.
 
-use cogunwa::Refusal;
-use packs::{Chance, NONE, Relation, graph, relation_named as named};
-use plain::chains::Pack;
+use cogunwa_model::generate::Form;
+use cogunwa_model::packs::{graph, named};
+use cogunwa_model::records::Relation;
+use cogunwa_model::replay::by_chance;
+use cogunwa_model::{NONE, Reading, Refusal, word};
 
-fn read(names: u32, relations: &[Relation]) -> Pack {
-    plain::read(&graph(names, relations)).unwrap()
+const FORMS: [Form; 5] = [Form::Program, Form::Turning, Form::Mixed, Form::Tangled, Form::Entities];
+
+fn read(names: u32, relations: &[Relation]) -> Reading {
+    cogunwa_model::read(&graph(names, relations)).unwrap()
 }
 
 /// A derivation that gives the entity this kind.
@@ -17,21 +19,49 @@ fn takes(name: u32, entity: u32, kind: u32) -> Relation {
 
 #[test]
 fn all_kinds_own_walks_and_steps() {
-    let mut chance = Chance(27_182);
     let (mut longest, mut rings, mut kinds) = (0, 0, 0);
-    for _ in 0..1500 {
-        let pack = plain::read(&packs::tangled(&mut chance)).unwrap();
-        let (places, steps) = pack.all_kinds(8192).unwrap();
-        assert_eq!(steps, pack.steps());
-        for (relation, &place) in pack.relations.iter().zip(&places) {
-            assert_eq!(pack.kinds_of(relation.name).unwrap().unwrap_or(0), place as usize);
-            rings += usize::from(pack.lean(relation.name, relation.name).unwrap());
+    let all = by_chance(27_182, 1500, &[Form::Tangled], |words, _| {
+        let reading = cogunwa_model::read(words).unwrap();
+        let (places, steps) = reading.all_kinds(8192).unwrap();
+        assert_eq!(steps, reading.steps_by_sources());
+        for (relation, &place) in reading.pack.relations.iter().zip(&places) {
+            assert_eq!(reading.kinds_of(relation.name).unwrap().unwrap_or(0), place as usize);
+            rings += usize::from(reading.lean(relation.name, relation.name).unwrap());
         }
         kinds += places.iter().filter(|&&place| place != 0).count();
         longest = longest.max(places.len());
-    }
+    });
     // The packs are not all alike.
-    assert!(longest > 150 && rings > 1000 && kinds > 1000, "{longest} {rings} {kinds}");
+    assert!(!all || longest > 150 && rings > 1000 && kinds > 1000, "{longest} {rings} {kinds}");
+}
+
+#[test]
+fn records_are_written_as_they_were_read() {
+    by_chance(17_320, 2000, &FORMS, |words, _| {
+        assert_eq!(cogunwa_model::read(words).unwrap().pack.words(), words);
+    });
+}
+
+/// A place leads to the word that it is said to be, and `node_at` to the node.
+#[test]
+fn places() {
+    by_chance(26_457, 500, &FORMS, |words, _| {
+        let mut pack = cogunwa_model::read(words).unwrap().pack;
+        let (_, places) = pack.written();
+        for (relation, placed) in pack.relations.iter().zip(&places.relations) {
+            assert_eq!(words[placed.name], word(6, relation.name));
+            assert_eq!(words[placed.kinds], word(9, relation.kinds.len() as u32));
+            if let Some(d) = &relation.derived {
+                assert_eq!(words[placed.own_kinds], word(21, d.kinds.len() as u32));
+                assert_eq!(words[placed.predicate], word(d.predicate.kind, d.predicate.value));
+            }
+        }
+        for (place, &found) in words.iter().enumerate() {
+            let is_node = matches!(found >> 24, 64..=78 | 96..=106);
+            let node = pack.node_at(place).map(|node| word(node.kind, node.value));
+            assert_eq!(node, is_node.then_some(found), "{place}");
+        }
+    });
 }
 
 #[test]
@@ -67,7 +97,7 @@ fn filtered_tables() {
             takes(6, 10, 1),
             takes(7, 10, 2),
             takes(8, 7, 6),
-            takes(9, 11, 1).current(1),
+            takes(9, 11, 1).current_slot(1),
             named(10).source(11).entity(2),
         ],
     );
@@ -81,7 +111,7 @@ fn filtered_tables() {
     assert_eq!(pack.unresolved(11), no_room);
     // An inherited list counts, and so does a kind 0.
     let pack =
-        read(4, &[named(1).kinds(&[0, 2]), named(2).source(1).entity(3).current(1), named(3).source(1).entity(2)]);
+        read(4, &[named(1).kinds(&[0, 2]), named(2).source(1).entity(3).current_slot(1), named(3).source(1).entity(2)]);
     assert_eq!(pack.direct(4), Ok(vec![no, no, 0, 2]));
     assert_eq!(pack.innermost(4), Ok(vec![no, no, 0, 0]));
 }

@@ -1,8 +1,10 @@
 //! The forms that hand back vectors say what the forms with buffers write.
-mod packs;
 
 use cogunwa::{MAX_BYTES, NONE, bytes_of, words_of};
-use packs::Chance;
+use cogunwa_model::damage::damaged;
+use cogunwa_model::generate::Form;
+use cogunwa_model::packs;
+use cogunwa_model::replay::{Tried, by_chance};
 
 /// What an operation writes into a buffer that has room for anything.
 fn written<T>(operation: impl Fn(&mut [u8]) -> T) -> (T, Vec<u32>) {
@@ -12,6 +14,7 @@ fn written<T>(operation: impl Fn(&mut [u8]) -> T) -> (T, Vec<u32>) {
 }
 
 fn compare(pack: &[u8]) {
+    let _tried = Tried(pack);
     let (answer, words) = written(|out| cogunwa::rewrite(pack, out));
     assert_eq!(cogunwa::rewrite_vec(pack), answer.map(|length| words[..length].to_vec()));
 
@@ -49,17 +52,16 @@ fn compare(pack: &[u8]) {
 
 #[test]
 fn vectors_are_what_buffers_get() {
-    let mut c = Chance(21);
     let mut resolved = 0;
-    for _ in 0..300 {
-        let words = packs::mixed(&mut c);
-        for words in [packs::damaged(&words, &mut c), words, packs::entities(&mut c), packs::turning(&mut c)] {
+    let forms = [Form::Mixed, Form::Entities, Form::Turning];
+    let all = by_chance(21, 900, &forms, |words, chance| {
+        for words in [damaged(chance, words), words.to_vec()] {
             let pack = bytes_of(&words);
             compare(&pack);
             resolved += usize::from(cogunwa::resolve_vec(&pack).is_ok());
         }
-    }
-    assert!(resolved > 300, "{resolved}");
+    });
+    assert!(!all || resolved > 300, "{resolved}");
     compare(&bytes_of(&packs::of_length(8192)));
     compare(&[]);
 }

@@ -1,36 +1,22 @@
 //! Resolve over the static library: its answer, and every byte of the buffer after it.
-mod packs;
-mod plain;
+mod beside;
 
-use cogunwa::{Refusal, Written, bytes_of, resolve, words_of};
-use packs::{Chance, NONE, Words};
+use beside::NO_ROOM;
+use cogunwa::{Written, bytes_of, resolve, words_of};
+use cogunwa_model::NONE;
+use cogunwa_model::damage::damaged;
+use cogunwa_model::generate::Form;
+use cogunwa_model::packs::{self, Words};
+use cogunwa_model::replay::by_chance;
 use std::collections::BTreeMap;
 use std::slice;
 
 type Parts = Vec<(u8, u32)>;
 
-fn before(room: usize) -> Vec<u8> {
-    (0..room).map(|i| (i * 7 + 3) as u8).collect()
-}
-
-/// Resolve into a buffer of this many bytes: holds the answer and the buffer to what they must be, and answers it.
-fn try_resolve(pack: &[u8], room: usize) -> Result<Written, Refusal> {
-    let before = before(room);
-    let mut out = before.clone();
-    let answer = resolve(pack, &mut out);
-    let expected = plain::read_bytes(pack).and_then(|p| p.resolve(room / 4));
-    let result = expected.as_ref().map_or(vec![], |(words, _)| bytes_of(words));
-    let expected = expected.map(|(words, steps)| Written { words: words.len(), steps });
-    assert_eq!(answer, expected, "into {room} bytes: {:08X?}", words_of(pack));
-    assert_eq!(words_of(&out[..result.len()]), words_of(&result), "the result of {:08X?}", words_of(pack));
-    assert_eq!(out[result.len()..], before[result.len()..], "the rest of {room} bytes");
-    answer
-}
-
 /// The result with just room enough, and the steps. To resolve the result once more changes nothing.
 fn resolved(words: &[u32]) -> (Vec<u32>, u32) {
     let pack = bytes_of(words);
-    let written = try_resolve(&pack, 32_768).unwrap();
+    let written = beside::resolve(&pack, 32_768).unwrap();
     let mut out = vec![0; 4 * written.words];
     assert_eq!(resolve(&pack, &mut out), Ok(written));
     let mut again = out.clone();
@@ -41,9 +27,9 @@ fn resolved(words: &[u32]) -> (Vec<u32>, u32) {
 
 fn refused(words: &[u32]) -> (u32, usize, u32, u32) {
     let pack = bytes_of(words);
-    let refusal = try_resolve(&pack, pack.len()).unwrap_err();
+    let refusal = beside::resolve(&pack, pack.len()).unwrap_err();
     for room in [0, 3, 4, 40_000] {
-        assert_eq!(try_resolve(&pack, room), Err(refusal));
+        assert_eq!(beside::resolve(&pack, room), Err(refusal));
     }
     (refusal.number, refusal.place, refusal.name, refusal.other)
 }
@@ -358,14 +344,13 @@ fn a_result_of_over_8192_words() {
         assert_eq!(words.len(), length as usize);
         words
     };
-    let no_room = Refusal { number: 16, place: 0, name: 0, other: 0 };
     let fits = bytes_of(&words(8190));
-    assert_eq!(try_resolve(&fits, 32_768), Ok(Written { words: 8192, steps: 2 }));
-    assert_eq!(try_resolve(&fits, 50_000), Ok(Written { words: 8192, steps: 2 }));
-    assert_eq!(try_resolve(&fits, 32_767), Err(no_room));
+    assert_eq!(beside::resolve(&fits, 32_768), Ok(Written { words: 8192, steps: 2 }));
+    assert_eq!(beside::resolve(&fits, 50_000), Ok(Written { words: 8192, steps: 2 }));
+    assert_eq!(beside::resolve(&fits, 32_767), Err(NO_ROOM));
     for length in [8191, 8192] {
         for room in [0, 32_768, 32_772, 50_000] {
-            assert_eq!(try_resolve(&bytes_of(&words(length)), room), Err(no_room));
+            assert_eq!(beside::resolve(&bytes_of(&words(length)), room), Err(NO_ROOM));
         }
     }
 }
@@ -386,18 +371,17 @@ fn the_sample() {
 
 #[test]
 fn buffers_of_every_length() {
-    let no_room = Err(Refusal { number: 16, place: 0, name: 0, other: 0 });
     let stamped = pack(&[], &[typed(5, &[1, 2]), derived(6, Derived { source: 5, ..DERIVED })], &[], &[]);
     for words in [packs::smallest(), packs::household(), stamped] {
         let pack = bytes_of(&words);
         let length = 4 * resolved(&words).0.len();
         for room in 0..length + 20 {
-            let answer = try_resolve(&pack, room);
+            let answer = beside::resolve(&pack, room);
             assert_eq!(answer.is_ok(), room >= length);
-            assert!(answer.is_ok() || answer == no_room);
+            assert!(answer.is_ok() || answer == Err(NO_ROOM));
         }
         for room in [32_767, 32_768, 32_769, 65_536] {
-            assert!(try_resolve(&pack, room).is_ok());
+            assert!(beside::resolve(&pack, room).is_ok());
         }
     }
 }
@@ -407,41 +391,51 @@ fn refused_packs_leave_the_buffer() {
     let household = bytes_of(&packs::household());
     for length in 0..household.len() {
         for room in [0, length, 40_000] {
-            assert!(try_resolve(&household[..length], room).is_err());
+            assert!(beside::resolve(&household[..length], room).is_err());
         }
     }
     let longer = bytes_of(&packs::of_length(8193));
     for length in 32_765..=32_772 {
         let number = if length == 32_768 { 4 } else { 1 };
-        assert_eq!(try_resolve(&longer[..length], 40_000).unwrap_err().number, number, "{length} bytes");
+        assert_eq!(beside::resolve(&longer[..length], 40_000).unwrap_err().number, number, "{length} bytes");
     }
 }
 
 #[test]
 fn packs_made_by_chance() {
-    let mut chance = Chance(16_180);
     let mut tally: BTreeMap<u32, usize> = BTreeMap::new();
     let (mut turned, mut stamped) = (0, 0);
-    for turn in 0..20_000 {
-        let words = if turn % 8 == 0 { packs::mixed(&mut chance) } else { packs::turning(&mut chance) };
-        let pack = bytes_of(&words);
-        let answer = try_resolve(&pack, 32_768);
+    let forms = [
+        Form::Mixed,
+        Form::Turning,
+        Form::Program,
+        Form::Turning,
+        Form::Program,
+        Form::Turning,
+        Form::Entities,
+        Form::Turning,
+    ];
+    let all = by_chance(16_180, 20_000, &forms, |words, chance| {
+        let pack = bytes_of(words);
+        let answer = beside::resolve(&pack, 32_768);
         *tally.entry(answer.map_or_else(|r| r.number, |_| 0)).or_default() += 1;
         if let Ok(written) = answer {
-            let (result, _) = resolved(&words);
+            let (result, _) = resolved(words);
             turned += usize::from(result != words);
             stamped += usize::from(result.len() > words.len());
             let exact = 4 * written.words;
             for room in [exact, exact + 1 + chance.below(9) as usize, exact - 1, chance.below(exact as u32) as usize] {
-                assert_eq!(try_resolve(&pack, room).is_ok(), room >= exact);
+                assert_eq!(beside::resolve(&pack, room).is_ok(), room >= exact);
             }
         }
-        if turn % 10 == 0 {
+        if chance.once(10) {
             for _ in 0..5 {
-                let damaged = packs::damaged(&words, &mut chance);
-                try_resolve(&bytes_of(&damaged), 32_768).ok();
+                let _ = beside::resolve(&bytes_of(&damaged(chance, words)), 32_768);
             }
         }
+    });
+    if !all {
+        return;
     }
     // Every answer of Resolve to a pack that is one is among them, but 16, which needs a longer one.
     for number in [0, 9, 10, 11, 12, 13, 14, 15] {

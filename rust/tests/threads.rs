@@ -1,29 +1,33 @@
 //! Calls from several threads at once answer as calls from one do.
-mod packs;
-mod plain;
+mod beside;
 
+use beside::said;
 use cogunwa::{all_kinds, bytes_of, check, innermost, kinds_of, lean, resolve, rewrite, words_of};
-use packs::Chance;
+use cogunwa_model::damage::damaged;
+use cogunwa_model::generate::{self, Form};
+use cogunwa_model::replay::Tried;
+use cogunwa_model::{Chance, packs, read_bytes};
 
 #[test]
 fn several_threads_at_once() {
-    let mut chance = Chance(99);
+    let mut chance = Chance::new(99);
     let mut all = vec![bytes_of(&packs::household()), bytes_of(&packs::flat(96)), bytes_of(&packs::deep(84))];
     for _ in 0..40 {
-        let words = packs::mixed(&mut chance);
+        let words = generate::words(&mut chance, Form::Mixed);
+        all.push(bytes_of(&damaged(&mut chance, &words)));
         all.push(bytes_of(&words));
-        all.push(bytes_of(&packs::damaged(&words, &mut chance)));
-        all.push(bytes_of(&packs::tangled(&mut chance)));
-        all.push(bytes_of(&packs::entities(&mut chance)));
-        all.push(bytes_of(&packs::turning(&mut chance)));
+        for form in [Form::Tangled, Form::Entities, Form::Turning, Form::Program] {
+            all.push(bytes_of(&generate::words(&mut chance, form)));
+        }
     }
-    let expected: Vec<_> = all.iter().map(|pack| plain::check_bytes(pack)).collect();
-    let read = |pack: &Vec<u8>| plain::read_bytes(pack);
-    let settled: Vec<_> = all.iter().map(|pack| read(pack)?.all_kinds(8192)).collect();
-    let first: Vec<_> = all.iter().map(|pack| read(pack)?.kinds_of(0)).collect();
-    let leans: Vec<_> = all.iter().map(|pack| read(pack)?.lean(0, 1)).collect();
-    let inner: Vec<_> = all.iter().map(|pack| read(pack)?.innermost(8192)).collect();
-    let resolved: Vec<_> = all.iter().map(|pack| read(pack)?.resolve(8192)).collect();
+    let read: Vec<_> = all.iter().map(|pack| read_bytes(pack)).collect();
+    let read = || read.iter().map(|reading| reading.as_ref().map_err(|r| *r));
+    let expected: Vec<_> = read().map(|reading| said(reading.map(drop))).collect();
+    let settled: Vec<_> = read().map(|reading| said(reading.and_then(|r| r.all_kinds(8192)))).collect();
+    let first: Vec<_> = read().map(|reading| said(reading.and_then(|r| r.kinds_of(0)))).collect();
+    let leans: Vec<_> = read().map(|reading| said(reading.and_then(|r| r.lean(0, 1)))).collect();
+    let inner: Vec<_> = read().map(|reading| said(reading.and_then(|r| r.innermost(8192)))).collect();
+    let resolved: Vec<_> = read().map(|reading| said(reading.and_then(|r| r.resolve(8192)))).collect();
     std::thread::scope(|scope| {
         for thread in 0..8 {
             let (all, expected, settled, first) = (&all, &expected, &settled, &first);
@@ -32,6 +36,7 @@ fn several_threads_at_once() {
                 let mut out = vec![0; 32_768];
                 for turn in 0..50 * all.len() {
                     let i = (thread * 11 + turn) % all.len();
+                    let _tried = Tried(&all[i]);
                     assert_eq!(check(&all[i]), expected[i]);
                     out.fill(thread as u8);
                     let answer = rewrite(&all[i], &mut out);

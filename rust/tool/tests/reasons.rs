@@ -2,7 +2,8 @@
 //! is seen.
 mod cases;
 
-use cases::Chance;
+use cogunwa_model::packs::household;
+use cogunwa_model::replay::by_chance;
 use cogunwa_tool::accepted::{Accepted, accept};
 use cogunwa_tool::answers::why_lines;
 use cogunwa_tool::commands::resolved_text;
@@ -95,11 +96,11 @@ fn every_replayed_pack() {
 #[test]
 fn packs_by_chance() {
     let mut met = Met::default();
-    let mut c = Chance(2202);
-    for (i, words) in cases::by_chance(&mut c, 2500).iter().enumerate() {
-        hold(&format!("pack {i}"), words, &mut met);
-    }
+    let all = by_chance(2202, 2500, &cases::FORMS, |words, _| hold("a pack by chance", words, &mut met));
     println!("{:?}", met.0);
+    if !all {
+        return;
+    }
     let whys = [
         "Turned Derived",
         "AsWritten Derived",
@@ -128,7 +129,7 @@ fn packs_by_chance() {
 /// A reason that is not Resolve's is seen: another slot, a stamp too many or too few, a refusal that is none.
 #[test]
 fn wrong_reasons_are_seen() {
-    let words = cases::packs::household();
+    let words = household();
     let accepted = accepted(&words).unwrap();
     let facts = facts(&accepted).unwrap();
     let good = || find(&accepted, &facts).unwrap();

@@ -1,7 +1,8 @@
 //! Packs to text and back: the same words, the same names, and one layout.
 mod cases;
 
-use cases::Chance;
+use cogunwa_model::Chance;
+use cogunwa_model::replay::by_chance;
 use cogunwa_tool::layout::layout;
 use cogunwa_tool::make::make;
 use cogunwa_tool::names::Naming;
@@ -26,7 +27,7 @@ fn names_of(words: &[u32]) -> u32 {
 
 #[test]
 fn every_replayed_pack() {
-    let mut c = Chance(22);
+    let mut c = Chance::new(22);
     let mut count = 0;
     for case in cases::replayed().iter().filter(|case| case.accepted) {
         round(&case.name, &case.words, &Naming::Numbers);
@@ -40,17 +41,15 @@ fn every_replayed_pack() {
 
 #[test]
 fn packs_by_chance() {
-    let mut c = Chance(2201);
-    let packs = cases::by_chance(&mut c, 2500);
     let mut count = 0;
-    for (i, words) in packs.iter().enumerate() {
-        if cogunwa::check(&cogunwa::bytes_of(words)).is_err() {
-            continue;
-        }
-        let naming = if i % 2 == 0 { Naming::Numbers } else { Naming::Texts(cases::texts(&mut c, names_of(words))) };
-        round(&format!("pack {i}"), words, &naming);
+    let all = by_chance(2201, 2500, &cases::FORMS, |words, chance| {
+        let naming = match chance.once(2) {
+            true => Naming::Numbers,
+            false => Naming::Texts(cases::texts(chance, names_of(words))),
+        };
+        round("a pack by chance", words, &naming);
         count += 1;
-    }
-    assert!(count > 2000, "only {count} packs");
+    });
+    assert!(!all || count > 2000, "only {count} packs");
     println!("{count} packs by chance");
 }

@@ -1,7 +1,9 @@
 //! Texts as authors may write them: with comments anywhere, laid out in any way, and damaged in any way.
 mod cases;
 
-use cases::Chance;
+use cogunwa_model::Chance;
+use cogunwa_model::damage::damaged as damaged_words;
+use cogunwa_model::replay::{Tried, by_chance};
 use cogunwa_tool::accepted::accept;
 use cogunwa_tool::input::{from_bytes, from_hex};
 use cogunwa_tool::layout::layout;
@@ -22,20 +24,20 @@ fn formatted(text: &str) -> String {
     layout(&pack, &made.naming, Some(&made))
 }
 
-/// Texts of packs by chance, and the sample with its legend.
-fn some_texts(c: &mut Chance, count: u32) -> Vec<String> {
-    let mut texts = vec![include_str!("../../../examples/household.pack").to_string()];
-    texts.push(include_str!("../../../tests/golden/packs/everything.pack").to_string());
-    for words in cases::by_chance(c, count) {
-        if words.len() < 600 && cogunwa::check(&cogunwa::bytes_of(&words)).is_ok() {
-            let naming = match c.often(50) {
+/// Tries the sample's text with its legend, one that has everything, and texts of packs by chance; answers whether all were.
+fn each_text(seed: u64, count: u64, mut test: impl FnMut(&str, &mut Chance)) -> bool {
+    let mut chance = Chance::new(seed);
+    test(include_str!("../../../examples/household.pack"), &mut chance);
+    test(include_str!("../../../tests/golden/packs/everything.pack"), &mut chance);
+    by_chance(seed, count, &cases::FORMS, |words, chance| {
+        if words.len() < 600 {
+            let naming = match chance.often(50) {
                 true => Naming::Numbers,
-                false => Naming::Texts(cases::texts(c, words[1] & 0xFF_FFFF)),
+                false => Naming::Texts(cases::texts(chance, words[1] & 0xFF_FFFF)),
             };
-            texts.push(layout(&read(&words).unwrap(), &naming, None));
+            test(&layout(&read(words).unwrap(), &naming, None), chance);
         }
-    }
-    texts
+    })
 }
 
 /// The tokens of a text, with something between them that is made by chance.
@@ -50,8 +52,7 @@ fn strewn(text: &str, tokens: &[Token], c: &mut Chance, between: &mut dyn FnMut(
 
 #[test]
 fn the_layout_does_not_matter() {
-    let mut c = Chance(2210);
-    for text in some_texts(&mut c, 250) {
+    each_text(2210, 250, |text, c| {
         let plain = formatted(
             &text
                 .lines()
@@ -62,19 +63,18 @@ fn the_layout_does_not_matter() {
         let lexed = lex(&plain).unwrap();
         // a name, then a number: some blank must stand between any two
         let mut blanks = |c: &mut Chance| [" ", "\n", "\t", "\r\n", "   ", " \n\n"][c.below(6) as usize].to_string();
-        let strewn = strewn(&plain, &lexed.tokens, &mut c, &mut blanks);
+        let strewn = strewn(&plain, &lexed.tokens, c, &mut blanks);
         if lexed.comments.is_empty() {
             assert_eq!(formatted(&strewn), plain);
         }
-    }
+    });
 }
 
 #[test]
 fn comments_are_kept() {
-    let mut c = Chance(2211);
     let mut kept = 0;
-    for text in some_texts(&mut c, 300) {
-        let lexed = lex(&text).unwrap();
+    let all = each_text(2211, 300, |text, c| {
+        let lexed = lex(text).unwrap();
         let mut number = 0;
         let often = 1 + c.below(30);
         let mut gaps = |c: &mut Chance| {
@@ -85,45 +85,41 @@ fn comments_are_kept() {
             ["  # {}\n", "\n# {}\n", "\n\n    # {}\n", "\n#{}\n\n", " # {}\r\n"][c.below(5) as usize]
                 .replace("{}", &format!("note {number} # of it"))
         };
-        let with_comments = strewn(&text, &lexed.tokens, &mut c, &mut gaps);
+        let with_comments = strewn(text, &lexed.tokens, c, &mut gaps);
         let once = formatted(&with_comments);
         let all = |text: &str| {
             lex(text).unwrap().comments.iter().map(|comment| comment.text.clone()).collect::<Vec<_>>().join(" #")
         };
         assert_eq!(all(&once), all(&with_comments), "of\n{with_comments}");
-        assert_eq!(made(&once).words, made(&text).words);
+        assert_eq!(made(&once).words, made(text).words);
         assert_eq!(formatted(&once), once, "laid out again");
         kept += number;
-    }
-    assert!(kept > 800, "only {kept} comments");
+    });
+    assert!(!all || kept > 800, "only {kept} comments");
 }
 
 /// Damaged texts end in a pack or in a place within the text, never in a panic. Those that still make a pack make it again.
 #[test]
 fn damaged_texts() {
-    let mut c = Chance(2212);
-    let texts = some_texts(&mut c, 300);
     let (mut good, mut wrong) = (0, 0);
-    for i in 0..8_000 {
-        let damaged = damaged(&texts[i % texts.len()], &mut c);
-        match make(&damaged) {
-            Ok(made) => {
-                good += 1;
-                if cogunwa::check(&cogunwa::bytes_of(&made.words)).is_ok() {
-                    assert_eq!(formatted(&formatted(&damaged)), formatted(&damaged));
-                    assert_eq!(self::made(&formatted(&damaged)).words, made.words);
-                }
-            }
-            Err(b) => {
-                wrong += 1;
-                assert!(b.span.start <= b.span.end && b.span.end <= damaged.len(), "{}", b.message);
-                assert!(!b.message.is_empty());
-                let shown = pointed("text", &damaged, b.span, &b.message);
-                assert!(shown.lines().count() >= 3 && shown.ends_with('^'), "{shown}");
+    let mut try_text = |damaged: &str| match make(damaged) {
+        Ok(made) => {
+            good += 1;
+            if cogunwa::check(&cogunwa::bytes_of(&made.words)).is_ok() {
+                assert_eq!(formatted(&formatted(damaged)), formatted(damaged));
+                assert_eq!(self::made(&formatted(damaged)).words, made.words);
             }
         }
-    }
-    assert!(good > 200 && wrong > 2000, "{good} good, {wrong} wrong");
+        Err(b) => {
+            wrong += 1;
+            assert!(b.span.start <= b.span.end && b.span.end <= damaged.len(), "{}", b.message);
+            assert!(!b.message.is_empty());
+            let shown = pointed("text", damaged, b.span, &b.message);
+            assert!(shown.lines().count() >= 3 && shown.ends_with('^'), "{shown}");
+        }
+    };
+    let all = each_text(2212, 300, |text, c| (0..35).for_each(|_| try_text(&damaged(text, c))));
+    assert!(!all || good > 200 && wrong > 2000 && good + wrong > 8000, "{good} good, {wrong} wrong");
 }
 
 /// A text in which one thing is left out, doubled or put in, at a place made by chance.
@@ -148,34 +144,31 @@ fn damaged(text: &str, c: &mut Chance) -> String {
 /// Every refused pack of the list, and packs damaged by chance: refused in words, with the library's number.
 #[test]
 fn refused_words() {
-    let mut c = Chance(2213);
-    let mut refused: Vec<Vec<u32>> =
-        cases::replayed().into_iter().filter(|case| !case.accepted).map(|case| case.words).collect();
-    assert!(refused.len() > 500);
-    for mut words in cases::by_chance(&mut c, 1200) {
-        let at = c.below(words.len() as u32) as usize;
-        match c.below(4) {
-            0 => words[at] ^= 1 << c.below(32),
-            1 => words.truncate(at),
-            2 => words.insert(at, c.number() as u32),
-            _ => _ = words.remove(at),
-        }
-        refused.push(words);
+    let listed: Vec<cases::Case> = cases::replayed().into_iter().filter(|case| !case.accepted).collect();
+    assert!(listed.len() > 500);
+    for case in listed {
+        assert!(hold_refused(&case.words), "{}", case.name);
     }
-    for words in refused {
-        let Err(refusal) = cogunwa::check(&cogunwa::bytes_of(&words)) else { continue };
-        let hex = words.iter().map(|word| format!("{word:08X}\n")).collect::<String>();
-        for input in [from_hex("pack", hex).ok().unwrap(), from_bytes("pack", cogunwa::bytes_of(&words))] {
-            let trouble = accept(input).err().expect("a refusal");
-            assert_eq!(trouble.code, 1);
-            assert!(trouble.message.ends_with(&format!("refusal {}", refusal.number)), "{}", trouble.message);
-            assert!(
-                trouble.message.starts_with("pack:") && trouble.message.contains("refused: "),
-                "{}",
-                trouble.message
-            );
-        }
+    let mut met = 0;
+    let all = by_chance(2213, 1200, &cases::FORMS, |words, chance| {
+        met += u32::from(hold_refused(&damaged_words(chance, words)));
+    });
+    assert!(!all || met > 600, "{met}");
+}
+
+/// Holds what is said of words that are refused; answers whether they are.
+fn hold_refused(words: &[u32]) -> bool {
+    let bytes = cogunwa::bytes_of(words);
+    let _tried = Tried(&bytes);
+    let Err(refusal) = cogunwa::check(&bytes) else { return false };
+    let hex = words.iter().map(|word| format!("{word:08X}\n")).collect::<String>();
+    for input in [from_hex("pack", hex).ok().unwrap(), from_bytes("pack", bytes.clone())] {
+        let trouble = accept(input).err().expect("a refusal");
+        assert_eq!(trouble.code, 1);
+        assert!(trouble.message.ends_with(&format!("refusal {}", refusal.number)), "{}", trouble.message);
+        assert!(trouble.message.starts_with("pack:") && trouble.message.contains("refused: "), "{}", trouble.message);
     }
+    true
 }
 
 /// The text that the form was first thought of with.

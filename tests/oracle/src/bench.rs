@@ -3,22 +3,15 @@
 //! Ours goes from bytes to bytes, Check included, and so does the floor, which is C that does the same unproved. The
 //! original resolves a program in memory; its copy, which it rewrites, is made outside the time.
 
-use crate::cases::{count, derivation, derived, holds, member, plain, rule, typed};
+use crate::cases::plain;
 use crate::floor;
 use crate::original::Texts;
-use crate::records::{Derivation, Pack, Relation, Rule, Tree};
+use cogunwa_model::packs::{count, derivation, derived, holds, leaf, member, rule, same, typed};
+use cogunwa_model::records::{Derivation, Pack, Relation, Rule, Tree};
 use std::hint::black_box;
 use std::time::{Duration, Instant};
 
 const ROUNDS: usize = 401;
-
-fn leaf() -> Tree {
-    Tree::leaf(64, 3)
-}
-
-fn same(a: Tree, b: Tree) -> Tree {
-    Tree::new(96, 0, &[], vec![a, b])
-}
 
 /// Typed relations, chains of eight derived ones with membership tests, and rules with aggregates; a quarter is stamped.
 fn mixed(typed_count: u32, rules: u32) -> Pack {

@@ -1,12 +1,15 @@
-//! Accepted packs: the original, the library and the tests' own reading, side by side.
+//! Accepted packs: the original, the library and the model, side by side.
 
-use crate::chance::{self, Chance, Made};
 use crate::floor;
 use crate::library::{self, OPERATIONS, Operation};
 use crate::original::{Refused, Tables, Texts};
-use crate::reading::{self, Fault, Refusal};
-use crate::records::Pack;
+use cogunwa_model::dealt::dealt;
+use cogunwa_model::generate::{self, Form, Made};
+use cogunwa_model::replay::hex;
+use cogunwa_model::{Chance, Outcome, Pack, Reading, Refusal, read};
 use std::collections::BTreeMap;
+use std::fmt::{Debug, Display};
+use std::ops::Range;
 
 /// How many packs had which outcome, and how many differed.
 #[derive(Default)]
@@ -19,6 +22,14 @@ pub struct Counts {
 impl Counts {
     pub fn note(&mut self, outcome: String) {
         *self.outcomes.entry(outcome).or_default() += 1;
+    }
+
+    /// Counts a difference, and shows where it is.
+    pub fn differs(&mut self, what: impl Display, how: &str, words: &[u32], room: usize) {
+        self.differ += 1;
+        if self.differ < 10 {
+            println!("{what}: {how}\n  room {room}\n  {}", hex(words));
+        }
     }
 
     pub fn print(&self, what: &str) {
@@ -55,18 +66,18 @@ fn without_place(refusal: Refusal) -> Refused {
     Refused { number: refusal.number, name: refusal.name, other: refusal.other }
 }
 
-/// Where the tests' own reading, with a fault or without, says otherwise than the original: kinds, steps, tables, Resolve.
-pub fn reading_differs(words: &[u32], told: &Told, room: usize, fault: Option<Fault>) -> Option<String> {
-    let Ok(read) = reading::read(words, fault) else { return Some("check".into()) };
-    for name in 0..read.n {
-        if read.kinds(name) != told.tables.kinds[name as usize].clone().unwrap_or_default() {
+/// Where the model says otherwise than the original: kinds, steps, tables, Resolve.
+pub fn model_differs(words: &[u32], told: &Told, room: usize) -> Option<String> {
+    let Ok(reading) = read(words) else { return Some("check".into()) };
+    for (name, kinds) in (0..).zip(&told.tables.kinds) {
+        if reading.effective_kinds(name).map(|list| list.names) != kinds.as_deref().filter(|kinds| !kinds.is_empty()) {
             return Some(format!("kinds of {name}"));
         }
     }
-    if read.all_kinds().1 != told.tables.steps {
+    if reading.steps() != told.tables.steps {
         return Some("steps".into());
     }
-    let tables = read.tables();
+    let tables = reading.tables();
     let pairs = [
         ("direct", &tables.direct, &told.tables.direct),
         ("innermost", &tables.innermost, &told.tables.innermost),
@@ -76,66 +87,68 @@ pub fn reading_differs(words: &[u32], told: &Told, room: usize, fault: Option<Fa
     if let Some((name, ..)) = pairs.iter().find(|(_, ours, theirs)| ours != theirs) {
         return Some((*name).into());
     }
-    let ours = read.resolve(room).map_err(without_place);
-    (ours != told.answer(room)).then(|| format!("resolve: read {ours:?}, the original {:?}", told.answer(room)))
+    let ours = reading.resolve(room).map_err(without_place);
+    let theirs = told.answer(room);
+    (ours != theirs).then(|| format!("resolve: the model {}, the original {}", answered(&ours), answered(&theirs)))
 }
 
-/// Where the library says otherwise than the tests' own reading, in all operations, all fields and all words; or the floor
-/// otherwise than the library.
+/// The steps and the words of an answer, or the refusal.
+fn answered<R: Debug>(answer: &Result<(Vec<u32>, u32), R>) -> String {
+    match answer {
+        Ok((words, steps)) => format!("{steps} steps, {}", hex(words)),
+        Err(refusal) => format!("{refusal:?}"),
+    }
+}
+
+/// What an operation writes by the model, and the steps; 0 where it counts none.
+fn expected(reading: &Reading, operation: Operation, room: usize) -> Outcome<(Vec<u32>, u32)> {
+    let plain = |words: Outcome<Vec<u32>>| words.map(|words| (words, 0));
+    match operation {
+        Operation::Rewrite => plain(reading.rewrite(room)),
+        Operation::AllKinds => reading.all_kinds(room),
+        Operation::Direct => plain(reading.direct(room)),
+        Operation::Innermost => plain(reading.innermost(room)),
+        Operation::Alias => plain(reading.alias(room)),
+        Operation::Unresolved => plain(reading.unresolved(room)),
+        Operation::Resolve => reading.resolve(room),
+    }
+}
+
+/// Where the library says otherwise than the model, in all operations, all fields and all words; or the floor otherwise than
+/// the library.
 pub fn library_differs(words: &[u32], room: usize) -> Option<String> {
     let bytes = cogunwa::bytes_of(words);
-    let read = reading::read(words, None);
-    if library::check(&bytes) != read.as_ref().map(|_| ()).map_err(|r| *r) {
-        return Some(format!("check: {:?} {:?}", library::check(&bytes), read.err()));
+    let reading = read(words);
+    let reading = reading.as_ref().map_err(|refusal| *refusal);
+    if library::check(&bytes) != reading.map(|_| ()) {
+        let (library, model) = (library::check(&bytes), reading.err());
+        return Some(format!("check: the library {library:?}, the model {model:?}"));
     }
-    let n = read.as_ref().map_or(3, |read| read.n);
+    let n = reading.map_or(3, |reading| reading.pack.n);
     for operation in OPERATIONS {
-        let expected = read.as_ref().map_err(|r| *r).and_then(|read| {
-            let (needs, words, steps) = match operation {
-                Operation::Rewrite => (words.len(), words.to_vec(), 0),
-                Operation::AllKinds => {
-                    let (places, steps) = read.all_kinds();
-                    (places.len(), places, steps)
-                }
-                Operation::Direct => (n as usize, read.tables().direct, 0),
-                Operation::Innermost => (n as usize, read.tables().innermost, 0),
-                Operation::Alias => (n as usize, read.tables().alias, 0),
-                Operation::Unresolved => (n as usize, read.tables().unresolved, 0),
-                Operation::Resolve => return read.resolve(room),
-            };
-            let room = room_for(operation, needs, room);
-            if needs > room { Err(Refusal { number: 16, place: 0, name: 0, other: 0 }) } else { Ok((words, steps)) }
-        });
         let needs = match operation {
             Operation::Rewrite => words.len(),
-            Operation::AllKinds => read.as_ref().map_or(2, |read| read.relation_names().len()),
+            Operation::AllKinds => reading.map_or(2, |reading| reading.pack.relations.len()),
             _ => n as usize,
         };
-        match library::run(operation, &bytes, room_for(operation, needs, room)) {
+        let room = room_for(operation, needs, room);
+        let expected = reading.and_then(|reading| expected(reading, operation, room));
+        match library::run(operation, &bytes, room) {
             Err(message) => return Some(message),
             Ok(answer) if answer != expected => {
-                return Some(format!("{operation:?}: library {answer:?}, read {expected:?}"));
+                let (library, model) = (answered(&answer), answered(&expected));
+                return Some(format!("{operation:?}: the library {library}, the model {model}"));
             }
             Ok(_) => {}
         }
     }
     for name in 0..=n.min(40) {
-        let expected = match &read {
-            Err(refusal) => Err(*refusal),
-            Ok(read) if name < read.n => Ok(read.kinds_of(name)),
-            Ok(_) => Err(Refusal { number: 17, place: 0, name, other: 0 }),
-        };
-        if library::kinds_of(&bytes, name) != expected {
+        let kinds = reading.and_then(|reading| reading.kinds_of(name));
+        if library::kinds_of(&bytes, name) != kinds.map(|place| place.unwrap_or(0)) {
             return Some(format!("kinds of {name}"));
         }
         let other = (name * 7 + room as u32) % (n + 2);
-        let expected = match &read {
-            Err(refusal) => Err(*refusal),
-            Ok(read) if name >= read.n => Err(Refusal { number: 17, place: 0, name, other: 0 }),
-            Ok(read) if other >= read.n => Err(Refusal { number: 17, place: 0, name: other, other: 0 }),
-            Ok(read) => Ok(read.leans(name, other)),
-        };
-        if library::lean(&bytes, name, other) != expected {
+        if library::lean(&bytes, name, other) != reading.and_then(|reading| reading.lean(name, other)) {
             return Some(format!("lean {name} {other}"));
         }
     }
@@ -156,7 +169,7 @@ fn room_for(operation: Operation, needs: usize, room: usize) -> usize {
 pub fn outcome(words: &[u32], told: &Told, room: usize) -> String {
     match told.answer(room) {
         Err(refused) if refused.number == 10 => {
-            let place = reading::read(words, None).unwrap().resolve(room).unwrap_err().place;
+            let place = read(words).unwrap().resolve(room).unwrap_err().place;
             format!("refused 10 {}", if words[place] >> 24 == 101 { "membership" } else { "aggregate" })
         }
         Err(refused) if refused.number == 9 => "refused  9".into(),
@@ -167,38 +180,72 @@ pub fn outcome(words: &[u32], told: &Told, room: usize) -> String {
     }
 }
 
-/// Compares one pack; says whether all is alike.
-pub fn pack(made: &Made, room: usize, counts: &mut Counts) -> (bool, Told) {
+/// Compares one pack; says whether all is alike. A pack that is not is shown, with what it is.
+pub fn pack(what: impl Display, made: &Made, room: usize, counts: &mut Counts) -> (bool, Told) {
     let words = made.pack.words();
     let told = told(made);
     counts.packs += 1;
     counts.note(outcome(&words, &told, room));
-    let differs = reading_differs(&words, &told, room, None).or_else(|| library_differs(&words, room));
-    if let Some(what) = &differs {
-        counts.differ += 1;
+    let differs = model_differs(&words, &told, room).or_else(|| library_differs(&words, room));
+    if let Some(how) = &differs {
+        counts.differs(what, how, &words, room);
         if counts.differ < 10 {
-            let hex: Vec<String> = words.iter().map(|w| format!("{w:08X}")).collect();
-            println!("{what}\n  room {room}, names {:?}\n  {}", made.texts, hex.join(" "));
+            println!("  names {:?}", made.texts);
         }
     }
     (differs.is_none(), told)
 }
 
-/// Packs by chance, each also dealt out again.
-pub fn by_chance(seed: u64, count: u64) -> Counts {
+/// Packs by chance of these numbers, each second one dealt out again.
+pub fn by_chance(seed: u64, numbers: Range<u64>) -> Counts {
     let mut counts = Counts::default();
     let mut chance = Chance::new(seed);
-    while counts.packs < count {
-        let (made, room) = chance::made(&mut chance);
-        let (_, told) = pack(&made, room, &mut counts);
-        let again = Made { pack: chance::dealt(&mut chance, &made.pack), texts: made.texts.clone() };
-        let (_, told_again) = pack(&again, room, &mut counts);
-        if let Some(what) = dealt_differs(&told, &told_again, room) {
-            counts.differ += 1;
-            println!("dealt out again: {what}");
+    for number in (0..numbers.end).step_by(2) {
+        let (made, room) = generate::made(&mut chance, Form::Program);
+        let again = Made { pack: dealt(&mut chance, &made.pack), texts: made.texts.clone() };
+        if number + 1 < numbers.start {
+            continue;
+        }
+        let (_, told) = pack(format_args!("pack {number} of seed {seed}"), &made, room, &mut counts);
+        let (_, told_again) = pack(format_args!("pack {} of seed {seed}", number + 1), &again, room, &mut counts);
+        if let Some(how) = dealt_differs(&told, &told_again, room) {
+            let what = format_args!("pack {number} of seed {seed}, dealt out again");
+            counts.differs(what, &how, &made.pack.words(), room);
         }
     }
     counts
+}
+
+/// Compares one pack of `by_chance` and the one that is its counterpart, and shows both.
+pub fn one_by_chance(seed: u64, number: u64) -> Counts {
+    let first = number - number % 2;
+    let mut chance = Chance::new(seed);
+    for at in (0..=first).step_by(2) {
+        let (made, room) = generate::made(&mut chance, Form::Program);
+        let again = dealt(&mut chance, &made.pack);
+        if at == first {
+            println!("names {:?}", made.texts);
+            for (pack, number) in [(made.pack, first), (again, first + 1)] {
+                println!("pack {number} of seed {seed}");
+                show(&pack.words(), room);
+            }
+        }
+    }
+    by_chance(seed, first..first + 2)
+}
+
+/// Prints words, and what the model answers to them.
+pub fn show(words: &[u32], room: usize) {
+    println!("  room {room}\n  {}", hex(words));
+    match read(words) {
+        Err(refusal) => println!("  check: {refusal:?}"),
+        Ok(reading) => {
+            for operation in OPERATIONS {
+                let room = if operation == Operation::Resolve { room } else { usize::MAX };
+                println!("  {operation:?}: {}", answered(&expected(&reading, operation, room)));
+            }
+        }
+    }
 }
 
 /// Demand 3, of the original itself.

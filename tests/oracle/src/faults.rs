@@ -1,9 +1,10 @@
-//! Mistakes made on purpose in the tests' own reading: each must be noticed.
+//! Mistakes made on purpose in the model: each must be noticed.
 
-use crate::chance::{self, Chance};
 use crate::compare;
 use crate::damage;
-use crate::reading::{FAULTS, Of};
+use cogunwa_model::Chance;
+use cogunwa_model::faults::{self, FAULTS, Of};
+use cogunwa_model::generate::{self, Form};
 
 /// How many packs show each fault: of accepted packs against the original, of damaged ones against the library.
 pub fn run(seed: u64, count: u64) -> bool {
@@ -11,7 +12,7 @@ pub fn run(seed: u64, count: u64) -> bool {
     let mut chance = Chance::new(seed);
     let mut done = 0;
     while done < count {
-        let (made, room) = chance::made(&mut chance);
+        let (made, room) = generate::made(&mut chance, Form::Program);
         let words = made.pack.words();
         if words.len() > 1500 {
             continue;
@@ -20,14 +21,15 @@ pub fn run(seed: u64, count: u64) -> bool {
         let told = compare::told(&made);
         for (shown, &(fault, of, _)) in shown.iter_mut().zip(FAULTS) {
             if of != Of::Check {
-                *shown += compare::reading_differs(&words, &told, room, Some(fault)).is_some() as u64;
+                let differs = || compare::model_differs(&words, &told, room).is_some();
+                *shown += u64::from(faults::with(fault, differs));
             }
         }
     }
     damage::packs(seed, count, |words, _| {
         for (shown, &(fault, of, _)) in shown.iter_mut().zip(FAULTS) {
             if of == Of::Check {
-                *shown += damage::fault_shows(words, fault) as u64;
+                *shown += u64::from(faults::with(fault, || damage::check_differs(words)));
             }
         }
     });

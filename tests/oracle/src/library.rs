@@ -1,6 +1,6 @@
 //! Cogunwa's operations, with what they do to a lent buffer.
 
-use crate::reading::Refusal;
+use cogunwa_model::Refusal;
 
 fn refusal(r: cogunwa::Refusal) -> Refusal {
     Refusal { number: r.number, place: r.place, name: r.name, other: r.other }

@@ -1,9 +1,10 @@
 //! The fixed list of the original's answers, lines of text that tests/make_cases.py takes up.
 
 use crate::cases;
-use crate::chance::{self, Chance, Made};
 use crate::compare::{self, Counts, Told};
-use crate::reading;
+use cogunwa_model::cases::{Case, named};
+use cogunwa_model::generate::{self, Form, Made};
+use cogunwa_model::{Chance, read};
 use std::collections::BTreeMap;
 use std::fmt::Write;
 
@@ -39,7 +40,7 @@ fn hex(words: &[u32]) -> String {
 
 fn lines(out: &mut String, name: &str, made: &Made, told: &Told, room: usize) {
     let words = made.pack.words();
-    let read = reading::read(&words, None).unwrap();
+    let reading = read(&words).unwrap();
     let digits: String = words.iter().map(|w| format!(" {w:08X}")).collect();
     writeln!(out, "{name} | ok | {0} | {0} |{digits}", words.len()).unwrap();
     let mut rooms = vec![room];
@@ -54,13 +55,13 @@ fn lines(out: &mut String, name: &str, made: &Made, told: &Told, room: usize) {
                 writeln!(out, "{name} > resolve {room} | given {} {steps} |{}", result.len(), hex(&result)).unwrap();
             }
             Err(refused) => {
-                let place = read.resolve(room).unwrap_err().place;
+                let place = reading.resolve(room).unwrap_err().place;
                 let (number, by, other) = (refused.number, refused.name, refused.other);
                 writeln!(out, "{name} > resolve {room} | refused {number} {place} {by} {other} |").unwrap();
             }
         }
     }
-    let (places, _) = read.all_kinds();
+    let (places, _) = reading.all_kinds(usize::MAX).unwrap();
     let (k, n) = (places.len(), made.pack.n);
     writeln!(out, "{name} > all_kinds {k} | given {k} {} |{}", told.tables.steps, hex(&places)).unwrap();
     let tables = &told.tables;
@@ -78,16 +79,16 @@ fn lines(out: &mut String, name: &str, made: &Made, told: &Told, room: usize) {
 pub fn write(file: &str) -> bool {
     let mut out = String::from(HEAD);
     let mut counts = Counts::default();
-    for (name, pack) in cases::named_packs() {
+    for Case { name, pack, .. } in named() {
         let made = cases::plain(pack);
-        let (_, told) = compare::pack(&made, 8192, &mut counts);
+        let (_, told) = compare::pack(&name, &made, 8192, &mut counts);
         lines(&mut out, &format!("original-{}", name.replace([' ', '\''], "-")), &made, &told, 8192);
     }
     let mut left: BTreeMap<&str, u32> = WANTED.into();
     let mut chance = Chance::new(SEED);
     let mut number = 0;
     while left.values().any(|&left| left > 0) {
-        let (made, room) = chance::made(&mut chance);
+        let (made, room) = generate::made(&mut chance, Form::Program);
         let words = made.pack.words();
         if words.len() > MOST_WORDS || made.pack.n > 18 {
             continue;
@@ -96,7 +97,7 @@ pub fn write(file: &str) -> bool {
         let outcome = compare::outcome(&words, &told, room);
         let Some(left) = left.get_mut(outcome.as_str()).filter(|left| **left > 0) else { continue };
         *left -= 1;
-        compare::pack(&made, room, &mut counts);
+        compare::pack(number, &made, room, &mut counts);
         lines(&mut out, &format!("original-{number}"), &made, &told, room);
         number += 1;
     }

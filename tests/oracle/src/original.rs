@@ -5,7 +5,6 @@
 //! back from the pack where the form is the one that they chose.
 
 use crate::model::{JudgmentExpr, Program, RelationDerivation, RelationPathStep, RelationSchema};
-use crate::records::{Block, Derivation, Item, NONE, Pack, Relation, Rule, Tree};
 use crate::relation_direction::{self, DirectionError};
 use crate::relation_typing::{self, ChainStep};
 use crate::spec::{
@@ -14,6 +13,7 @@ use crate::spec::{
     ScalarExprSpec, ScalarValueSpec, TermSpec,
 };
 use chrono::NaiveDate;
+use cogunwa_model::records::{Block, Derivation, Item, NONE, Pack, Relation, Rule, Tree};
 use serde_yaml::{Mapping, Value};
 use std::collections::{BTreeMap, HashMap, HashSet};
 use std::mem::discriminant;
@@ -197,8 +197,8 @@ impl<'t> Texts<'t> {
                     };
                     steps.iter().map(step).collect()
                 }),
-                current_slot: d.current as usize,
-                related_slot: d.related as usize,
+                current_slot: d.current_slot as usize,
+                related_slot: d.related_slot as usize,
                 entity: self.maybe(d.entity),
                 member_relation: self.maybe(d.member),
                 slot_entities: self.all(&d.kinds),
@@ -392,8 +392,8 @@ impl<'t> Texts<'t> {
                 path: d.source_path.as_ref().map(|steps| {
                     steps.iter().map(|s| [self.number(&s.relation), s.from_slot as u32, s.to_slot as u32]).collect()
                 }),
-                current: d.current_slot as u32,
-                related: d.related_slot as u32,
+                current_slot: d.current_slot as u32,
+                related_slot: d.related_slot as u32,
                 entity: self.maybe_number(&d.entity),
                 member: self.maybe_number(&d.member_relation),
                 kinds: self.numbers(&d.slot_entities),
@@ -605,8 +605,8 @@ impl<'t> Texts<'t> {
                     };
                     steps.iter().map(step).collect()
                 }),
-                current_slot: d.current as usize,
-                related_slot: d.related as usize,
+                current_slot: d.current_slot as usize,
+                related_slot: d.related_slot as usize,
                 entity: self.maybe(d.entity),
                 member_relation: self.maybe(d.member),
                 slot_entities: self.all(&d.kinds),

@@ -1,10 +1,8 @@
-//! The packs of the replayed cases (`crates/cases/stdin`), packs made by chance, and names for them.
+//! The packs of the replayed cases (`crates/cases/stdin`), and names for packs.
 #![allow(dead_code)]
 
-#[path = "../../../tests/packs/mod.rs"]
-pub mod packs;
-
-pub use packs::Chance;
+use cogunwa_model::Chance;
+use cogunwa_model::generate::Form;
 
 pub struct Case {
     pub name: String,
@@ -38,16 +36,9 @@ pub fn replayed() -> Vec<Case> {
     }
 }
 
-/// So many packs made by chance, of the sorts that the wrapper's tests use.
-pub fn by_chance(c: &mut Chance, count: u32) -> Vec<Vec<u32>> {
-    let one = |i: u32, c: &mut Chance| match i % 8 {
-        0 => packs::tangled(c),
-        1 => packs::entities(c),
-        2..=4 => packs::mixed(c),
-        _ => packs::turning(c),
-    };
-    (0..count).map(|i| one(i, c)).filter(|words| words.len() <= 8192).collect()
-}
+/// What packs by chance are of, in turn.
+pub const FORMS: [Form; 8] =
+    [Form::Tangled, Form::Entities, Form::Mixed, Form::Mixed, Form::Mixed, Form::Program, Form::Turning, Form::Turning];
 
 /// So many texts for names, in byte order, the first of them empty: plain ones, such with an origin, and odd ones.
 pub fn texts(c: &mut Chance, count: u32) -> Vec<Vec<u8>> {
