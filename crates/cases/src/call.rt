@@ -5,12 +5,12 @@ use crate::list::Entry;
 use crate::operation;
 use checking::check::check;
 use checking::rewrite::rewrite;
+use definitions::answer::Answer;
 use definitions::operation::Filter;
 use filtered::filtered::filtered;
 use kinds::all_kinds::all_kinds;
 use kinds::kinds_of::kinds_of;
 use kinds::lean::lean;
-use definitions::answer::Answer;
 use resolve::resolve::resolve;
 
 fn answer_of(e: Entry, pack: &[u32], out: &mut [u32]) -> Answer {

@@ -1,8 +1,8 @@
 // What the program writes to standard output.
 use crate::compare::Found;
 use crate::run::Totals;
-use libc::STDOUT_FILENO;
 use definitions::answer::Refusal;
+use libc::STDOUT_FILENO;
 
 fn text(bytes: &[u8]) {
     io::write_all(STDOUT_FILENO, bytes);

@@ -2,9 +2,9 @@
 use definitions::answer::Answer;
 use definitions::answer::Number;
 use definitions::answer::Refusal;
+use definitions::table::Values;
 use pack::cursor::Step;
 use pack::kinds::Pack;
-use definitions::table::Values;
 use pack::table::table_for;
 use records::all::records;
 use records::all::refused;

@@ -26,11 +26,11 @@ unfoldable pub bytesOf : List ℕ → List ℕ
 bytesOf [] = []
 bytesOf (w ∷ ws) = w % 256 ∷ w / 256 % 256 ∷ w / 65536 % 256 ∷ w / 16777216 % 256 ∷ bytesOf ws
 
--- "number in bits 0 to 5, place in 6 to 19, name in 20 to 51, other in 52 to 63"
+-- an answer as one number: the number stands in bits 0 to 5, the place in 6 to 19, the name in 20 to 51, the other in 52 to 63
 abbrev pub inBits : ℕ → ℕ → ℕ → ℕ → ℕ
 inBits number place name other = number % 2 ^ 6 + place % 2 ^ 14 * 2 ^ 6 + name * 2 ^ 20 + other % 2 ^ 12 * 2 ^ 52
 
--- "An answer has number 0, its value in the name bits, its steps in the other bits, 0 in the rest."
+-- an answer that is no refusal has number 0, its value in the bits of the name, its steps in those of the other, and 0 in the rest
 abbrev pub encode : Answer → ℕ
 encode (Given value steps) = inBits 0 0 value steps
 encode (Refused r) = inBits (r .number) (r .place) (r .name) (r .other)
@@ -46,12 +46,13 @@ notWords = Refused (record { number = 1; place = 0; name = 0; other = 0 })
 unfoldable pub overBytes : (List ℕ → Answer) → List ℕ → Answer
 overBytes answer bytes = pick (areWords (length bytes)) (answer (wordsOf bytes)) notWords
 
--- the output after an answer, whose value is the number of words written: "bytes past the words written stay", "a refusal changes no lent buffer"
+-- the output after an answer, whose value is the number of words written. "A refusal changes no lent buffer. Words and bytes past those that an operation
+-- writes are kept."
 unfoldable pub outAfter : Answer → List ℕ → List ℕ → List ℕ
 outAfter (Given n steps) written out = bytesOf (take n written) ++ drop (4 * n) out
 outAfter (Refused r) written out = out
 
--- An operation that writes: its answer for an output of b bytes, and the output afterwards. "of an output of b bytes it uses the first 4 · (b div 4)"
+-- An operation that writes: its answer for an output of b bytes, of which it uses the first 4 · (b div 4), and the output afterwards.
 abbrev pub inRoom : (List ℕ → ℕ → Answer) → ℕ → List ℕ → Answer
 inRoom answer b = overBytes (λ ws. answer ws (b / 4))
 

@@ -50,7 +50,7 @@ single (k ∷ ks) = pick (any (λ x. not (eqb x k)) ks) none (some k)
 unfoldable pub direct : List Relation → ℕ → Option ℕ
 direct rs e = single (taken rs e)
 
--- "Alias: 1 if some kind taken differs from the entity, else 0."
+-- "Alias ..: 1 if some kind taken differs from the entity, else 0."
 unfoldable pub alias : List Relation → ℕ → Bool
 alias rs e = any (λ k. not (eqb k e)) (taken rs e)
 

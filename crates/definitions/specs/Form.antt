@@ -33,7 +33,7 @@ mapRead f (refused r) = refused r
 unfoldable pub allowedHere : ℕ → ℕ → ℕ → Bool
 allowedHere n kind v = allowed (entryOf kind .values) n v
 
--- One word. 01: "at each word (place = it): 3 the pack has ended; 2 wrong kind; 5 a tree node at depth 33; 4 value not allowed".
+-- One word. 01: "at each word (place = it): 3 the pack has ended ..; 2 wrong kind; 5 a tree node at depth 33 ..; 4 value not allowed".
 -- `rejects` gives the number by which a kind is rejected, 2 or 5, or 0.
 abbrev pub readWord : (ℕ → ℕ) → ℕ → ℕ → List ℕ → Read (ℕ × ℕ)
 readWord rejects n at [] = because 3 at
@@ -123,9 +123,6 @@ whole listOrNone v l = pick (eqb v table.none) none (some l)
 whole option v l = first l
 
 -- the rule that a count word must have: of a flag, at most 1; of one and more, from 1
-abbrev pub isFlag : Values → Type 0
-isFlag r = r ≡ AtMost 1
-
 abbrev pub Suits : {A C : Type 0} → Holder A C → Values → Type 0
 Suits list r = Unit {0}
 Suits listOrNone r = Unit {0}

@@ -2,6 +2,8 @@
 // than the work on a small pack: it has small ones.
 use checking::check::check;
 use checking::rewrite::rewrite;
+use definitions::answer::Answer;
+use definitions::answer::Number;
 use definitions::operation::Filter;
 use definitions::operation::Question;
 use definitions::operation::Writing;
@@ -9,8 +11,6 @@ use filtered::filtered::filtered;
 use kinds::all_kinds::all_kinds;
 use kinds::kinds_of::kinds_of;
 use kinds::lean::lean;
-use definitions::answer::Answer;
-use definitions::answer::Number;
 use pack::kinds::Pack;
 use resolve::resolve::resolve_into;
 use wire::answer::encode;

@@ -1,9 +1,9 @@
 // The reading place, and the words that are read there.
+use crate::kinds::Pack;
+use crate::table::allows;
 use definitions::answer::Number;
 use definitions::answer::Refusal;
-use crate::kinds::Pack;
 use definitions::table::Values;
-use crate::table::allows;
 ghost use mathlib.Core.Path.{_≡_};
 ghost use Rattle.pack.specs.Packed.{Ruled};
 ghost use mathlib.Core.List.{[], _∷_};

@@ -1,11 +1,11 @@
 // Trees: scalar and judgment walkers, which call each other. With each level the number of levels left falls.
 // They answer a plain number: the place after the tree, or a refusal's code. On their way they note the nodes that resolving looks at.
 use definitions::answer::Number;
+use definitions::table::Values;
 use pack::cursor::Cursor;
 use pack::cursor::Step;
 use pack::cursor::stop;
 use pack::kinds::Pack;
-use definitions::table::Values;
 use pack::table::allows_head;
 use pack::table::bound;
 use pack::table::children;

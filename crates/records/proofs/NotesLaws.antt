@@ -75,7 +75,7 @@ module _ (n kinds start : ℕ) (ws : List ℕ) (at : ℕ) (d : List ℕ) {y : St
       (λ a. let long = chain-words n (a .value) in
       let at₁ : (x : ℕ) → k .at + 3 + x ≡ at + 4 + 3 * hops (a .value .1 .0) + 3 + x = λ x. omega (arith, a .on, long) in
       let same-note : (b : Member) → memberNote kinds slots lead b ≡ noteIn kinds (some (toDerivation (a .value, b)))
-          = λ b. sym (derived-note n kinds (a .value) b (omega (arith, a .on, z)) (a .kept) refl refl) in
+      = λ b. sym (derived-note n kinds (a .value) b (omega (arith, a .on, z)) (a .kept) refl refl) in
       noted-as _ _ _ _ _ _ _ _ (subst (λ (f : Member → ℕ). Noted f (member n) (noteMember context (k .at)) ws (k .at) d₁ x e) (λ i. λ b. same-note b i) h)
       (λ b. λ i. noteTree (c i) (b .1 .1 .1) (at₁ (length (b .1 .1 .0)) i, p i) .1)))
 

@@ -1,10 +1,10 @@
 // Derivations: lists of names, paths, and what else a derivation says.
 use crate::count::repeats;
 use crate::directory::Directory;
+use definitions::table::Values;
 use pack::cursor::Cursor;
 use pack::cursor::Step;
 use pack::kinds::Pack;
-use definitions::table::Values;
 use reading::tree::judgment;
 use reading::tree::open;
 ghost use mathlib.Core.Path.{_≡_};

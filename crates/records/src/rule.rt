@@ -1,8 +1,8 @@
 // Rules and their bodies. Each rule is noted, and then the nodes of its trees.
+use definitions::table::Values;
 use pack::cursor::Cursor;
 use pack::cursor::Step;
 use pack::kinds::Pack;
-use definitions::table::Values;
 use reading::tree::judgment;
 use reading::tree::open;
 use reading::tree::scalar;

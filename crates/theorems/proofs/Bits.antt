@@ -1,4 +1,4 @@
--- No answer is too large for its bits: the number that a function of the host answers gives the operation's answer back (`answers-again` of wire, over bytes by `over-bytes-fits`).
+-- No answer is too large for its bits: the number that a function of the host answers gives the operation's answer back (`answers-again`, over bytes by `over-bytes-fits`).
 use Prim.Native.Nat.{ℕ, _^_, _<_, _≤_}
 use native.Mathlib.Omega.{arith}
 use mathlib.Core.Path.{_≡_, refl}

@@ -23,7 +23,7 @@ use Rattle.filtered.proofs.FilteredLaws.{filtered-dealt}
 use Rattle.chains.proofs.ListAt.{place-holds}
 use Rattle.chains.proofs.KindLaws.{kinds-dealt, kinds-steps, distinct-names, words-count}
 
--- "the step count is an exact sum": the relations, and the undeclared sources that inheriting relations name, each once
+-- the steps are an exact sum: the relations, and the undeclared sources that inheriting relations name, each once
 pub all-kinds-steps : (ws : List ℕ) (p : Pack) → read ws ≡ yes p → (room : ℕ) → length (p .relations) ≤ room
     → allKindsAnswer ws room ≡ Given (length (p .relations)) (length (p .relations) + length (undeclaredSources (p .relations)))
 unfolding allKindsAnswer

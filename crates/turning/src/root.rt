@@ -1,7 +1,7 @@
 // A rule or relation in which turning is.
+use definitions::answer::Refusal;
 use directions::direction::related_kind;
 use filtered::act::act_of;
-use definitions::answer::Refusal;
 use pack::kinds::Pack;
 ghost use mathlib.Core.Path.{_≡_};
 ghost use Rattle.turning.specs.Steps.{RootStands, RootOpened};

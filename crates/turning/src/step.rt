@@ -1,9 +1,9 @@
 // What comes of one node, read in the words of the pack.
+use definitions::answer::Number;
 use definitions::direction::Direction;
 use directions::direction::member;
 use directions::direction::turn;
 use inputs::inputs::input;
-use definitions::answer::Number;
 use pack::kinds::Pack;
 ghost use mathlib.Core.Path.{_≡_};
 ghost use Prim.Native.Nat.{_<_, _≤_};

@@ -42,13 +42,23 @@ slice-write-marks : tie.Need-slice-write-marks Inv-loop μ-loop
 slice-write-marks c = c .before .before .before .before .loop .inv .walkable .name
 
 read-name-requires : tie.Need-read-name-requires Inv-loop μ-loop
-read-name-requires c κs = let w = c .before .before .before .before .before .loop .inv .walkable in (reaches-one (c .before .before .before .before .before .before .before .before .pre .1) (omega (arith, w .name, c .before .before .before .before .before .loop .inv .long)), omega (arith, w .room))
+read-name-requires c κs =
+    let at-loop = c .before .before .before .before .before in let start-2 = at-loop .before .before .before in
+    let w = at-loop .loop .inv .walkable in (reaches-one (start-2 .pre .1) (omega (arith, w .name, at-loop .loop .inv .long)), omega (arith, w .room))
 
 same-length-3 : tie.Need-same-length-3 Inv-loop μ-loop
-same-length-3 c = stops-end _ _ _ _ _ (c .before .before .before .before .before .before .before .loop .inv) (omega arith) (c .before .before .before .before .if1 .left) (c .before .before .before .if2 .left) (c .before .read-name .ensures .says) (c .before .read-name .ensures .counts) (c .if3 .taken) .long
+same-length-3 c =
+    let at-read-name = c .before in let at-if2 = at-read-name .before .before in let at-if1 = at-if2 .before in
+    let at-loop = at-if1 .before .before .before in
+    stops-end _ _ _ _ _ (at-loop .loop .inv) (omega arith) (at-if1 .if1 .left) (at-if2 .if2 .left) (at-read-name .read-name .ensures .says) (at-read-name .read-name .ensures .counts)
+    (c .if3 .taken) .long
 
 returns-3 : tie.Need-returns-3 Inv-loop μ-loop
-returns-3 c = stops-end _ _ _ _ _ (c .before .before .before .before .before .before .before .loop .inv) (omega arith) (c .before .before .before .before .if1 .left) (c .before .before .before .if2 .left) (c .before .read-name .ensures .says) (c .before .read-name .ensures .counts) (c .if3 .taken)
+returns-3 c =
+    let at-read-name = c .before in let at-if2 = at-read-name .before .before in let at-if1 = at-if2 .before in
+    let at-loop = at-if1 .before .before .before in
+    stops-end _ _ _ _ _ (at-loop .loop .inv) (omega arith) (at-if1 .if1 .left) (at-if2 .if2 .left) (at-read-name .read-name .ensures .says) (at-read-name .read-name .ensures .counts)
+    (c .if3 .taken)
 
 next-name-requires : tie.Need-next-name-requires Inv-loop μ-loop
 next-name-requires c κs = search needs
@@ -60,7 +70,11 @@ loop-less : tie.Need-loop-less Inv-loop μ-loop
 loop-less c = search needs
 
 loop-again : tie.Need-loop-again Inv-loop μ-loop
-loop-again c = goes-on _ _ _ _ _ (c .before .before .before .before .before .before .before .before .loop .inv) (omega arith) (c .before .before .before .before .before .if1 .left) (c .before .before .before .before .if2 .left) (c .before .before .read-name .ensures .says) (c .before .before .read-name .ensures .counts) (c .before .if3 .left) (c .next-name .ensures)
+loop-again c =
+    let at-if3 = c .before in let at-read-name = at-if3 .before in let at-if2 = at-read-name .before .before in let at-if1 = at-if2 .before in
+    let at-loop = at-if1 .before .before .before in
+    goes-on _ _ _ _ _ (at-loop .loop .inv) (omega arith) (at-if1 .if1 .left) (at-if2 .if2 .left) (at-read-name .read-name .ensures .says) (at-read-name .read-name .ensures .counts)
+    (at-if3 .if3 .left) (c .next-name .ensures)
 
 same-length-4 : tie.Need-same-length-4 Inv-loop μ-loop
 same-length-4 c = c .before .loop .inv .long

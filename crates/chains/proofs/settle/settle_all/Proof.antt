@@ -25,10 +25,18 @@ name-at-requires : tie.Need-name-at-requires Inv-loop μ-loop
 name-at-requires c κs = omega (arith, c .before .before .before .before .before .before .pre .0, c .before .before .before .before .before .before .pre .2 .long)
 
 add-walk : tie.Need-add-walk Inv-loop μ-loop
-add-walk c = omega (arith, c .before .before .before .before .before .before .before .pre .0)
+add-walk c =
+    let on-the-way = c .before .before .before .before .before .before in let start = on-the-way .before in
+    omega (arith, start .pre .0)
 
 walk-requires : tie.Need-walk-requires Inv-loop μ-loop
-walk-requires c κs = (rw (c .name-at .ensures ∙ sym (name-here (c .before .before .before .before .before .before .before .args .dir .now) (c .before .before .before .before .before .before .before .args .count) (c .before .before .before .before .loop .j) (omega arith))) (walkable _ _ _ _ _ (c .before .before .before .before .before .before .before .pre .1) (c .before .before .before .before .loop .inv) (omega (arith, names-long (c .before .before .before .before .before .before .before .args .dir .now) (c .before .before .before .before .before .before .before .args .count)))), subst (Reaches (c .before .before .before .before .before .before .before .args .dir .now)) (sym (c .before .before .before .before .loop .inv .long)) (c .before .before .before .before .before .before .before .pre .2))
+walk-requires c κs =
+    let at-loop = c .before .before .before .before in let start = at-loop .before .before .before in (
+      rw (c .name-at .ensures ∙ sym (name-here (start .args .dir .now) (start .args .count) (at-loop .loop .j) (omega arith)))
+          (walkable _ _ _ _ _ (start .pre .1) (at-loop .loop .inv) (omega (arith, names-long (start .args .dir .now) (start .args .count)))),
+      subst (Reaches (start .args .dir .now))
+          (sym (at-loop .loop .inv .long)) (start .pre .2),
+    )
 
 add-j : tie.Need-add-j Inv-loop μ-loop
 add-j c = search needs
@@ -37,7 +45,11 @@ loop-less : tie.Need-loop-less Inv-loop μ-loop
 loop-less c = search needs
 
 loop-again : tie.Need-loop-again Inv-loop μ-loop
-loop-again c = walk-on _ _ _ _ _ (c .before .before .before .before .before .before .before .before .before .before .pre .1) (c .before .before .before .before .before .before .before .loop .inv) (omega (arith, names-long (c .before .before .before .before .before .before .before .before .before .before .args .dir .now) (c .before .before .before .before .before .before .before .before .before .before .args .count))) (rw (c .before .before .before .name-at .ensures ∙ sym (name-here (c .before .before .before .before .before .before .before .before .before .before .args .dir .now) (c .before .before .before .before .before .before .before .before .before .before .args .count) (c .before .before .before .before .before .before .before .loop .j) (omega arith))) at (c .before .before .walk .ensures))
+loop-again c =
+    let at-walk = c .before .before in let at-name-at = at-walk .before in let at-loop = at-name-at .before .before .before .before in
+    let start = at-loop .before .before .before in
+    walk-on _ _ _ _ _ (start .pre .1) (at-loop .loop .inv) (omega (arith, names-long (start .args .dir .now) (start .args .count)))
+    (rw (at-name-at .name-at .ensures ∙ sym (name-here (start .args .dir .now) (start .args .count) (at-loop .loop .j) (omega arith))) at (at-walk .walk .ensures))
 
 same-length : tie.Need-same-length Inv-loop μ-loop
 same-length c = c .before .loop .inv .long

@@ -18,7 +18,10 @@ add-mark-path : tie.Need-add-mark-path
 add-mark-path c = search needs
 
 mark-path-requires : tie.Need-mark-path-requires
-mark-path-requires c κs = let w = c .before .before .before .before .before .before .before .before .before .pre .0 in let l = c .before .before .before .ahead .ensures .long in (omega (arith, w .name, l), subst (λ n. Leading n (declarationsIn (c .before .before .before .before .before .before .before .before .before .args .dir .now))) (sym l) (w .leading), subst (Reaches (c .before .before .before .before .before .before .before .before .before .args .dir .now)) (sym l) (c .before .before .before .before .before .before .before .before .before .pre .1))
+mark-path-requires c κs =
+    let at-ahead = c .before .before .before in let start = at-ahead .before .before .before .before .before .before in
+    let w = start .pre .0 in let l = at-ahead .ahead .ensures .long in
+    (omega (arith, w .name, l), subst (λ n. Leading n (declarationsIn (start .args .dir .now))) (sym l) (w .leading), subst (Reaches (start .args .dir .now)) (sym l) (start .pre .1))
 
 same-length : tie.Need-same-length
 same-length c = search needs

@@ -50,7 +50,9 @@ same-length-4 : tie.Need-same-length-4
 same-length-4 c = search needs
 
 returns-4 : tie.Need-returns-4
-returns-4 c = checked-no (c .no3 .ensures) (check-left _ (omega arith) (omega arith) (c .before .before .before .before .before .before .before .before .before .layout .ensures .answers) (ap stepIn (c .before .before .before .r .given .1)) (omega arith))
+returns-4 c =
+    let at-r = c .before .before .before in let at-layout = at-r .before .before .before .before .before .before in
+    checked-no (c .no3 .ensures) (check-left _ (omega arith) (omega arith) (at-layout .layout .ensures .answers) (ap stepIn (at-r .r .given .1)) (omega arith))
 
 same-length-5 : tie.Need-same-length-5
 same-length-5 c = search needs
@@ -59,7 +61,9 @@ same-length-6 : tie.Need-same-length-6
 same-length-6 c = search needs
 
 returns-5 : tie.Need-returns-5
-returns-5 c = checked-yes (omega arith) (omega arith) (c .before .before .before .before .before .before .before .before .layout .ensures) (c .before .before .r .given .1) (omega arith)
+returns-5 c =
+    let at-r = c .before .before in let at-layout = at-r .before .before .before .before .before .before in
+    checked-yes (omega arith) (omega arith) (at-layout .layout .ensures) (at-r .r .given .1) (omega arith)
 
 pub check-notes-spec : {M : Type 1} → statement M
 check-notes-spec = tie.close (tie.spec no-requires returns no-requires-2 returns-2 cast-layout layout-requires enum-known-r enum-told same-length same-length-2 returns-3 no-requires-3 same-length-3 same-length-4 returns-4 same-length-5 same-length-6 returns-5)

@@ -45,13 +45,25 @@ refused-requires-2 c κs = search needs
 
 returns-2 : tie.Need-returns-2
 unfolding layout inner
-returns-2 c = whole-no _ _ _ _ (from-start _ _ (c .before .before .before .before .before .before .before .before .start .ensures) (search walks depth 12)) (c .before .enum-told2 .given .1) (c .refused2 .ensures)
+returns-2 c =
+    let at-enum-told2 = c .before in let on-the-way = at-enum-told2 .before .before .before .before .before .before in
+    let at-start = on-the-way .before in
+    whole-no _ _ _ _ (from-start _ _ (at-start .start .ensures) (search walks depth 12)) (at-enum-told2 .enum-told2 .given .1) (c .refused2 .ensures)
 
 table-for-requires : tie.Need-table-for-requires
 table-for-requires c κs = omega (arith, names-most _ _ _ (c .before .before .before .field .ensures) (c .before .f2 .given .1))
 
 records-requires : tie.Need-records-requires
-records-requires c κs = (names-most _ _ _ (c .before .before .before .before .before .before .before .field .ensures) (c .before .before .before .before .before .f2 .given .1), ready-for _ _ _ ((c .before .before .before .before .before .before .before .before .before .before .before .before .before .before .before .before .pre) .0) (c .before .before .before .table-for .ensures .0) (c .before .before .before .table-for .ensures .1), clear-read _ _ (c .before .before .before .before .before .before .before .before .before .before .before .before .start .ensures) (c .before .before .before .before .before .before .before .before .before .before .before .skip .ensures) (c .before .before .before .before .before .before .before .before .before .f1 .given .1) (c .before .before .before .before .before .before .before .field .ensures) (c .before .before .before .before .before .f2 .given .1) ((c .before .before .before .before .before .before .before .before .before .before .before .before .before .before .before .before .pre) .1))
+records-requires c κs =
+    let at-table-for = c .before .before .before in let at-f2 = at-table-for .before .before in let at-field = at-f2 .before .before in
+    let at-f1 = at-field .before .before in let at-skip = at-f1 .before .before in let at-start = at-skip .before in
+    let start-2 = at-start .before .before .before .before in (
+      names-most _ _ _ (at-field .field .ensures) (at-f2 .f2 .given .1),
+      ready-for _ _ _ (start-2 .pre .0) (at-table-for .table-for .ensures .0)
+          (at-table-for .table-for .ensures .1),
+      clear-read _ _ (at-start .start .ensures) (at-skip .skip .ensures) (at-f1 .f1 .given .1) (at-field .field .ensures) (at-f2 .f2 .given .1)
+          (start-2 .pre .1),
+    )
 
 same-length : tie.Need-same-length
 same-length c = search needs
@@ -60,7 +72,11 @@ same-length-2 : tie.Need-same-length-2
 same-length-2 c = search needs
 
 returns-3 : tie.Need-returns-3
-returns-3 c = whole-on _ _ _ _ (c .before .before .before .before .before .before .before .before .before .before .before .before .before .before .before .before .before .start .ensures) (c .before .before .before .before .before .before .before .before .before .before .before .before .before .before .before .before .skip .ensures) (c .before .before .before .before .before .before .before .before .before .before .before .before .before .before .f1 .given .1) (c .before .before .before .before .before .before .before .before .before .before .before .before .field .ensures) (c .before .before .before .before .before .before .before .before .before .before .f2 .given .1) (c .before .before .before .before .records .ensures)
+returns-3 c =
+    let at-records = c .before .before .before .before in let at-f2 = at-records .before .before .before .before .before .before in
+    let at-field = at-f2 .before .before in let at-f1 = at-field .before .before in let at-skip = at-f1 .before .before in
+    let at-start = at-skip .before in
+    whole-on _ _ _ _ (at-start .start .ensures) (at-skip .skip .ensures) (at-f1 .f1 .given .1) (at-field .field .ensures) (at-f2 .f2 .given .1) (at-records .records .ensures)
 
 pub layout-spec : {M : Type 1} → statement M
 layout-spec = tie.close (tie.spec start-requires skip-requires enum-known-f1 enum-told refused-requires returns field-requires enum-known-f2 enum-told-2 refused-requires-2 returns-2 table-for-requires records-requires same-length same-length-2 returns-3)

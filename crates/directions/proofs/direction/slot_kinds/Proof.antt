@@ -47,10 +47,26 @@ enum-told-2 : tie.Need-enum-told-2
 enum-told-2 c = search needs
 
 returns-3 : tie.Need-returns-3
-returns-3 c = (second-unknown _ _ (c .before .before .before .before .before .before .before .before .before .before .before .part .ensures .0) (c .before .before .before .before .before .before .before .before .before .before .if1 .left) (c .before .before .before .before .before .before .before .before .before .list .ensures .0) (c .before .before .before .before .before .before .before .before .value-at .ensures .0) (c .before .before .before .before .before .before .before .kind-at .ensures) (c .before .before .before .before .before .c .given .1) (c .before .before .before .value-at2 .ensures .0) (c .before .before .kind-at2 .ensures) (c .enum-told2 .given .1), tt)
+returns-3 c =
+    let at-kind-at2 = c .before .before in let at-value-at2 = at-kind-at2 .before in let at-c = at-value-at2 .before .before in
+    let at-kind-at = at-c .before .before in let at-value-at = at-kind-at .before in let at-list = at-value-at .before in
+    let at-if1 = at-list .before in let at-part = at-if1 .before in (
+      second-unknown _ _ (at-part .part .ensures .0) (at-if1 .if1 .left) (at-list .list .ensures .0) (at-value-at .value-at .ensures .0) (at-kind-at .kind-at .ensures)
+          (at-c .c .given .1) (at-value-at2 .value-at2 .ensures .0) (at-kind-at2 .kind-at2 .ensures) (c .enum-told2 .given .1),
+      tt,
+    )
 
 returns-4 : tie.Need-returns-4
-returns-4 c = (both-known _ _ (c .before .before .before .before .before .before .before .before .before .before .before .before .part .ensures .0) (c .before .before .before .before .before .before .before .before .before .before .before .if1 .left) (c .before .before .before .before .before .before .before .before .before .before .list .ensures .0) (c .before .before .before .before .before .before .before .before .before .value-at .ensures .0) (c .before .before .before .before .before .before .before .before .kind-at .ensures) (c .before .before .before .before .before .before .c .given .1) (c .before .before .before .before .value-at2 .ensures .0) (c .before .before .before .kind-at2 .ensures) (c .before .r .given .1), both-small _ _ (c .before .before .before .before .before .before .before .before .before .before .before .before .part .ensures .0) (c .before .before .before .before .before .before .before .before .before .before .before .if1 .left) (c .before .before .before .before .before .before .before .before .before .before .list .ensures .0) (c .before .before .before .before .before .before .before .before .before .value-at .ensures .0) (c .before .before .before .before .before .before .before .before .kind-at .ensures) (c .before .before .before .before .before .before .c .given .1) (c .before .before .before .before .value-at2 .ensures .0) (c .before .before .before .kind-at2 .ensures) (c .before .r .given .1))
+returns-4 c =
+    let at-r = c .before in let at-kind-at2 = at-r .before .before in let at-value-at2 = at-kind-at2 .before in
+    let at-c = at-value-at2 .before .before in let at-kind-at = at-c .before .before in let at-value-at = at-kind-at .before in
+    let at-list = at-value-at .before in let at-if1 = at-list .before in let at-part = at-if1 .before in (
+      both-known _ _ (at-part .part .ensures .0) (at-if1 .if1 .left) (at-list .list .ensures .0) (at-value-at .value-at .ensures .0) (at-kind-at .kind-at .ensures) (at-c .c .given .1)
+          (at-value-at2 .value-at2 .ensures .0) (at-kind-at2 .kind-at2 .ensures) (at-r .r .given .1),
+      both-small _ _ (at-part .part .ensures .0) (at-if1 .if1 .left)
+          (at-list .list .ensures .0) (at-value-at .value-at .ensures .0) (at-kind-at .kind-at .ensures) (at-c .c .given .1) (at-value-at2 .value-at2 .ensures .0)
+          (at-kind-at2 .kind-at2 .ensures) (at-r .r .given .1),
+    )
 
 pub slot-kinds-spec : {M : Type 1} → statement M
 slot-kinds-spec =

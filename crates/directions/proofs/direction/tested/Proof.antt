@@ -38,7 +38,11 @@ between-requires : tie.Need-between-requires
 between-requires c κs = search needs
 
 returns-2 : tie.Need-returns-2
-returns-2 c = is-tested _ _ (c .before .before .before .before .before .before .before .before .before .pre) (c .before .before .before .list .ensures .0) (c .before .before .value-at .ensures .0) (c .before .value-at2 .ensures .0) _ _ (c .before .before .before .before .before .before .before .slot-kinds .ensures .0) (c .before .before .before .before .before .c .given .1) (c .between .ensures)
+returns-2 c =
+    let at-value-at2 = c .before in let at-value-at = at-value-at2 .before in let at-list = at-value-at .before in
+    let at-c = at-list .before .before in let at-slot-kinds = at-c .before .before in let start = at-slot-kinds .before .before in
+    is-tested _ _ (start .pre) (at-list .list .ensures .0) (at-value-at .value-at .ensures .0) (at-value-at2 .value-at2 .ensures .0) _ _ (at-slot-kinds .slot-kinds .ensures .0)
+    (at-c .c .given .1) (c .between .ensures)
 
 pub tested-spec : {M : Type 1} → statement M
 tested-spec =

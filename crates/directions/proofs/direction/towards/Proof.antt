@@ -29,7 +29,11 @@ matched-requires : tie.Need-matched-requires
 matched-requires c κs = search needs
 
 returns : tie.Need-returns
-returns c = typed _ _ (c .before .before .before .before .before .before .before .pre) (c .before .before .before .before .list .ensures .0) (c .before .before .before .value-at .ensures .0) (c .before .before .value-at2 .ensures .0) _ _ _ _ (c .before .matching-kind .ensures) (c .matched .ensures)
+returns c =
+    let at-matching-kind = c .before in let at-value-at2 = at-matching-kind .before in let at-value-at = at-value-at2 .before in
+    let at-list = at-value-at .before in let start = at-list .before .before .before in
+    typed _ _ (start .pre) (at-list .list .ensures .0) (at-value-at .value-at .ensures .0) (at-value-at2 .value-at2 .ensures .0) _ _ _ _ (at-matching-kind .matching-kind .ensures)
+    (c .matched .ensures)
 
 pub towards-spec : {M : Type 1} → statement M
 towards-spec =

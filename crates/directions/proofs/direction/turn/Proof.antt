@@ -39,7 +39,11 @@ kind-or-zero-requires : tie.Need-kind-or-zero-requires
 kind-or-zero-requires c κs = search needs
 
 returns-3 : tie.Need-returns-3
-returns-3 c = is-derived _ _ _ _ _ _ _ (c .before .before .before .before .before .before .before .act-of .ensures) (c .before .before .before .before .before .before .part .ensures .0) (c .before .before .before .before .before .if1 .left) (c .before .before .before .before .if2 .left) (c .before .before .before .value-at .ensures .0) (c .before .before .value-at2 .ensures .0) (c .before .list .ensures .0) (c .kind-or-zero .ensures)
+returns-3 c =
+    let at-list = c .before in let at-value-at2 = at-list .before in let at-value-at = at-value-at2 .before in let at-if2 = at-value-at .before in
+    let at-if1 = at-if2 .before in let at-part = at-if1 .before in let at-act-of = at-part .before in
+    is-derived _ _ _ _ _ _ _ (at-act-of .act-of .ensures) (at-part .part .ensures .0) (at-if1 .if1 .left) (at-if2 .if2 .left) (at-value-at .value-at .ensures .0)
+    (at-value-at2 .value-at2 .ensures .0) (at-list .list .ensures .0) (c .kind-or-zero .ensures)
 
 pub turn-spec : {M : Type 1} → statement M
 turn-spec =

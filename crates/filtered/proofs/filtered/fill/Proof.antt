@@ -11,7 +11,9 @@ use Rattle.filtered.proofs.filtered.fill.Statement.{statement}
 use Rattle.filtered.proofs.filtered.fill.Tie as tie
 
 take-kinds-requires : tie.Need-take-kinds-requires
-take-kinds-requires c κs = let p = c .before .before .before .before .before .before .before .before .pre in (p .0, p .1, p .2, p .3)
+take-kinds-requires c κs =
+    let on-the-way = c .before .before .before .before .before .before in let start = on-the-way .before .before in
+    let p = start .pre in (p .0, p .1, p .2, p .3)
 
 add-words : tie.Need-add-words
 add-words c = search needs
@@ -23,13 +25,28 @@ part-mark-inner-start : tie.Need-part-mark-inner-start
 part-mark-inner-start c = search needs
 
 part-mark-inner-end : tie.Need-part-mark-inner-end
-part-mark-inner-end c = let p = c .before .before .before .before .before .before .before .before .before .before .before .before .before .before .pre in omega (arith, p .0 .reaches .long, p .4)
+part-mark-inner-end c =
+    let on-the-way = c .before .before .before .before .before .before in
+    let on-the-way-2 = on-the-way .before .before .before .before .before .before in let start = on-the-way-2 .before .before in
+    let p = start .pre in omega (arith, p .0 .reaches .long, p .4)
 
 mark-inner-requires : tie.Need-mark-inner-requires
-mark-inner-requires c κs = let p = c .before .before .before .before .before .before .before .before .before .before .before .before .before .before .before .before .pre in let t = c .before .before .before .before .before .before .before .take-kinds in (subst (InnerAsked _) (sym (p .4)) (inner-asked (p .0 .checked) (t .ensures) (p .0 .named) (omega (arith, t .kept .1 .1 .1 .1 .0, p .3 .long))), front-length (c .before .before .before .before .before .before .before .before .before .before .before .before .before .before .before .before .args .dir .now) (512 + length (c .before .before .before .before .before .before .before .before .before .before .before .before .before .before .before .before .args .out .now)) (omega (arith, p .0 .reaches .long, p .4)))
+mark-inner-requires c κs =
+    let on-the-way = c .before .before .before .before .before .before in let at-take-kinds = on-the-way .before in
+    let on-the-way-2 = at-take-kinds .before .before .before .before .before .before in let start = on-the-way-2 .before .before .before in
+    let p = start .pre in let t = at-take-kinds .take-kinds in (
+      subst (InnerAsked _) (sym (p .4)) (inner-asked (p .0 .checked) (t .ensures) (p .0 .named) (omega (arith, t .kept .1 .1 .1 .1 .0, p .3 .long))),
+      front-length
+          (start .args .dir .now) (512 + length (start .args .out .now)) (omega (arith, p .0 .reaches .long, p .4)),
+    )
 
 say-all-requires : tie.Need-say-all-requires
-say-all-requires c κs = let p = c .before .before .before .before .before .before .before .before .before .before .before .before .before .before .before .before .before .before .before .before .before .before .before .pre in let k = c .before .before .before .before .before .before .mark-inner .kept .1 .1 .1 .0 in (omega (arith, k, c .before .before .before .before .before .before .before .before .before .before .before .before .before .before .take-kinds .kept .1 .1 .1 .1 .0, p .3 .long, p .4), omega (arith, k, p .0 .reaches .most, p .4))
+say-all-requires c κs =
+    let at-mark-inner = c .before .before .before .before .before .before in
+    let on-the-way = at-mark-inner .before .before .before .before .before .before in let at-take-kinds = on-the-way .before .before in
+    let on-the-way-2 = at-take-kinds .before .before .before .before .before .before in let start = on-the-way-2 .before .before .before in
+    let p = start .pre in let k = at-mark-inner .mark-inner .kept .1 .1 .1 .0 in
+    (omega (arith, k, at-take-kinds .take-kinds .kept .1 .1 .1 .1 .0, p .3 .long, p .4), omega (arith, k, p .0 .reaches .most, p .4))
 
 same-length : tie.Need-same-length
 same-length c = search needs
@@ -44,7 +61,13 @@ same-length-4 : tie.Need-same-length-4
 same-length-4 c = search needs
 
 returns : tie.Need-returns
-returns c = let p = c .before .before .before .before .before .before .before .before .before .before .before .before .before .before .before .before .before .before .before .before .before .before .before .before .before .before .pre in let m = c .before .before .before .before .before .before .before .before .before .mark-inner in filter-left (p .0 .checked) (c .before .before .before .before .before .before .before .before .before .before .before .before .before .before .before .before .before .take-kinds .ensures) (p .0 .named) _ _ (m .ensures) (p .4) (c .before .before .say-all .ensures) (m .kept .1 .1 .1 .0 ∙ p .4)
+returns c =
+    let at-say-all = c .before .before in let on-the-way = at-say-all .before .before .before .before .before .before in
+    let at-mark-inner = on-the-way .before in let on-the-way-2 = at-mark-inner .before .before .before .before .before .before in
+    let at-take-kinds = on-the-way-2 .before .before in let on-the-way-3 = at-take-kinds .before .before .before .before .before .before in
+    let start = on-the-way-3 .before .before .before in
+    let p = start .pre in let m = at-mark-inner .mark-inner in filter-left (p .0 .checked) (at-take-kinds .take-kinds .ensures) (p .0 .named) _ _ (m .ensures) (p .4)
+    (at-say-all .say-all .ensures) (m .kept .1 .1 .1 .0 ∙ p .4)
 
 pub fill-spec : {M : Type 1} → statement M
 fill-spec =

@@ -37,7 +37,10 @@ same-length-2 : tie.Need-same-length-2
 same-length-2 c = search needs
 
 returns-2 : tie.Need-returns-2
-returns-2 c = let d = directed (c .before .before .before .before .before .before .before .before .before .before .before .before .before .before .pre .0 .clear) (c .before .before .before .before .before .before .before .check-directory .ensures) (c .before .before .before .r .given .1) in filter-room _ _ _ (d .checked) (d .named) (omega arith) (c .refuse .ensures)
+returns-2 c =
+    let at-r = c .before .before .before in let at-check-directory = at-r .before .before .before .before in
+    let on-the-way = at-check-directory .before .before .before .before .before .before in let start = on-the-way .before in
+    let d = directed (start .pre .0 .clear) (at-check-directory .check-directory .ensures) (at-r .r .given .1) in filter-room _ _ _ (d .checked) (d .named) (omega arith) (c .refuse .ensures)
 
 sub-fill : tie.Need-sub-fill
 sub-fill c = search needs
@@ -49,7 +52,17 @@ part-fill-end : tie.Need-part-fill-end
 part-fill-end c = search needs
 
 fill-requires : tie.Need-fill-requires
-fill-requires c κs = let d = directed (c .before .before .before .before .before .before .before .before .before .before .before .before .before .before .before .before .before .pre .0 .clear) (c .before .before .before .before .before .before .before .before .before .before .check-directory .ensures) (c .before .before .before .before .before .before .r .given .1) in (d, lent-said d (c .before .before .before .before .before .before .before .before .before .before .before .before .before .before .before .before .before .pre .0 .lent), reaches-kept (c .before .before .before .before .before .before .before .before .before .before .check-directory .kept .1 .0) (c .before .before .before .before .before .before .before .before .before .before .before .before .before .before .before .before .before .pre .0 .reaches), lent-said d (c .before .before .before .before .before .before .before .before .before .before .before .before .before .before .before .before .before .pre .1), front-length (c .before .before .before .before .before .before .before .before .before .before .before .before .before .before .before .before .before .args .out .now) _ (omega arith))
+fill-requires c κs =
+    let at-r = c .before .before .before .before .before .before in let at-check-directory = at-r .before .before .before .before in
+    let on-the-way = at-check-directory .before .before .before .before .before .before in let start = on-the-way .before in
+    let d = directed (start .pre .0 .clear) (at-check-directory .check-directory .ensures) (at-r .r .given .1) in (
+      d,
+      lent-said d (start .pre .0 .lent),
+      reaches-kept (at-check-directory .check-directory .kept .1 .0) (start .pre .0 .reaches),
+      lent-said d (start .pre .1),
+      front-length
+          (start .args .out .now) _ (omega arith),
+    )
 
 same-length-3 : tie.Need-same-length-3
 same-length-3 c = search needs
@@ -64,7 +77,13 @@ same-length-6 : tie.Need-same-length-6
 same-length-6 c = search needs
 
 returns-3 : tie.Need-returns-3
-returns-3 c = let d = directed (c .before .before .before .before .before .before .before .before .before .before .before .before .before .before .before .before .before .before .before .before .before .before .before .before .before .before .pre .0 .clear) (c .before .before .before .before .before .before .before .before .before .before .before .before .before .before .before .before .before .before .before .check-directory .ensures) (c .before .before .before .before .before .before .before .before .before .before .before .before .before .before .before .r .given .1) in filter-done _ _ _ (d .checked) (d .named) (omega arith) (c .before .before .before .before .before .before .before .before .fill .ensures)
+returns-3 c =
+    let on-the-way = c .before .before .before .before .before .before in let at-fill = on-the-way .before .before in
+    let on-the-way-2 = at-fill .before .before .before .before .before .before in let at-r = on-the-way-2 .before in
+    let at-check-directory = at-r .before .before .before .before in
+    let on-the-way-3 = at-check-directory .before .before .before .before .before .before in let start = on-the-way-3 .before in
+    let d = directed (start .pre .0 .clear) (at-check-directory .check-directory .ensures) (at-r .r .given .1) in filter-done _ _ _ (d .checked) (d .named) (omega arith)
+    (at-fill .fill .ensures)
 
 pub filtered-in-spec : {M : Type 1} → statement M
 filtered-in-spec =

@@ -10,7 +10,9 @@ enum-told-2 : tie.Need-enum-told-2
 enum-told-2 c = search needs
 
 walk-inner-requires : tie.Need-walk-inner-requires
-walk-inner-requires c κs = c .before .before .before .before .before .before .before .pre
+walk-inner-requires c κs =
+    let on-the-way = c .before .before .before .before .before .before in let start = on-the-way .before in
+    start .pre
 
 enum-told-3 : tie.Need-enum-told-3
 enum-told-3 c = search needs
@@ -28,7 +30,9 @@ same-length-2 : tie.Need-same-length-2
 same-length-2 c = search needs
 
 returns-2 : tie.Need-returns-2
-returns-2 c = rw (c .before .before .before .before .before .before .before .enum-told2 .given .1) (c .before .before .before .before .walk-inner .ensures)
+returns-2 c =
+    let at-walk-inner = c .before .before .before .before in let at-enum-told2 = at-walk-inner .before .before .before in
+    rw (at-enum-told2 .enum-told2 .given .1) (at-walk-inner .walk-inner .ensures)
 
 returns-3 : tie.Need-returns-3
 returns-3 c = rw (c .enum-told3 .given .1) tt

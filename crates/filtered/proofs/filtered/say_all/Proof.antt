@@ -50,7 +50,10 @@ loop-less c = omega (arith, c .before .before .before .before .loop .inv .long)
 
 loop-again : tie.Need-loop-again Inv-loop μ-loop
 unfolding saidIn
-loop-again c = next _ _ (c .before .before .before .before .loop .inv) (omega (arith, c .before .before .before .before .loop .inv .long)) ((c .say .ensures) ∙ ap (λ m. said (c .before .before .before .before .before .before .before .args .filter) (getD (c .before .before .before .before .before .before .before .args .taken .now) (c .before .before .before .before .loop .j) 0) m (c .before .before .before .before .loop .j)) (left-there _ _ (c .before .before .before .before .loop .inv)))
+loop-again c =
+    let at-loop = c .before .before .before .before in let start = at-loop .before .before .before in
+    next _ _ (at-loop .loop .inv) (omega (arith, at-loop .loop .inv .long))
+    ((c .say .ensures) ∙ ap (λ m. said (start .args .filter) (getD (start .args .taken .now) (at-loop .loop .j) 0) m (at-loop .loop .j)) (left-there _ _ (at-loop .loop .inv)))
 
 same-length : tie.Need-same-length Inv-loop μ-loop
 same-length c = c .before .loop .inv .long

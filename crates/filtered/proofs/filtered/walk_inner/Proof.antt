@@ -12,7 +12,10 @@ clear-requires : tie.Need-clear-requires
 clear-requires c κs = search needs
 
 settle-all-requires : tie.Need-settle-all-requires
-settle-all-requires c κs = walks-asked _ _ (c .before .before .before .before .before .before .before .before .before .before .before .before .before .pre .0) _ ((c .before .before .before .before .before .before .before .before .inner-words .kept .1 .0) ∙ (c .before .before .before .before .before .before .before .before .before .before .before .before .before .pre .1)) (c .before .before .before .before .before .before .before .before .inner-words .ensures) (c .before .before .before .before .clear .ensures)
+settle-all-requires c κs =
+    let at-clear = c .before .before .before .before in let at-inner-words = at-clear .before .before .before .before in
+    let start = at-inner-words .before .before .before .before .before in
+    walks-asked _ _ (start .pre .0) _ ((at-inner-words .inner-words .kept .1 .0) ∙ (start .pre .1)) (at-inner-words .inner-words .ensures) (at-clear .clear .ensures)
 
 same-length : tie.Need-same-length
 same-length c = search needs
@@ -21,7 +24,11 @@ same-length-2 : tie.Need-same-length-2
 same-length-2 c = search needs
 
 returns : tie.Need-returns
-returns c = walks-left _ _ (c .before .before .before .before .before .before .before .before .before .before .before .before .before .before .before .before .pre .0) _ ((c .before .before .before .before .before .before .before .before .before .before .before .inner-words .kept .1 .0) ∙ (c .before .before .before .before .before .before .before .before .before .before .before .before .before .before .before .before .pre .1)) (c .before .before .before .before .before .before .before .before .before .before .before .inner-words .ensures) (c .before .before .before .before .before .before .before .clear .ensures) (c .before .before .settle-all .ensures)
+returns c =
+    let at-settle-all = c .before .before in let at-clear = at-settle-all .before .before .before .before .before in
+    let at-inner-words = at-clear .before .before .before .before in let start = at-inner-words .before .before .before .before .before in
+    walks-left _ _ (start .pre .0) _ ((at-inner-words .inner-words .kept .1 .0) ∙ (start .pre .1)) (at-inner-words .inner-words .ensures) (at-clear .clear .ensures)
+    (at-settle-all .settle-all .ensures)
 
 pub walk-inner-spec : {M : Type 1} → statement M
 walk-inner-spec =

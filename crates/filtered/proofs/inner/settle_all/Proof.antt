@@ -38,7 +38,9 @@ loop-less : tie.Need-loop-less Inv-loop μ-loop
 loop-less c = search needs
 
 loop-again : tie.Need-loop-again Inv-loop μ-loop
-loop-again c = name-walked (c .before .before .before .before .before .before .before .before .before .pre) (c .before .before .before .before .before .before .loop .inv) (omega arith) (c .before .before .walk .ensures)
+loop-again c =
+    let at-walk = c .before .before in let at-loop = at-walk .before .before .before .before in let start = at-loop .before .before .before in
+    name-walked (start .pre) (at-loop .loop .inv) (omega arith) (at-walk .walk .ensures)
 
 same-length : tie.Need-same-length Inv-loop μ-loop
 same-length c = c .before .loop .inv .long

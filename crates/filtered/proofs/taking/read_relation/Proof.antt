@@ -79,7 +79,12 @@ same-length-3 : tie.Need-same-length-3
 same-length-3 c = search needs
 
 returns-2 : tie.Need-returns-2
-returns-2 c = derived-read _ _ _ _ _ _ (c .before .before .before .before .before .before .before .before .before .before .slots .ensures .0) refl (c .before .before .before .before .before .before .before .before .if1 .left) (c .before .before .before .before .before .before .before .list .ensures .0) (c .before .before .before .before .before .before .value-at .ensures .0) (c .before .before .before .before .before .kind-at .ensures) (c .before .before .before .value-at2 .ensures .0) (c .before .before .take-at .ensures) refl
+returns-2 c =
+    let at-take-at = c .before .before in let at-value-at2 = at-take-at .before in let at-kind-at = at-value-at2 .before .before in
+    let at-value-at = at-kind-at .before in let at-list = at-value-at .before in let at-if1 = at-list .before in
+    let at-slots = at-if1 .before .before in
+    derived-read _ _ _ _ _ _ (at-slots .slots .ensures .0) refl (at-if1 .if1 .left) (at-list .list .ensures .0) (at-value-at .value-at .ensures .0) (at-kind-at .kind-at .ensures)
+    (at-value-at2 .value-at2 .ensures .0) (at-take-at .take-at .ensures) refl
 
 pub read-relation-spec : {M : Type 1} → statement M
 read-relation-spec =

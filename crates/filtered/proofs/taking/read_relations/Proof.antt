@@ -23,10 +23,14 @@ cast-name-at : tie.Need-cast-name-at Inv-loop μ-loop
 cast-name-at c = search needs
 
 name-at-requires : tie.Need-name-at-requires Inv-loop μ-loop
-name-at-requires c κs = omega (arith, c .before .before .before .before .before .before .before .before .pre .0, c .before .before .before .before .before .before .before .before .pre .2 .long)
+name-at-requires c κs =
+    let on-the-way = c .before .before .before .before .before .before in let start = on-the-way .before .before in
+    omega (arith, start .pre .0, start .pre .2 .long)
 
 read-relation-requires : tie.Need-read-relation-requires Inv-loop μ-loop
-read-relation-requires c κs = let low = name-low _ _ _ _ (c .before .before .before .before .before .before .before .before .before .pre .1) (omega arith) (c .name-at .ensures) in (omega (arith, low, c .before .before .before .before .loop .inv .0 .long), reaches-one (c .before .before .before .before .before .before .before .before .before .pre .2) low)
+read-relation-requires c κs =
+    let at-loop = c .before .before .before .before in let start = at-loop .before .before .before .before .before in
+    let low = name-low _ _ _ _ (start .pre .1) (omega arith) (c .name-at .ensures) in (omega (arith, low, at-loop .loop .inv .0 .long), reaches-one (start .pre .2) low)
 
 add-j : tie.Need-add-j Inv-loop μ-loop
 add-j c = search needs
@@ -35,7 +39,13 @@ loop-less : tie.Need-loop-less Inv-loop μ-loop
 loop-less c = search needs
 
 loop-again : tie.Need-loop-again Inv-loop μ-loop
-loop-again c = (read-next _ _ _ _ _ _ (c .before .before .before .before .before .before .before .before .before .loop .inv .0) (omega (arith, names-long (c .before .before .before .before .before .before .before .before .before .before .before .before .before .before .args .dir .now) (c .before .before .before .before .before .before .before .before .before .before .before .before .before .before .args .count))) (rw (c .before .before .before .before .before .name-at .ensures ∙ sym (name-here (c .before .before .before .before .before .before .before .before .before .before .before .before .before .before .args .dir .now) (c .before .before .before .before .before .before .before .before .before .before .before .before .before .before .args .count) (c .before .before .before .before .before .before .before .before .before .loop .j) (omega arith))) at (c .before .before .before .before .read-relation .ensures)), (c .before .taken .given) ∙ (c .before .before .before .before .before .before .before .before .before .loop .inv .1))
+loop-again c =
+    let at-taken = c .before in let at-read-relation = at-taken .before .before .before in let at-name-at = at-read-relation .before in
+    let at-loop = at-name-at .before .before .before .before in let start = at-loop .before .before .before .before .before in (
+      read-next _ _ _ _ _ _ (at-loop .loop .inv .0) (omega (arith, names-long (start .args .dir .now) (start .args .count)))
+          (rw (at-name-at .name-at .ensures ∙ sym (name-here (start .args .dir .now) (start .args .count) (at-loop .loop .j) (omega arith))) at (at-read-relation .read-relation .ensures)),
+      (at-taken .taken .given) ∙ (at-loop .loop .inv .1),
+    )
 
 same-length : tie.Need-same-length Inv-loop μ-loop
 same-length c = c .before .loop .inv .0 .long

@@ -13,9 +13,10 @@ settle-all-requires c κs = let d = (c .before .before .before .before .before .
 
 read-relations-requires : tie.Need-read-relations-requires
 read-relations-requires c κs =
-    let at = c .before .before .before .before .before .before .before .before .before .before in
+    let settled = c .before .before .before .before in
+    let at = settled .before .before .before .before .before .before in
     let d = at .pre .0 in
-    let s = c .before .before .before .before .settle-all .ensures in
+    let s = settled .settle-all .ensures in
     (few-relations d, takeable d (kinds-marked d (at .pre .1) s) (s .marked) (omega (arith, at .pre .1 .long, s .long)), subst (Reaches (at .args .dir .now)) (sym (s .long)) (at .pre .2))
 
 same-length : tie.Need-same-length
@@ -26,9 +27,11 @@ same-length-2 c = search needs
 
 returns : tie.Need-returns
 returns c =
-    let at = c .before .before .before .before .before .before .before .before .before .before .before .before .before .before .before in
-    let s = c .before .before .before .before .before .before .before .before .before .settle-all .ensures in
-    filled (at .pre .0) (kinds-marked (at .pre .0) (at .pre .1) s) (s .marked) (omega (arith, at .pre .1 .long, s .long)) (at .pre .3) (c .before .before .before .before .read-relations .ensures)
+    let went = c .before .before .before .before in
+    let settled = went .before .before .before .before .before in
+    let at = settled .before .before .before .before .before .before in
+    let s = settled .settle-all .ensures in
+    filled (at .pre .0) (kinds-marked (at .pre .0) (at .pre .1) s) (s .marked) (omega (arith, at .pre .1 .long, s .long)) (at .pre .3) (went .read-relations .ensures)
 
 pub read-tables-spec : {M : Type 1} → statement M
 read-tables-spec =

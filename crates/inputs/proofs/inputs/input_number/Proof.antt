@@ -32,10 +32,18 @@ value-at-requires-2 : tie.Need-value-at-requires-2
 value-at-requires-2 c κs = search needs
 
 returns-6 : tie.Need-returns-6
-returns-6 c = number-15-again _ _ _ ((c .before .before .before .before .before .before .before .if1) .left) ((c .before .before .before .before .before .before .if2) .left) ((c .before .before .before .before .before .if3) .left) ((c .before .before .before .before .value-at) .ensures .0) ((c .before .before .before .if4) .left) ((c .before .before .if5) .left) ((c .before .value-at2) .ensures .0) ((c .if6) .taken)
+returns-6 c =
+    let at-value-at2 = c .before in let at-if5 = at-value-at2 .before in let at-if4 = at-if5 .before in let at-value-at = at-if4 .before in
+    let at-if3 = at-value-at .before in let at-if2 = at-if3 .before in let at-if1 = at-if2 .before in
+    number-15-again _ _ _ (at-if1 .if1 .left) (at-if2 .if2 .left) (at-if3 .if3 .left) (at-value-at .value-at .ensures .0) (at-if4 .if4 .left) (at-if5 .if5 .left)
+    (at-value-at2 .value-at2 .ensures .0) ((c .if6) .taken)
 
 returns-7 : tie.Need-returns-7
-returns-7 c = number-0 _ _ _ ((c .before .before .before .before .before .before .before .if1) .left) ((c .before .before .before .before .before .before .if2) .left) ((c .before .before .before .before .before .if3) .left) ((c .before .before .before .before .value-at) .ensures .0) ((c .before .before .before .if4) .left) ((c .before .before .if5) .left) ((c .before .value-at2) .ensures .0) ((c .if6) .left)
+returns-7 c =
+    let at-value-at2 = c .before in let at-if5 = at-value-at2 .before in let at-if4 = at-if5 .before in let at-value-at = at-if4 .before in
+    let at-if3 = at-value-at .before in let at-if2 = at-if3 .before in let at-if1 = at-if2 .before in
+    number-0 _ _ _ (at-if1 .if1 .left) (at-if2 .if2 .left) (at-if3 .if3 .left) (at-value-at .value-at .ensures .0) (at-if4 .if4 .left) (at-if5 .if5 .left)
+    (at-value-at2 .value-at2 .ensures .0) ((c .if6) .left)
 
 pub input-number-spec : {M : Type 1} → statement M
 input-number-spec =

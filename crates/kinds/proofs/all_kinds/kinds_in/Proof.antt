@@ -39,10 +39,17 @@ same-length-2 : tie.Need-same-length-2
 same-length-2 c = search needs
 
 returns-2 : tie.Need-returns-2
-returns-2 c = let d = directed (c .before .before .before .before .before .before .before .before .before .before .before .before .before .pre .clear) (c .before .before .before .before .before .before .before .check-directory .ensures) (c .before .before .before .r .given .1) in kinds-room _ _ (d .checked) (d .counted) (omega arith) (c .refuse .ensures)
+returns-2 c =
+    let at-r = c .before .before .before in let at-check-directory = at-r .before .before .before .before in
+    let start = at-check-directory .before .before .before .before .before .before in
+    let d = directed (start .pre .clear) (at-check-directory .check-directory .ensures) (at-r .r .given .1) in kinds-room _ _ (d .checked) (d .counted) (omega arith) (c .refuse .ensures)
 
 settle-all-requires : tie.Need-settle-all-requires
-settle-all-requires c κs = let d = directed (c .before .before .before .before .before .before .before .before .before .before .before .before .before .before .pre .clear) (c .before .before .before .before .before .before .before .before .check-directory .ensures) (c .before .before .before .before .r .given .1) in (few-relations d, settleable d (lent-said d (c .before .before .before .before .before .before .before .before .before .before .before .before .before .before .pre .lent)), reaches-kept (c .before .before .before .before .before .before .before .before .check-directory .kept .1 .0) (c .before .before .before .before .before .before .before .before .before .before .before .before .before .before .pre .reaches))
+settle-all-requires c κs =
+    let at-r = c .before .before .before .before in let at-check-directory = at-r .before .before .before .before in
+    let start = at-check-directory .before .before .before .before .before .before in
+    let d = directed (start .pre .clear) (at-check-directory .check-directory .ensures) (at-r .r .given .1) in
+    (few-relations d, settleable d (lent-said d (start .pre .lent)), reaches-kept (at-check-directory .check-directory .kept .1 .0) (start .pre .reaches))
 
 sub-places : tie.Need-sub-places
 sub-places c = search needs
@@ -54,7 +61,16 @@ part-places-end : tie.Need-part-places-end
 part-places-end c = search needs
 
 places-requires : tie.Need-places-requires
-places-requires c κs = let d = directed (c .before .before .before .before .before .before .before .before .before .before .before .before .before .before .before .before .before .before .before .before .pre .clear) (c .before .before .before .before .before .before .before .before .before .before .before .before .before .before .check-directory .ensures) (c .before .before .before .before .before .before .before .before .before .before .r .given .1) in let t = lent-said d (c .before .before .before .before .before .before .before .before .before .before .before .before .before .before .before .before .before .before .before .before .pre .lent) in let l = front-length (c .before .before .before .before .before .before .before .before .before .before .before .before .before .before .before .before .before .before .before .before .args .out .now) (c .before .before .before .before .before .before .before .before .before .before .r .given .0 .0 .relations) (omega arith) in (omega (arith, few-relations d), omega (arith, d .reaches .long), rw l (placeable (d .checked) (kinds-marked d t (c .before .before .before .before .before .settle-all .ensures)) (d .named) (omega (arith, t .long, c .before .before .before .before .before .settle-all .ensures .long))))
+places-requires c κs =
+    let at-settle-all = c .before .before .before .before .before in let at-r = at-settle-all .before .before .before .before .before in
+    let at-check-directory = at-r .before .before .before .before in let start = at-check-directory .before .before .before .before .before .before in
+    let d = directed (start .pre .clear) (at-check-directory .check-directory .ensures) (at-r .r .given .1) in let t = lent-said d (start .pre .lent) in let l = front-length
+    (start .args .out .now) (at-r .r .given .0 .0 .relations) (omega arith) in (
+      omega (arith, few-relations d),
+      omega (arith, d .reaches .long),
+      rw l
+          (placeable (d .checked) (kinds-marked d t (at-settle-all .settle-all .ensures)) (d .named) (omega (arith, t .long, at-settle-all .settle-all .ensures .long))),
+    )
 
 same-length-3 : tie.Need-same-length-3
 same-length-3 c = search needs
@@ -66,7 +82,13 @@ same-length-5 : tie.Need-same-length-5
 same-length-5 c = search needs
 
 returns-3 : tie.Need-returns-3
-returns-3 c = let d = directed (c .before .before .before .before .before .before .before .before .before .before .before .before .before .before .before .before .before .before .before .before .before .before .before .pre .clear) (c .before .before .before .before .before .before .before .before .before .before .before .before .before .before .before .before .before .check-directory .ensures) (c .before .before .before .before .before .before .before .before .before .before .before .before .before .r .given .1) in kinds-done _ _ (d .checked) (d .counted) (omega arith) (kinds-left _ _ (kinds-marked d (lent-said d (c .before .before .before .before .before .before .before .before .before .before .before .before .before .before .before .before .before .before .before .before .before .before .before .pre .lent)) (c .before .before .before .before .before .before .before .before .settle-all .ensures)) (front-length (c .before .before .before .before .before .before .before .before .before .before .before .before .before .before .before .before .before .before .before .before .before .before .before .args .out .now) _ (omega arith)) (c .before .before .places .ensures))
+returns-3 c =
+    let at-places = c .before .before in let at-settle-all = at-places .before .before .before .before .before .before in
+    let at-r = at-settle-all .before .before .before .before .before in let at-check-directory = at-r .before .before .before .before in
+    let start = at-check-directory .before .before .before .before .before .before in
+    let d = directed (start .pre .clear) (at-check-directory .check-directory .ensures) (at-r .r .given .1) in kinds-done _ _ (d .checked) (d .counted) (omega arith)
+    (kinds-left _ _ (kinds-marked d (lent-said d (start .pre .lent)) (at-settle-all .settle-all .ensures)) (front-length (start .args .out .now) _ (omega arith))
+    (at-places .places .ensures))
 
 pub kinds-in-spec : {M : Type 1} → statement M
 kinds-in-spec =

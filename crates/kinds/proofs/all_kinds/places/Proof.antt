@@ -26,10 +26,14 @@ mul-out : tie.Need-mul-out Inv-loop μ-loop
 mul-out c = omega (arith, named-low _ _ _ (c .before .before .before .before .before .before .pre .2) _ (omega (arith, (c .before .before .loop .inv) .long)) (c .name-at .ensures))
 
 shared-slice-read-out : tie.Need-shared-slice-read-out Inv-loop μ-loop
-shared-slice-read-out c = omega (arith, named-low _ _ _ (c .before .before .before .before .before .before .before .pre .2) _ (omega (arith, (c .before .before .before .loop .inv) .long)) (c .before .name-at .ensures))
+shared-slice-read-out c =
+    let at-name-at = c .before in let at-loop = at-name-at .before .before in let start = at-loop .before .before .before .before in
+    omega (arith, named-low _ _ _ (start .pre .2) _ (omega (arith, (at-loop .loop .inv) .long)) (at-name-at .name-at .ensures))
 
 sub-out : tie.Need-sub-out Inv-loop μ-loop
-sub-out c = omega (arith, named-settled _ _ _ (c .before .before .before .before .before .before .before .pre .2) _ (omega (arith, (c .before .before .before .loop .inv) .long)) (c .before .name-at .ensures))
+sub-out c =
+    let at-name-at = c .before in let at-loop = at-name-at .before .before in let start = at-loop .before .before .before .before in
+    omega (arith, named-settled _ _ _ (start .pre .2) _ (omega (arith, (at-loop .loop .inv) .long)) (at-name-at .name-at .ensures))
 
 mul-out-2 : tie.Need-mul-out-2 Inv-loop μ-loop
 mul-out-2 c = search needs

@@ -35,13 +35,24 @@ same-length-2 : tie.Need-same-length-2
 same-length-2 c = search needs
 
 returns-2 : tie.Need-returns-2
-returns-2 c = let d = directed (c .before .before .before .before .before .before .before .before .before .before .before .before .before .pre .clear) (c .before .before .before .before .before .before .before .before .check-directory .ensures) (c .before .before .before .before .r .given .1) in (c .unknown-name .ensures) ∙ name-unknown _ _ (d .checked) (d .named) (omega arith)
+returns-2 c =
+    let at-r = c .before .before .before .before in let at-check-directory = at-r .before .before .before .before in
+    let start = at-check-directory .before .before .before .before .before in
+    let d = directed (start .pre .clear) (at-check-directory .check-directory .ensures) (at-r .r .given .1) in (c .unknown-name .ensures) ∙ name-unknown _ _ (d .checked) (d .named)
+    (omega arith)
 
 add-fuel : tie.Need-add-fuel
-add-fuel c = let d = directed (c .before .before .before .before .before .before .before .before .before .before .before .before .before .pre .clear) (c .before .before .before .before .before .before .before .before .check-directory .ensures) (c .before .before .before .before .r .given .1) in omega (arith, few-relations d)
+add-fuel c =
+    let at-r = c .before .before .before .before in let at-check-directory = at-r .before .before .before .before in
+    let start = at-check-directory .before .before .before .before .before in
+    let d = directed (start .pre .clear) (at-check-directory .check-directory .ensures) (at-r .r .given .1) in omega (arith, few-relations d)
 
 walk-requires : tie.Need-walk-requires
-walk-requires c κs = let d = directed (c .before .before .before .before .before .before .before .before .before .before .before .before .before .before .before .before .pre .clear) (c .before .before .before .before .before .before .before .before .before .before .before .check-directory .ensures) (c .before .before .before .before .before .before .before .r .given .1) in (walkable-own d (omega arith) (lent-said d (c .before .before .before .before .before .before .before .before .before .before .before .before .before .before .before .before .pre .lent)), reaches-kept (c .before .before .before .before .before .before .before .before .before .before .before .check-directory .kept .1 .0) (c .before .before .before .before .before .before .before .before .before .before .before .before .before .before .before .before .pre .reaches))
+walk-requires c κs =
+    let on-the-way = c .before .before .before .before .before .before in let at-r = on-the-way .before in
+    let at-check-directory = at-r .before .before .before .before in let start = at-check-directory .before .before .before .before .before in
+    let d = directed (start .pre .clear) (at-check-directory .check-directory .ensures) (at-r .r .given .1) in
+    (walkable-own d (omega arith) (lent-said d (start .pre .lent)), reaches-kept (at-check-directory .check-directory .kept .1 .0) (start .pre .reaches))
 
 same-length-3 : tie.Need-same-length-3
 same-length-3 c = search needs
@@ -50,7 +61,12 @@ same-length-4 : tie.Need-same-length-4
 same-length-4 c = search needs
 
 returns-3 : tie.Need-returns-3
-returns-3 c = let d = directed (c .before .before .before .before .before .before .before .before .before .before .before .before .before .before .before .before .before .before .before .pre .clear) (c .before .before .before .before .before .before .before .before .before .before .before .before .before .before .check-directory .ensures) (c .before .before .before .before .before .before .before .before .before .before .r .given .1) in name-place _ _ (d .checked) (d .named) (omega arith) (own-place d (lent-said d (c .before .before .before .before .before .before .before .before .before .before .before .before .before .before .before .before .before .before .before .pre .lent)) (c .before .before .walk .ensures))
+returns-3 c =
+    let at-walk = c .before .before in let on-the-way = at-walk .before .before .before .before .before .before in
+    let at-r = on-the-way .before .before in let at-check-directory = at-r .before .before .before .before in
+    let start = at-check-directory .before .before .before .before .before in
+    let d = directed (start .pre .clear) (at-check-directory .check-directory .ensures) (at-r .r .given .1) in name-place _ _ (d .checked) (d .named) (omega arith)
+    (own-place d (lent-said d (start .pre .lent)) (at-walk .walk .ensures))
 
 pub place-in-spec : {M : Type 1} → statement M
 place-in-spec =

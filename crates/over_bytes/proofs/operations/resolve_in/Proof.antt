@@ -21,10 +21,16 @@ slice-aggregate-resolve-into : tie.Need-slice-aggregate-resolve-into
 slice-aggregate-resolve-into c = sym (length-take-le _ _ (slice-reshare-prefix-resolve-into (c .before)))
 
 resolve-into-requires : tie.Need-resolve-into-requires
-resolve-into-requires c κs = room-into (c .before .before .before .before .before .load .ensures) (room-as (c .before .before .before .before .before .before .before .before .before .before .before .pre .1) (search needs)) (c .before .before .before .before .before .before .before .before .before .before .before .args .out .now) (c .before .before .room .ensures)
+resolve-into-requires c κs =
+    let at-room = c .before .before in let at-load = at-room .before .before .before in
+    let start = at-load .before .before .before .before .before .before in
+    room-into (at-load .load .ensures) (room-as (start .pre .1) (search needs)) (start .args .out .now) (at-room .room .ensures)
 
 give-requires : tie.Need-give-requires
-give-requires c κs = fits-into (c .before .before .before .before .before .before .before .before .before .before .load .ensures) (room-as (c .before .before .before .before .before .before .before .before .before .before .before .before .before .before .before .before .pre .1) (search needs)) (c .before .before .before .before .before .before .before .before .before .before .before .before .before .before .before .before .args .out .now) (c .before .before .before .before .before .before .before .room .ensures) (c .before .before .before .before .resolve-into .ensures) (search needs)
+give-requires c κs =
+    let at-resolve-into = c .before .before .before .before in let at-room = at-resolve-into .before .before .before in
+    let at-load = at-room .before .before .before in let start = at-load .before .before .before .before .before .before in
+    fits-into (at-load .load .ensures) (room-as (start .pre .1) (search needs)) (start .args .out .now) (at-room .room .ensures) (at-resolve-into .resolve-into .ensures) (search needs)
 
 same-length : tie.Need-same-length
 same-length c = search needs
@@ -36,7 +42,12 @@ same-length-3 : tie.Need-same-length-3
 same-length-3 c = search needs
 
 returns : tie.Need-returns
-returns c = tried-into (c .before .before .before .before .before .before .before .before .before .before .before .before .before .load .ensures) (room-as (c .before .before .before .before .before .before .before .before .before .before .before .before .before .before .before .before .before .before .before .pre .1) (search needs)) (c .before .before .before .before .before .before .before .before .before .before .before .before .before .before .before .before .before .before .before .args .out .now) (c .before .before .before .before .before .before .before .before .before .before .room .ensures) (c .before .before .before .before .before .before .before .resolve-into .ensures) (c .before .before .give .ensures)
+returns c =
+    let at-give = c .before .before in let at-resolve-into = at-give .before .before .before .before .before in
+    let at-room = at-resolve-into .before .before .before in let at-load = at-room .before .before .before in
+    let start = at-load .before .before .before .before .before .before in
+    tried-into (at-load .load .ensures) (room-as (start .pre .1) (search needs)) (start .args .out .now) (at-room .room .ensures) (at-resolve-into .resolve-into .ensures)
+    (at-give .give .ensures)
 
 pub resolve-in-spec : {M : Type 1} → statement M
 resolve-in-spec = tie.close (tie.spec load-requires room-requires slice-reshare-prefix-resolve-into slice-aggregate-resolve-into resolve-into-requires give-requires same-length same-length-2 same-length-3 returns)

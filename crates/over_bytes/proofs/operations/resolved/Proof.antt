@@ -36,10 +36,14 @@ resolve-in-requires-2 : tie.Need-resolve-in-requires-2
 resolve-in-requires-2 c κs = (search needs, made-room 8192 8192 (omega arith))
 
 same-length-2 : tie.Need-same-length-2
-same-length-2 c = c .before .before .before .before .resolve-in2 .kept .1 .1 .1 .1 .0 ∙ ap length (⊎-elim (λ w. w .10 ∙ kept-out (writes Resolve) (w .4 .ensures) (w .9 .left)) (λ w. w .1) (c .before .before .before .before .before .before .before .before .if1 .came))
+same-length-2 c =
+    let at-resolve-in2 = c .before .before .before .before in let at-if1 = at-resolve-in2 .before .before .before .before in
+    at-resolve-in2 .resolve-in2 .kept .1 .1 .1 .1 .0 ∙ ap length (⊎-elim (λ w. w .10 ∙ kept-out (writes Resolve) (w .4 .ensures) (w .9 .left)) (λ w. w .1) (at-if1 .if1 .came))
 
 returns-2 : tie.Need-returns-2
-returns-2 c = given-long (writes Resolve) (c .before .before .before .before .resolve-in2 .ensures) _ (⊎-elim (λ w. w .10 ∙ kept-out (writes Resolve) (w .4 .ensures) (w .9 .left)) (λ w. w .1) (c .before .before .before .before .before .before .before .before .if1 .came)) refl
+returns-2 c =
+    let at-resolve-in2 = c .before .before .before .before in let at-if1 = at-resolve-in2 .before .before .before .before in
+    given-long (writes Resolve) (at-resolve-in2 .resolve-in2 .ensures) _ (⊎-elim (λ w. w .10 ∙ kept-out (writes Resolve) (w .4 .ensures) (w .9 .left)) (λ w. w .1) (at-if1 .if1 .came)) refl
 
 pub resolved-spec : {M : Type 1} → statement M
 resolved-spec = tie.close (tie.spec slice-aggregate-resolve-in slice-aggregate-resolve-in-2 resolve-in-requires same-length returns slice-aggregate-resolve-in-3 slice-aggregate-resolve-in-4 resolve-in-requires-2 same-length-2 returns-2)

@@ -33,7 +33,9 @@ give-requires : tie.Need-give-requires
 give-requires c κs =
     let called = c .before .before .before .before in
     let roomed = called .before .before .before in
-    fits-out (writes (asWriting (roomed .before .before .before .before .before .before .before .before .before .args .w))) _ _ (called .run .last .1 .1 .0) _ _ (roomed .room .ensures) (called .run .ensures .answers) (called .run .kept .1 .1 .0)
+    let loaded = roomed .before .before .before .before .before in
+    let start = loaded .before .before .before .before in
+    fits-out (writes (asWriting (start .args .w))) _ _ (called .run .last .1 .1 .0) _ _ (roomed .room .ensures) (called .run .ensures .answers) (called .run .kept .1 .1 .0)
 
 same-length : tie.Need-same-length
 same-length c = search needs

@@ -22,7 +22,10 @@ same-length : tie.Need-same-length
 same-length c = search needs
 
 returns : tie.Need-returns
-returns c = given-short (writes (asWriting (c .before .before .before .before .before .before .before .before .before .before .before .before .args .w))) (c .before .before .before .before .before .write-in .ensures) (c .if2 .taken)
+returns c =
+    let at-write-in = c .before .before .before .before .before in let on-the-way = at-write-in .before .before .before .before .before .before in
+    let start = on-the-way .before in
+    given-short (writes (asWriting (start .args .w))) (at-write-in .write-in .ensures) (c .if2 .taken)
 
 slice-aggregate-write-in-3 : tie.Need-slice-aggregate-write-in-3
 slice-aggregate-write-in-3 c = search needs
@@ -34,10 +37,18 @@ write-in-requires-2 : tie.Need-write-in-requires-2
 write-in-requires-2 c κs = search needs
 
 same-length-2 : tie.Need-same-length-2
-same-length-2 c = c .before .before .before .before .write-in2 .kept .1 .1 .1 .1 .0 ∙ ap length (⊎-elim (λ w. w .10 ∙ kept-out (writes (asWriting (c .before .before .before .before .before .before .before .before .before .before .before .args .w))) (w .4 .ensures) (w .9 .left)) (λ w. w .1) (c .before .before .before .before .before .before .before .before .if1 .came))
+same-length-2 c =
+    let at-write-in2 = c .before .before .before .before in let at-if1 = at-write-in2 .before .before .before .before in
+    let start = at-if1 .before .before .before in
+    at-write-in2 .write-in2 .kept .1 .1 .1 .1 .0 ∙ ap length
+    (⊎-elim (λ w. w .10 ∙ kept-out (writes (asWriting (start .args .w))) (w .4 .ensures) (w .9 .left)) (λ w. w .1) (at-if1 .if1 .came))
 
 returns-2 : tie.Need-returns-2
-returns-2 c = given-long (writes (asWriting (c .before .before .before .before .before .before .before .before .before .before .before .args .w))) (c .before .before .before .before .write-in2 .ensures) _ (⊎-elim (λ w. w .10 ∙ kept-out (writes (asWriting (c .before .before .before .before .before .before .before .before .before .before .before .args .w))) (w .4 .ensures) (w .9 .left)) (λ w. w .1) (c .before .before .before .before .before .before .before .before .if1 .came)) refl
+returns-2 c =
+    let at-write-in2 = c .before .before .before .before in let at-if1 = at-write-in2 .before .before .before .before in
+    let start = at-if1 .before .before .before in
+    given-long (writes (asWriting (start .args .w))) (at-write-in2 .write-in2 .ensures) _
+    (⊎-elim (λ w. w .10 ∙ kept-out (writes (asWriting (start .args .w))) (w .4 .ensures) (w .9 .left)) (λ w. w .1) (at-if1 .if1 .came)) refl
 
 pub written-spec : {M : Type 1} → statement M
 written-spec =

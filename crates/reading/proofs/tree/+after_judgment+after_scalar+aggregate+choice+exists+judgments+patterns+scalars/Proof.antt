@@ -201,10 +201,14 @@ after-judgment-note-requires : (t : ℕ) → after-judgment-lts.Need-note-requir
 after-judgment-note-requires t c κs = search needs
 
 after-judgment-add-slots : (t : ℕ) → after-judgment-lts.Need-add-slots (after-judgment-calls t) (after-judgment-at t) after-judgment.Post
-after-judgment-add-slots t c = omega (arith, (c .before .before .before .before .before .before .before .before .pre) .1 .0 .most, (c .before .before .before .before .before .before .before .before .pre) .1 .1)
+after-judgment-add-slots t c =
+    let on-the-way = c .before .before .before .before .before .before in let start-2 = on-the-way .before .before in
+    omega (arith, (start-2 .pre) .1 .0 .most, (start-2 .pre) .1 .1)
 
 after-judgment-slots-requires : (t : ℕ) → after-judgment-lts.Need-slots-requires (after-judgment-calls t) (after-judgment-at t) after-judgment.Post
-after-judgment-slots-requires t c κs = ((c .before .before .before .before .before .before .before .before .pre) .1 .0 .most, omega (arith, (c .before .before .before .before .before .before .before .before .pre) .1 .1))
+after-judgment-slots-requires t c κs =
+    let on-the-way = c .before .before .before .before .before .before in let start-2 = on-the-way .before .before in
+    (start-2 .pre .1 .0 .most, omega (arith, (start-2 .pre) .1 .1))
 
 after-judgment-cast-note-2 : (t : ℕ) → after-judgment-lts.Need-cast-note-2 (after-judgment-calls t) (after-judgment-at t) after-judgment.Post
 after-judgment-cast-note-2 t c = search needs
@@ -219,10 +223,14 @@ after-judgment-note-requires-2 : (t : ℕ) → after-judgment-lts.Need-note-requ
 after-judgment-note-requires-2 t c κs = search needs
 
 after-judgment-add-atom : (t : ℕ) → after-judgment-lts.Need-add-atom (after-judgment-calls t) (after-judgment-at t) after-judgment.Post
-after-judgment-add-atom t c = omega (arith, (c .before .before .before .before .before .before .before .before .pre) .1 .0 .most, (c .before .before .before .before .before .before .before .before .pre) .1 .1)
+after-judgment-add-atom t c =
+    let on-the-way = c .before .before .before .before .before .before in let start-2 = on-the-way .before .before in
+    omega (arith, (start-2 .pre) .1 .0 .most, (start-2 .pre) .1 .1)
 
 after-judgment-atom-requires : (t : ℕ) → after-judgment-lts.Need-atom-requires (after-judgment-calls t) (after-judgment-at t) after-judgment.Post
-after-judgment-atom-requires t c κs = ((c .before .before .before .before .before .before .before .before .pre) .1 .0 .most, omega (arith, (c .before .before .before .before .before .before .before .before .pre) .1 .1))
+after-judgment-atom-requires t c κs =
+    let on-the-way = c .before .before .before .before .before .before in let start-2 = on-the-way .before .before in
+    (start-2 .pre .1 .0 .most, omega (arith, (start-2 .pre) .1 .1))
 
 after-judgment-add-exists : (t : ℕ) → after-judgment-lts.Need-add-exists (after-judgment-calls t) (after-judgment-at t) after-judgment.Post
 after-judgment-add-exists t c = omega (arith, (c .before .before .before .before .pre) .1 .0 .most, (c .before .before .before .before .pre) .1 .1)
@@ -243,7 +251,9 @@ after-judgment-note-requires-3 : (t : ℕ) → after-judgment-lts.Need-note-requ
 after-judgment-note-requires-3 t c κs = search needs
 
 after-judgment-add-result : (t : ℕ) → after-judgment-lts.Need-add-result (after-judgment-calls t) (after-judgment-at t) after-judgment.Post
-after-judgment-add-result t c = omega (arith, (c .before .before .before .before .before .before .before .before .pre) .1 .0 .most, (c .before .before .before .before .before .before .before .before .pre) .1 .1)
+after-judgment-add-result t c =
+    let on-the-way = c .before .before .before .before .before .before in let start-2 = on-the-way .before .before in
+    omega (arith, (start-2 .pre) .1 .0 .most, (start-2 .pre) .1 .1)
 
 after-judgment-add-judgments : (t : ℕ) → after-judgment-lts.Need-add-judgments (after-judgment-calls t) (after-judgment-at t) after-judgment.Post
 after-judgment-add-judgments t c = omega (arith, (c .before .before .before .before .before .before .pre) .1 .0 .most, (c .before .before .before .before .before .before .pre) .1 .1)
@@ -252,7 +262,9 @@ after-judgment-children-requires : (t : ℕ) → after-judgment-lts.Need-childre
 after-judgment-children-requires t c κs = let k = kindOf (getD ((c .before .before .before .before .before .before .args) .s .now) ((c .before .before .before .before .before .before .args) .at) 0) in (omega (arith, (c .before .before .before .shared-slice-known2) .given ((c .before .before .before .before .before .before .args) .at)), (c .before .before .before .before .before .before .pre) .1 .0 .tabled, judgments-in-row k (above 96 k ((c .before .if1) .left) ((c .before .before .match) .rest .0 .0 .0 .0 .1)) ((c .if2) .taken))
 
 after-judgment-judgments-requires : (t : ℕ) → after-judgment-lts.Need-judgments-requires (after-judgment-calls t) (after-judgment-at t) after-judgment.Post
-after-judgment-judgments-requires t c κs = (omega arith, ((c .before .before .before .before .before .before .before .before .pre) .1 .0, omega (arith, (c .before .before .before .before .before .before .before .before .pre) .1 .1), (c .before .before .before .before .before .before .before .before .pre) .1 .3))
+after-judgment-judgments-requires t c κs =
+    let on-the-way = c .before .before .before .before .before .before in let start-2 = on-the-way .before .before in
+    (omega arith, (start-2 .pre .1 .0, omega (arith, (start-2 .pre) .1 .1), (start-2 .pre) .1 .3))
 
 after-judgment-add-result-2 : (t : ℕ) → after-judgment-lts.Need-add-result-2 (after-judgment-calls t) (after-judgment-at t) after-judgment.Post
 after-judgment-add-result-2 t c = omega (arith, (c .before .before .before .before .before .pre) .1 .0 .most, (c .before .before .before .before .before .pre) .1 .1)
@@ -261,41 +273,64 @@ after-judgment-same-length : (t : ℕ) → after-judgment-lts.Need-same-length (
 after-judgment-same-length t c = search needs
 
 after-judgment-returns : (t : ℕ) → after-judgment-lts.Need-returns (after-judgment-calls t) (after-judgment-at t) after-judgment.Post
-after-judgment-returns t c = let k = kindOf (getD ((c .before .before .before .before .before .before .before .before .args) .s .now) ((c .before .before .before .before .before .before .before .before .args) .at) 0) in let e = (c .before .before .before .before .match) .keys1 in after-row _ _ _ _ k (valueOf (getD ((c .before .before .before .before .before .before .before .before .args) .s .now) ((c .before .before .before .before .before .before .before .before .args) .at) 0)) _ scalar-sort (comparison-row (valueOf (getD ((c .before .before .before .before .before .before .before .before .args) .s .now) ((c .before .before .before .before .before .before .before .before .args) .at) 0)) k e) (compared k (valueOf (getD ((c .before .before .before .before .before .before .before .before .args) .s .now) ((c .before .before .before .before .before .before .before .before .args) .at) 0)) e) (steady-judgment k (omega (arith, e)) (omega (arith, e))) ((c .before .before .scalars) .ensures)
+after-judgment-returns t c =
+    let at-scalars = c .before .before in let at-match = at-scalars .before .before in let start-2 = at-match .before .before .before .before in
+    let k = kindOf (getD (start-2 .args .s .now) (start-2 .args .at) 0) in let e = (at-match .match) .keys1 in after-row _ _ _ _ k
+    (valueOf (getD (start-2 .args .s .now) (start-2 .args .at) 0)) _ scalar-sort (comparison-row (valueOf (getD (start-2 .args .s .now) (start-2 .args .at) 0)) k e)
+    (compared k (valueOf (getD (start-2 .args .s .now) (start-2 .args .at) 0)) e) (steady-judgment k (omega (arith, e)) (omega (arith, e))) (at-scalars .scalars .ensures)
 
 after-judgment-same-length-2 : (t : ℕ) → after-judgment-lts.Need-same-length-2 (after-judgment-calls t) (after-judgment-at t) after-judgment.Post
 after-judgment-same-length-2 t c = search needs
 
 after-judgment-returns-2 : (t : ℕ) → after-judgment-lts.Need-returns-2 (after-judgment-calls t) (after-judgment-at t) after-judgment.Post
 unfolding entryOf table fieldsOf childrenOf noted lookBy
-after-judgment-returns-2 t c = after-words _ _ _ _ (kindOf (getD ((c .before .before .before .before .before .before .before .before .before .args) .s .now) ((c .before .before .before .before .before .before .before .before .before .args) .at) 0)) (valueOf (getD ((c .before .before .before .before .before .before .before .before .before .args) .s .now) ((c .before .before .before .before .before .before .before .before .before .args) .at) 0)) _ Slots (ap (λ (k : ℕ). entryOf k .follows) ((c .before .before .before .before .before .match) .keys2)) (ap noted ((c .before .before .before .before .before .match) .keys2)) (λ last. refl) ((c .slots) .ensures _) ((c .before .before .before .note) .ensures .1)
+after-judgment-returns-2 t c =
+    let at-note = c .before .before .before in let at-match = at-note .before .before in let start-2 = at-match .before .before .before .before in
+    after-words _ _ _ _ (kindOf (getD (start-2 .args .s .now) (start-2 .args .at) 0)) (valueOf (getD (start-2 .args .s .now) (start-2 .args .at) 0)) _ Slots
+    (ap (λ (k : ℕ). entryOf k .follows) (at-match .match .keys2)) (ap noted (at-match .match .keys2)) (λ last. refl) ((c .slots) .ensures _) (at-note .note .ensures .1)
 
 after-judgment-same-length-3 : (t : ℕ) → after-judgment-lts.Need-same-length-3 (after-judgment-calls t) (after-judgment-at t) after-judgment.Post
 after-judgment-same-length-3 t c = search needs
 
 after-judgment-returns-3 : (t : ℕ) → after-judgment-lts.Need-returns-3 (after-judgment-calls t) (after-judgment-at t) after-judgment.Post
 unfolding entryOf table fieldsOf childrenOf noted lookBy
-after-judgment-returns-3 t c = after-words _ _ _ _ (kindOf (getD ((c .before .before .before .before .before .before .before .before .before .args) .s .now) ((c .before .before .before .before .before .before .before .before .before .args) .at) 0)) (valueOf (getD ((c .before .before .before .before .before .before .before .before .before .args) .s .now) ((c .before .before .before .before .before .before .before .before .before .args) .at) 0)) _ Atom (ap (λ (k : ℕ). entryOf k .follows) ((c .before .before .before .before .before .match) .keys3)) (ap noted ((c .before .before .before .before .before .match) .keys3)) (λ last. refl) ((c .atom) .ensures _) ((c .before .before .before .note2) .ensures .1)
+after-judgment-returns-3 t c =
+    let at-note2 = c .before .before .before in let at-match = at-note2 .before .before in let start-2 = at-match .before .before .before .before in
+    after-words _ _ _ _ (kindOf (getD (start-2 .args .s .now) (start-2 .args .at) 0)) (valueOf (getD (start-2 .args .s .now) (start-2 .args .at) 0)) _ Atom
+    (ap (λ (k : ℕ). entryOf k .follows) (at-match .match .keys3)) (ap noted (at-match .match .keys3)) (λ last. refl) ((c .atom) .ensures _) (at-note2 .note2 .ensures .1)
 
 after-judgment-same-length-4 : (t : ℕ) → after-judgment-lts.Need-same-length-4 (after-judgment-calls t) (after-judgment-at t) after-judgment.Post
 after-judgment-same-length-4 t c = search needs
 
 after-judgment-returns-4 : (t : ℕ) → after-judgment-lts.Need-returns-4 (after-judgment-calls t) (after-judgment-at t) after-judgment.Post
 unfolding entryOf table fieldsOf childrenOf noted lookBy follow
-after-judgment-returns-4 t c = by-shape _ _ _ _ (kindOf (getD ((c .before .before .before .before .before .before .before .before .args) .s .now) ((c .before .before .before .before .before .before .before .before .args) .at) 0)) (valueOf (getD ((c .before .before .before .before .before .before .before .before .args) .s .now) ((c .before .before .before .before .before .before .before .before .args) .at) 0)) _ true Exists (ap (λ (k : ℕ). entryOf k .follows) ((c .before .before .before .before .match) .keys4)) (ap noted ((c .before .before .before .before .match) .keys4)) ((c .before .before .exists) .ensures)
+after-judgment-returns-4 t c =
+    let at-exists = c .before .before in let at-match = at-exists .before .before in let start-2 = at-match .before .before .before .before in
+    by-shape _ _ _ _ (kindOf (getD (start-2 .args .s .now) (start-2 .args .at) 0)) (valueOf (getD (start-2 .args .s .now) (start-2 .args .at) 0)) _ true Exists
+    (ap (λ (k : ℕ). entryOf k .follows) (at-match .match .keys4)) (ap noted (at-match .match .keys4)) (at-exists .exists .ensures)
 
 after-judgment-same-length-5 : (t : ℕ) → after-judgment-lts.Need-same-length-5 (after-judgment-calls t) (after-judgment-at t) after-judgment.Post
 after-judgment-same-length-5 t c = search needs
 
 after-judgment-returns-5 : (t : ℕ) → after-judgment-lts.Need-returns-5 (after-judgment-calls t) (after-judgment-at t) after-judgment.Post
 unfolding entryOf table noted lookBy
-after-judgment-returns-5 t c = after-leaf _ _ _ _ (kindOf (getD ((c .before .before .before .before .before .before .before .before .args) .s .now) ((c .before .before .before .before .before .before .before .before .args) .at) 0)) (valueOf (getD ((c .before .before .before .before .before .before .before .before .args) .s .now) ((c .before .before .before .before .before .before .before .before .args) .at) 0)) _ (leaf-last (valueOf (getD ((c .before .before .before .before .before .before .before .before .args) .s .now) ((c .before .before .before .before .before .before .before .before .args) .at) 0)) (kindOf (getD ((c .before .before .before .before .before .before .before .before .args) .s .now) ((c .before .before .before .before .before .before .before .before .args) .at) 0)) (omega (arith, (c .before .before .before .before .match) .keys5)) (omega (arith, (c .before .before .before .before .match) .keys5))) true (ap noted ((c .before .before .before .before .match) .keys5)) _ ((c .before .before .note3) .ensures .1)
+after-judgment-returns-5 t c =
+    let at-note3 = c .before .before in let at-match = at-note3 .before .before in let start-2 = at-match .before .before .before .before in
+    after-leaf _ _ _ _ (kindOf (getD (start-2 .args .s .now) (start-2 .args .at) 0)) (valueOf (getD (start-2 .args .s .now) (start-2 .args .at) 0)) _
+    (leaf-last (valueOf (getD (start-2 .args .s .now) (start-2 .args .at) 0)) (kindOf (getD (start-2 .args .s .now) (start-2 .args .at) 0)) (omega (arith, (at-match .match) .keys5))
+    (omega (arith, (at-match .match) .keys5))) true (ap noted (at-match .match .keys5)) _ (at-note3 .note3 .ensures .1)
 
 after-judgment-same-length-6 : (t : ℕ) → after-judgment-lts.Need-same-length-6 (after-judgment-calls t) (after-judgment-at t) after-judgment.Post
 after-judgment-same-length-6 t c = search needs
 
 after-judgment-returns-6 : (t : ℕ) → after-judgment-lts.Need-returns-6 (after-judgment-calls t) (after-judgment-at t) after-judgment.Post
-after-judgment-returns-6 t c = let k = kindOf (getD ((c .before .before .before .before .before .before .before .before .before .before .before .args) .s .now) ((c .before .before .before .before .before .before .before .before .before .before .before .args) .at) 0) in let lo = above 96 k ((c .before .before .before .before .before .before .if1) .left) ((c .before .before .before .before .before .before .before .match) .rest .0 .0 .0 .0 .1) in after-row _ _ _ _ k (valueOf (getD ((c .before .before .before .before .before .before .before .before .before .before .before .args) .s .now) ((c .before .before .before .before .before .before .before .before .before .before .before .args) .at) 0)) _ judgment-sort (judgment-row (valueOf (getD ((c .before .before .before .before .before .before .before .before .before .before .before .args) .s .now) ((c .before .before .before .before .before .before .before .before .before .before .before .args) .at) 0)) k lo ((c .before .before .before .before .before .if2) .taken)) ((c .before .before .before .before .children) .ensures) (steady-judgment k (omega (arith, lo)) ((c .before .before .before .before .before .if2) .taken)) ((c .before .before .judgments) .ensures)
+after-judgment-returns-6 t c =
+    let at-judgments = c .before .before in let at-children = at-judgments .before .before in let at-if2 = at-children .before in
+    let at-if1 = at-if2 .before in let at-match = at-if1 .before in let start-2 = at-match .before .before .before .before in
+    let k = kindOf (getD (start-2 .args .s .now) (start-2 .args .at) 0) in let lo = above 96 k (at-if1 .if1 .left) (at-match .match .rest .0 .0 .0 .0 .1) in after-row _ _ _ _ k
+    (valueOf (getD (start-2 .args .s .now) (start-2 .args .at) 0)) _ judgment-sort
+    (judgment-row (valueOf (getD (start-2 .args .s .now) (start-2 .args .at) 0)) k lo (at-if2 .if2 .taken)) (at-children .children .ensures)
+    (steady-judgment k (omega (arith, lo)) (at-if2 .if2 .taken)) (at-judgments .judgments .ensures)
 
 after-judgment-returns-7 : (t : ℕ) → after-judgment-lts.Need-returns-7 (after-judgment-calls t) (after-judgment-at t) after-judgment.Post
 after-judgment-returns-7 t c = let k : ℕ = kindOf (getD ((c .before .before .before .before .before .args) .s .now) ((c .before .before .before .before .before .args) .at) 0) in let m = (c .before .match) .rest in let lo : 104 < k = ⊎-elim (λ x. absurd (omega (arith, x .taken, (c .before .before .before .before .before .pre) .1 .2))) (λ y. leaf-past k (y .1 .left) (m .0 .0 .0 .1) (m .0 .0 .1) (m .0 .1) (m .1)) ((c .if1) .came) in let hi : k < 256 = omega (arith, (c .before .before .shared-slice-known2) .given ((c .before .before .before .before .before .args) .at)) in after-leaf _ _ _ _ k (valueOf (getD ((c .before .before .before .before .before .args) .s .now) ((c .before .before .before .before .before .args) .at) 0)) _ (leaf-last (valueOf (getD ((c .before .before .before .before .before .args) .s .now) ((c .before .before .before .before .before .args) .at) 0)) k (omega (arith, lo)) hi) false (plain-last k lo hi) _ refl
@@ -322,7 +357,9 @@ after-scalar-lost-requires : (t : ℕ) → after-scalar-lts.Need-lost-requires (
 after-scalar-lost-requires t c κs = (c .before .before .before .before .before .pre) .1 .3 .few
 
 after-scalar-scalars-requires : (t : ℕ) → after-scalar-lts.Need-scalars-requires (after-scalar-calls t) (after-scalar-at t) after-scalar.Post
-after-scalar-scalars-requires t c κs = (omega arith, ((c .before .before .before .before .before .before .before .pre) .1 .0, omega (arith, (c .before .before .before .before .before .before .before .pre) .1 .1), based-losing _ ((c .before .before .before .before .before .before .before .pre) .1 .3) ((c .before .lost) .ensures)))
+after-scalar-scalars-requires t c κs =
+    let at-lost = c .before in let start-2 = at-lost .before .before .before .before .before .before in
+    (omega arith, (start-2 .pre .1 .0, omega (arith, (start-2 .pre) .1 .1), based-losing _ (start-2 .pre .1 .3) (at-lost .lost .ensures)))
 
 after-scalar-add-choice : (t : ℕ) → after-scalar-lts.Need-add-choice (after-scalar-calls t) (after-scalar-at t) after-scalar.Post
 after-scalar-add-choice t c = omega (arith, (c .before .before .before .before .pre) .1 .0 .most, (c .before .before .before .before .pre) .1 .1)
@@ -343,25 +380,37 @@ after-scalar-note-requires : (t : ℕ) → after-scalar-lts.Need-note-requires (
 after-scalar-note-requires t c κs = search needs
 
 after-scalar-add-only-related : (t : ℕ) → after-scalar-lts.Need-add-only-related (after-scalar-calls t) (after-scalar-at t) after-scalar.Post
-after-scalar-add-only-related t c = omega (arith, (c .before .before .before .before .before .before .before .before .pre) .1 .0 .most, (c .before .before .before .before .before .before .before .before .pre) .1 .1)
+after-scalar-add-only-related t c =
+    let on-the-way = c .before .before .before .before .before .before in let start-2 = on-the-way .before .before in
+    omega (arith, (start-2 .pre) .1 .0 .most, (start-2 .pre) .1 .1)
 
 after-scalar-only-related-requires : (t : ℕ) → after-scalar-lts.Need-only-related-requires (after-scalar-calls t) (after-scalar-at t) after-scalar.Post
-after-scalar-only-related-requires t c κs = ((c .before .before .before .before .before .before .before .before .pre) .1 .0 .most, omega (arith, (c .before .before .before .before .before .before .before .before .pre) .1 .1))
+after-scalar-only-related-requires t c κs =
+    let on-the-way = c .before .before .before .before .before .before in let start-2 = on-the-way .before .before in
+    (start-2 .pre .1 .0 .most, omega (arith, (start-2 .pre) .1 .1))
 
 after-scalar-children-requires : (t : ℕ) → after-scalar-lts.Need-children-requires (after-scalar-calls t) (after-scalar-at t) after-scalar.Post
 after-scalar-children-requires t c κs = let k = kindOf (getD ((c .before .before .before .before .before .before .args) .s .now) ((c .before .before .before .before .before .before .args) .at) 0) in (omega (arith, (c .before .before .before .shared-slice-known2) .given ((c .before .before .before .before .before .before .args) .at)), (c .before .before .before .before .before .before .pre) .1 .0 .tabled, scalars-in-row k ((c .before .if1) .left) ((c .if2) .taken))
 
 after-scalar-add-scalars-2 : (t : ℕ) → after-scalar-lts.Need-add-scalars-2 (after-scalar-calls t) (after-scalar-at t) after-scalar.Post
-after-scalar-add-scalars-2 t c = omega (arith, (c .before .before .before .before .before .before .before .pre) .1 .0 .most, (c .before .before .before .before .before .before .before .pre) .1 .1)
+after-scalar-add-scalars-2 t c =
+    let on-the-way = c .before .before .before .before .before .before in let start-2 = on-the-way .before in
+    omega (arith, (start-2 .pre) .1 .0 .most, (start-2 .pre) .1 .1)
 
 after-scalar-scalars-requires-2 : (t : ℕ) → after-scalar-lts.Need-scalars-requires-2 (after-scalar-calls t) (after-scalar-at t) after-scalar.Post
-after-scalar-scalars-requires-2 t c κs = (omega arith, ((c .before .before .before .before .before .before .before .before .pre) .1 .0, omega (arith, (c .before .before .before .before .before .before .before .before .pre) .1 .1), (c .before .before .before .before .before .before .before .before .pre) .1 .3))
+after-scalar-scalars-requires-2 t c κs =
+    let on-the-way = c .before .before .before .before .before .before in let start-2 = on-the-way .before .before in
+    (omega arith, (start-2 .pre .1 .0, omega (arith, (start-2 .pre) .1 .1), (start-2 .pre) .1 .3))
 
 after-scalar-add-aggregate : (t : ℕ) → after-scalar-lts.Need-add-aggregate (after-scalar-calls t) (after-scalar-at t) after-scalar.Post
-after-scalar-add-aggregate t c = omega (arith, (c .before .before .before .before .before .before .before .pre) .1 .0 .most, (c .before .before .before .before .before .before .before .pre) .1 .1)
+after-scalar-add-aggregate t c =
+    let on-the-way = c .before .before .before .before .before .before in let start-2 = on-the-way .before in
+    omega (arith, (start-2 .pre) .1 .0 .most, (start-2 .pre) .1 .1)
 
 after-scalar-aggregate-requires : (t : ℕ) → after-scalar-lts.Need-aggregate-requires (after-scalar-calls t) (after-scalar-at t) after-scalar.Post
-after-scalar-aggregate-requires t c κs = (omega arith, ((c .before .before .before .before .before .before .before .before .pre) .1 .0, omega (arith, (c .before .before .before .before .before .before .before .before .pre) .1 .1), (c .before .before .before .before .before .before .before .before .pre) .1 .3))
+after-scalar-aggregate-requires t c κs =
+    let on-the-way = c .before .before .before .before .before .before in let start-2 = on-the-way .before .before in
+    (omega arith, (start-2 .pre .1 .0, omega (arith, (start-2 .pre) .1 .1), (start-2 .pre) .1 .3))
 
 after-scalar-add-result : (t : ℕ) → after-scalar-lts.Need-add-result (after-scalar-calls t) (after-scalar-at t) after-scalar.Post
 after-scalar-add-result t c = omega (arith, (c .before .before .before .before .before .pre) .1 .0 .most, (c .before .before .before .before .before .pre) .1 .1)
@@ -371,41 +420,67 @@ after-scalar-same-length t c = search needs
 
 after-scalar-returns : (t : ℕ) → after-scalar-lts.Need-returns (after-scalar-calls t) (after-scalar-at t) after-scalar.Post
 unfolding entryOf table fieldsOf childrenOf noted lookBy
-after-scalar-returns t c = after-bare _ _ _ _ (kindOf (getD ((c .before .before .before .before .before .before .before .before .args) .s .now) ((c .before .before .before .before .before .before .before .before .args) .at) 0)) (valueOf (getD ((c .before .before .before .before .before .before .before .before .args) .s .now) ((c .before .before .before .before .before .before .before .before .args) .at) 0)) _ Patterns (ap (λ (k : ℕ). entryOf k .follows) ((c .before .before .before .before .match) .keys1)) (ap noted ((c .before .before .before .before .match) .keys1)) refl ((c .before .before .patterns) .ensures)
+after-scalar-returns t c =
+    let at-patterns = c .before .before in let at-match = at-patterns .before .before in let start-2 = at-match .before .before .before .before in
+    after-bare _ _ _ _ (kindOf (getD (start-2 .args .s .now) (start-2 .args .at) 0)) (valueOf (getD (start-2 .args .s .now) (start-2 .args .at) 0)) _ Patterns
+    (ap (λ (k : ℕ). entryOf k .follows) (at-match .match .keys1)) (ap noted (at-match .match .keys1)) refl (at-patterns .patterns .ensures)
 
 after-scalar-same-length-2 : (t : ℕ) → after-scalar-lts.Need-same-length-2 (after-scalar-calls t) (after-scalar-at t) after-scalar.Post
 after-scalar-same-length-2 t c = search needs
 
 after-scalar-returns-2 : (t : ℕ) → after-scalar-lts.Need-returns-2 (after-scalar-calls t) (after-scalar-at t) after-scalar.Post
 unfolding entryOf table fieldsOf childrenOf noted lookBy
-after-scalar-returns-2 t c = after-bare _ _ _ _ (kindOf (getD ((c .before .before .before .before .before .before .before .before .before .before .args) .s .now) ((c .before .before .before .before .before .before .before .before .before .before .args) .at) 0)) (valueOf (getD ((c .before .before .before .before .before .before .before .before .before .before .args) .s .now) ((c .before .before .before .before .before .before .before .before .before .before .args) .at) 0)) _ Periods (ap (λ (k : ℕ). entryOf k .follows) ((c .before .before .before .before .before .before .match) .keys2)) (ap noted ((c .before .before .before .before .before .before .match) .keys2)) refl (rows-as _ _ scalar-sort _ ((c .before .before .before .before .before .by-table) .ensures ∙ ap (λ (k : ℕ). howMany (entryOf k .follows) (valueOf (getD ((c .before .before .before .before .before .before .before .before .before .before .args) .s .now) ((c .before .before .before .before .before .before .before .before .before .before .args) .at) 0))) ((c .before .before .before .before .before .before .match) .keys2)) ((c .before .before .before .before .lost) .ensures) ((c .before .before .scalars) .ensures))
+after-scalar-returns-2 t c =
+    let at-scalars = c .before .before in let at-lost = at-scalars .before .before in let at-by-table = at-lost .before in
+    let at-match = at-by-table .before in let start-2 = at-match .before .before .before .before in
+    after-bare _ _ _ _ (kindOf (getD (start-2 .args .s .now) (start-2 .args .at) 0)) (valueOf (getD (start-2 .args .s .now) (start-2 .args .at) 0)) _ Periods
+    (ap (λ (k : ℕ). entryOf k .follows) (at-match .match .keys2)) (ap noted (at-match .match .keys2)) refl
+    (rows-as _ _ scalar-sort _ (at-by-table .by-table .ensures ∙ ap (λ (k : ℕ). howMany (entryOf k .follows) (valueOf (getD (start-2 .args .s .now) (start-2 .args .at) 0)))
+    (at-match .match .keys2)) (at-lost .lost .ensures) (at-scalars .scalars .ensures))
 
 after-scalar-same-length-3 : (t : ℕ) → after-scalar-lts.Need-same-length-3 (after-scalar-calls t) (after-scalar-at t) after-scalar.Post
 after-scalar-same-length-3 t c = search needs
 
 after-scalar-returns-3 : (t : ℕ) → after-scalar-lts.Need-returns-3 (after-scalar-calls t) (after-scalar-at t) after-scalar.Post
 unfolding entryOf table fieldsOf childrenOf noted lookBy
-after-scalar-returns-3 t c = after-bare _ _ _ _ (kindOf (getD ((c .before .before .before .before .before .before .before .before .args) .s .now) ((c .before .before .before .before .before .before .before .before .args) .at) 0)) (valueOf (getD ((c .before .before .before .before .before .before .before .before .args) .s .now) ((c .before .before .before .before .before .before .before .before .args) .at) 0)) _ Choice (ap (λ (k : ℕ). entryOf k .follows) ((c .before .before .before .before .match) .keys3)) (ap noted ((c .before .before .before .before .match) .keys3)) refl ((c .before .before .choice) .ensures)
+after-scalar-returns-3 t c =
+    let at-choice = c .before .before in let at-match = at-choice .before .before in let start-2 = at-match .before .before .before .before in
+    after-bare _ _ _ _ (kindOf (getD (start-2 .args .s .now) (start-2 .args .at) 0)) (valueOf (getD (start-2 .args .s .now) (start-2 .args .at) 0)) _ Choice
+    (ap (λ (k : ℕ). entryOf k .follows) (at-match .match .keys3)) (ap noted (at-match .match .keys3)) refl (at-choice .choice .ensures)
 
 after-scalar-same-length-4 : (t : ℕ) → after-scalar-lts.Need-same-length-4 (after-scalar-calls t) (after-scalar-at t) after-scalar.Post
 after-scalar-same-length-4 t c = search needs
 
 after-scalar-returns-4 : (t : ℕ) → after-scalar-lts.Need-returns-4 (after-scalar-calls t) (after-scalar-at t) after-scalar.Post
 unfolding entryOf table fieldsOf childrenOf noted lookBy
-after-scalar-returns-4 t c = after-words _ _ _ _ (kindOf (getD ((c .before .before .before .before .before .before .before .before .before .args) .s .now) ((c .before .before .before .before .before .before .before .before .before .args) .at) 0)) (valueOf (getD ((c .before .before .before .before .before .before .before .before .before .args) .s .now) ((c .before .before .before .before .before .before .before .before .before .args) .at) 0)) _ OnlyRelated (ap (λ (k : ℕ). entryOf k .follows) ((c .before .before .before .before .before .match) .keys4)) (ap noted ((c .before .before .before .before .before .match) .keys4)) (λ last. refl) ((c .only-related) .ensures) ((c .before .before .before .note) .ensures .1)
+after-scalar-returns-4 t c =
+    let at-note = c .before .before .before in let at-match = at-note .before .before in let start-2 = at-match .before .before .before .before in
+    after-words _ _ _ _ (kindOf (getD (start-2 .args .s .now) (start-2 .args .at) 0)) (valueOf (getD (start-2 .args .s .now) (start-2 .args .at) 0)) _ OnlyRelated
+    (ap (λ (k : ℕ). entryOf k .follows) (at-match .match .keys4)) (ap noted (at-match .match .keys4)) (λ last. refl) ((c .only-related) .ensures) (at-note .note .ensures .1)
 
 after-scalar-same-length-5 : (t : ℕ) → after-scalar-lts.Need-same-length-5 (after-scalar-calls t) (after-scalar-at t) after-scalar.Post
 after-scalar-same-length-5 t c = search needs
 
 after-scalar-returns-5 : (t : ℕ) → after-scalar-lts.Need-returns-5 (after-scalar-calls t) (after-scalar-at t) after-scalar.Post
-after-scalar-returns-5 t c = let k = kindOf (getD ((c .before .before .before .before .before .before .before .before .before .before .before .args) .s .now) ((c .before .before .before .before .before .before .before .before .before .before .before .args) .at) 0) in let lo = (c .before .before .before .before .before .before .if1) .left in let hi : k < 71 = omega (arith, (c .before .before .before .before .before .if2) .taken) in after-row _ _ _ _ k (valueOf (getD ((c .before .before .before .before .before .before .before .before .before .before .before .args) .s .now) ((c .before .before .before .before .before .before .before .before .before .before .before .args) .at) 0)) _ scalar-sort (scalar-row (valueOf (getD ((c .before .before .before .before .before .before .before .before .before .before .before .args) .s .now) ((c .before .before .before .before .before .before .before .before .before .before .before .args) .at) 0)) k lo (omega (arith, hi)) ((c .before .before .before .before .before .before .before .match) .rest .0 .1)) ((c .before .before .before .before .children) .ensures) (steady-scalar k lo hi) ((c .before .before .scalars2) .ensures)
+after-scalar-returns-5 t c =
+    let at-scalars2 = c .before .before in let at-children = at-scalars2 .before .before in let at-if2 = at-children .before in
+    let at-if1 = at-if2 .before in let at-match = at-if1 .before in let start-2 = at-match .before .before .before .before in
+    let k = kindOf (getD (start-2 .args .s .now) (start-2 .args .at) 0) in let lo = (at-if1 .if1) .left in let hi : k < 71 = omega (arith, (at-if2 .if2) .taken) in after-row _ _ _ _ k
+    (valueOf (getD (start-2 .args .s .now) (start-2 .args .at) 0)) _ scalar-sort
+    (scalar-row (valueOf (getD (start-2 .args .s .now) (start-2 .args .at) 0)) k lo (omega (arith, hi)) (at-match .match .rest .0 .1)) (at-children .children .ensures)
+    (steady-scalar k lo hi) (at-scalars2 .scalars2 .ensures)
 
 after-scalar-same-length-6 : (t : ℕ) → after-scalar-lts.Need-same-length-6 (after-scalar-calls t) (after-scalar-at t) after-scalar.Post
 after-scalar-same-length-6 t c = search needs
 
 after-scalar-returns-6 : (t : ℕ) → after-scalar-lts.Need-returns-6 (after-scalar-calls t) (after-scalar-at t) after-scalar.Post
 unfolding follow childrenOf
-after-scalar-returns-6 t c = let k = kindOf (getD ((c .before .before .before .before .before .before .before .before .before .before .before .args) .s .now) ((c .before .before .before .before .before .before .before .before .before .before .before .args) .at) 0) in let m = (c .before .before .before .before .before .before .before .match) .rest in let lo : 74 ≤ k = omega (arith, (c .before .before .before .before .before .if2) .left, m .0 .1, m .0 .0 .1, m .0 .0 .0 .1) in by-shape _ _ _ _ k (valueOf (getD ((c .before .before .before .before .before .before .before .before .before .before .before .args) .s .now) ((c .before .before .before .before .before .before .before .before .before .before .before .args) .at) 0)) _ true Aggregate (aggregate-kind k lo ((c .before .before .before .before .if3) .taken)) (noted-aggregate k lo ((c .before .before .before .before .if3) .taken)) ((c .before .before .aggregate) .ensures)
+after-scalar-returns-6 t c =
+    let at-aggregate = c .before .before in let at-if3 = at-aggregate .before .before in let at-if2 = at-if3 .before in
+    let at-match = at-if2 .before .before in let start-2 = at-match .before .before .before .before in
+    let k = kindOf (getD (start-2 .args .s .now) (start-2 .args .at) 0) in let m = (at-match .match) .rest in let lo : 74 ≤ k = omega
+    (arith, (at-if2 .if2) .left, m .0 .1, m .0 .0 .1, m .0 .0 .0 .1) in by-shape _ _ _ _ k (valueOf (getD (start-2 .args .s .now) (start-2 .args .at) 0)) _ true Aggregate
+    (aggregate-kind k lo (at-if3 .if3 .taken)) (noted-aggregate k lo (at-if3 .if3 .taken)) (at-aggregate .aggregate .ensures)
 
 after-scalar-returns-7 : (t : ℕ) → after-scalar-lts.Need-returns-7 (after-scalar-calls t) (after-scalar-at t) after-scalar.Post
 after-scalar-returns-7 t c = ⊎-elim (λ x. after-leaf _ _ _ _ (kindOf (getD ((c .before .before .before .before .before .args) .s .now) ((c .before .before .before .before .before .args) .at) 0)) (valueOf (getD ((c .before .before .before .before .before .args) .s .now) ((c .before .before .before .before .before .args) .at) 0)) _ (leaf-low (valueOf (getD ((c .before .before .before .before .before .args) .s .now) ((c .before .before .before .before .before .args) .at) 0)) (kindOf (getD ((c .before .before .before .before .before .args) .s .now) ((c .before .before .before .before .before .args) .at) 0)) (x .taken)) false (plain-low (kindOf (getD ((c .before .before .before .before .before .args) .s .now) ((c .before .before .before .before .before .args) .at) 0)) (x .taken)) _ refl) (λ y. let k = kindOf (getD ((c .before .before .before .before .before .args) .s .now) ((c .before .before .before .before .before .args) .at) 0) in let z = (c .before .match) .rest .1 in let hi : k < 96 = omega (arith, (c .before .before .before .before .before .pre) .1 .2) in let lo : 78 < k = omega (arith, above 78 k (y .2 .left) z) in after-leaf _ _ _ _ k (valueOf (getD ((c .before .before .before .before .before .args) .s .now) ((c .before .before .before .before .before .args) .at) 0)) _ (leaf-between (valueOf (getD ((c .before .before .before .before .before .args) .s .now) ((c .before .before .before .before .before .args) .at) 0)) k (y .2 .left) z hi) false (plain-between k lo hi) _ refl) ((c .if1) .came)
@@ -438,24 +513,52 @@ aggregate-up-to-requires-3 t c κs = let m1 = passed _ _ _ _ ((c .before .before
 
 aggregate-returns-3 : (t : ℕ) → aggregate-lts.Need-returns-3 (aggregate-calls t) (aggregate-at t) aggregate.Post
 unfolding follow fields fieldsOf
-aggregate-returns-3 t c = let m1 = passed _ _ _ _ ((c .before .before .before .before .before .up-to) .ensures (boundOf ((c .before .before .before .before .before .before .before .before .args) .t .now))) ((c .before .before .before .before .before .before .before .before .pre) .1 .0 .most) ((c .before .before .before .before .before .before .before .before .pre) .1 .1) ((c .before .before .before .before .if1) .left) ((c .before .before .before .before .before .before .before .before .args) .at + 1) refl in let m2 = passed _ _ _ _ ((c .before .before .before .up-to2) .ensures (boundOf ((c .before .before .before .before .before .before .before .before .args) .t .now))) ((c .before .before .before .before .before .before .before .before .pre) .1 .0 .most) (m1 .there) ((c .before .before .if2) .left) ((c .before .before .before .before .before .before .before .before .args) .at + 2) (omega arith) in let g = fault-large _ _ _ _ ((c .before .up-to3) .ensures (boundOf ((c .before .before .before .before .before .before .before .before .args) .t .now))) ((c .if3) .taken) in let q = fault-code _ _ _ _ ((c .before .up-to3) .ensures (boundOf ((c .before .before .before .before .before .before .before .before .args) .t .now))) ((c .if3) .taken) in refuses _ (then-code _ _ _ _ (next-code _ _ _ _ _ (m1 .same) (m1 .small) (next-code _ _ _ _ _ (m2 .same) (m2 .small) (first-code _ _ _ _ _ q ((c .before .before .before .before .before .before .before .before .pre) .1 .0 .most) (m2 .there) g))) ((c .before .before .before .before .before .before .before .before .pre) .1 .0 .most) ((c .before .before .before .before .before .before .before .before .pre) .1 .1) g) g
+aggregate-returns-3 t c =
+    let at-up-to3 = c .before in let at-if2 = at-up-to3 .before in let at-up-to2 = at-if2 .before in let at-if1 = at-up-to2 .before in
+    let at-up-to = at-if1 .before in let start-2 = at-up-to .before .before .before in
+    let m1 = passed _ _ _ _ (at-up-to .up-to .ensures (boundOf (start-2 .args .t .now))) (start-2 .pre .1 .0 .most) (start-2 .pre .1 .1) (at-if1 .if1 .left)
+    (start-2 .args .at + 1) refl in let m2 = passed _ _ _ _ (at-up-to2 .up-to2 .ensures (boundOf (start-2 .args .t .now))) (start-2 .pre .1 .0 .most) (m1 .there) (at-if2 .if2 .left)
+    (start-2 .args .at + 2) (omega arith) in let g = fault-large _ _ _ _ (at-up-to3 .up-to3 .ensures (boundOf (start-2 .args .t .now))) ((c .if3) .taken) in let q = fault-code _ _ _ _
+    (at-up-to3 .up-to3 .ensures (boundOf (start-2 .args .t .now))) ((c .if3) .taken) in refuses _
+    (then-code _ _ _ _ (next-code _ _ _ _ _ (m1 .same) (m1 .small) (next-code _ _ _ _ _ (m2 .same) (m2 .small) (first-code _ _ _ _ _ q (start-2 .pre .1 .0 .most) (m2 .there) g)))
+    (start-2 .pre .1 .0 .most) (start-2 .pre .1 .1) g) g
 
 aggregate-add-up-to-3 : (t : ℕ) → aggregate-lts.Need-add-up-to-3 (aggregate-calls t) (aggregate-at t) aggregate.Post
-aggregate-add-up-to-3 t c = omega (arith, (c .before .before .before .before .before .before .before .before .pre) .1 .0 .most, (c .before .before .before .before .before .before .before .before .pre) .1 .1)
+aggregate-add-up-to-3 t c =
+    let on-the-way = c .before .before .before .before .before .before in let start-2 = on-the-way .before .before in
+    omega (arith, (start-2 .pre) .1 .0 .most, (start-2 .pre) .1 .1)
 
 aggregate-up-to-requires-4 : (t : ℕ) → aggregate-lts.Need-up-to-requires-4 (aggregate-calls t) (aggregate-at t) aggregate.Post
 unfolding entryOf table
-aggregate-up-to-requires-4 t c κs = let m1 = passed _ _ _ _ ((c .before .before .before .before .before .up-to) .ensures (boundOf ((c .before .before .before .before .before .before .before .before .args) .t .now))) ((c .before .before .before .before .before .before .before .before .pre) .1 .0 .most) ((c .before .before .before .before .before .before .before .before .pre) .1 .1) ((c .before .before .before .before .if1) .left) ((c .before .before .before .before .before .before .before .before .args) .at + 1) refl in let m2 = passed _ _ _ _ ((c .before .before .before .up-to2) .ensures (boundOf ((c .before .before .before .before .before .before .before .before .args) .t .now))) ((c .before .before .before .before .before .before .before .before .pre) .1 .0 .most) (m1 .there) ((c .before .before .if2) .left) ((c .before .before .before .before .before .before .before .before .args) .at + 2) (omega arith) in let m3 = passed _ _ _ _ ((c .before .up-to3) .ensures (boundOf ((c .before .before .before .before .before .before .before .before .args) .t .now))) ((c .before .before .before .before .before .before .before .before .pre) .1 .0 .most) (m2 .there) ((c .if3) .left) ((c .before .before .before .before .before .before .before .before .args) .at + 3) (omega arith) in ((c .before .before .before .before .before .before .before .before .pre) .1 .0 .most, m3 .there, up-to-most 83 1 refl)
+aggregate-up-to-requires-4 t c κs =
+    let at-up-to3 = c .before in let at-if2 = at-up-to3 .before in let at-up-to2 = at-if2 .before in let at-if1 = at-up-to2 .before in
+    let at-up-to = at-if1 .before in let start-2 = at-up-to .before .before .before in
+    let m1 = passed _ _ _ _ (at-up-to .up-to .ensures (boundOf (start-2 .args .t .now))) (start-2 .pre .1 .0 .most) (start-2 .pre .1 .1) (at-if1 .if1 .left)
+    (start-2 .args .at + 1) refl in let m2 = passed _ _ _ _ (at-up-to2 .up-to2 .ensures (boundOf (start-2 .args .t .now))) (start-2 .pre .1 .0 .most) (m1 .there) (at-if2 .if2 .left)
+    (start-2 .args .at + 2) (omega arith) in let m3 = passed _ _ _ _ (at-up-to3 .up-to3 .ensures (boundOf (start-2 .args .t .now))) (start-2 .pre .1 .0 .most) (m2 .there)
+    ((c .if3) .left) (start-2 .args .at + 3) (omega arith) in (start-2 .pre .1 .0 .most, m3 .there, up-to-most 83 1 refl)
 
 aggregate-returns-4 : (t : ℕ) → aggregate-lts.Need-returns-4 (aggregate-calls t) (aggregate-at t) aggregate.Post
 unfolding follow fields fieldsOf
-aggregate-returns-4 t c = let m1 = passed _ _ _ _ ((c .before .before .before .before .before .before .before .up-to) .ensures (boundOf ((c .before .before .before .before .before .before .before .before .before .before .args) .t .now))) ((c .before .before .before .before .before .before .before .before .before .before .pre) .1 .0 .most) ((c .before .before .before .before .before .before .before .before .before .before .pre) .1 .1) ((c .before .before .before .before .before .before .if1) .left) ((c .before .before .before .before .before .before .before .before .before .before .args) .at + 1) refl in let m2 = passed _ _ _ _ ((c .before .before .before .before .before .up-to2) .ensures (boundOf ((c .before .before .before .before .before .before .before .before .before .before .args) .t .now))) ((c .before .before .before .before .before .before .before .before .before .before .pre) .1 .0 .most) (m1 .there) ((c .before .before .before .before .if2) .left) ((c .before .before .before .before .before .before .before .before .before .before .args) .at + 2) (omega arith) in let m3 = passed _ _ _ _ ((c .before .before .before .up-to3) .ensures (boundOf ((c .before .before .before .before .before .before .before .before .before .before .args) .t .now))) ((c .before .before .before .before .before .before .before .before .before .before .pre) .1 .0 .most) (m2 .there) ((c .before .before .if3) .left) ((c .before .before .before .before .before .before .before .before .before .before .args) .at + 3) (omega arith) in let g = fault-large _ _ _ _ ((c .before .up-to4) .ensures (boundOf ((c .before .before .before .before .before .before .before .before .before .before .args) .t .now))) ((c .if4) .taken) in let q = fault-code _ _ _ _ ((c .before .up-to4) .ensures (boundOf ((c .before .before .before .before .before .before .before .before .before .before .args) .t .now))) ((c .if4) .taken) in refuses _ (then-code _ _ _ _ (next-code _ _ _ _ _ (m1 .same) (m1 .small) (next-code _ _ _ _ _ (m2 .same) (m2 .small) (next-code _ _ _ _ _ (m3 .same) (m3 .small) (last-code _ _ _ _ q)))) ((c .before .before .before .before .before .before .before .before .before .before .pre) .1 .0 .most) ((c .before .before .before .before .before .before .before .before .before .before .pre) .1 .1) g) g
+aggregate-returns-4 t c =
+    let at-up-to4 = c .before in let at-if3 = at-up-to4 .before in let at-up-to3 = at-if3 .before in let at-if2 = at-up-to3 .before in
+    let at-up-to2 = at-if2 .before in let at-if1 = at-up-to2 .before in let at-up-to = at-if1 .before in
+    let start-2 = at-up-to .before .before .before in
+    let m1 = passed _ _ _ _ (at-up-to .up-to .ensures (boundOf (start-2 .args .t .now))) (start-2 .pre .1 .0 .most) (start-2 .pre .1 .1) (at-if1 .if1 .left)
+    (start-2 .args .at + 1) refl in let m2 = passed _ _ _ _ (at-up-to2 .up-to2 .ensures (boundOf (start-2 .args .t .now))) (start-2 .pre .1 .0 .most) (m1 .there) (at-if2 .if2 .left)
+    (start-2 .args .at + 2) (omega arith) in let m3 = passed _ _ _ _ (at-up-to3 .up-to3 .ensures (boundOf (start-2 .args .t .now))) (start-2 .pre .1 .0 .most) (m2 .there)
+    (at-if3 .if3 .left) (start-2 .args .at + 3) (omega arith) in let g = fault-large _ _ _ _ (at-up-to4 .up-to4 .ensures (boundOf (start-2 .args .t .now)))
+    ((c .if4) .taken) in let q = fault-code _ _ _ _ (at-up-to4 .up-to4 .ensures (boundOf (start-2 .args .t .now))) ((c .if4) .taken) in refuses _
+    (then-code _ _ _ _ (next-code _ _ _ _ _ (m1 .same) (m1 .small) (next-code _ _ _ _ _ (m2 .same) (m2 .small) (next-code _ _ _ _ _ (m3 .same) (m3 .small) (last-code _ _ _ _ q))))
+    (start-2 .pre .1 .0 .most) (start-2 .pre .1 .1) g) g
 
 aggregate-cast-note : (t : ℕ) → aggregate-lts.Need-cast-note (aggregate-calls t) (aggregate-at t) aggregate.Post
 aggregate-cast-note t c = search needs
 
 aggregate-add-note : (t : ℕ) → aggregate-lts.Need-add-note (aggregate-calls t) (aggregate-at t) aggregate.Post
-aggregate-add-note t c = omega (arith, (c .before .before .before .before .before .before .before .before .before .before .before .pre) .1 .0 .most, (c .before .before .before .before .before .before .before .before .before .before .before .pre) .1 .1, (c .before .before .before .before .before .before .before .before .before .before .before .pre) .1 .2)
+aggregate-add-note t c =
+    let on-the-way = c .before .before .before .before .before .before in let start-2 = on-the-way .before .before .before .before .before in
+    omega (arith, (start-2 .pre) .1 .0 .most, (start-2 .pre) .1 .1, (start-2 .pre) .1 .2)
 
 aggregate-note-requires : (t : ℕ) → aggregate-lts.Need-note-requires (aggregate-calls t) (aggregate-at t) aggregate.Post
 aggregate-note-requires t c κs = search needs
@@ -464,67 +567,175 @@ aggregate-add-inner : (t : ℕ) → aggregate-lts.Need-add-inner (aggregate-call
 aggregate-add-inner t c = omega (arith, (c .before .before .note) .ensures .0)
 
 aggregate-add-flag : (t : ℕ) → aggregate-lts.Need-add-flag (aggregate-calls t) (aggregate-at t) aggregate.Post
-aggregate-add-flag t c = omega (arith, (c .before .before .before .before .before .before .before .before .before .before .before .before .before .before .pre) .1 .0 .most, (c .before .before .before .before .before .before .before .before .before .before .before .before .before .before .pre) .1 .1)
+aggregate-add-flag t c =
+    let on-the-way = c .before .before .before .before .before .before in
+    let on-the-way-2 = on-the-way .before .before .before .before .before .before in let start-2 = on-the-way-2 .before .before in
+    omega (arith, (start-2 .pre) .1 .0 .most, (start-2 .pre) .1 .1)
 
 aggregate-mul-flag : (t : ℕ) → aggregate-lts.Need-mul-flag (aggregate-calls t) (aggregate-at t) aggregate.Post
-aggregate-mul-flag t c = let f = fielded (boundOf ((c .before .before .before .before .before .before .before .before .before .before .before .before .before .before .args) .t .now)) _ _ ((c .before .before .before .before .before .before .before .before .before .before .before .before .before .before .pre) .1 .0 .most) ((c .before .before .before .before .before .before .before .before .before .before .before .before .before .before .pre) .1 .1) ((c .before .before .before .before .before .before .before .before .before .before .before .up-to) .ensures (boundOf ((c .before .before .before .before .before .before .before .before .before .before .before .before .before .before .args) .t .now))) ((c .before .before .before .before .before .before .before .before .before .before .if1) .left) ((c .before .before .before .before .before .before .before .before .before .up-to2) .ensures (boundOf ((c .before .before .before .before .before .before .before .before .before .before .before .before .before .before .args) .t .now))) ((c .before .before .before .before .before .before .before .before .if2) .left) ((c .before .before .before .before .before .before .before .up-to3) .ensures (boundOf ((c .before .before .before .before .before .before .before .before .before .before .before .before .before .before .args) .t .now))) ((c .before .before .before .before .before .before .if3) .left) ((c .before .before .before .before .before .up-to4) .ensures (boundOf ((c .before .before .before .before .before .before .before .before .before .before .before .before .before .before .args) .t .now))) ((c .before .before .before .before .if4) .left) in omega (arith, f .flag .there, (c .before .before .before .before .before .before .before .before .before .before .before .before .before .before .pre) .1 .0 .most)
+aggregate-mul-flag t c =
+    let at-if4 = c .before .before .before .before in let at-up-to4 = at-if4 .before in let at-if3 = at-up-to4 .before in
+    let at-up-to3 = at-if3 .before in let at-if2 = at-up-to3 .before in let at-up-to2 = at-if2 .before in let at-if1 = at-up-to2 .before in
+    let at-up-to = at-if1 .before in let start-2 = at-up-to .before .before .before in
+    let f = fielded (boundOf (start-2 .args .t .now)) _ _ (start-2 .pre .1 .0 .most) (start-2 .pre .1 .1) (at-up-to .up-to .ensures (boundOf (start-2 .args .t .now)))
+    (at-if1 .if1 .left) (at-up-to2 .up-to2 .ensures (boundOf (start-2 .args .t .now))) (at-if2 .if2 .left) (at-up-to3 .up-to3 .ensures (boundOf (start-2 .args .t .now)))
+    (at-if3 .if3 .left) (at-up-to4 .up-to4 .ensures (boundOf (start-2 .args .t .now))) (at-if4 .if4 .left) in omega (arith, f .flag .there, (start-2 .pre) .1 .0 .most)
 
 aggregate-shared-slice-read-flag : (t : ℕ) → aggregate-lts.Need-shared-slice-read-flag (aggregate-calls t) (aggregate-at t) aggregate.Post
-aggregate-shared-slice-read-flag t c = let f = fielded (boundOf ((c .before .before .before .before .before .before .before .before .before .before .before .before .before .before .before .args) .t .now)) _ _ ((c .before .before .before .before .before .before .before .before .before .before .before .before .before .before .before .pre) .1 .0 .most) ((c .before .before .before .before .before .before .before .before .before .before .before .before .before .before .before .pre) .1 .1) ((c .before .before .before .before .before .before .before .before .before .before .before .before .up-to) .ensures (boundOf ((c .before .before .before .before .before .before .before .before .before .before .before .before .before .before .before .args) .t .now))) ((c .before .before .before .before .before .before .before .before .before .before .before .if1) .left) ((c .before .before .before .before .before .before .before .before .before .before .up-to2) .ensures (boundOf ((c .before .before .before .before .before .before .before .before .before .before .before .before .before .before .before .args) .t .now))) ((c .before .before .before .before .before .before .before .before .before .if2) .left) ((c .before .before .before .before .before .before .before .before .up-to3) .ensures (boundOf ((c .before .before .before .before .before .before .before .before .before .before .before .before .before .before .before .args) .t .now))) ((c .before .before .before .before .before .before .before .if3) .left) ((c .before .before .before .before .before .before .up-to4) .ensures (boundOf ((c .before .before .before .before .before .before .before .before .before .before .before .before .before .before .before .args) .t .now))) ((c .before .before .before .before .before .if4) .left) in omega (arith, f .flag .there)
+aggregate-shared-slice-read-flag t c =
+    let at-if4 = c .before .before .before .before .before in let at-up-to4 = at-if4 .before in let at-if3 = at-up-to4 .before in
+    let at-up-to3 = at-if3 .before in let at-if2 = at-up-to3 .before in let at-up-to2 = at-if2 .before in let at-if1 = at-up-to2 .before in
+    let at-up-to = at-if1 .before in let start-2 = at-up-to .before .before .before in
+    let f = fielded (boundOf (start-2 .args .t .now)) _ _ (start-2 .pre .1 .0 .most) (start-2 .pre .1 .1) (at-up-to .up-to .ensures (boundOf (start-2 .args .t .now)))
+    (at-if1 .if1 .left) (at-up-to2 .up-to2 .ensures (boundOf (start-2 .args .t .now))) (at-if2 .if2 .left) (at-up-to3 .up-to3 .ensures (boundOf (start-2 .args .t .now)))
+    (at-if3 .if3 .left) (at-up-to4 .up-to4 .ensures (boundOf (start-2 .args .t .now))) (at-if4 .if4 .left) in omega (arith, f .flag .there)
 
 aggregate-add-compares : (t : ℕ) → aggregate-lts.Need-add-compares (aggregate-calls t) (aggregate-at t) aggregate.Post
-aggregate-add-compares t c = omega (arith, (c .before .before .before .before .before .before .before .before .before .before .before .before .before .before .before .before .pre) .1 .0 .most, (c .before .before .before .before .before .before .before .before .before .before .before .before .before .before .before .before .pre) .1 .1)
+aggregate-add-compares t c =
+    let on-the-way = c .before .before .before .before .before .before in
+    let on-the-way-2 = on-the-way .before .before .before .before .before .before in let start-2 = on-the-way-2 .before .before .before .before in
+    omega (arith, (start-2 .pre) .1 .0 .most, (start-2 .pre) .1 .1)
 
 aggregate-compares-requires : (t : ℕ) → aggregate-lts.Need-compares-requires (aggregate-calls t) (aggregate-at t) aggregate.Post
 aggregate-compares-requires t c κs = search needs
 
 aggregate-add-scalars : (t : ℕ) → aggregate-lts.Need-add-scalars (aggregate-calls t) (aggregate-at t) aggregate.Post
-aggregate-add-scalars t c = omega (arith, (c .before .before .before .before .before .before .before .before .before .before .before .before .before .before .before .before .before .before .pre) .1 .0 .most, (c .before .before .before .before .before .before .before .before .before .before .before .before .before .before .before .before .before .before .pre) .1 .1)
+aggregate-add-scalars t c =
+    let on-the-way = c .before .before .before .before .before .before in
+    let on-the-way-2 = on-the-way .before .before .before .before .before .before in
+    let start-2 = on-the-way-2 .before .before .before .before .before .before in
+    omega (arith, (start-2 .pre) .1 .0 .most, (start-2 .pre) .1 .1)
 
 aggregate-sub-scalars : (t : ℕ) → aggregate-lts.Need-sub-scalars (aggregate-calls t) (aggregate-at t) aggregate.Post
 aggregate-sub-scalars t c = omega (arith, (c .before .compares) .ensures ((c .if6) .taken) .level)
 
 aggregate-scalars-requires : (t : ℕ) → aggregate-lts.Need-scalars-requires (aggregate-calls t) (aggregate-at t) aggregate.Post
-aggregate-scalars-requires t c κs = let p = (c .before .before .compares) .ensures ((c .before .if6) .taken) in (omega (arith, p .level, (c .before .before .before .before .before .before .before .before .before .before .before .before .before .before .before .before .before .before .before .pre) .0), ((c .before .before .before .before .before .before .before .before .before .before .before .before .before .before .before .before .before .before .before .pre) .1 .0, omega (arith, p .inside), based-inside _ ((c .before .before .before .before .before .before .before .before .before .before .before .before .before .before .before .before .before .before .before .pre) .1 .2) ((c .before .before .before .before .before .before .before .before .before .before .before .before .before .before .before .before .before .before .before .args) .notes .now) ((c .before .before .before .before .before .before .before .note) .ensures .0)))
+aggregate-scalars-requires t c κs =
+    let at-if6 = c .before in let at-compares = at-if6 .before in let at-note = at-compares .before .before .before .before .before in
+    let on-the-way = at-note .before .before .before .before .before .before in
+    let start-2 = on-the-way .before .before .before .before .before .before in
+    let p = (at-compares .compares) .ensures (at-if6 .if6 .taken) in
+    (omega (arith, p .level, (start-2 .pre) .0), (start-2 .pre .1 .0, omega (arith, p .inside), based-inside _ (start-2 .pre .1 .2) (start-2 .args .notes .now) (at-note .note .ensures .0)))
 
 aggregate-same-length : (t : ℕ) → aggregate-lts.Need-same-length (aggregate-calls t) (aggregate-at t) aggregate.Post
 aggregate-same-length t c = search needs
 
 aggregate-returns-5 : (t : ℕ) → aggregate-lts.Need-returns-5 (aggregate-calls t) (aggregate-at t) aggregate.Post
-aggregate-returns-5 t c = let f = fielded (boundOf ((c .before .before .before .before .before .before .before .before .before .before .before .before .before .before .before .before .before .before .before .before .before .before .args) .t .now)) _ _ ((c .before .before .before .before .before .before .before .before .before .before .before .before .before .before .before .before .before .before .before .before .before .before .pre) .1 .0 .most) ((c .before .before .before .before .before .before .before .before .before .before .before .before .before .before .before .before .before .before .before .before .before .before .pre) .1 .1) ((c .before .before .before .before .before .before .before .before .before .before .before .before .before .before .before .before .before .before .before .up-to) .ensures (boundOf ((c .before .before .before .before .before .before .before .before .before .before .before .before .before .before .before .before .before .before .before .before .before .before .args) .t .now))) ((c .before .before .before .before .before .before .before .before .before .before .before .before .before .before .before .before .before .before .if1) .left) ((c .before .before .before .before .before .before .before .before .before .before .before .before .before .before .before .before .before .up-to2) .ensures (boundOf ((c .before .before .before .before .before .before .before .before .before .before .before .before .before .before .before .before .before .before .before .before .before .before .args) .t .now))) ((c .before .before .before .before .before .before .before .before .before .before .before .before .before .before .before .before .if2) .left) ((c .before .before .before .before .before .before .before .before .before .before .before .before .before .before .before .up-to3) .ensures (boundOf ((c .before .before .before .before .before .before .before .before .before .before .before .before .before .before .before .before .before .before .before .before .before .before .args) .t .now))) ((c .before .before .before .before .before .before .before .before .before .before .before .before .before .before .if3) .left) ((c .before .before .before .before .before .before .before .before .before .before .before .before .before .up-to4) .ensures (boundOf ((c .before .before .before .before .before .before .before .before .before .before .before .before .before .before .before .before .before .before .before .before .before .before .args) .t .now))) ((c .before .before .before .before .before .before .before .before .before .before .before .before .if4) .left) in where-rows _ _ ((c .before .before .before .before .before .before .before .before .before .before .before .before .before .before .before .before .before .before .before .before .before .before .args) .context) _ _ f (ap (λ (i : ℕ). i + (c .before .before .before .before .before .before .before .before .before .before .before .before .before .before .before .before .before .before .before .before .before .before .args) .context % 8192) ((c .before .before .before .before .before .before .before .before .before .before .note) .ensures .0)) ((c .before .before .before .before .before .before .before .before .before .before .note) .ensures .1) (compared-rows _ _ _ _ _ ((c .before .before .before .before .before .before .before .before .before .before .before .before .before .before .before .before .before .before .before .before .before .before .pre) .1 .0 .most) ((c .before .before .before .before .before .compares) .ensures ((c .before .before .before .before .if6) .taken)) ((c .before .before .before .before .before .before .if5) .taken) _ (omega arith) ((c .before .before .scalars) .ensures))
+aggregate-returns-5 t c =
+    let at-scalars = c .before .before in let at-if6 = at-scalars .before .before in let at-compares = at-if6 .before in
+    let at-if5 = at-compares .before in let at-note = at-if5 .before .before .before .before in let at-if4 = at-note .before .before in
+    let at-up-to4 = at-if4 .before in let at-if3 = at-up-to4 .before in let at-up-to3 = at-if3 .before in let at-if2 = at-up-to3 .before in
+    let at-up-to2 = at-if2 .before in let at-if1 = at-up-to2 .before in let at-up-to = at-if1 .before in
+    let start-2 = at-up-to .before .before .before in
+    let f = fielded (boundOf (start-2 .args .t .now)) _ _ (start-2 .pre .1 .0 .most) (start-2 .pre .1 .1) (at-up-to .up-to .ensures (boundOf (start-2 .args .t .now)))
+    (at-if1 .if1 .left) (at-up-to2 .up-to2 .ensures (boundOf (start-2 .args .t .now))) (at-if2 .if2 .left) (at-up-to3 .up-to3 .ensures (boundOf (start-2 .args .t .now)))
+    (at-if3 .if3 .left) (at-up-to4 .up-to4 .ensures (boundOf (start-2 .args .t .now))) (at-if4 .if4 .left) in where-rows _ _ (start-2 .args .context) _ _ f
+    (ap (λ (i : ℕ). i + (start-2 .args) .context % 8192) (at-note .note .ensures .0)) (at-note .note .ensures .1)
+    (compared-rows _ _ _ _ _ (start-2 .pre .1 .0 .most) (at-compares .compares .ensures (at-if6 .if6 .taken)) (at-if5 .if5 .taken) _ (omega arith) (at-scalars .scalars .ensures))
 
 aggregate-add-root : (t : ℕ) → aggregate-lts.Need-add-root (aggregate-calls t) (aggregate-at t) aggregate.Post
-aggregate-add-root t c = omega (arith, (c .before .before .before .before .before .before .before .before .before .before .before .before .before .before .before .before .pre) .1 .0 .most, (c .before .before .before .before .before .before .before .before .before .before .before .before .before .before .before .before .pre) .1 .1)
+aggregate-add-root t c =
+    let on-the-way = c .before .before .before .before .before .before in
+    let on-the-way-2 = on-the-way .before .before .before .before .before .before in let start-2 = on-the-way-2 .before .before .before .before in
+    omega (arith, (start-2 .pre) .1 .0 .most, (start-2 .pre) .1 .1)
 
 aggregate-mul-judgments : (t : ℕ) → aggregate-lts.Need-mul-judgments (aggregate-calls t) (aggregate-at t) aggregate.Post
-aggregate-mul-judgments t c = let f = fielded (boundOf ((c .before .before .before .before .before .before .before .before .before .before .before .before .before .before .before .before .args) .t .now)) _ _ ((c .before .before .before .before .before .before .before .before .before .before .before .before .before .before .before .before .pre) .1 .0 .most) ((c .before .before .before .before .before .before .before .before .before .before .before .before .before .before .before .before .pre) .1 .1) ((c .before .before .before .before .before .before .before .before .before .before .before .before .before .up-to) .ensures (boundOf ((c .before .before .before .before .before .before .before .before .before .before .before .before .before .before .before .before .args) .t .now))) ((c .before .before .before .before .before .before .before .before .before .before .before .before .if1) .left) ((c .before .before .before .before .before .before .before .before .before .before .before .up-to2) .ensures (boundOf ((c .before .before .before .before .before .before .before .before .before .before .before .before .before .before .before .before .args) .t .now))) ((c .before .before .before .before .before .before .before .before .before .before .if2) .left) ((c .before .before .before .before .before .before .before .before .before .up-to3) .ensures (boundOf ((c .before .before .before .before .before .before .before .before .before .before .before .before .before .before .before .before .args) .t .now))) ((c .before .before .before .before .before .before .before .before .if3) .left) ((c .before .before .before .before .before .before .before .up-to4) .ensures (boundOf ((c .before .before .before .before .before .before .before .before .before .before .before .before .before .before .before .before .args) .t .now))) ((c .before .before .before .before .before .before .if4) .left) in omega (arith, f .flag .there, (c .before .before .before .before .before .before .before .before .before .before .before .before .before .before .before .before .pre) .1 .0 .most)
+aggregate-mul-judgments t c =
+    let at-if4 = c .before .before .before .before .before .before in let at-up-to4 = at-if4 .before in let at-if3 = at-up-to4 .before in
+    let at-up-to3 = at-if3 .before in let at-if2 = at-up-to3 .before in let at-up-to2 = at-if2 .before in let at-if1 = at-up-to2 .before in
+    let at-up-to = at-if1 .before in let start-2 = at-up-to .before .before .before in
+    let f = fielded (boundOf (start-2 .args .t .now)) _ _ (start-2 .pre .1 .0 .most) (start-2 .pre .1 .1) (at-up-to .up-to .ensures (boundOf (start-2 .args .t .now)))
+    (at-if1 .if1 .left) (at-up-to2 .up-to2 .ensures (boundOf (start-2 .args .t .now))) (at-if2 .if2 .left) (at-up-to3 .up-to3 .ensures (boundOf (start-2 .args .t .now)))
+    (at-if3 .if3 .left) (at-up-to4 .up-to4 .ensures (boundOf (start-2 .args .t .now))) (at-if4 .if4 .left) in omega (arith, f .flag .there, (start-2 .pre) .1 .0 .most)
 
 aggregate-sub-judgments : (t : ℕ) → aggregate-lts.Need-sub-judgments (aggregate-calls t) (aggregate-at t) aggregate.Post
-aggregate-sub-judgments t c = let f = fielded (boundOf ((c .before .before .before .before .before .before .before .before .before .before .before .before .before .before .before .before .args) .t .now)) _ _ ((c .before .before .before .before .before .before .before .before .before .before .before .before .before .before .before .before .pre) .1 .0 .most) ((c .before .before .before .before .before .before .before .before .before .before .before .before .before .before .before .before .pre) .1 .1) ((c .before .before .before .before .before .before .before .before .before .before .before .before .before .up-to) .ensures (boundOf ((c .before .before .before .before .before .before .before .before .before .before .before .before .before .before .before .before .args) .t .now))) ((c .before .before .before .before .before .before .before .before .before .before .before .before .if1) .left) ((c .before .before .before .before .before .before .before .before .before .before .before .up-to2) .ensures (boundOf ((c .before .before .before .before .before .before .before .before .before .before .before .before .before .before .before .before .args) .t .now))) ((c .before .before .before .before .before .before .before .before .before .before .if2) .left) ((c .before .before .before .before .before .before .before .before .before .up-to3) .ensures (boundOf ((c .before .before .before .before .before .before .before .before .before .before .before .before .before .before .before .before .args) .t .now))) ((c .before .before .before .before .before .before .before .before .if3) .left) ((c .before .before .before .before .before .before .before .up-to4) .ensures (boundOf ((c .before .before .before .before .before .before .before .before .before .before .before .before .before .before .before .before .args) .t .now))) ((c .before .before .before .before .before .before .if4) .left) in omega (arith, f .flag .there, (c .before .before .before .before .before .before .before .before .before .before .before .before .before .before .before .before .pre) .1 .0 .most)
+aggregate-sub-judgments t c =
+    let at-if4 = c .before .before .before .before .before .before in let at-up-to4 = at-if4 .before in let at-if3 = at-up-to4 .before in
+    let at-up-to3 = at-if3 .before in let at-if2 = at-up-to3 .before in let at-up-to2 = at-if2 .before in let at-if1 = at-up-to2 .before in
+    let at-up-to = at-if1 .before in let start-2 = at-up-to .before .before .before in
+    let f = fielded (boundOf (start-2 .args .t .now)) _ _ (start-2 .pre .1 .0 .most) (start-2 .pre .1 .1) (at-up-to .up-to .ensures (boundOf (start-2 .args .t .now)))
+    (at-if1 .if1 .left) (at-up-to2 .up-to2 .ensures (boundOf (start-2 .args .t .now))) (at-if2 .if2 .left) (at-up-to3 .up-to3 .ensures (boundOf (start-2 .args .t .now)))
+    (at-if3 .if3 .left) (at-up-to4 .up-to4 .ensures (boundOf (start-2 .args .t .now))) (at-if4 .if4 .left) in omega (arith, f .flag .there, (start-2 .pre) .1 .0 .most)
 
 aggregate-part-judgments-start : (t : ℕ) → aggregate-lts.Need-part-judgments-start (aggregate-calls t) (aggregate-at t) aggregate.Post
-aggregate-part-judgments-start t c = let f = fielded (boundOf ((c .before .before .before .before .before .before .before .before .before .before .before .before .before .before .before .before .args) .t .now)) _ _ ((c .before .before .before .before .before .before .before .before .before .before .before .before .before .before .before .before .pre) .1 .0 .most) ((c .before .before .before .before .before .before .before .before .before .before .before .before .before .before .before .before .pre) .1 .1) ((c .before .before .before .before .before .before .before .before .before .before .before .before .before .up-to) .ensures (boundOf ((c .before .before .before .before .before .before .before .before .before .before .before .before .before .before .before .before .args) .t .now))) ((c .before .before .before .before .before .before .before .before .before .before .before .before .if1) .left) ((c .before .before .before .before .before .before .before .before .before .before .before .up-to2) .ensures (boundOf ((c .before .before .before .before .before .before .before .before .before .before .before .before .before .before .before .before .args) .t .now))) ((c .before .before .before .before .before .before .before .before .before .before .if2) .left) ((c .before .before .before .before .before .before .before .before .before .up-to3) .ensures (boundOf ((c .before .before .before .before .before .before .before .before .before .before .before .before .before .before .before .before .args) .t .now))) ((c .before .before .before .before .before .before .before .before .if3) .left) ((c .before .before .before .before .before .before .before .up-to4) .ensures (boundOf ((c .before .before .before .before .before .before .before .before .before .before .before .before .before .before .before .before .args) .t .now))) ((c .before .before .before .before .before .before .if4) .left) in omega (arith, f .flag .there, (c .before .before .before .before .before .before .before .before .before .before .before .before .before .before .before .before .pre) .1 .0 .most)
+aggregate-part-judgments-start t c =
+    let at-if4 = c .before .before .before .before .before .before in let at-up-to4 = at-if4 .before in let at-if3 = at-up-to4 .before in
+    let at-up-to3 = at-if3 .before in let at-if2 = at-up-to3 .before in let at-up-to2 = at-if2 .before in let at-if1 = at-up-to2 .before in
+    let at-up-to = at-if1 .before in let start-2 = at-up-to .before .before .before in
+    let f = fielded (boundOf (start-2 .args .t .now)) _ _ (start-2 .pre .1 .0 .most) (start-2 .pre .1 .1) (at-up-to .up-to .ensures (boundOf (start-2 .args .t .now)))
+    (at-if1 .if1 .left) (at-up-to2 .up-to2 .ensures (boundOf (start-2 .args .t .now))) (at-if2 .if2 .left) (at-up-to3 .up-to3 .ensures (boundOf (start-2 .args .t .now)))
+    (at-if3 .if3 .left) (at-up-to4 .up-to4 .ensures (boundOf (start-2 .args .t .now))) (at-if4 .if4 .left) in omega (arith, f .flag .there, (start-2 .pre) .1 .0 .most)
 
 aggregate-part-judgments-end : (t : ℕ) → aggregate-lts.Need-part-judgments-end (aggregate-calls t) (aggregate-at t) aggregate.Post
-aggregate-part-judgments-end t c = let f = fielded (boundOf ((c .before .before .before .before .before .before .before .before .before .before .before .before .before .before .before .before .args) .t .now)) _ _ ((c .before .before .before .before .before .before .before .before .before .before .before .before .before .before .before .before .pre) .1 .0 .most) ((c .before .before .before .before .before .before .before .before .before .before .before .before .before .before .before .before .pre) .1 .1) ((c .before .before .before .before .before .before .before .before .before .before .before .before .before .up-to) .ensures (boundOf ((c .before .before .before .before .before .before .before .before .before .before .before .before .before .before .before .before .args) .t .now))) ((c .before .before .before .before .before .before .before .before .before .before .before .before .if1) .left) ((c .before .before .before .before .before .before .before .before .before .before .before .up-to2) .ensures (boundOf ((c .before .before .before .before .before .before .before .before .before .before .before .before .before .before .before .before .args) .t .now))) ((c .before .before .before .before .before .before .before .before .before .before .if2) .left) ((c .before .before .before .before .before .before .before .before .before .up-to3) .ensures (boundOf ((c .before .before .before .before .before .before .before .before .before .before .before .before .before .before .before .before .args) .t .now))) ((c .before .before .before .before .before .before .before .before .if3) .left) ((c .before .before .before .before .before .before .before .up-to4) .ensures (boundOf ((c .before .before .before .before .before .before .before .before .before .before .before .before .before .before .before .before .args) .t .now))) ((c .before .before .before .before .before .before .if4) .left) in omega (arith, f .flag .there, (c .before .before .before .before .before .before .before .before .before .before .before .before .before .before .before .before .pre) .1 .0 .most)
+aggregate-part-judgments-end t c =
+    let at-if4 = c .before .before .before .before .before .before in let at-up-to4 = at-if4 .before in let at-if3 = at-up-to4 .before in
+    let at-up-to3 = at-if3 .before in let at-if2 = at-up-to3 .before in let at-up-to2 = at-if2 .before in let at-if1 = at-up-to2 .before in
+    let at-up-to = at-if1 .before in let start-2 = at-up-to .before .before .before in
+    let f = fielded (boundOf (start-2 .args .t .now)) _ _ (start-2 .pre .1 .0 .most) (start-2 .pre .1 .1) (at-up-to .up-to .ensures (boundOf (start-2 .args .t .now)))
+    (at-if1 .if1 .left) (at-up-to2 .up-to2 .ensures (boundOf (start-2 .args .t .now))) (at-if2 .if2 .left) (at-up-to3 .up-to3 .ensures (boundOf (start-2 .args .t .now)))
+    (at-if3 .if3 .left) (at-up-to4 .up-to4 .ensures (boundOf (start-2 .args .t .now))) (at-if4 .if4 .left) in omega (arith, f .flag .there, (start-2 .pre) .1 .0 .most)
 
 aggregate-cast-judgments : (t : ℕ) → aggregate-lts.Need-cast-judgments (aggregate-calls t) (aggregate-at t) aggregate.Post
-aggregate-cast-judgments t c = let f = fielded (boundOf ((c .before .before .before .before .before .before .before .before .before .before .before .before .before .before .before .before .before .args) .t .now)) _ _ ((c .before .before .before .before .before .before .before .before .before .before .before .before .before .before .before .before .before .pre) .1 .0 .most) ((c .before .before .before .before .before .before .before .before .before .before .before .before .before .before .before .before .before .pre) .1 .1) ((c .before .before .before .before .before .before .before .before .before .before .before .before .before .before .up-to) .ensures (boundOf ((c .before .before .before .before .before .before .before .before .before .before .before .before .before .before .before .before .before .args) .t .now))) ((c .before .before .before .before .before .before .before .before .before .before .before .before .before .if1) .left) ((c .before .before .before .before .before .before .before .before .before .before .before .before .up-to2) .ensures (boundOf ((c .before .before .before .before .before .before .before .before .before .before .before .before .before .before .before .before .before .args) .t .now))) ((c .before .before .before .before .before .before .before .before .before .before .before .if2) .left) ((c .before .before .before .before .before .before .before .before .before .before .up-to3) .ensures (boundOf ((c .before .before .before .before .before .before .before .before .before .before .before .before .before .before .before .before .before .args) .t .now))) ((c .before .before .before .before .before .before .before .before .before .if3) .left) ((c .before .before .before .before .before .before .before .before .up-to4) .ensures (boundOf ((c .before .before .before .before .before .before .before .before .before .before .before .before .before .before .before .before .before .args) .t .now))) ((c .before .before .before .before .before .before .before .if4) .left) in omega (arith, f .flag .there, (c .before .before .before .before .before .before .before .before .before .before .before .before .before .before .before .before .before .pre) .1 .0 .most)
+aggregate-cast-judgments t c =
+    let on-the-way = c .before .before .before .before .before .before in let at-if4 = on-the-way .before in let at-up-to4 = at-if4 .before in
+    let at-if3 = at-up-to4 .before in let at-up-to3 = at-if3 .before in let at-if2 = at-up-to3 .before in let at-up-to2 = at-if2 .before in
+    let at-if1 = at-up-to2 .before in let at-up-to = at-if1 .before in let start-2 = at-up-to .before .before .before in
+    let f = fielded (boundOf (start-2 .args .t .now)) _ _ (start-2 .pre .1 .0 .most) (start-2 .pre .1 .1) (at-up-to .up-to .ensures (boundOf (start-2 .args .t .now)))
+    (at-if1 .if1 .left) (at-up-to2 .up-to2 .ensures (boundOf (start-2 .args .t .now))) (at-if2 .if2 .left) (at-up-to3 .up-to3 .ensures (boundOf (start-2 .args .t .now)))
+    (at-if3 .if3 .left) (at-up-to4 .up-to4 .ensures (boundOf (start-2 .args .t .now))) (at-if4 .if4 .left) in omega (arith, f .flag .there, (start-2 .pre) .1 .0 .most)
 
 aggregate-add-judgments : (t : ℕ) → aggregate-lts.Need-add-judgments (aggregate-calls t) (aggregate-at t) aggregate.Post
-aggregate-add-judgments t c = let f = fielded (boundOf ((c .before .before .before .before .before .before .before .before .before .before .before .before .before .before .before .before .before .args) .t .now)) _ _ ((c .before .before .before .before .before .before .before .before .before .before .before .before .before .before .before .before .before .pre) .1 .0 .most) ((c .before .before .before .before .before .before .before .before .before .before .before .before .before .before .before .before .before .pre) .1 .1) ((c .before .before .before .before .before .before .before .before .before .before .before .before .before .before .up-to) .ensures (boundOf ((c .before .before .before .before .before .before .before .before .before .before .before .before .before .before .before .before .before .args) .t .now))) ((c .before .before .before .before .before .before .before .before .before .before .before .before .before .if1) .left) ((c .before .before .before .before .before .before .before .before .before .before .before .before .up-to2) .ensures (boundOf ((c .before .before .before .before .before .before .before .before .before .before .before .before .before .before .before .before .before .args) .t .now))) ((c .before .before .before .before .before .before .before .before .before .before .before .if2) .left) ((c .before .before .before .before .before .before .before .before .before .before .up-to3) .ensures (boundOf ((c .before .before .before .before .before .before .before .before .before .before .before .before .before .before .before .before .before .args) .t .now))) ((c .before .before .before .before .before .before .before .before .before .if3) .left) ((c .before .before .before .before .before .before .before .before .up-to4) .ensures (boundOf ((c .before .before .before .before .before .before .before .before .before .before .before .before .before .before .before .before .before .args) .t .now))) ((c .before .before .before .before .before .before .before .if4) .left) in omega (arith, f .flag .there, (c .before .before .before .before .before .before .before .before .before .before .before .before .before .before .before .before .before .pre) .1 .0 .most, (c .before .before .before .before .before .note) .ensures .0)
+aggregate-add-judgments t c =
+    let at-note = c .before .before .before .before .before in let at-if4 = at-note .before .before in let at-up-to4 = at-if4 .before in
+    let at-if3 = at-up-to4 .before in let at-up-to3 = at-if3 .before in let at-if2 = at-up-to3 .before in let at-up-to2 = at-if2 .before in
+    let at-if1 = at-up-to2 .before in let at-up-to = at-if1 .before in let start-2 = at-up-to .before .before .before in
+    let f = fielded (boundOf (start-2 .args .t .now)) _ _ (start-2 .pre .1 .0 .most) (start-2 .pre .1 .1) (at-up-to .up-to .ensures (boundOf (start-2 .args .t .now)))
+    (at-if1 .if1 .left) (at-up-to2 .up-to2 .ensures (boundOf (start-2 .args .t .now))) (at-if2 .if2 .left) (at-up-to3 .up-to3 .ensures (boundOf (start-2 .args .t .now)))
+    (at-if3 .if3 .left) (at-up-to4 .up-to4 .ensures (boundOf (start-2 .args .t .now))) (at-if4 .if4 .left) in omega
+    (arith, f .flag .there, (start-2 .pre) .1 .0 .most, (at-note .note) .ensures .0)
 
 aggregate-judgments-requires : (t : ℕ) → aggregate-lts.Need-judgments-requires (aggregate-calls t) (aggregate-at t) aggregate.Post
-aggregate-judgments-requires t c κs = let f = fielded (boundOf ((c .before .before .before .before .before .before .before .before .before .before .before .before .before .before .before .before .before .before .args) .t .now)) _ _ ((c .before .before .before .before .before .before .before .before .before .before .before .before .before .before .before .before .before .before .pre) .1 .0 .most) ((c .before .before .before .before .before .before .before .before .before .before .before .before .before .before .before .before .before .before .pre) .1 .1) ((c .before .before .before .before .before .before .before .before .before .before .before .before .before .before .before .up-to) .ensures (boundOf ((c .before .before .before .before .before .before .before .before .before .before .before .before .before .before .before .before .before .before .args) .t .now))) ((c .before .before .before .before .before .before .before .before .before .before .before .before .before .before .if1) .left) ((c .before .before .before .before .before .before .before .before .before .before .before .before .before .up-to2) .ensures (boundOf ((c .before .before .before .before .before .before .before .before .before .before .before .before .before .before .before .before .before .before .args) .t .now))) ((c .before .before .before .before .before .before .before .before .before .before .before .before .if2) .left) ((c .before .before .before .before .before .before .before .before .before .before .before .up-to3) .ensures (boundOf ((c .before .before .before .before .before .before .before .before .before .before .before .before .before .before .before .before .before .before .args) .t .now))) ((c .before .before .before .before .before .before .before .before .before .before .if3) .left) ((c .before .before .before .before .before .before .before .before .before .up-to4) .ensures (boundOf ((c .before .before .before .before .before .before .before .before .before .before .before .before .before .before .before .before .before .before .args) .t .now))) ((c .before .before .before .before .before .before .before .before .if4) .left) in let l = part-long ((c .before .before .before .before .before .before .before .before .before .before .before .before .before .before .before .before .before .before .args) .s .now) ((c .before .before .before .before .before .before .before .before .before .before .before .before .before .before .before .before .before .before .args) .at + 4) (f .flag .there) in (omega arith, (ready-part _ ((c .before .before .before .before .before .before .before .before .before .before .before .before .before .before .before .before .before .before .pre) .1 .0) l, omega arith, based-part _ _ l ((c .before .before .before .before .before .before .before .before .before .before .before .before .before .before .before .before .before .before .pre) .1 .2) ((c .before .before .before .before .before .before .before .before .before .before .before .before .before .before .before .before .before .before .args) .notes .now) ((c .before .before .before .before .before .before .note) .ensures .0)))
+aggregate-judgments-requires t c κs =
+    let at-note = c .before .before .before .before .before .before in let at-if4 = at-note .before .before in let at-up-to4 = at-if4 .before in
+    let at-if3 = at-up-to4 .before in let at-up-to3 = at-if3 .before in let at-if2 = at-up-to3 .before in let at-up-to2 = at-if2 .before in
+    let at-if1 = at-up-to2 .before in let at-up-to = at-if1 .before in let start-2 = at-up-to .before .before .before in
+    let f = fielded (boundOf (start-2 .args .t .now)) _ _ (start-2 .pre .1 .0 .most) (start-2 .pre .1 .1) (at-up-to .up-to .ensures (boundOf (start-2 .args .t .now)))
+    (at-if1 .if1 .left) (at-up-to2 .up-to2 .ensures (boundOf (start-2 .args .t .now))) (at-if2 .if2 .left) (at-up-to3 .up-to3 .ensures (boundOf (start-2 .args .t .now)))
+    (at-if3 .if3 .left) (at-up-to4 .up-to4 .ensures (boundOf (start-2 .args .t .now))) (at-if4 .if4 .left) in let l = part-long (start-2 .args .s .now) (start-2 .args .at + 4)
+    (f .flag .there) in (omega arith, (ready-part _ (start-2 .pre .1 .0) l, omega arith, based-part _ _ l (start-2 .pre .1 .2) (start-2 .args .notes .now) (at-note .note .ensures .0)))
 
 aggregate-add-result : (t : ℕ) → aggregate-lts.Need-add-result (aggregate-calls t) (aggregate-at t) aggregate.Post
-aggregate-add-result t c = let f = fielded (boundOf ((c .before .before .before .before .before .before .before .before .before .before .before .before .before .before .before .before .before .before .before .before .before .args) .t .now)) _ _ ((c .before .before .before .before .before .before .before .before .before .before .before .before .before .before .before .before .before .before .before .before .before .pre) .1 .0 .most) ((c .before .before .before .before .before .before .before .before .before .before .before .before .before .before .before .before .before .before .before .before .before .pre) .1 .1) ((c .before .before .before .before .before .before .before .before .before .before .before .before .before .before .before .before .before .before .up-to) .ensures (boundOf ((c .before .before .before .before .before .before .before .before .before .before .before .before .before .before .before .before .before .before .before .before .before .args) .t .now))) ((c .before .before .before .before .before .before .before .before .before .before .before .before .before .before .before .before .before .if1) .left) ((c .before .before .before .before .before .before .before .before .before .before .before .before .before .before .before .before .up-to2) .ensures (boundOf ((c .before .before .before .before .before .before .before .before .before .before .before .before .before .before .before .before .before .before .before .before .before .args) .t .now))) ((c .before .before .before .before .before .before .before .before .before .before .before .before .before .before .before .if2) .left) ((c .before .before .before .before .before .before .before .before .before .before .before .before .before .before .up-to3) .ensures (boundOf ((c .before .before .before .before .before .before .before .before .before .before .before .before .before .before .before .before .before .before .before .before .before .args) .t .now))) ((c .before .before .before .before .before .before .before .before .before .before .before .before .before .if3) .left) ((c .before .before .before .before .before .before .before .before .before .before .before .before .up-to4) .ensures (boundOf ((c .before .before .before .before .before .before .before .before .before .before .before .before .before .before .before .before .before .before .before .before .before .args) .t .now))) ((c .before .before .before .before .before .before .before .before .before .before .before .if4) .left) in let l = part-long ((c .before .before .before .before .before .before .before .before .before .before .before .before .before .before .before .before .before .before .before .before .before .args) .s .now) ((c .before .before .before .before .before .before .before .before .before .before .before .before .before .before .before .before .before .before .before .before .before .args) .at + 4) (f .flag .there) in omega (arith, row-small _ _ _ _ _ (omega (arith, l, (c .before .before .before .before .before .before .before .before .before .before .before .before .before .before .before .before .before .before .before .before .before .pre) .1 .0 .most)) (omega arith) ((c .before .before .judgments) .ensures .answers), f .flag .there, (c .before .before .before .before .before .before .before .before .before .before .before .before .before .before .before .before .before .before .before .before .before .pre) .1 .0 .most)
+aggregate-add-result t c =
+    let at-judgments = c .before .before in let on-the-way = at-judgments .before .before .before .before .before .before in
+    let at-if4 = on-the-way .before .before .before in let at-up-to4 = at-if4 .before in let at-if3 = at-up-to4 .before in
+    let at-up-to3 = at-if3 .before in let at-if2 = at-up-to3 .before in let at-up-to2 = at-if2 .before in let at-if1 = at-up-to2 .before in
+    let at-up-to = at-if1 .before in let start-2 = at-up-to .before .before .before in
+    let f = fielded (boundOf (start-2 .args .t .now)) _ _ (start-2 .pre .1 .0 .most) (start-2 .pre .1 .1) (at-up-to .up-to .ensures (boundOf (start-2 .args .t .now)))
+    (at-if1 .if1 .left) (at-up-to2 .up-to2 .ensures (boundOf (start-2 .args .t .now))) (at-if2 .if2 .left) (at-up-to3 .up-to3 .ensures (boundOf (start-2 .args .t .now)))
+    (at-if3 .if3 .left) (at-up-to4 .up-to4 .ensures (boundOf (start-2 .args .t .now))) (at-if4 .if4 .left) in let l = part-long (start-2 .args .s .now) (start-2 .args .at + 4)
+    (f .flag .there) in omega (
+      arith,
+      row-small _ _ _ _ _ (omega (arith, l, (start-2 .pre) .1 .0 .most)) (omega arith) (at-judgments .judgments .ensures .answers),
+      f .flag .there,
+      (start-2 .pre) .1 .0 .most,
+    )
 
 aggregate-same-length-2 : (t : ℕ) → aggregate-lts.Need-same-length-2 (aggregate-calls t) (aggregate-at t) aggregate.Post
 aggregate-same-length-2 t c = search needs
 
 aggregate-returns-6 : (t : ℕ) → aggregate-lts.Need-returns-6 (aggregate-calls t) (aggregate-at t) aggregate.Post
-aggregate-returns-6 t c = let f = fielded (boundOf ((c .before .before .before .before .before .before .before .before .before .before .before .before .before .before .before .before .before .before .before .before .before .args) .t .now)) _ _ ((c .before .before .before .before .before .before .before .before .before .before .before .before .before .before .before .before .before .before .before .before .before .pre) .1 .0 .most) ((c .before .before .before .before .before .before .before .before .before .before .before .before .before .before .before .before .before .before .before .before .before .pre) .1 .1) ((c .before .before .before .before .before .before .before .before .before .before .before .before .before .before .before .before .before .before .up-to) .ensures (boundOf ((c .before .before .before .before .before .before .before .before .before .before .before .before .before .before .before .before .before .before .before .before .before .args) .t .now))) ((c .before .before .before .before .before .before .before .before .before .before .before .before .before .before .before .before .before .if1) .left) ((c .before .before .before .before .before .before .before .before .before .before .before .before .before .before .before .before .up-to2) .ensures (boundOf ((c .before .before .before .before .before .before .before .before .before .before .before .before .before .before .before .before .before .before .before .before .before .args) .t .now))) ((c .before .before .before .before .before .before .before .before .before .before .before .before .before .before .before .if2) .left) ((c .before .before .before .before .before .before .before .before .before .before .before .before .before .before .up-to3) .ensures (boundOf ((c .before .before .before .before .before .before .before .before .before .before .before .before .before .before .before .before .before .before .before .before .before .args) .t .now))) ((c .before .before .before .before .before .before .before .before .before .before .before .before .before .if3) .left) ((c .before .before .before .before .before .before .before .before .before .before .before .before .up-to4) .ensures (boundOf ((c .before .before .before .before .before .before .before .before .before .before .before .before .before .before .before .before .before .before .before .before .before .args) .t .now))) ((c .before .before .before .before .before .before .before .before .before .before .before .if4) .left) in let i = ap (λ (i : ℕ). i + (c .before .before .before .before .before .before .before .before .before .before .before .before .before .before .before .before .before .before .before .before .before .args) .context % 8192) ((c .before .before .before .before .before .before .before .before .before .note) .ensures .0) in let g = based-inside _ ((c .before .before .before .before .before .before .before .before .before .before .before .before .before .before .before .before .before .before .before .before .before .pre) .1 .2) ((c .before .before .before .before .before .before .before .before .before .before .before .before .before .before .before .before .before .before .before .before .before .args) .notes .now) ((c .before .before .before .before .before .before .before .before .before .note) .ensures .0) in where-rows _ _ ((c .before .before .before .before .before .before .before .before .before .before .before .before .before .before .before .before .before .before .before .before .before .args) .context) _ _ f i ((c .before .before .before .before .before .before .before .before .before .note) .ensures .1) (part-rows _ _ judgment-sort (valueOf (getD ((c .before .before .before .before .before .before .before .before .before .before .before .before .before .before .before .before .before .before .before .before .before .args) .s .now) ((c .before .before .before .before .before .before .before .before .before .before .before .before .before .before .before .before .before .before .before .before .before .args) .at + 3) 0)) _ _ _ (g .room) (part-to-end ((c .before .before .before .before .before .before .before .before .before .before .before .before .before .before .before .before .before .before .before .before .before .args) .s .now) ((c .before .before .before .before .before .before .before .before .before .before .before .before .before .before .before .before .before .before .before .before .before .args) .at + 4)) ((c .before .before .judgments) .ensures))
+aggregate-returns-6 t c =
+    let at-judgments = c .before .before in let on-the-way = at-judgments .before .before .before .before .before .before in
+    let at-note = on-the-way .before in let at-if4 = at-note .before .before in let at-up-to4 = at-if4 .before in let at-if3 = at-up-to4 .before in
+    let at-up-to3 = at-if3 .before in let at-if2 = at-up-to3 .before in let at-up-to2 = at-if2 .before in let at-if1 = at-up-to2 .before in
+    let at-up-to = at-if1 .before in let start-2 = at-up-to .before .before .before in
+    let f = fielded (boundOf (start-2 .args .t .now)) _ _ (start-2 .pre .1 .0 .most) (start-2 .pre .1 .1) (at-up-to .up-to .ensures (boundOf (start-2 .args .t .now)))
+    (at-if1 .if1 .left) (at-up-to2 .up-to2 .ensures (boundOf (start-2 .args .t .now))) (at-if2 .if2 .left) (at-up-to3 .up-to3 .ensures (boundOf (start-2 .args .t .now)))
+    (at-if3 .if3 .left) (at-up-to4 .up-to4 .ensures (boundOf (start-2 .args .t .now))) (at-if4 .if4 .left) in let i = ap (λ (i : ℕ). i + (start-2 .args) .context % 8192)
+    (at-note .note .ensures .0) in let g = based-inside _ (start-2 .pre .1 .2) (start-2 .args .notes .now) (at-note .note .ensures .0) in where-rows _ _
+    (start-2 .args .context) _ _ f i (at-note .note .ensures .1)
+    (part-rows _ _ judgment-sort (valueOf (getD (start-2 .args .s .now) (start-2 .args .at + 3) 0)) _ _ _ (g .room) (part-to-end (start-2 .args .s .now) (start-2 .args .at + 4))
+    (at-judgments .judgments .ensures))
 
 choice-judgments-requires : (t : ℕ) → choice-lts.Need-judgments-requires (choice-calls t) (choice-at t) choice.Post
 choice-judgments-requires t c κs = (omega arith, ((c .before .before .before .pre) .1 .0, (c .before .before .before .pre) .1 .1, (c .before .before .before .pre) .1 .2))
@@ -533,16 +744,22 @@ choice-same-length : (t : ℕ) → choice-lts.Need-same-length (choice-calls t) 
 choice-same-length t c = search needs
 
 choice-returns : (t : ℕ) → choice-lts.Need-returns (choice-calls t) (choice-at t) choice.Post
-choice-returns t c = first-refused _ _ _ _ _ judgment-sort _ ((c .before .before .before .judgments) .ensures) ((c .before .before .before .before .before .before .before .pre) .1 .0 .most) ((c .before .before .before .before .before .before .before .pre) .1 .1) ((c .if1) .taken) _
+choice-returns t c =
+    let at-judgments = c .before .before .before in let start-2 = at-judgments .before .before .before .before in
+    first-refused _ _ _ _ _ judgment-sort _ (at-judgments .judgments .ensures) (start-2 .pre .1 .0 .most) (start-2 .pre .1 .1) ((c .if1) .taken) _
 
 choice-scalars-requires : (t : ℕ) → choice-lts.Need-scalars-requires (choice-calls t) (choice-at t) choice.Post
-choice-scalars-requires t c κs = (omega arith, ((c .before .before .before .before .before .before .before .before .pre) .1 .0, code-within _ _ _ ((c .before .before .before .before .judgments) .ensures .answers) ((c .before .before .before .before .before .before .before .before .pre) .1 .1) ((c .before .if1) .left), (c .before .before .before .before .before .before .before .before .pre) .1 .2))
+choice-scalars-requires t c κs =
+    let at-if1 = c .before in let at-judgments = at-if1 .before .before .before in let start-2 = at-judgments .before .before .before .before in
+    (omega arith, (start-2 .pre .1 .0, code-within _ _ _ (at-judgments .judgments .ensures .answers) (start-2 .pre .1 .1) (at-if1 .if1 .left), (start-2 .pre) .1 .2))
 
 choice-same-length-2 : (t : ℕ) → choice-lts.Need-same-length-2 (choice-calls t) (choice-at t) choice.Post
 choice-same-length-2 t c = search needs
 
 choice-returns-2 : (t : ℕ) → choice-lts.Need-returns-2 (choice-calls t) (choice-at t) choice.Post
-choice-returns-2 t c = first-then _ _ _ _ _ judgment-sort _ ((c .before .before .before .before .before .before .before .judgments) .ensures) ((c .before .before .before .before .if1) .left) _ ((c .before .before .scalars) .ensures)
+choice-returns-2 t c =
+    let at-scalars = c .before .before in let at-if1 = at-scalars .before .before in let at-judgments = at-if1 .before .before .before in
+    first-then _ _ _ _ _ judgment-sort _ (at-judgments .judgments .ensures) (at-if1 .if1 .left) _ (at-scalars .scalars .ensures)
 
 exists-up-to-requires : (t : ℕ) → exists-lts.Need-up-to-requires (exists-calls t) (exists-at t) exists.Post
 unfolding entryOf table
@@ -562,16 +779,25 @@ exists-note-requires : (t : ℕ) → exists-lts.Need-note-requires (exists-calls
 exists-note-requires t c κs = search needs
 
 exists-add-judgments : (t : ℕ) → exists-lts.Need-add-judgments (exists-calls t) (exists-at t) exists.Post
-exists-add-judgments t c = omega (arith, (c .before .before .before .before .before .before .before .before .pre) .1 .0 .most, (c .before .before .before .before .before .before .before .before .pre) .1 .1)
+exists-add-judgments t c =
+    let on-the-way = c .before .before .before .before .before .before in let start-2 = on-the-way .before .before in
+    omega (arith, (start-2 .pre) .1 .0 .most, (start-2 .pre) .1 .1)
 
 exists-judgments-requires : (t : ℕ) → exists-lts.Need-judgments-requires (exists-calls t) (exists-at t) exists.Post
-exists-judgments-requires t c κs = let m = passed _ _ _ _ ((c .before .before .before .before .before .before .up-to) .ensures (boundOf ((c .before .before .before .before .before .before .before .before .before .args) .t .now))) ((c .before .before .before .before .before .before .before .before .before .pre) .1 .0 .most) ((c .before .before .before .before .before .before .before .before .before .pre) .1 .1) ((c .before .before .before .before .before .if1) .left) ((c .before .before .before .before .before .before .before .before .before .args) .at + 1) refl in (omega arith, ((c .before .before .before .before .before .before .before .before .before .pre) .1 .0, m .there, (c .before .before .before .before .before .before .before .before .before .pre) .1 .2))
+exists-judgments-requires t c κs =
+    let at-if1 = c .before .before .before .before .before in let at-up-to = at-if1 .before in let start-2 = at-up-to .before .before .before in
+    let m = passed _ _ _ _ (at-up-to .up-to .ensures (boundOf (start-2 .args .t .now))) (start-2 .pre .1 .0 .most) (start-2 .pre .1 .1) (at-if1 .if1 .left)
+    (start-2 .args .at + 1) refl in (omega arith, (start-2 .pre .1 .0, m .there, (start-2 .pre) .1 .2))
 
 exists-same-length : (t : ℕ) → exists-lts.Need-same-length (exists-calls t) (exists-at t) exists.Post
 exists-same-length t c = search needs
 
 exists-returns-2 : (t : ℕ) → exists-lts.Need-returns-2 (exists-calls t) (exists-at t) exists.Post
-exists-returns-2 t c = let m = passed _ _ _ _ ((c .before .before .before .before .before .before .before .before .before .up-to) .ensures (boundOf ((c .before .before .before .before .before .before .before .before .before .before .before .before .args) .t .now))) ((c .before .before .before .before .before .before .before .before .before .before .before .before .pre) .1 .0 .most) ((c .before .before .before .before .before .before .before .before .before .before .before .before .pre) .1 .1) ((c .before .before .before .before .before .before .before .before .if1) .left) ((c .before .before .before .before .before .before .before .before .before .before .before .before .args) .at + 1) refl in exists-rows _ _ _ _ _ m ((c .before .before .before .before .before .before .before .before .before .before .before .before .pre) .1 .1) ((c .before .before .before .before .before .before .note) .ensures .1) ((c .before .before .judgments) .ensures)
+exists-returns-2 t c =
+    let at-judgments = c .before .before in let at-note = at-judgments .before .before .before .before in let at-if1 = at-note .before .before in
+    let at-up-to = at-if1 .before in let start-2 = at-up-to .before .before .before in
+    let m = passed _ _ _ _ (at-up-to .up-to .ensures (boundOf (start-2 .args .t .now))) (start-2 .pre .1 .0 .most) (start-2 .pre .1 .1) (at-if1 .if1 .left)
+    (start-2 .args .at + 1) refl in exists-rows _ _ _ _ _ m (start-2 .pre .1 .1) (at-note .note .ensures .1) (at-judgments .judgments .ensures)
 
 abbrev judgments-Inv-loop : judgments-lts.InvT-loop
 judgments-Inv-loop s t start count left context notes₀ at₀ k₀ notes at k =
@@ -599,34 +825,70 @@ judgments-mul-if2 : (t : ℕ) → judgments-lts.Need-mul-if2 (judgments-calls t)
 judgments-mul-if2 t c = omega (arith, begun ((c .before .before .before .loop) .inv .0) ((c .before .before .before .before .before .before .pre) .1 .0 .most) (omega arith) ((c .before .head) .ensures) ((c .if1) .left) .inside, (c .before .before .before .before .before .before .pre) .1 .0 .most)
 
 judgments-shared-slice-read-if2 : (t : ℕ) → judgments-lts.Need-shared-slice-read-if2 (judgments-calls t) (judgments-at t) judgments.Post judgments-Inv-loop judgments-μ-loop
-judgments-shared-slice-read-if2 t c = begun ((c .before .before .before .before .loop) .inv .0) ((c .before .before .before .before .before .before .before .pre) .1 .0 .most) (omega arith) ((c .before .before .head) .ensures) ((c .before .if1) .left) .inside
+judgments-shared-slice-read-if2 t c =
+    let at-if1 = c .before in let at-head = at-if1 .before in let at-loop = at-head .before .before in
+    let start-2 = at-loop .before .before .before in
+    begun (at-loop .loop .inv .0) (start-2 .pre .1 .0 .most) (omega arith) (at-head .head .ensures) (at-if1 .if1 .left) .inside
 
 judgments-sub-after-judgment : (t : ℕ) → judgments-lts.Need-sub-after-judgment (judgments-calls t) (judgments-at t) judgments.Post judgments-Inv-loop judgments-μ-loop
-judgments-sub-after-judgment t c = begun ((c .before .before .before .before .before .loop) .inv .0) ((c .before .before .before .before .before .before .before .before .pre) .1 .0 .most) (omega arith) ((c .before .before .before .head) .ensures) ((c .before .before .if1) .left) .level
+judgments-sub-after-judgment t c =
+    let at-if1 = c .before .before in let at-head = at-if1 .before in let at-loop = at-head .before .before in
+    let start-2 = at-loop .before .before .before in
+    begun (at-loop .loop .inv .0) (start-2 .pre .1 .0 .most) (omega arith) (at-head .head .ensures) (at-if1 .if1 .left) .level
 
 judgments-after-judgment-requires : (t : ℕ) → judgments-lts.Need-after-judgment-requires (judgments-calls t) (judgments-at t) judgments.Post judgments-Inv-loop judgments-μ-loop
-judgments-after-judgment-requires t c κs = let u = begun ((c .before .before .before .before .before .before .loop) .inv .0) ((c .before .before .before .before .before .before .before .before .before .pre) .1 .0 .most) (omega arith) ((c .before .before .before .before .head) .ensures) ((c .before .before .before .if1) .left) in (omega (arith, u .level, (c .before .before .before .before .before .before .loop) .inv .0 .deep), ((c .before .before .before .before .before .before .before .before .before .pre) .1 .0, u .inside, judgment-kind (kindOf (getD ((c .before .before .before .before .before .before .before .before .before .args) .s .now) ((c .before .before .before .before .before .before .loop) .at) 0)) (u .kind), (c .before .before .before .before .before .before .before .before .before .pre) .1 .2))
+judgments-after-judgment-requires t c κs =
+    let at-if1 = c .before .before .before in let at-head = at-if1 .before in let at-loop = at-head .before .before in
+    let start-2 = at-loop .before .before .before in
+    let u = begun (at-loop .loop .inv .0) (start-2 .pre .1 .0 .most) (omega arith) (at-head .head .ensures) (at-if1 .if1 .left) in (
+      omega (arith, u .level, (at-loop .loop) .inv .0 .deep),
+      (start-2 .pre .1 .0, u .inside, judgment-kind (kindOf (getD (start-2 .args .s .now) (at-loop .loop .at) 0)) (u .kind), (start-2 .pre) .1 .2),
+    )
 
 judgments-same-length-2 : (t : ℕ) → judgments-lts.Need-same-length-2 (judgments-calls t) (judgments-at t) judgments.Post judgments-Inv-loop judgments-μ-loop
 judgments-same-length-2 t c = search needs
 
 judgments-returns-2 : (t : ℕ) → judgments-lts.Need-returns-2 (judgments-calls t) (judgments-at t) judgments.Post judgments-Inv-loop judgments-μ-loop
-judgments-returns-2 t c = node-refused ((c .before .before .before .before .before .before .before .before .before .before .loop) .inv .0) ((c .before .before .before .before .before .before .before .before .before .before .before .before .before .pre) .1 .0 .most) (omega arith) ((c .before .before .before .before .before .before .before .before .head) .ensures) ((c .before .before .before .before .before .before .before .if1) .left) ((c .before .before .before .after-judgment) .ensures) ((c .if3) .taken)
+judgments-returns-2 t c =
+    let at-after-judgment = c .before .before .before in let at-if1 = at-after-judgment .before .before .before .before in
+    let at-head = at-if1 .before in let at-loop = at-head .before .before in let start-2 = at-loop .before .before .before in
+    node-refused (at-loop .loop .inv .0) (start-2 .pre .1 .0 .most) (omega arith) (at-head .head .ensures) (at-if1 .if1 .left) (at-after-judgment .after-judgment .ensures) ((c .if3) .taken)
 
 judgments-loop-less : (t : ℕ) → judgments-lts.Need-loop-less (judgments-calls t) (judgments-at t) judgments.Post judgments-Inv-loop judgments-μ-loop
-judgments-loop-less t c = let w = forward ((c .before .before .before .before .before .before .before .before .before .before .loop) .inv .0) ((c .before .before .before .before .before .before .before .before .before .before .before .before .before .pre) .1 .0 .most) (omega arith) ((c .before .before .before .before .before .before .before .before .head) .ensures) ((c .before .before .before .before .before .before .before .if1) .left) ((c .before .before .before .after-judgment) .ensures) ((c .if3) .left) in omega (arith, w .0, w .1)
+judgments-loop-less t c =
+    let at-after-judgment = c .before .before .before in let at-if1 = at-after-judgment .before .before .before .before in
+    let at-head = at-if1 .before in let at-loop = at-head .before .before in let start-2 = at-loop .before .before .before in
+    let w = forward (at-loop .loop .inv .0) (start-2 .pre .1 .0 .most) (omega arith) (at-head .head .ensures) (at-if1 .if1 .left) (at-after-judgment .after-judgment .ensures)
+    ((c .if3) .left) in omega (arith, w .0, w .1)
 
 judgments-loop-again : (t : ℕ) → judgments-lts.Need-loop-again (judgments-calls t) (judgments-at t) judgments.Post judgments-Inv-loop judgments-μ-loop
-judgments-loop-again t c = (past-node ((c .before .before .before .before .before .before .before .before .before .before .loop) .inv .0) ((c .before .before .before .before .before .before .before .before .before .before .before .before .before .pre) .1 .0 .most) (omega arith) ((c .before .before .before .before .before .before .before .before .head) .ensures) ((c .before .before .before .before .before .before .before .if1) .left) ((c .before .before .before .after-judgment) .ensures) ((c .if3) .left), omega (arith, (c .before .before .before .before .before .before .before .before .before .before .loop) .inv .1))
+judgments-loop-again t c =
+    let at-after-judgment = c .before .before .before in let at-if1 = at-after-judgment .before .before .before .before in
+    let at-head = at-if1 .before in let at-loop = at-head .before .before in let start-2 = at-loop .before .before .before in (
+      past-node (at-loop .loop .inv .0) (start-2 .pre .1 .0 .most) (omega arith) (at-head .head .ensures) (at-if1 .if1 .left) (at-after-judgment .after-judgment .ensures)
+          ((c .if3) .left),
+      omega (arith, (at-loop .loop) .inv .1),
+    )
 
 judgments-add-at : (t : ℕ) → judgments-lts.Need-add-at (judgments-calls t) (judgments-at t) judgments.Post judgments-Inv-loop judgments-μ-loop
 judgments-add-at t c = search needs
 
 judgments-loop-less-2 : (t : ℕ) → judgments-lts.Need-loop-less-2 (judgments-calls t) (judgments-at t) judgments.Post judgments-Inv-loop judgments-μ-loop
-judgments-loop-less-2 t c = omega (arith, begun ((c .before .before .before .before .before .loop) .inv .0) ((c .before .before .before .before .before .before .before .before .pre) .1 .0 .most) (omega arith) ((c .before .before .before .head) .ensures) ((c .before .before .if1) .left) .inside)
+judgments-loop-less-2 t c =
+    let at-if1 = c .before .before in let at-head = at-if1 .before in let at-loop = at-head .before .before in
+    let start-2 = at-loop .before .before .before in
+    omega (arith, begun (at-loop .loop .inv .0) (start-2 .pre .1 .0 .most) (omega arith) (at-head .head .ensures) (at-if1 .if1 .left) .inside)
 
 judgments-loop-again-2 : (t : ℕ) → judgments-lts.Need-loop-again-2 (judgments-calls t) (judgments-at t) judgments.Post judgments-Inv-loop judgments-μ-loop
-judgments-loop-again-2 t c = (let k = kindOf (getD ((c .before .before .before .before .before .before .before .before .args) .s .now) ((c .before .before .before .before .before .loop) .at) 0) in let lo : 104 < k = (c .if2) .left in let hi : k < 256 = omega (arith, (c .before .shared-slice-known2) .given ((c .before .before .before .before .before .loop) .at)) in past-leaf ((c .before .before .before .before .before .loop) .inv .0) ((c .before .before .before .before .before .before .before .before .pre) .1 .0 .most) (omega arith) ((c .before .before .before .head) .ensures) ((c .before .before .if1) .left) (leaf-last (valueOf (getD ((c .before .before .before .before .before .before .before .before .args) .s .now) ((c .before .before .before .before .before .loop) .at) 0)) k (omega (arith, lo)) hi) (plain-last k lo hi), omega (arith, (c .before .before .before .before .before .loop) .inv .1))
+judgments-loop-again-2 t c =
+    let at-shared-slice-known2 = c .before in let at-if1 = at-shared-slice-known2 .before in let at-head = at-if1 .before in
+    let at-loop = at-head .before .before in let start-2 = at-loop .before .before .before in (
+      let k = kindOf (getD (start-2 .args .s .now) (at-loop .loop .at) 0) in let lo : 104 < k = (c .if2) .left in let hi : k < 256 = omega
+          (arith, (at-shared-slice-known2 .shared-slice-known2) .given (at-loop .loop .at)) in past-leaf (at-loop .loop .inv .0) (start-2 .pre .1 .0 .most) (omega arith)
+          (at-head .head .ensures) (at-if1 .if1 .left) (leaf-last (valueOf (getD (start-2 .args .s .now) (at-loop .loop .at) 0)) k (omega (arith, lo)) hi) (plain-last k lo hi),
+      omega
+          (arith, (at-loop .loop) .inv .1),
+    )
 
 judgments-same-length-3 : (t : ℕ) → judgments-lts.Need-same-length-3 (judgments-calls t) (judgments-at t) judgments.Post judgments-Inv-loop judgments-μ-loop
 judgments-same-length-3 t c = search needs
@@ -641,19 +903,39 @@ patterns-same-length : (t : ℕ) → patterns-lts.Need-same-length (patterns-cal
 patterns-same-length t c = search needs
 
 patterns-returns : (t : ℕ) → patterns-lts.Need-returns (patterns-calls t) (patterns-at t) patterns.Post
-patterns-returns t c = let z : (c .before .before .before .before .before .before .before .args) .count + 1 ≡ suc ((c .before .before .before .before .before .before .before .args) .count) = omega arith in rw z (first-refused _ _ _ _ _ scalar-sort _ ((c .before .before .before .scalars) .ensures) ((c .before .before .before .before .before .before .before .pre) .1 .0 .most) ((c .before .before .before .before .before .before .before .pre) .1 .1) ((c .if1) .taken) _)
+patterns-returns t c =
+    let at-scalars = c .before .before .before in let start-2 = at-scalars .before .before .before .before in
+    let z : (start-2 .args) .count + 1 ≡ suc (start-2 .args .count) = omega arith in rw z
+    (first-refused _ _ _ _ _ scalar-sort _ (at-scalars .scalars .ensures) (start-2 .pre .1 .0 .most) (start-2 .pre .1 .1) ((c .if1) .taken) _)
 
 patterns-lost-requires : (t : ℕ) → patterns-lts.Need-lost-requires (patterns-calls t) (patterns-at t) patterns.Post
-patterns-lost-requires t c κs = (c .before .before .before .before .before .before .before .pre) .1 .2 .few
+patterns-lost-requires t c κs =
+    let on-the-way = c .before .before .before .before .before .before in let start-2 = on-the-way .before in
+    (start-2 .pre) .1 .2 .few
 
 patterns-scalars-requires-2 : (t : ℕ) → patterns-lts.Need-scalars-requires-2 (patterns-calls t) (patterns-at t) patterns.Post
-patterns-scalars-requires-2 t c κs = (omega arith, ((c .before .before .before .before .before .before .before .before .before .pre) .1 .0, code-within _ _ _ ((c .before .before .before .before .before .scalars) .ensures .answers) ((c .before .before .before .before .before .before .before .before .before .pre) .1 .1) ((c .before .before .if1) .left), based-losing _ ((c .before .before .before .before .before .before .before .before .before .pre) .1 .2) ((c .before .lost) .ensures)))
+patterns-scalars-requires-2 t c κs =
+    let at-lost = c .before in let at-if1 = at-lost .before in let at-scalars = at-if1 .before .before .before in
+    let start-2 = at-scalars .before .before .before .before in (
+      omega arith,
+      (
+        start-2 .pre .1 .0,
+        code-within _ _ _ (at-scalars .scalars .ensures .answers) (start-2 .pre .1 .1) (at-if1 .if1 .left),
+        based-losing _ (start-2 .pre .1 .2)
+            (at-lost .lost .ensures),
+      ),
+    )
 
 patterns-same-length-2 : (t : ℕ) → patterns-lts.Need-same-length-2 (patterns-calls t) (patterns-at t) patterns.Post
 patterns-same-length-2 t c = search needs
 
 patterns-returns-2 : (t : ℕ) → patterns-lts.Need-returns-2 (patterns-calls t) (patterns-at t) patterns.Post
-patterns-returns-2 t c = let z : (c .before .before .before .before .before .before .before .before .before .before .before .before .args) .count + 1 ≡ suc ((c .before .before .before .before .before .before .before .before .before .before .before .before .args) .count) = omega arith in rw z (first-then _ _ _ _ _ scalar-sort _ ((c .before .before .before .before .before .before .before .before .scalars) .ensures) ((c .before .before .before .before .before .if1) .left) _ (rows-as _ _ scalar-sort _ {m = (c .before .before .before .before .before .before .before .before .before .before .before .before .args) .count} refl ((c .before .before .before .before .lost) .ensures) ((c .before .before .scalars2) .ensures)))
+patterns-returns-2 t c =
+    let at-scalars2 = c .before .before in let at-lost = at-scalars2 .before .before in let at-if1 = at-lost .before in
+    let at-scalars = at-if1 .before .before .before in let start-2 = at-scalars .before .before .before .before in
+    let z : (start-2 .args) .count + 1 ≡ suc (start-2 .args .count) = omega arith in rw z
+    (first-then _ _ _ _ _ scalar-sort _ (at-scalars .scalars .ensures) (at-if1 .if1 .left) _
+    (rows-as _ _ scalar-sort _ {m = (start-2 .args) .count} refl (at-lost .lost .ensures) (at-scalars2 .scalars2 .ensures)))
 
 abbrev scalars-Inv-loop : scalars-lts.InvT-loop
 scalars-Inv-loop s t start count levels context notes₀ at₀ k₀ left₀ notes at k left =
@@ -678,7 +960,10 @@ scalars-mul-w : (t : ℕ) → scalars-lts.Need-mul-w (scalars-calls t) (scalars-
 scalars-mul-w t c = omega (arith, begun ((c .before .before .before .loop) .inv .0) ((c .before .before .before .before .before .before .pre) .1 .0 .most) (omega arith) ((c .before .head) .ensures) ((c .if1) .left) .inside, (c .before .before .before .before .before .before .pre) .1 .0 .most)
 
 scalars-shared-slice-read-w : (t : ℕ) → scalars-lts.Need-shared-slice-read-w (scalars-calls t) (scalars-at t) scalars.Post scalars-Inv-loop scalars-μ-loop
-scalars-shared-slice-read-w t c = begun ((c .before .before .before .before .loop) .inv .0) ((c .before .before .before .before .before .before .before .pre) .1 .0 .most) (omega arith) ((c .before .before .head) .ensures) ((c .before .if1) .left) .inside
+scalars-shared-slice-read-w t c =
+    let at-if1 = c .before in let at-head = at-if1 .before in let at-loop = at-head .before .before in
+    let start-2 = at-loop .before .before .before in
+    begun (at-loop .loop .inv .0) (start-2 .pre .1 .0 .most) (omega arith) (at-head .head .ensures) (at-if1 .if1 .left) .inside
 
 scalars-sub-k : (t : ℕ) → scalars-lts.Need-sub-k (scalars-calls t) (scalars-at t) scalars.Post scalars-Inv-loop scalars-μ-loop
 scalars-sub-k t c = search needs
@@ -687,43 +972,103 @@ scalars-add-at : (t : ℕ) → scalars-lts.Need-add-at (scalars-calls t) (scalar
 scalars-add-at t c = search needs
 
 scalars-children-requires : (t : ℕ) → scalars-lts.Need-children-requires (scalars-calls t) (scalars-at t) scalars.Post scalars-Inv-loop scalars-μ-loop
-scalars-children-requires t c κs = let k = kindOf (getD ((c .before .before .before .before .before .before .before .before .before .before .args) .s .now) ((c .before .before .before .before .before .before .before .loop) .at) 0) in (omega (arith, (c .before .before .before .shared-slice-known2) .given ((c .before .before .before .before .before .before .before .loop) .at)), (c .before .before .before .before .before .before .before .before .before .before .pre) .1 .0 .tabled, scalars-in-row k ((c .before .before .if2) .taken) (omega (arith, leb-true k 70 ((c .if4) .taken))))
+scalars-children-requires t c κs =
+    let at-if2 = c .before .before in let at-shared-slice-known2 = at-if2 .before in
+    let at-loop = at-shared-slice-known2 .before .before .before .before in let start-2 = at-loop .before .before .before in
+    let k = kindOf (getD (start-2 .args .s .now) (at-loop .loop .at) 0) in (
+      omega (arith, (at-shared-slice-known2 .shared-slice-known2) .given (at-loop .loop .at)),
+      (start-2 .pre) .1 .0 .tabled,
+      scalars-in-row k (at-if2 .if2 .taken)
+          (omega (arith, leb-true k 70 ((c .if4) .taken))),
+    )
 
 scalars-sub-left : (t : ℕ) → scalars-lts.Need-sub-left (scalars-calls t) (scalars-at t) scalars.Post scalars-Inv-loop scalars-μ-loop
-scalars-sub-left t c = begun ((c .before .before .before .before .before .before .before .before .loop) .inv .0) ((c .before .before .before .before .before .before .before .before .before .before .before .pre) .1 .0 .most) (omega arith) ((c .before .before .before .before .before .before .head) .ensures) ((c .before .before .before .before .before .if1) .left) .level
+scalars-sub-left t c =
+    let at-if1 = c .before .before .before .before .before in let at-head = at-if1 .before in let at-loop = at-head .before .before in
+    let start-2 = at-loop .before .before .before in
+    begun (at-loop .loop .inv .0) (start-2 .pre .1 .0 .most) (omega arith) (at-head .head .ensures) (at-if1 .if1 .left) .level
 
 scalars-loop-less : (t : ℕ) → scalars-lts.Need-loop-less (scalars-calls t) (scalars-at t) scalars.Post scalars-Inv-loop scalars-μ-loop
-scalars-loop-less t c = omega (arith, begun ((c .before .before .before .before .before .before .before .before .loop) .inv .0) ((c .before .before .before .before .before .before .before .before .before .before .before .pre) .1 .0 .most) (omega arith) ((c .before .before .before .before .before .before .head) .ensures) ((c .before .before .before .before .before .if1) .left) .inside)
+scalars-loop-less t c =
+    let at-if1 = c .before .before .before .before .before in let at-head = at-if1 .before in let at-loop = at-head .before .before in
+    let start-2 = at-loop .before .before .before in
+    omega (arith, begun (at-loop .loop .inv .0) (start-2 .pre .1 .0 .most) (omega arith) (at-head .head .ensures) (at-if1 .if1 .left) .inside)
 
 scalars-loop-again : (t : ℕ) → scalars-lts.Need-loop-again (scalars-calls t) (scalars-at t) scalars.Post scalars-Inv-loop scalars-μ-loop
-scalars-loop-again t c = (let k = kindOf (getD ((c .before .before .before .before .before .before .before .before .before .before .before .args) .s .now) ((c .before .before .before .before .before .before .before .before .loop) .at) 0) in let lo : 66 ≤ k = (c .before .before .before .if2) .taken in let hi : k < 71 = omega (arith, leb-true k 70 ((c .before .if4) .taken)) in let one : (c .before .before .before .before .before .before .before .before .loop) .k ≡ 1 = omega arith in past-last ((c .before .before .before .before .before .before .before .before .loop) .inv .0) ((c .before .before .before .before .before .before .before .before .before .before .before .pre) .1 .0 .most) (omega arith) ((c .before .before .before .before .before .before .head) .ensures) ((c .before .before .before .before .before .if1) .left) one (scalar-row (valueOf (getD ((c .before .before .before .before .before .before .before .before .before .before .before .args) .s .now) ((c .before .before .before .before .before .before .before .before .loop) .at) 0)) k lo (omega (arith, hi)) (λ z. omega (arith, hi))) ((c .children) .ensures) (steady-scalar k lo hi), omega (arith, (c .before .before .before .before .before .before .before .before .loop) .inv .1))
+scalars-loop-again t c =
+    let at-if4 = c .before in let at-if2 = at-if4 .before .before in let at-if1 = at-if2 .before .before in let at-head = at-if1 .before in
+    let at-loop = at-head .before .before in let start-2 = at-loop .before .before .before in (
+      let k = kindOf (getD (start-2 .args .s .now) (at-loop .loop .at) 0) in let lo : 66 ≤ k = (at-if2 .if2) .taken in let hi : k < 71 = omega
+          (arith, leb-true k 70 (at-if4 .if4 .taken)) in let one : (at-loop .loop) .k ≡ 1 = omega arith in past-last (at-loop .loop .inv .0) (start-2 .pre .1 .0 .most) (omega arith)
+          (at-head .head .ensures) (at-if1 .if1 .left) one (scalar-row (valueOf (getD (start-2 .args .s .now) (at-loop .loop .at) 0)) k lo (omega (arith, hi)) (λ z. omega (arith, hi)))
+          ((c .children) .ensures) (steady-scalar k lo hi),
+      omega (arith, (at-loop .loop) .inv .1),
+    )
 
 scalars-sub-after-scalar : (t : ℕ) → scalars-lts.Need-sub-after-scalar (scalars-calls t) (scalars-at t) scalars.Post scalars-Inv-loop scalars-μ-loop
-scalars-sub-after-scalar t c = begun ((c .before .before .before .before .before .before .loop) .inv .0) ((c .before .before .before .before .before .before .before .before .before .pre) .1 .0 .most) (omega arith) ((c .before .before .before .before .head) .ensures) ((c .before .before .before .if1) .left) .level
+scalars-sub-after-scalar t c =
+    let at-if1 = c .before .before .before in let at-head = at-if1 .before in let at-loop = at-head .before .before in
+    let start-2 = at-loop .before .before .before in
+    begun (at-loop .loop .inv .0) (start-2 .pre .1 .0 .most) (omega arith) (at-head .head .ensures) (at-if1 .if1 .left) .level
 
 scalars-after-scalar-requires : (t : ℕ) → scalars-lts.Need-after-scalar-requires (scalars-calls t) (scalars-at t) scalars.Post scalars-Inv-loop scalars-μ-loop
-scalars-after-scalar-requires t c κs = let u = begun ((c .before .before .before .before .before .before .before .loop) .inv .0) ((c .before .before .before .before .before .before .before .before .before .before .pre) .1 .0 .most) (omega arith) ((c .before .before .before .before .before .head) .ensures) ((c .before .before .before .before .if1) .left) in (omega (arith, u .level, (c .before .before .before .before .before .before .before .loop) .inv .0 .deep), ((c .before .before .before .before .before .before .before .before .before .before .pre) .1 .0, u .inside, scalar-kind (kindOf (getD ((c .before .before .before .before .before .before .before .before .before .before .args) .s .now) ((c .before .before .before .before .before .before .before .loop) .at) 0)) (omega (arith, (c .before .before .before .shared-slice-known2) .given ((c .before .before .before .before .before .before .before .loop) .at))) (u .kind), (c .before .before .before .before .before .before .before .before .before .before .pre) .1 .2))
+scalars-after-scalar-requires t c κs =
+    let at-shared-slice-known2 = c .before .before .before in let at-if1 = at-shared-slice-known2 .before in let at-head = at-if1 .before in
+    let at-loop = at-head .before .before in let start-2 = at-loop .before .before .before in
+    let u = begun (at-loop .loop .inv .0) (start-2 .pre .1 .0 .most) (omega arith) (at-head .head .ensures) (at-if1 .if1 .left) in (
+      omega (arith, u .level, (at-loop .loop) .inv .0 .deep),
+      (
+        start-2 .pre .1 .0,
+        u .inside,
+        scalar-kind (kindOf (getD (start-2 .args .s .now) (at-loop .loop .at) 0))
+            (omega (arith, (at-shared-slice-known2 .shared-slice-known2) .given (at-loop .loop .at))) (u .kind),
+        (start-2 .pre) .1 .2,
+      ),
+    )
 
 scalars-same-length-2 : (t : ℕ) → scalars-lts.Need-same-length-2 (scalars-calls t) (scalars-at t) scalars.Post scalars-Inv-loop scalars-μ-loop
 scalars-same-length-2 t c = search needs
 
 scalars-returns-2 : (t : ℕ) → scalars-lts.Need-returns-2 (scalars-calls t) (scalars-at t) scalars.Post scalars-Inv-loop scalars-μ-loop
-scalars-returns-2 t c = node-refused ((c .before .before .before .before .before .before .before .before .before .before .before .loop) .inv .0) ((c .before .before .before .before .before .before .before .before .before .before .before .before .before .before .pre) .1 .0 .most) (omega arith) ((c .before .before .before .before .before .before .before .before .before .head) .ensures) ((c .before .before .before .before .before .before .before .before .if1) .left) ((c .before .before .before .after-scalar) .ensures) ((c .if5) .taken)
+scalars-returns-2 t c =
+    let at-after-scalar = c .before .before .before in let at-if1 = at-after-scalar .before .before .before .before .before in
+    let at-head = at-if1 .before in let at-loop = at-head .before .before in let start-2 = at-loop .before .before .before in
+    node-refused (at-loop .loop .inv .0) (start-2 .pre .1 .0 .most) (omega arith) (at-head .head .ensures) (at-if1 .if1 .left) (at-after-scalar .after-scalar .ensures) ((c .if5) .taken)
 
 scalars-loop-less-2 : (t : ℕ) → scalars-lts.Need-loop-less-2 (scalars-calls t) (scalars-at t) scalars.Post scalars-Inv-loop scalars-μ-loop
-scalars-loop-less-2 t c = let w = forward ((c .before .before .before .before .before .before .before .before .before .before .before .loop) .inv .0) ((c .before .before .before .before .before .before .before .before .before .before .before .before .before .before .pre) .1 .0 .most) (omega arith) ((c .before .before .before .before .before .before .before .before .before .head) .ensures) ((c .before .before .before .before .before .before .before .before .if1) .left) ((c .before .before .before .after-scalar) .ensures) ((c .if5) .left) in omega (arith, w .0, w .1)
+scalars-loop-less-2 t c =
+    let at-after-scalar = c .before .before .before in let at-if1 = at-after-scalar .before .before .before .before .before in
+    let at-head = at-if1 .before in let at-loop = at-head .before .before in let start-2 = at-loop .before .before .before in
+    let w = forward (at-loop .loop .inv .0) (start-2 .pre .1 .0 .most) (omega arith) (at-head .head .ensures) (at-if1 .if1 .left) (at-after-scalar .after-scalar .ensures)
+    ((c .if5) .left) in omega (arith, w .0, w .1)
 
 scalars-loop-again-2 : (t : ℕ) → scalars-lts.Need-loop-again-2 (scalars-calls t) (scalars-at t) scalars.Post scalars-Inv-loop scalars-μ-loop
-scalars-loop-again-2 t c = (past-node ((c .before .before .before .before .before .before .before .before .before .before .before .loop) .inv .0) ((c .before .before .before .before .before .before .before .before .before .before .before .before .before .before .pre) .1 .0 .most) (omega arith) ((c .before .before .before .before .before .before .before .before .before .head) .ensures) ((c .before .before .before .before .before .before .before .before .if1) .left) ((c .before .before .before .after-scalar) .ensures) ((c .if5) .left), omega (arith, (c .before .before .before .before .before .before .before .before .before .before .before .loop) .inv .1))
+scalars-loop-again-2 t c =
+    let at-after-scalar = c .before .before .before in let at-if1 = at-after-scalar .before .before .before .before .before in
+    let at-head = at-if1 .before in let at-loop = at-head .before .before in let start-2 = at-loop .before .before .before in (
+      past-node (at-loop .loop .inv .0) (start-2 .pre .1 .0 .most) (omega arith) (at-head .head .ensures) (at-if1 .if1 .left) (at-after-scalar .after-scalar .ensures)
+          ((c .if5) .left),
+      omega (arith, (at-loop .loop) .inv .1),
+    )
 
 scalars-add-at-2 : (t : ℕ) → scalars-lts.Need-add-at-2 (scalars-calls t) (scalars-at t) scalars.Post scalars-Inv-loop scalars-μ-loop
 scalars-add-at-2 t c = search needs
 
 scalars-loop-less-3 : (t : ℕ) → scalars-lts.Need-loop-less-3 (scalars-calls t) (scalars-at t) scalars.Post scalars-Inv-loop scalars-μ-loop
-scalars-loop-less-3 t c = omega (arith, begun ((c .before .before .before .before .before .loop) .inv .0) ((c .before .before .before .before .before .before .before .before .pre) .1 .0 .most) (omega arith) ((c .before .before .before .head) .ensures) ((c .before .before .if1) .left) .inside)
+scalars-loop-less-3 t c =
+    let at-if1 = c .before .before in let at-head = at-if1 .before in let at-loop = at-head .before .before in
+    let start-2 = at-loop .before .before .before in
+    omega (arith, begun (at-loop .loop .inv .0) (start-2 .pre .1 .0 .most) (omega arith) (at-head .head .ensures) (at-if1 .if1 .left) .inside)
 
 scalars-loop-again-3 : (t : ℕ) → scalars-lts.Need-loop-again-3 (scalars-calls t) (scalars-at t) scalars.Post scalars-Inv-loop scalars-μ-loop
-scalars-loop-again-3 t c = (past-leaf ((c .before .before .before .before .before .loop) .inv .0) ((c .before .before .before .before .before .before .before .before .pre) .1 .0 .most) (omega arith) ((c .before .before .before .head) .ensures) ((c .before .before .if1) .left) (leaf-low (valueOf (getD ((c .before .before .before .before .before .before .before .before .args) .s .now) ((c .before .before .before .before .before .loop) .at) 0)) (kindOf (getD ((c .before .before .before .before .before .before .before .before .args) .s .now) ((c .before .before .before .before .before .loop) .at) 0)) ((c .if2) .left)) (plain-low (kindOf (getD ((c .before .before .before .before .before .before .before .before .args) .s .now) ((c .before .before .before .before .before .loop) .at) 0)) ((c .if2) .left)), omega (arith, (c .before .before .before .before .before .loop) .inv .1))
+scalars-loop-again-3 t c =
+    let at-if1 = c .before .before in let at-head = at-if1 .before in let at-loop = at-head .before .before in
+    let start-2 = at-loop .before .before .before in (
+      past-leaf (at-loop .loop .inv .0) (start-2 .pre .1 .0 .most) (omega arith) (at-head .head .ensures) (at-if1 .if1 .left)
+          (leaf-low (valueOf (getD (start-2 .args .s .now) (at-loop .loop .at) 0)) (kindOf (getD (start-2 .args .s .now) (at-loop .loop .at) 0)) ((c .if2) .left))
+          (plain-low (kindOf (getD (start-2 .args .s .now) (at-loop .loop .at) 0)) ((c .if2) .left)),
+      omega (arith, (at-loop .loop) .inv .1),
+    )
 
 scalars-same-length-3 : (t : ℕ) → scalars-lts.Need-same-length-3 (scalars-calls t) (scalars-at t) scalars.Post scalars-Inv-loop scalars-μ-loop
 scalars-same-length-3 t c = search needs

@@ -18,7 +18,9 @@ same-length c = search needs
 
 returns : tie.Need-returns
 unfolding root
-returns c = step-noted _ _ _ _ _ _ ((c .before .before .before .before .before .before .before .pre) .0 .most) ((c .before .before .before .before .before .before .before .pre) .1) ((c .before .before .before .judgments) .ensures) ((c .step-of) .ensures)
+returns c =
+    let at-judgments = c .before .before .before in let start = at-judgments .before .before .before .before in
+    step-noted _ _ _ _ _ _ (start .pre .0 .most) (start .pre .1) (at-judgments .judgments .ensures) ((c .step-of) .ensures)
 
 pub judgment-spec : {M : Type 1} → statement M
 judgment-spec = tie.close (tie.spec judgments-requires step-of-requires same-length returns)

@@ -18,7 +18,9 @@ same-length c = search needs
 
 returns : tie.Need-returns
 unfolding root
-returns c = step-noted _ _ _ _ _ _ ((c .before .before .before .before .before .before .before .pre) .0 .most) ((c .before .before .before .before .before .before .before .pre) .1) ((c .before .before .before .scalars) .ensures) ((c .step-of) .ensures)
+returns c =
+    let at-scalars = c .before .before .before in let start = at-scalars .before .before .before .before in
+    step-noted _ _ _ _ _ _ (start .pre .0 .most) (start .pre .1) (at-scalars .scalars .ensures) ((c .step-of) .ensures)
 
 pub scalar-spec : {M : Type 1} → statement M
 scalar-spec = tie.close (tie.spec scalars-requires step-of-requires same-length returns)

@@ -35,14 +35,21 @@ unfolding optionalDerivation entryOf table noteIn
 returns-2 c = noted-none _ _ _ _ _ _ (c .before .before .before .before .before .field .ensures) (c .before .before .before .f .given .1) _ _ _ (c .before .if1 .taken) (sym (c .plain .ensures)) refl
 
 derivation-requires : tie.Need-derivation-requires
-derivation-requires c κs = let on = flag-on _ _ _ (c .before .before .before .before .before .field .ensures) (c .before .before .before .f .given .1) in ((c .before .before .before .before .before .before .before .before .pre) .0, (c .before .before .before .before .before .before .before .before .pre) .1, (c .before .before .before .before .before .before .before .before .pre) .2, omega (arith, on, (c .before .before .before .before .before .before .before .before .pre) .3))
+derivation-requires c κs =
+    let at-f = c .before .before .before in let at-field = at-f .before .before in let start-2 = at-field .before .before .before in
+    let on = flag-on _ _ _ (at-field .field .ensures) (at-f .f .given .1) in (start-2 .pre .0, (start-2 .pre) .1, (start-2 .pre) .2, omega (arith, on, (start-2 .pre) .3))
 
 same-length : tie.Need-same-length
 same-length c = search needs
 
 returns-3 : tie.Need-returns-3
 unfolding optionalDerivation entryOf table
-returns-3 c = noted-some _ _ _ _ _ _ (c .before .before .before .before .before .before .before .before .field .ensures) (c .before .before .before .before .before .before .f .given .1) _ _ _ (c .before .before .before .before .if1 .left) (noted-as _ _ _ _ _ _ _ _ (c .before .before .derivation .ensures) (λ d. ap (λ (i : ℕ). noteDerivation (c .before .before .before .before .before .before .before .before .before .before .before .args .start) i d (c .before .before .before .before .before .before .before .before .before .before .before .args .notes .now)) (flag-on _ _ _ (c .before .before .before .before .before .before .before .before .field .ensures) (c .before .before .before .before .before .before .f .given .1))))
+returns-3 c =
+    let at-derivation = c .before .before in let at-if1 = at-derivation .before .before in let at-f = at-if1 .before .before in
+    let at-field = at-f .before .before in let start-2 = at-field .before .before .before in
+    noted-some _ _ _ _ _ _ (at-field .field .ensures) (at-f .f .given .1) _ _ _ (at-if1 .if1 .left)
+    (noted-as _ _ _ _ _ _ _ _ (at-derivation .derivation .ensures)
+    (λ d. ap (λ (i : ℕ). noteDerivation (start-2 .args .start) i d (start-2 .args .notes .now)) (flag-on _ _ _ (at-field .field .ensures) (at-f .f .given .1))))
 
 pub optional-derivation-spec : {M : Type 1} → statement M
 optional-derivation-spec = tie.close (tie.spec field-requires enum-known-f enum-told returns plain-requires returns-2 derivation-requires same-length returns-3)

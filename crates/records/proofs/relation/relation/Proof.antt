@@ -30,7 +30,9 @@ unfolding relation
 returns c = noted-no _ _ _ _ _ _ (search walks depth 16) (c .enum-told .given .1)
 
 relation-tail-requires : tie.Need-relation-tail-requires
-relation-tail-requires c κs = let r = name-read _ _ _ _ (c .before .before .before .before .new-name .ensures) (c .before .before .f1 .given .1) in ((c .before .before .before .before .before .before .before .before .before .pre) .1, (c .before .before .before .before .before .before .before .before .before .pre) .0, omega arith)
+relation-tail-requires c κs =
+    let at-f1 = c .before .before in let at-new-name = at-f1 .before .before in let start = at-new-name .before .before .before .before .before in
+    let r = name-read _ _ _ _ (at-new-name .new-name .ensures) (at-f1 .f1 .given .1) in (start .pre .1, (start .pre) .0, omega arith)
 
 enum-known-f2 : tie.Need-enum-known-f2
 enum-known-f2 c = search needs
@@ -46,7 +48,11 @@ same-length-3 c = search needs
 
 returns-2 : tie.Need-returns-2
 unfolding relation
-returns-2 c = noted-no _ _ _ _ _ _ (by-via _ _ _ _ _ _ _ _ (by-then _ _ _ _ (c .before .before .before .before .before .before .before .before .before .new-name .ensures) _ _ (c .before .before .before .before .before .before .before .f1 .given .1) (λ _. last-stop _ _ _ _ (c .before .before .before .before .relation-tail .ensures .answers) _ (c .enum-told2 .given .1)))) (c .enum-told2 .given .1)
+returns-2 c =
+    let at-relation-tail = c .before .before .before .before in let at-f1 = at-relation-tail .before .before .before in
+    let at-new-name = at-f1 .before .before in
+    noted-no _ _ _ _ _ _ (by-via _ _ _ _ _ _ _ _ (by-then _ _ _ _ (at-new-name .new-name .ensures) _ _ (at-f1 .f1 .given .1)
+    (λ _. last-stop _ _ _ _ (at-relation-tail .relation-tail .ensures .answers) _ (c .enum-told2 .given .1)))) (c .enum-told2 .given .1)
 
 mul-dir : tie.Need-mul-dir
 mul-dir c = search needs
@@ -55,13 +61,23 @@ slice-write-dir : tie.Need-slice-write-dir
 slice-write-dir c = search needs
 
 cast-dir : tie.Need-cast-dir
-cast-dir c = let r = name-read _ _ _ _ (c .before .before .before .before .before .before .before .before .before .before .new-name .ensures) (c .before .before .before .before .before .before .before .before .f1 .given .1) in omega (arith, (c .before .before .before .before .before .before .before .before .before .before .before .before .before .before .before .pre) .1 .ready .most)
+cast-dir c =
+    let on-the-way = c .before .before .before .before .before .before in let at-f1 = on-the-way .before .before in
+    let at-new-name = at-f1 .before .before in let start = at-new-name .before .before .before .before .before in
+    let r = name-read _ _ _ _ (at-new-name .new-name .ensures) (at-f1 .f1 .given .1) in omega (arith, (start .pre) .1 .ready .most)
 
 mul-dir-2 : tie.Need-mul-dir-2
-mul-dir-2 c = omega (arith, note-fits _ _ _ (c .before .before .before .before .before .relation-tail .ensures .answers) (c .before .f2 .given .1) ((c .before .before .before .before .before .before .before .before .before .before .before .before .before .before .before .pre) .0))
+mul-dir-2 c =
+    let at-f2 = c .before in let at-relation-tail = at-f2 .before .before .before .before in
+    let on-the-way = at-relation-tail .before .before .before .before .before .before in let start = on-the-way .before .before .before .before in
+    omega (arith, note-fits _ _ _ (at-relation-tail .relation-tail .ensures .answers) (at-f2 .f2 .given .1) (start .pre .0))
 
 add-dir : tie.Need-add-dir
-add-dir c = let r = name-read _ _ _ _ (c .before .before .before .before .before .before .before .before .before .before .new-name .ensures) (c .before .before .before .before .before .before .before .before .f1 .given .1) in omega (arith, note-fits _ _ _ (c .before .before .before .before .before .relation-tail .ensures .answers) (c .before .f2 .given .1) ((c .before .before .before .before .before .before .before .before .before .before .before .before .before .before .before .pre) .0), (c .before .before .before .before .before .before .before .before .before .before .before .before .before .before .before .pre) .1 .ready .most)
+add-dir c =
+    let at-f2 = c .before in let at-relation-tail = at-f2 .before .before .before .before in let at-f1 = at-relation-tail .before .before .before in
+    let at-new-name = at-f1 .before .before in let start = at-new-name .before .before .before .before .before in
+    let r = name-read _ _ _ _ (at-new-name .new-name .ensures) (at-f1 .f1 .given .1) in omega
+    (arith, note-fits _ _ _ (at-relation-tail .relation-tail .ensures .answers) (at-f2 .f2 .given .1) (start .pre .0), (start .pre) .1 .ready .most)
 
 cast-dir-2 : tie.Need-cast-dir-2
 cast-dir-2 c = search needs
@@ -73,7 +89,10 @@ mul-dir-3 : tie.Need-mul-dir-3
 mul-dir-3 c = search needs
 
 slice-write-dir-2 : tie.Need-slice-write-dir-2
-slice-write-dir-2 c = let r = name-read _ _ _ _ (c .before .before .before .before .before .before .before .before .before .before .new-name .ensures) (c .before .before .before .before .before .before .before .before .f1 .given .1) in simp length-set (omega (arith, (c .before .before .before .before .before .before .before .before .before .before .before .before .before .before .before .pre) .3))
+slice-write-dir-2 c =
+    let on-the-way = c .before .before .before .before .before .before in let at-f1 = on-the-way .before .before in
+    let at-new-name = at-f1 .before .before in let start = at-new-name .before .before .before .before .before in
+    let r = name-read _ _ _ _ (at-new-name .new-name .ensures) (at-f1 .f1 .given .1) in simp length-set (omega (arith, (start .pre) .3))
 
 same-length-4 : tie.Need-same-length-4
 same-length-4 c = search needs
@@ -83,7 +102,15 @@ same-length-5 c = search needs
 
 returns-3 : tie.Need-returns-3
 unfolding relation
-returns-3 c = noted-pair _ _ _ _ _ _ _ _ _ _ _ _ _ (c .before .before .before .before .before .before .before .before .before .before .new-name .ensures) (c .before .before .before .before .before .before .before .before .f1 .given .1) (λ _. (c .before .before .before .before .before .relation-tail .ensures .answers)) (c .before .f2 .given .1) (λ t s. (t .kept, both-noted _ _ _ _ _ (name-read _ _ _ _ (c .before .before .before .before .before .before .before .before .before .before .new-name .ensures) (c .before .before .before .before .before .before .before .before .f1 .given .1) .on) (s .value) (t .kept) (s .kept) (c .before .before .before .before .before .relation-tail .ensures .notes (s .value) _ _ (s .found))))
+returns-3 c =
+    let at-f2 = c .before in let at-relation-tail = at-f2 .before .before .before .before in let at-f1 = at-relation-tail .before .before .before in
+    let at-new-name = at-f1 .before .before in
+    noted-pair _ _ _ _ _ _ _ _ _ _ _ _ _ (at-new-name .new-name .ensures) (at-f1 .f1 .given .1) (λ _. (at-relation-tail .relation-tail .ensures .answers)) (at-f2 .f2 .given .1)
+    (λ t s. (
+      t .kept,
+      both-noted _ _ _ _ _ (name-read _ _ _ _ (at-new-name .new-name .ensures) (at-f1 .f1 .given .1) .on) (s .value) (t .kept) (s .kept)
+          (at-relation-tail .relation-tail .ensures .notes (s .value) _ _ (s .found)),
+    ))
 
 pub relation-spec : {M : Type 1} → statement M
 relation-spec = tie.close (tie.spec new-name-requires enum-known-f1 enum-told same-length returns relation-tail-requires enum-known-f2 enum-told-2 same-length-2 same-length-3 returns-2 mul-dir slice-write-dir cast-dir mul-dir-2 add-dir cast-dir-2 add-dir-2 mul-dir-3 slice-write-dir-2 same-length-4 same-length-5 returns-3)

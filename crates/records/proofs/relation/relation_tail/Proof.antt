@@ -54,13 +54,24 @@ unfolding relationTail
 returns-3 c = noted-no _ _ _ _ _ _ (last-stop (λ a. 0) _ _ _ (search (by-then, then-stop) depth 16) _ (c .enum-told3 .given .1)) (c .enum-told3 .given .1)
 
 optional-derivation-requires : tie.Need-optional-derivation-requires
-optional-derivation-requires c κs = let a = field-on _ _ _ _ (c .before .before .before .before .before .before .before .before .before .before .before .before .skip .ensures) (c .before .before .before .before .before .before .before .before .before .before .f1 .given .1) in let b = field-on _ _ _ _ (c .before .before .before .before .before .before .before .before .skip2 .ensures) (c .before .before .before .before .before .before .f2 .given .1) in let l = list-on _ _ _ (c .before .before .before .before .name-list .ensures) (c .before .before .f3 .given .1) in ((c .before .before .before .before .before .before .before .before .before .before .before .before .before .before .before .pre) .0, (c .before .before .before .before .before .before .before .before .before .before .before .before .before .before .before .pre) .1, list-few _ _ _ (c .before .before .before .before .name-list .ensures) (c .before .before .f3 .given .1), omega (arith, a, b, l, (c .before .before .before .before .before .before .before .before .before .before .before .before .before .before .before .pre) .2))
+optional-derivation-requires c κs =
+    let at-f3 = c .before .before in let at-name-list = at-f3 .before .before in let at-f2 = at-name-list .before .before in
+    let at-skip2 = at-f2 .before .before in let at-f1 = at-skip2 .before .before in let at-skip = at-f1 .before .before in
+    let start = at-skip .before .before .before in
+    let a = field-on _ _ _ _ (at-skip .skip .ensures) (at-f1 .f1 .given .1) in let b = field-on _ _ _ _ (at-skip2 .skip2 .ensures) (at-f2 .f2 .given .1) in let l = list-on _ _ _
+    (at-name-list .name-list .ensures) (at-f3 .f3 .given .1) in
+    (start .pre .0, (start .pre) .1, list-few _ _ _ (at-name-list .name-list .ensures) (at-f3 .f3 .given .1), omega (arith, a, b, l, (start .pre) .2))
 
 same-length : tie.Need-same-length
 same-length c = search needs
 
 returns-4 : tie.Need-returns-4
-returns-4 c = tail-noted _ _ _ _ _ (c .before .before .before .before .before .before .before .before .before .before .before .before .before .before .before .skip .ensures) (c .before .before .before .before .before .before .before .before .before .before .before .before .before .f1 .given .1) (c .before .before .before .before .before .before .before .before .before .before .before .skip2 .ensures) (c .before .before .before .before .before .before .before .before .before .f2 .given .1) (c .before .before .before .before .before .before .before .name-list .ensures) (c .before .before .before .before .before .f3 .given .1) (c .before .before .optional-derivation .ensures)
+returns-4 c =
+    let at-optional-derivation = c .before .before in let at-f3 = at-optional-derivation .before .before .before in
+    let at-name-list = at-f3 .before .before in let at-f2 = at-name-list .before .before in let at-skip2 = at-f2 .before .before in
+    let at-f1 = at-skip2 .before .before in let at-skip = at-f1 .before .before in
+    tail-noted _ _ _ _ _ (at-skip .skip .ensures) (at-f1 .f1 .given .1) (at-skip2 .skip2 .ensures) (at-f2 .f2 .given .1) (at-name-list .name-list .ensures) (at-f3 .f3 .given .1)
+    (at-optional-derivation .optional-derivation .ensures)
 
 pub relation-tail-spec : {M : Type 1} → statement M
 relation-tail-spec = tie.close (tie.spec skip-requires enum-known-f1 enum-told returns skip-requires-2 enum-known-f2 enum-told-2 returns-2 name-list-requires enum-known-f3 enum-told-3 returns-3 optional-derivation-requires same-length returns-4)

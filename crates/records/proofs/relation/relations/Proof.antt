@@ -33,10 +33,15 @@ unfolding relations
 returns c = noted-no _ _ _ _ _ _ (last-stop (λ a. 0) _ _ _ (search walks depth 16) _ (c .enum-told .given .1)) (c .enum-told .given .1)
 
 loop-holds : tie.Need-loop-holds Inv-loop μ-loop
-loop-holds c = let r = count-read _ _ _ (c .before .before .before .field .ensures) (c .before .f .given .1) in relating _ _ ((c .before .before .before .before .before .before .before .pre) .2) (r .few) (r .late)
+loop-holds c =
+    let at-f = c .before in let at-field = at-f .before .before in let start = at-field .before .before .before .before in
+    let r = count-read _ _ _ (at-field .field .ensures) (at-f .f .given .1) in relating _ _ (start .pre .2) (r .few) (r .late)
 
 relation-requires : tie.Need-relation-requires Inv-loop μ-loop
-relation-requires c κs = let g = (c .before .before .before .loop .inv) in let p = (c .before .before .before .before .before .before .before .before .before .before .before .pre) in (p .0, p .1, omega (arith, g .many, g .few), g .names .long)
+relation-requires c κs =
+    let at-loop = c .before .before .before in let on-the-way = at-loop .before .before .before .before .before .before in
+    let start = on-the-way .before .before in
+    let g = (at-loop .loop .inv) in let p = (start .pre) in (p .0, p .1, omega (arith, g .many, g .few), g .names .long)
 
 enum-known-g : tie.Need-enum-known-g Inv-loop μ-loop
 enum-known-g c = search needs
@@ -45,17 +50,29 @@ enum-told-2 : tie.Need-enum-told-2 Inv-loop μ-loop
 enum-told-2 c = search needs
 
 same-length : tie.Need-same-length Inv-loop μ-loop
-same-length c = omega (arith, (c .before .before .before .before .before .before .before .before .before .before .loop .inv) .kept)
+same-length c =
+    let on-the-way = c .before .before .before .before .before .before in let at-loop = on-the-way .before .before .before .before in
+    omega (arith, (at-loop .loop .inv) .kept)
 
 same-length-2 : tie.Need-same-length-2 Inv-loop μ-loop
-same-length-2 c = omega (arith, (c .before .before .before .before .before .before .before .before .before .before .loop .inv) .stays)
+same-length-2 c =
+    let on-the-way = c .before .before .before .before .before .before in let at-loop = on-the-way .before .before .before .before in
+    omega (arith, (at-loop .loop .inv) .stays)
 
 returns-2 : tie.Need-returns-2 Inv-loop μ-loop
 unfolding relations says
-returns-2 c = let g = (c .before .before .before .before .before .before .before .before .before .before .loop .inv) in noted-no _ _ _ _ _ _ (last-stop (λ a. 0) _ _ _ (by-left _ _ _ _ _ _ _ _ _ (c .before .before .before .before .before .before .before .before .before .before .before .before .before .before .field .ensures) (c .before .before .before .before .before .before .before .before .before .before .before .before .f .given .1) refl (by-inv (g .work .walks) (all-stop _ _ _ _ _ _ (omega arith) _ (noted-used _ _ (g .names) (c .before .before .before .before .before .before .relation .ensures) .answers) (c .enum-told2 .given .1)))) _ (c .enum-told2 .given .1)) (c .enum-told2 .given .1)
+returns-2 c =
+    let at-relation = c .before .before .before .before .before .before in let at-loop = at-relation .before .before .before .before in
+    let at-f = at-loop .before .before in let at-field = at-f .before .before in
+    let g = (at-loop .loop .inv) in noted-no _ _ _ _ _ _
+    (last-stop (λ a. 0) _ _ _ (by-left _ _ _ _ _ _ _ _ _ (at-field .field .ensures) (at-f .f .given .1) refl
+    (by-inv (g .work .walks) (all-stop _ _ _ _ _ _ (omega arith) _ (noted-used _ _ (g .names) (at-relation .relation .ensures) .answers) (c .enum-told2 .given .1)))) _
+    (c .enum-told2 .given .1)) (c .enum-told2 .given .1)
 
 add-i : tie.Need-add-i Inv-loop μ-loop
-add-i c = let g = (c .before .before .before .before .before .before .before .before .before .before .before .loop .inv) in omega (arith, g .many, g .few)
+add-i c =
+    let on-the-way = c .before .before .before .before .before .before in let at-loop = on-the-way .before .before .before .before .before in
+    let g = (at-loop .loop .inv) in omega (arith, g .many, g .few)
 
 sub-left : tie.Need-sub-left Inv-loop μ-loop
 sub-left c = search needs
@@ -64,7 +81,10 @@ loop-less : tie.Need-loop-less Inv-loop μ-loop
 loop-less c = search needs
 
 loop-again : tie.Need-loop-again Inv-loop μ-loop
-loop-again c = relating-on _ _ (c .before .before .before .before .before .before .before .before .before .before .before .loop .inv) (omega arith) (c .before .before .before .before .before .before .before .relation .ensures) (c .before .g .given .1) (omega arith)
+loop-again c =
+    let at-g = c .before in let at-relation = at-g .before .before .before .before .before .before in
+    let at-loop = at-relation .before .before .before .before in
+    relating-on _ _ (at-loop .loop .inv) (omega arith) (at-relation .relation .ensures) (at-g .g .given .1) (omega arith)
 
 same-length-3 : tie.Need-same-length-3 Inv-loop μ-loop
 same-length-3 c = omega (arith, (c .before .loop .inv) .kept)

@@ -35,7 +35,9 @@ loop-holds : tie.Need-loop-holds Inv-loop μ-loop
 loop-holds c = noting _ _ _ _ _ _
 
 rule-requires : tie.Need-rule-requires Inv-loop μ-loop
-rule-requires c κs = (c .before .before .before .before .before .before .before .before .before .pre)
+rule-requires c κs =
+    let on-the-way = c .before .before .before .before .before .before in let start = on-the-way .before .before .before in
+    (start .pre)
 
 enum-known-g : tie.Need-enum-known-g Inv-loop μ-loop
 enum-known-g c = search needs
@@ -44,11 +46,18 @@ enum-told-2 : tie.Need-enum-told-2 Inv-loop μ-loop
 enum-told-2 c = search needs
 
 same-length : tie.Need-same-length Inv-loop μ-loop
-same-length c = omega (arith, (c .before .before .before .before .before .before .before .loop .inv) .kept)
+same-length c =
+    let on-the-way = c .before .before .before .before .before .before in let at-loop = on-the-way .before in
+    omega (arith, (at-loop .loop .inv) .kept)
 
 returns-2 : tie.Need-returns-2 Inv-loop μ-loop
 unfolding rules says
-returns-2 c = noted-no _ _ _ _ _ _ (last-stop (λ a. 0) _ _ _ (by-left _ _ _ _ _ _ _ _ _ (c .before .before .before .before .before .before .before .before .before .before .before .field .ensures) (c .before .before .before .before .before .before .before .before .before .f .given .1) refl (by-inv (c .before .before .before .before .before .before .before .loop .inv .work .walks) (all-stop _ _ _ _ _ _ (omega arith) _ (c .before .before .before .before .rule .ensures 0 .answers) (c .enum-told2 .given .1)))) _ (c .enum-told2 .given .1)) (c .enum-told2 .given .1)
+returns-2 c =
+    let at-rule = c .before .before .before .before in let at-loop = at-rule .before .before .before in let at-f = at-loop .before .before in
+    let at-field = at-f .before .before in
+    noted-no _ _ _ _ _ _ (last-stop (λ a. 0) _ _ _ (by-left _ _ _ _ _ _ _ _ _ (at-field .field .ensures) (at-f .f .given .1) refl
+    (by-inv (at-loop .loop .inv .work .walks) (all-stop _ _ _ _ _ _ (omega arith) _ (at-rule .rule .ensures 0 .answers) (c .enum-told2 .given .1)))) _ (c .enum-told2 .given .1))
+    (c .enum-told2 .given .1)
 
 sub-left : tie.Need-sub-left Inv-loop μ-loop
 sub-left c = search needs
@@ -57,7 +66,9 @@ loop-less : tie.Need-loop-less Inv-loop μ-loop
 loop-less c = search needs
 
 loop-again : tie.Need-loop-again Inv-loop μ-loop
-loop-again c = noting-on _ _ _ (c .before .before .before .before .before .before .before .before .loop .inv) (omega arith) (c .before .before .before .before .before .rule .ensures) (c .before .g .given .1) (omega arith)
+loop-again c =
+    let at-g = c .before in let at-rule = at-g .before .before .before .before in let at-loop = at-rule .before .before .before in
+    noting-on _ _ _ (at-loop .loop .inv) (omega arith) (at-rule .rule .ensures) (at-g .g .given .1) (omega arith)
 
 same-length-2 : tie.Need-same-length-2 Inv-loop μ-loop
 same-length-2 c = omega (arith, (c .before .loop .inv) .kept)

@@ -9,7 +9,9 @@ slice-aggregate-finish-in : tie.Need-slice-aggregate-finish-in
 slice-aggregate-finish-in c = search needs
 
 finish-in-requires : tie.Need-finish-in-requires
-finish-in-requires c κs = (c .before .before .before .before .before .before .before .before .before .pre, record { most = 128; zeros = refl; room = c .before .before .if1 .taken })
+finish-in-requires c κs =
+    let at-if1 = c .before .before in let on-the-way = at-if1 .before .before .before .before .before .before in let start = on-the-way .before in
+    (start .pre, record { most = 128; zeros = refl; room = at-if1 .if1 .taken })
 
 same-length : tie.Need-same-length
 same-length c = search needs
@@ -21,7 +23,9 @@ slice-aggregate-finish-in-2 : tie.Need-slice-aggregate-finish-in-2
 slice-aggregate-finish-in-2 c = search needs
 
 finish-in-requires-2 : tie.Need-finish-in-requires-2
-finish-in-requires-2 c κs = (c .before .before .before .before .before .before .before .before .before .pre, record { most = 1603; zeros = refl; room = table-room (c .before .before .before .before .before .before .before .before .before .pre) .1 })
+finish-in-requires-2 c κs =
+    let on-the-way = c .before .before .before .before .before .before in let start = on-the-way .before .before .before in
+    (start .pre, record { most = 1603; zeros = refl; room = table-room (start .pre) .1 })
 
 same-length-2 : tie.Need-same-length-2
 same-length-2 c = search needs

@@ -7,7 +7,9 @@ use Rattle.resolve.proofs.finish.finish_in.Statement.{statement}
 use Rattle.resolve.proofs.finish.finish_in.Tie as tie
 
 add-after : tie.Need-add-after
-add-after c = omega (arith, few-starts (c .before .before .before .before .before .before .before .before .pre .0))
+add-after c =
+    let on-the-way = c .before .before .before .before .before .before in let start = on-the-way .before .before in
+    omega (arith, few-starts (start .pre .0))
 
 sub-order : tie.Need-sub-order
 sub-order c = search needs
@@ -16,7 +18,9 @@ part-order-start : tie.Need-part-order-start
 part-order-start c = search needs
 
 part-order-end : tie.Need-part-order-end
-part-order-end c = table-room (c .before .before .before .before .before .before .before .before .pre .0) .0
+part-order-end c =
+    let on-the-way = c .before .before .before .before .before .before in let start = on-the-way .before .before in
+    table-room (start .pre .0) .0
 
 sub-lists : tie.Need-sub-lists
 sub-lists c = search needs
@@ -25,13 +29,20 @@ part-lists-start : tie.Need-part-lists-start
 part-lists-start c = search needs
 
 part-lists-end : tie.Need-part-lists-end
-part-lists-end c = table-fits (c .before .before .before .before .before .before .before .before .before .pre .0) (c .before .before .before .before .before .before .before .before .before .pre .1)
+part-lists-end c =
+    let on-the-way = c .before .before .before .before .before .before in let start = on-the-way .before .before .before in
+    table-fits (start .pre .0) (start .pre .1)
 
 lists-requires : tie.Need-lists-requires
-lists-requires c κs = finish-lists (c .before .before .before .before .before .before .before .before .before .before .pre .0) (c .before .before .before .before .before .before .before .before .before .before .pre .1)
+lists-requires c κs =
+    let on-the-way = c .before .before .before .before .before .before in let start = on-the-way .before .before .before .before in
+    finish-lists (start .pre .0) (start .pre .1)
 
 add-len : tie.Need-add-len
-add-len c = omega (arith, whole-short (c .before .before .before .before .before .before .before .before .before .before .before .before .before .pre .0), c .before .before .lists .ensures .few)
+add-len c =
+    let at-lists = c .before .before in let on-the-way = at-lists .before .before .before .before .before .before in
+    let start = on-the-way .before .before .before .before .before in
+    omega (arith, whole-short (start .pre .0), at-lists .lists .ensures .few)
 
 refuse-requires : tie.Need-refuse-requires
 refuse-requires c κs = search needs
@@ -40,7 +51,10 @@ same-length : tie.Need-same-length
 same-length c = search needs
 
 returns : tie.Need-returns
-returns c = too-long (c .before .before .before .before .before .before .before .before .before .before .before .before .before .before .before .pre .0) (c .before .before .before .before .lists .ensures) refl _ (c .before .if1 .taken) (c .refuse .ensures)
+returns c =
+    let at-if1 = c .before in let at-lists = at-if1 .before .before .before in
+    let on-the-way = at-lists .before .before .before .before .before .before in let start = on-the-way .before .before .before .before .before in
+    too-long (start .pre .0) (at-lists .lists .ensures) refl _ (at-if1 .if1 .taken) (c .refuse .ensures)
 
 refuse-requires-2 : tie.Need-refuse-requires-2
 refuse-requires-2 c κs = search needs
@@ -49,7 +63,10 @@ same-length-2 : tie.Need-same-length-2
 same-length-2 c = search needs
 
 returns-2 : tie.Need-returns-2
-returns-2 c = too-short (c .before .before .before .before .before .before .before .before .before .before .before .before .before .before .before .before .pre .0) (c .before .before .before .before .before .lists .ensures) refl _ (c .before .if2 .taken) (c .refuse2 .ensures)
+returns-2 c =
+    let at-if2 = c .before in let at-lists = at-if2 .before .before .before .before in
+    let on-the-way = at-lists .before .before .before .before .before .before in let start = on-the-way .before .before .before .before .before in
+    too-short (start .pre .0) (at-lists .lists .ensures) refl _ (at-if2 .if2 .taken) (c .refuse2 .ensures)
 
 sub-write : tie.Need-sub-write
 sub-write c = search needs
@@ -58,7 +75,10 @@ part-write-start : tie.Need-part-write-start
 part-write-start c = search needs
 
 part-write-end : tie.Need-part-write-end
-part-write-end c = found-room (c .before .before .before .before .before .before .before .before .before .before .before .before .before .before .before .before .pre .0) (c .before .before .before .before .before .before .before .before .before .before .before .before .before .before .before .before .pre .1) (c .before .before .before .before .before .lists .last .1 .1 .1 .1 .1 .0) (c .before .before .before .before .before .lists .kept .1 .1 .1 .1 .1 .0)
+part-write-end c =
+    let at-lists = c .before .before .before .before .before in let on-the-way = at-lists .before .before .before .before .before .before in
+    let start = on-the-way .before .before .before .before .before in
+    found-room (start .pre .0) (start .pre .1) (at-lists .lists .last .1 .1 .1 .1 .1 .0) (at-lists .lists .kept .1 .1 .1 .1 .1 .0)
 
 sub-write-2 : tie.Need-sub-write-2
 sub-write-2 c = search needs
@@ -70,7 +90,10 @@ part-write-end-2 : tie.Need-part-write-end-2
 part-write-end-2 c = search needs
 
 write-requires : tie.Need-write-requires
-write-requires c κs = finish-asked (c .before .before .before .before .before .before .before .before .before .before .before .before .before .before .before .before .before .before .pre .0) (c .before .before .before .before .before .before .before .lists .ensures) refl _ (c .before .before .before .before .if1 .left) (c .before .before .before .if2 .left) (c .before .before .before .before .before .before .before .before .before .before .before .before .before .before .before .before .before .before .pre .1) refl (c .before .before .before .before .before .before .before .lists .kept .1 .1 .1 .1 .1 .0) refl
+write-requires c κs =
+    let at-if2 = c .before .before .before in let at-if1 = at-if2 .before in let at-lists = at-if1 .before .before .before in
+    let on-the-way = at-lists .before .before .before .before .before .before in let start = on-the-way .before .before .before .before .before in
+    finish-asked (start .pre .0) (at-lists .lists .ensures) refl _ (at-if1 .if1 .left) (at-if2 .if2 .left) (start .pre .1) refl (at-lists .lists .kept .1 .1 .1 .1 .1 .0) refl
 
 cast-t29 : tie.Need-cast-t29
 cast-t29 c = search needs
@@ -82,7 +105,12 @@ same-length-4 : tie.Need-same-length-4
 same-length-4 c = search needs
 
 returns-3 : tie.Need-returns-3
-returns-3 c = finish-done (c .before .before .before .before .before .before .before .before .before .before .before .before .before .before .before .before .before .before .before .before .before .pre .0) (c .before .before .before .before .before .before .before .before .before .before .lists .ensures) refl _ (c .before .before .before .before .before .before .before .if1 .left) (c .before .before .before .before .before .before .if2 .left) (c .before .before .before .before .before .before .before .before .before .before .before .before .before .before .before .before .before .before .before .before .before .pre .1) refl (c .before .before .before .before .before .before .before .before .before .before .lists .kept .1 .1 .1 .1 .1 .0) refl (c .before .before .write .ensures)
+returns-3 c =
+    let at-write = c .before .before in let at-if2 = at-write .before .before .before .before in let at-if1 = at-if2 .before in
+    let at-lists = at-if1 .before .before .before in let on-the-way = at-lists .before .before .before .before .before .before in
+    let start = on-the-way .before .before .before .before .before in
+    finish-done (start .pre .0) (at-lists .lists .ensures) refl _ (at-if1 .if1 .left) (at-if2 .if2 .left) (start .pre .1) refl (at-lists .lists .kept .1 .1 .1 .1 .1 .0) refl
+    (at-write .write .ensures)
 
 pub finish-in-spec : {M : Type 1} → statement M
 finish-in-spec =

@@ -23,13 +23,19 @@ written-requires : tie.Need-written-requires
 written-requires c κs = search needs
 
 array-share-prefix-made : tie.Need-array-share-prefix-made
-array-share-prefix-made c = let w = count-within _ (c .before .before .before .before .before .before .before .args .out .now) (c .before .before .before .at-most .ensures) (c .before .before .resolve-into .ensures) (c .written .ensures) in omega (arith, w .1, c .before .before .resolve-into .kept .1 .0)
+array-share-prefix-made c =
+    let at-resolve-into = c .before .before in let at-at-most = at-resolve-into .before in let start = at-at-most .before .before .before .before in
+    let w = count-within _ (start .args .out .now) (at-at-most .at-most .ensures) (at-resolve-into .resolve-into .ensures) (c .written .ensures) in omega
+    (arith, w .1, at-resolve-into .resolve-into .kept .1 .0)
 
 slice-aggregate-copy : tie.Need-slice-aggregate-copy
 slice-aggregate-copy c = sym (length-take-le _ _ (array-share-prefix-made (c .before)))
 
 slice-relend-prefix-copy : tie.Need-slice-relend-prefix-copy
-slice-relend-prefix-copy c = count-within _ (c .before .before .before .before .before .before .before .before .args .out .now) (c .before .before .before .before .at-most .ensures) (c .before .before .before .resolve-into .ensures) (c .before .written .ensures) .0
+slice-relend-prefix-copy c =
+    let at-written = c .before in let at-resolve-into = at-written .before .before in let at-at-most = at-resolve-into .before in
+    let start = at-at-most .before .before .before .before in
+    count-within _ (start .args .out .now) (at-at-most .at-most .ensures) (at-resolve-into .resolve-into .ensures) (at-written .written .ensures) .0
 
 slice-aggregate-copy-2 : tie.Need-slice-aggregate-copy-2
 slice-aggregate-copy-2 c = sym (length-take-le _ _ (slice-relend-prefix-copy (c .before)))
@@ -41,7 +47,11 @@ same-length : tie.Need-same-length
 same-length c = search needs
 
 returns : tie.Need-returns
-returns c = copied-out _ _ (c .before .before .before .before .before .before .before .before .at-most .ensures) (c .before .before .before .before .before .before .before .resolve-into .ensures) (c .before .before .before .before .before .written .ensures) (ap (λ (l : List ℕ). l ++ drop (c .before .before .before .before .before .written .result) (c .before .before .before .before .before .before .before .before .before .before .before .before .args .out .now)) (c .before .before .copy .ensures))
+returns c =
+    let at-copy = c .before .before in let at-written = at-copy .before .before .before in let at-resolve-into = at-written .before .before in
+    let at-at-most = at-resolve-into .before in let start = at-at-most .before .before .before .before in
+    copied-out _ _ (at-at-most .at-most .ensures) (at-resolve-into .resolve-into .ensures) (at-written .written .ensures)
+    (ap (λ (l : List ℕ). l ++ drop (at-written .written .result) (start .args .out .now)) (at-copy .copy .ensures))
 
 pub resolve-spec : {M : Type 1} → statement M
 resolve-spec = tie.close (tie.spec slice-aggregate-resolve-into at-most-requires resolve-into-requires written-requires array-share-prefix-made slice-aggregate-copy slice-relend-prefix-copy slice-aggregate-copy-2 copy-requires same-length returns)

@@ -8,7 +8,9 @@ use Rattle.resolve.proofs.resolve.resolve_by.Statement.{statement}
 use Rattle.resolve.proofs.resolve.resolve_by.Tie as tie
 
 check-notes-requires : tie.Need-check-notes-requires
-check-notes-requires c κs = c .before .before .before .before .before .before .before .before .before .pre .1 .clear
+check-notes-requires c κs =
+    let on-the-way = c .before .before .before .before .before .before in let start = on-the-way .before .before .before in
+    start .pre .1 .clear
 
 enum-known-r : tie.Need-enum-known-r
 enum-known-r c = search needs
@@ -26,7 +28,11 @@ same-length-2 : tie.Need-same-length-2
 same-length-2 c = search needs
 
 returns : tie.Need-returns
-returns c = into-refused _ _ ((c .answer .ensures) ∙ ap answerIn (c .before .enum-told .given .1)) (λ lent. resolve-refused _ lent ((c .answer .ensures) ∙ (c .before .before .before .before .before .before .before .check-notes .ensures .answers)) ((c .answer .ensures) ∙ ap answerIn (c .before .enum-told .given .1)) .answers)
+returns c =
+    let at-enum-told = c .before in let at-check-notes = at-enum-told .before .before .before .before .before .before in
+    into-refused _ _ ((c .answer .ensures) ∙ ap answerIn (at-enum-told .enum-told .given .1))
+    (λ lent. resolve-refused _ lent ((c .answer .ensures) ∙ (at-check-notes .check-notes .ensures .answers))
+    ((c .answer .ensures) ∙ ap answerIn (at-enum-told .enum-told .given .1)) .answers)
 
 sub-resolve-checked : tie.Need-sub-resolve-checked
 sub-resolve-checked c = search needs
@@ -35,10 +41,17 @@ part-resolve-checked-start : tie.Need-part-resolve-checked-start
 part-resolve-checked-start c = search needs
 
 part-resolve-checked-end : tie.Need-part-resolve-checked-end
-part-resolve-checked-end c = let m = its-words (c .before .before .before .before .before .before .before .before .before .before .before .before .before .before .before .before .before .before .before .before .before .before .pre .1 .clear) (c .before .before .before .before .before .before .before .before .before .before .before .before .check-notes .ensures) (c .before .before .before .before .before .before .r .given .1) in omega (arith, c .before .before .before .before .before .before .before .before .before .before .before .before .before .before .before .before .before .before .before .before .before .before .pre .2 m)
+part-resolve-checked-end c =
+    let at-r = c .before .before .before .before .before .before in let at-check-notes = at-r .before .before .before .before .before .before in
+    let on-the-way = at-check-notes .before .before .before .before .before .before in let start = on-the-way .before .before .before .before in
+    let m = its-words (start .pre .1 .clear) (at-check-notes .check-notes .ensures) (at-r .r .given .1) in omega (arith, start .pre .2 m)
 
 resolve-checked-requires : tie.Need-resolve-checked-requires
-resolve-checked-requires c κs = checked-asked (c .before .before .before .before .before .before .before .before .before .before .before .before .before .before .before .before .before .before .before .before .before .before .before .pre .1 .clear) (c .before .before .before .before .before .before .before .before .before .before .before .before .before .check-notes .ensures) (c .before .before .before .before .before .before .before .r .given .1) (c .before .before .before .before .before .before .before .before .before .before .before .before .before .before .before .before .before .before .before .before .before .before .before .pre .0) (c .before .before .before .before .before .before .before .before .before .before .before .before .before .before .before .before .before .before .before .before .before .before .before .pre .1) (search needs) (search needs) (search needs)
+resolve-checked-requires c κs =
+    let on-the-way = c .before .before .before .before .before .before in let at-r = on-the-way .before in
+    let at-check-notes = at-r .before .before .before .before .before .before in
+    let on-the-way-2 = at-check-notes .before .before .before .before .before .before in let start = on-the-way-2 .before .before .before .before in
+    checked-asked (start .pre .1 .clear) (at-check-notes .check-notes .ensures) (at-r .r .given .1) (start .pre .0) (start .pre .1) (search needs) (search needs) (search needs)
 
 same-length-3 : tie.Need-same-length-3
 same-length-3 c = search needs
@@ -59,7 +72,9 @@ same-length-8 : tie.Need-same-length-8
 same-length-8 c = search needs
 
 returns-2 : tie.Need-returns-2
-returns-2 c = c .before .before .before .before .before .before .before .before .before .before .resolve-checked .ensures
+returns-2 c =
+    let on-the-way = c .before .before .before .before .before .before in let at-resolve-checked = on-the-way .before .before .before .before in
+    at-resolve-checked .resolve-checked .ensures
 
 pub resolve-by-spec : {M : Type 1} → statement M
 resolve-by-spec =

@@ -6,10 +6,15 @@ use Rattle.resolve.proofs.resolve.resolve_checked.Statement.{statement}
 use Rattle.resolve.proofs.resolve.resolve_checked.Tie as tie
 
 read-tables-requires : tie.Need-read-tables-requires
-read-tables-requires c κs = let a = c .before .before .before .before .before .before .before .before .before .before .pre in (a .directory, a .acts-lent, a .reaches, a .taken-lent)
+read-tables-requires c κs =
+    let on-the-way = c .before .before .before .before .before .before in let start = on-the-way .before .before .before .before in
+    let a = start .pre in (a .directory, a .acts-lent, a .reaches, a .taken-lent)
 
 add-at : tie.Need-add-at
-add-at c = omega (arith, blocks-near (c .before .before .before .before .before .before .before .before .before .before .before .before .before .before .before .before .pre .directory))
+add-at c =
+    let on-the-way = c .before .before .before .before .before .before in
+    let on-the-way-2 = on-the-way .before .before .before .before .before .before in let start = on-the-way-2 .before .before .before .before in
+    omega (arith, blocks-near (start .pre .directory))
 
 value-at-requires : tie.Need-value-at-requires
 value-at-requires c κs = search needs
@@ -27,7 +32,12 @@ cast-relations : tie.Need-cast-relations
 cast-relations c = search needs
 
 resolve-in-requires : tie.Need-resolve-in-requires
-resolve-in-requires c κs = in-asked (c .before .before .before .before .before .before .before .before .before .before .before .before .before .before .before .before .before .before .before .before .before .before .before .before .before .pre) (c .before .before .before .before .before .before .before .before .before .before .before .before .before .before .read-tables .ensures) (c .before .before .before .before .before .before .before .before .value-at .ensures .0)
+resolve-in-requires c κs =
+    let on-the-way = c .before .before .before .before .before .before in let at-value-at = on-the-way .before .before in
+    let at-read-tables = at-value-at .before .before .before .before .before .before in
+    let on-the-way-2 = at-read-tables .before .before .before .before .before .before in
+    let start = on-the-way-2 .before .before .before .before .before in
+    in-asked (start .pre) (at-read-tables .read-tables .ensures) (at-value-at .value-at .ensures .0)
 
 same-length : tie.Need-same-length
 same-length c = search needs

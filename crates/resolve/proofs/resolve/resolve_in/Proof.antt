@@ -11,16 +11,27 @@ first-equal-requires : tie.Need-first-equal-requires
 first-equal-requires c κs = search needs
 
 equal-kinds-requires : tie.Need-equal-kinds-requires
-equal-kinds-requires c κs = equal-reached (c .before .before .before .before .before .before .before .before .before .pre) (c .before .first-equal .ensures) (c .if1 .taken)
+equal-kinds-requires c κs =
+    let at-first-equal = c .before in let on-the-way = at-first-equal .before .before .before .before .before .before in
+    let start = on-the-way .before .before in
+    equal-reached (start .pre) (at-first-equal .first-equal .ensures) (c .if1 .taken)
 
 returns : tie.Need-returns
-returns c = into-refused _ _ (c .equal-kinds .ensures) (λ lent. c .equal-kinds .ensures ∙ equal-refused (c .before .before .before .before .before .before .before .before .before .before .pre) (c .before .before .first-equal .ensures) (c .before .if1 .taken) lent)
+returns c =
+    let at-if1 = c .before in let at-first-equal = at-if1 .before in
+    let on-the-way = at-first-equal .before .before .before .before .before .before in let start = on-the-way .before .before in
+    into-refused _ _ (c .equal-kinds .ensures) (λ lent. c .equal-kinds .ensures ∙ equal-refused (start .pre) (at-first-equal .first-equal .ensures) (at-if1 .if1 .taken) lent)
 
 ask-notes-requires : tie.Need-ask-notes-requires
-ask-notes-requires c κs = marks-asked (c .before .before .before .before .before .before .before .before .before .before .before .before .pre)
+ask-notes-requires c κs =
+    let on-the-way = c .before .before .before .before .before .before in let start = on-the-way .before .before .before .before .before .before in
+    marks-asked (start .pre)
 
 pieces-requires : tie.Need-pieces-requires
-pieces-requires c κs = pieces-asked (c .before .before .before .before .before .before .before .before .before .before .before .before .before .before .before .pre)
+pieces-requires c κs =
+    let on-the-way = c .before .before .before .before .before .before in
+    let on-the-way-2 = on-the-way .before .before .before .before .before .before in let start = on-the-way-2 .before .before .before in
+    pieces-asked (start .pre)
 
 sub-places : tie.Need-sub-places
 sub-places c = search needs
@@ -32,10 +43,27 @@ part-few-end : tie.Need-part-few-end
 part-few-end c = search needs
 
 order-requires : tie.Need-order-requires
-order-requires c κs = orderOf (c .before .before .before .before .before .before .before .before .before .before .before .before .before .before .before .before .before .before .before .before .pre) (pieces-room (c .before .before .before .before .before .before .before .before .before .before .before .before .before .before .before .before .before .before .before .before .pre) (c .before .before .before .before .pieces .ensures) 128 (c .before .before .before .if2 .taken))
+order-requires c κs =
+    let at-if2 = c .before .before .before in let at-pieces = at-if2 .before in
+    let on-the-way = at-pieces .before .before .before .before .before .before in
+    let on-the-way-2 = on-the-way .before .before .before .before .before .before in let start = on-the-way-2 .before .before .before .before in
+    orderOf (start .pre) (pieces-room (start .pre) (at-pieces .pieces .ensures) 128 (at-if2 .if2 .taken))
 
 resolve-placed-requires : tie.Need-resolve-placed-requires
-resolve-placed-requires c κs = record { dir = _; before = _; resolves = c .before .before .before .before .before .before .before .before .before .before .before .before .before .before .before .before .before .before .before .before .before .before .before .before .before .before .before .pre; marked = c .before .before .before .before .before .before .before .before .before .before .before .before .before .before .ask-notes .ensures; begins = c .before .before .before .before .before .before .order .ensures .each (orderOf (c .before .before .before .before .before .before .before .before .before .before .before .before .before .before .before .before .before .before .before .before .before .before .before .before .before .before .before .pre) (pieces-room (c .before .before .before .before .before .before .before .before .before .before .before .before .before .before .before .before .before .before .before .before .before .before .before .before .before .before .before .pre) (c .before .before .before .before .before .before .before .before .before .before .before .pieces .ensures) 128 (c .before .before .before .before .before .before .before .before .before .before .if2 .taken))); unequal = sym (c .before .before .before .before .before .before .before .before .before .before .before .before .before .before .before .before .before .before .before .first-equal .ensures) ∙ c .before .before .before .before .before .before .before .before .before .before .before .before .before .before .before .before .before .before .if1 .left }
+resolve-placed-requires c κs =
+    let at-order = c .before .before .before .before .before .before in let at-if2 = at-order .before .before .before .before in
+    let at-pieces = at-if2 .before in let at-ask-notes = at-pieces .before .before .before in
+    let at-if1 = at-ask-notes .before .before .before .before in let at-first-equal = at-if1 .before in
+    let on-the-way = at-first-equal .before .before .before .before .before .before in let start = on-the-way .before .before in
+    record {
+      dir = _;
+      before = _;
+      resolves = start .pre;
+      marked = at-ask-notes .ask-notes .ensures;
+      begins = at-order .order .ensures .each
+          (orderOf (start .pre) (pieces-room (start .pre) (at-pieces .pieces .ensures) 128 (at-if2 .if2 .taken)));
+      unequal = sym (at-first-equal .first-equal .ensures) ∙ at-if1 .if1 .left;
+    }
 
 same-length : tie.Need-same-length
 same-length c = search needs
@@ -56,13 +84,33 @@ part-all-start : tie.Need-part-all-start
 part-all-start c = search needs
 
 part-all-end : tie.Need-part-all-end
-part-all-end c = pieces-few (c .before .before .before .before .before .before .before .before .before .before .before .before .before .before .before .before .before .pre) (c .before .pieces .ensures)
+part-all-end c =
+    let at-pieces = c .before in let on-the-way = at-pieces .before .before .before .before .before .before in
+    let on-the-way-2 = on-the-way .before .before .before .before .before .before in let start = on-the-way-2 .before .before .before .before in
+    pieces-few (start .pre) (at-pieces .pieces .ensures)
 
 order-requires-2 : tie.Need-order-requires-2
-order-requires-2 c κs = orderOf (c .before .before .before .before .before .before .before .before .before .before .before .before .before .before .before .before .before .before .before .before .pre) (pieces-room (c .before .before .before .before .before .before .before .before .before .before .before .before .before .before .before .before .before .before .before .before .pre) (c .before .before .before .before .pieces .ensures) 1603 (pieces-few (c .before .before .before .before .before .before .before .before .before .before .before .before .before .before .before .before .before .before .before .before .pre) (c .before .before .before .before .pieces .ensures)))
+order-requires-2 c κs =
+    let at-pieces = c .before .before .before .before in let on-the-way = at-pieces .before .before .before .before .before .before in
+    let on-the-way-2 = on-the-way .before .before .before .before .before .before in let start = on-the-way-2 .before .before .before .before in
+    orderOf (start .pre) (pieces-room (start .pre) (at-pieces .pieces .ensures) 1603 (pieces-few (start .pre) (at-pieces .pieces .ensures)))
 
 resolve-placed-requires-2 : tie.Need-resolve-placed-requires-2
-resolve-placed-requires-2 c κs = record { dir = _; before = _; resolves = c .before .before .before .before .before .before .before .before .before .before .before .before .before .before .before .before .before .before .before .before .before .before .before .before .before .before .before .pre; marked = c .before .before .before .before .before .before .before .before .before .before .before .before .before .before .ask-notes .ensures; begins = c .before .before .before .before .before .before .order2 .ensures .each (orderOf (c .before .before .before .before .before .before .before .before .before .before .before .before .before .before .before .before .before .before .before .before .before .before .before .before .before .before .before .pre) (pieces-room (c .before .before .before .before .before .before .before .before .before .before .before .before .before .before .before .before .before .before .before .before .before .before .before .before .before .before .before .pre) (c .before .before .before .before .before .before .before .before .before .before .before .pieces .ensures) 1603 (pieces-few (c .before .before .before .before .before .before .before .before .before .before .before .before .before .before .before .before .before .before .before .before .before .before .before .before .before .before .before .pre) (c .before .before .before .before .before .before .before .before .before .before .before .pieces .ensures)))); unequal = sym (c .before .before .before .before .before .before .before .before .before .before .before .before .before .before .before .before .before .before .before .first-equal .ensures) ∙ c .before .before .before .before .before .before .before .before .before .before .before .before .before .before .before .before .before .before .if1 .left }
+resolve-placed-requires-2 c κs =
+    let at-order2 = c .before .before .before .before .before .before in let at-pieces = at-order2 .before .before .before .before .before in
+    let at-ask-notes = at-pieces .before .before .before in let at-if1 = at-ask-notes .before .before .before .before in
+    let at-first-equal = at-if1 .before in let on-the-way = at-first-equal .before .before .before .before .before .before in
+    let start = on-the-way .before .before in
+    record {
+      dir = _;
+      before = _;
+      resolves = start .pre;
+      marked = at-ask-notes .ask-notes .ensures;
+      begins = at-order2 .order2 .ensures .each
+          (orderOf (start .pre) (pieces-room (start .pre) (at-pieces .pieces .ensures) 1603 (pieces-few (start .pre) (at-pieces .pieces .ensures))));
+      unequal = sym
+          (at-first-equal .first-equal .ensures) ∙ at-if1 .if1 .left;
+    }
 
 same-length-4 : tie.Need-same-length-4
 same-length-4 c = search needs

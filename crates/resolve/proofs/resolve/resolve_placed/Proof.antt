@@ -8,22 +8,35 @@ use Rattle.resolve.proofs.resolve.resolve_placed.Statement.{statement}
 use Rattle.resolve.proofs.resolve.resolve_placed.Tie as tie
 
 copy-requires : tie.Need-copy-requires
-copy-requires c κs = c .before .before .before .before .before .before .before .before .pre .resolves .room
+copy-requires c κs =
+    let on-the-way = c .before .before .before .before .before .before in let start = on-the-way .before .before in
+    start .pre .resolves .room
 
 turn-pack-requires : tie.Need-turn-pack-requires
-turn-pack-requires c κs = turns-asked (c .before .before .before .before .before .before .before .before .before .before .before .before .before .pre) (c .before .before .before .before .copy .ensures)
+turn-pack-requires c κs =
+    let at-copy = c .before .before .before .before in let on-the-way = at-copy .before .before .before .before .before .before in
+    let start = on-the-way .before .before .before in
+    turns-asked (start .pre) (at-copy .copy .ensures)
 
 enum-told : tie.Need-enum-told
 enum-told c = search needs
 
 slice-relend-prefix-finish : tie.Need-slice-relend-prefix-finish
-slice-relend-prefix-finish c = omega (arith, c .before .before .before .before .before .before .before .before .before .before .before .before .before .before .before .before .before .before .before .before .before .pre .resolves .fits)
+slice-relend-prefix-finish c =
+    let on-the-way = c .before .before .before .before .before .before in
+    let on-the-way-2 = on-the-way .before .before .before .before .before .before in
+    let on-the-way-3 = on-the-way-2 .before .before .before .before .before .before in let start = on-the-way-3 .before .before .before in
+    omega (arith, start .pre .resolves .fits)
 
 slice-aggregate-finish : tie.Need-slice-aggregate-finish
 slice-aggregate-finish c = sym (length-take-le _ _ (slice-relend-prefix-finish (c .before)))
 
 finish-requires : tie.Need-finish-requires
-finish-requires c κs = placed-finish (c .before .before .before .before .before .before .before .before .before .before .before .before .before .before .before .before .before .before .before .before .before .before .pre) (c .before .before .before .before .before .before .before .before .turn-pack .ensures) (c .before .before .enum-told .given .1)
+finish-requires c κs =
+    let at-enum-told = c .before .before in let at-turn-pack = at-enum-told .before .before .before .before .before .before in
+    let on-the-way = at-turn-pack .before .before .before .before .before .before in
+    let on-the-way-2 = on-the-way .before .before .before .before .before .before in let start = on-the-way-2 .before .before in
+    placed-finish (start .pre) (at-turn-pack .turn-pack .ensures) (at-enum-told .enum-told .given .1)
 
 enum-known-x : tie.Need-enum-known-x
 enum-known-x c = search needs
@@ -35,7 +48,14 @@ same-length-2 : tie.Need-same-length-2
 same-length-2 c = search needs
 
 returns : tie.Need-returns
-returns c = into-part _ _ _ (length-take-le _ _ (slice-relend-prefix-finish (c .before .before .before .before))) (placed-all (c .before .before .before .before .before .before .before .before .before .before .before .before .before .before .before .before .before .before .before .before .before .before .before .before .before .pre) (c .before .before .before .before .before .before .before .before .before .before .before .turn-pack .ensures) (c .before .before .before .before .before .enum-told .given .1) (c .before .before .finish .ensures)) (c .before .before .finish .kept .1 .1 .1 .1 .1 .1 .0 ∙ length-take-le _ _ (slice-relend-prefix-finish (c .before .before .before .before))) refl
+returns c =
+    let at-finish = c .before .before in let at-before = at-finish .before in let at-enum-told = at-before .before .before in
+    let at-turn-pack = at-enum-told .before .before .before .before .before .before in
+    let on-the-way = at-turn-pack .before .before .before .before .before .before in
+    let on-the-way-2 = on-the-way .before .before .before .before .before .before in let start = on-the-way-2 .before .before in
+    into-part _ _ _ (length-take-le _ _ (slice-relend-prefix-finish (at-before .before)))
+    (placed-all (start .pre) (at-turn-pack .turn-pack .ensures) (at-enum-told .enum-told .given .1) (at-finish .finish .ensures))
+    (at-finish .finish .kept .1 .1 .1 .1 .1 .1 .0 ∙ length-take-le _ _ (slice-relend-prefix-finish (at-before .before))) refl
 
 same-length-3 : tie.Need-same-length-3
 same-length-3 c = search needs
@@ -44,7 +64,11 @@ same-length-4 : tie.Need-same-length-4
 same-length-4 c = search needs
 
 returns-2 : tie.Need-returns-2
-returns-2 c = into-refused _ _ refl (placed-stopped (c .before .before .before .before .before .before .before .before .before .before .before .before .before .before .before .before .before .before .before .before .before .pre) (c .before .before .before .before .before .before .before .turn-pack .ensures) (c .before .x .given .1))
+returns-2 c =
+    let at-x = c .before in let at-turn-pack = at-x .before .before .before .before .before .before in
+    let on-the-way = at-turn-pack .before .before .before .before .before .before in
+    let on-the-way-2 = on-the-way .before .before .before .before .before .before in let start = on-the-way-2 .before .before in
+    into-refused _ _ refl (placed-stopped (start .pre) (at-turn-pack .turn-pack .ensures) (at-x .x .given .1))
 
 pub resolve-placed-spec : {M : Type 1} → statement M
 resolve-placed-spec =

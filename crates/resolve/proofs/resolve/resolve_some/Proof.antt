@@ -18,7 +18,9 @@ slice-aggregate-resolve-by-4 : tie.Need-slice-aggregate-resolve-by-4
 slice-aggregate-resolve-by-4 c = search needs
 
 resolve-by-requires : tie.Need-resolve-by-requires
-resolve-by-requires c κs = (c .before .before .before .before .before .before .before .before .before .pre .0, tables-for _ 1024 (omega arith) (c .before .before .before .before .before .before .before .before .before .pre .1), c .before .before .before .before .before .before .before .before .before .pre .2)
+resolve-by-requires c κs =
+    let on-the-way = c .before .before .before .before .before .before in let start = on-the-way .before .before .before in
+    (start .pre .0, tables-for _ 1024 (omega arith) (start .pre .1), start .pre .2)
 
 same-length : tie.Need-same-length
 same-length c = search needs
@@ -27,7 +29,9 @@ same-length-2 : tie.Need-same-length-2
 same-length-2 c = search needs
 
 returns : tie.Need-returns
-returns c = c .before .before .before .before .before .before .before .before .resolve-by .ensures
+returns c =
+    let on-the-way = c .before .before .before .before .before .before in let at-resolve-by = on-the-way .before .before in
+    at-resolve-by .resolve-by .ensures
 
 pub resolve-some-spec : {M : Type 1} → statement M
 resolve-some-spec =

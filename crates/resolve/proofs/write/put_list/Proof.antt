@@ -24,7 +24,9 @@ mul-out-2 : tie.Need-mul-out-2
 mul-out-2 c = search needs
 
 slice-write-out : tie.Need-slice-write-out
-slice-write-out c = omega (arith, list-room _ _ _ _ ((c .before .before .before .before .before .before .before .before .pre) .1) ((c .before .before .before .put-words) .ensures) ((c .before .before .before .put-words) .kept .1 .0) ((c .names-at) .ensures))
+slice-write-out c =
+    let at-put-words = c .before .before .before in let start = at-put-words .before .before .before .before .before in
+    omega (arith, list-room _ _ _ _ (start .pre .1) (at-put-words .put-words .ensures) (at-put-words .put-words .kept .1 .0) ((c .names-at) .ensures))
 
 add-next : tie.Need-add-next
 add-next c = search needs
@@ -48,16 +50,30 @@ part-put-names-start : tie.Need-part-put-names-start
 part-put-names-start c = search needs
 
 part-put-names-end : tie.Need-part-put-names-end
-part-put-names-end c = omega (arith, list-room _ _ _ _ ((c .before .before .before .before .before .before .before .before .pre) .1) ((c .before .before .before .put-words) .ensures) ((c .before .before .before .put-words) .kept .1 .0) ((c .names-at) .ensures), length-set ((c .before .before .before .put-words) .last .1 .0) ((c .before .before .before .put-words) .result) (wordOf ((c .before .before .before .before .before .before .before .before .args) .kind) ((c .names-at) .result)))
+part-put-names-end c =
+    let at-put-words = c .before .before .before in let start = at-put-words .before .before .before .before .before in
+    omega (
+      arith,
+      list-room _ _ _ _ (start .pre .1) (at-put-words .put-words .ensures) (at-put-words .put-words .kept .1 .0) ((c .names-at) .ensures),
+      length-set
+          (at-put-words .put-words .last .1 .0) (at-put-words .put-words .result) (wordOf (start .args .kind) ((c .names-at) .result)),
+    )
 
 put-names-requires : tie.Need-put-names-requires
 put-names-requires c κs = search needs
 
 same-length : tie.Need-same-length
-same-length c = list-long _ _ _ _ ((c .before .before .before .before .before .before .before .before .before .before .before .before .pre) .1) ((c .before .before .before .before .before .before .before .put-words) .ensures) ((c .before .before .before .before .before .before .before .put-words) .kept .1 .0) ((c .before .before .before .before .names-at) .ensures) ((c .before .before .put-names) .ensures) ∙ ((c .before .before .before .before .before .before .before .put-words) .kept .1 .0)
+same-length c =
+    let at-put-names = c .before .before in let at-names-at = at-put-names .before .before in
+    let at-put-words = at-names-at .before .before .before in let start = at-put-words .before .before .before .before .before in
+    list-long _ _ _ _ (start .pre .1) (at-put-words .put-words .ensures) (at-put-words .put-words .kept .1 .0) (at-names-at .names-at .ensures) (at-put-names .put-names .ensures) ∙
+    (at-put-words .put-words .kept .1 .0)
 
 returns : tie.Need-returns
-returns c = list-put _ _ _ _ ((c .before .before .before .before .before .before .before .before .before .before .before .before .pre) .1) ((c .before .before .before .before .before .before .before .put-words) .ensures) ((c .before .before .before .before .before .before .before .put-words) .kept .1 .0) ((c .before .before .before .before .names-at) .ensures) ((c .before .before .put-names) .ensures)
+returns c =
+    let at-put-names = c .before .before in let at-names-at = at-put-names .before .before in
+    let at-put-words = at-names-at .before .before .before in let start = at-put-words .before .before .before .before .before in
+    list-put _ _ _ _ (start .pre .1) (at-put-words .put-words .ensures) (at-put-words .put-words .kept .1 .0) (at-names-at .names-at .ensures) (at-put-names .put-names .ensures)
 
 pub put-list-spec : {M : Type 1} → statement M
 put-list-spec =

@@ -32,22 +32,36 @@ mul-put-words : tie.Need-mul-put-words
 mul-put-words c = search needs
 
 sub-put-words : tie.Need-sub-put-words
-sub-put-words c = omega (arith, list-inside _ _ ((c .before .before .before .before .before .before .before .before .before .pre) .0) ((c .before .before .before .before .before .if1) .left) (ap (λ (x : ℕ). x + 4) ((c .before .before .before .before .slots-place) .ensures .0)))
+sub-put-words c =
+    let at-slots-place = c .before .before .before .before in let at-if1 = at-slots-place .before in
+    let start = at-if1 .before .before .before .before in
+    omega (arith, list-inside _ _ (start .pre .0) (at-if1 .if1 .left) (ap (λ (x : ℕ). x + 4) (at-slots-place .slots-place .ensures .0)))
 
 part-put-words-start : tie.Need-part-put-words-start
-part-put-words-start c = omega (arith, list-inside _ _ ((c .before .before .before .before .before .before .before .before .before .pre) .0) ((c .before .before .before .before .before .if1) .left) (ap (λ (x : ℕ). x + 4) ((c .before .before .before .before .slots-place) .ensures .0)))
+part-put-words-start c =
+    let at-slots-place = c .before .before .before .before in let at-if1 = at-slots-place .before in
+    let start = at-if1 .before .before .before .before in
+    omega (arith, list-inside _ _ (start .pre .0) (at-if1 .if1 .left) (ap (λ (x : ℕ). x + 4) (at-slots-place .slots-place .ensures .0)))
 
 part-put-words-end : tie.Need-part-put-words-end
 part-put-words-end c = search needs
 
 put-words-requires-2 : tie.Need-put-words-requires-2
-put-words-requires-2 c κs = room-then _ _ (rw (piece-stamped _ _ ((c .before .before .before .before .before .before .before .if1) .left) (ap (λ (x : ℕ). x + 4) ((c .before .before .before .before .before .before .slots-place) .ensures .0))) at ((c .before .before .before .before .before .before .before .before .before .before .before .pre) .1)) ((c .before .before .before .before .put-lists) .ensures) ((c .before .before .before .before .put-lists) .kept .1 .1 .1 .1 .0)
+put-words-requires-2 c κs =
+    let at-put-lists = c .before .before .before .before in let at-slots-place = at-put-lists .before .before in
+    let at-if1 = at-slots-place .before in let start = at-if1 .before .before .before .before in
+    room-then _ _ (rw (piece-stamped _ _ (at-if1 .if1 .left) (ap (λ (x : ℕ). x + 4) (at-slots-place .slots-place .ensures .0))) at (start .pre .1)) (at-put-lists .put-lists .ensures)
+    (at-put-lists .put-lists .kept .1 .1 .1 .1 .0)
 
 same-length-2 : tie.Need-same-length-2
 same-length-2 c = search needs
 
 returns-2 : tie.Need-returns-2
-returns-2 c = rw (piece-stamped _ _ ((c .before .before .before .before .before .before .before .before .before .before .if1) .left) (ap (λ (x : ℕ). x + 4) ((c .before .before .before .before .before .before .before .before .before .slots-place) .ensures .0))) (put-then ((c .before .before .before .before .before .before .before .put-lists) .ensures) ((c .before .before .put-words2) .ensures))
+returns-2 c =
+    let at-put-words2 = c .before .before in let at-put-lists = at-put-words2 .before .before .before .before .before in
+    let at-slots-place = at-put-lists .before .before in let at-if1 = at-slots-place .before in
+    rw (piece-stamped _ _ (at-if1 .if1 .left) (ap (λ (x : ℕ). x + 4) (at-slots-place .slots-place .ensures .0)))
+    (put-then (at-put-lists .put-lists .ensures) (at-put-words2 .put-words2 .ensures))
 
 pub put-record-spec : {M : Type 1} → statement M
 put-record-spec =

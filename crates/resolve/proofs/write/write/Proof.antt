@@ -32,40 +32,67 @@ place-at-requires : tie.Need-place-at-requires Inv-loop μ-loop
 place-at-requires c κs = search needs
 
 mul-put-record : tie.Need-mul-put-record Inv-loop μ-loop
-mul-put-record c = let w = part-within _ _ _ _ _ ((c .before .before .before .loop) .inv _ refl (c .before .before .before .before .before .before .before .before .before .pre)) ((c .before .before .loop-test) .taken) ((c .place-at) .ensures) in omega (arith, w .0, w .1)
+mul-put-record c =
+    let at-loop-test = c .before .before in let at-loop = at-loop-test .before in
+    let start-2 = at-loop .before .before .before .before .before .before in
+    let w = part-within _ _ _ _ _ (at-loop .loop .inv _ refl (start-2 .pre)) (at-loop-test .loop-test .taken) ((c .place-at) .ensures) in omega (arith, w .0, w .1)
 
 sub-put-record : tie.Need-sub-put-record Inv-loop μ-loop
-sub-put-record c = omega (arith, part-within _ _ _ _ _ ((c .before .before .before .loop) .inv _ refl (c .before .before .before .before .before .before .before .before .before .pre)) ((c .before .before .loop-test) .taken) ((c .place-at) .ensures) .0)
+sub-put-record c =
+    let at-loop-test = c .before .before in let at-loop = at-loop-test .before in
+    let start-2 = at-loop .before .before .before .before .before .before in
+    omega (arith, part-within _ _ _ _ _ (at-loop .loop .inv _ refl (start-2 .pre)) (at-loop-test .loop-test .taken) ((c .place-at) .ensures) .0)
 
 part-put-record-start : tie.Need-part-put-record-start Inv-loop μ-loop
-part-put-record-start c = omega (arith, part-within _ _ _ _ _ ((c .before .before .before .loop) .inv _ refl (c .before .before .before .before .before .before .before .before .before .pre)) ((c .before .before .loop-test) .taken) ((c .place-at) .ensures) .0)
+part-put-record-start c =
+    let at-loop-test = c .before .before in let at-loop = at-loop-test .before in
+    let start-2 = at-loop .before .before .before .before .before .before in
+    omega (arith, part-within _ _ _ _ _ (at-loop .loop .inv _ refl (start-2 .pre)) (at-loop-test .loop-test .taken) ((c .place-at) .ensures) .0)
 
 part-put-record-end : tie.Need-part-put-record-end Inv-loop μ-loop
-part-put-record-end c = omega (arith, part-within _ _ _ _ _ ((c .before .before .before .loop) .inv _ refl (c .before .before .before .before .before .before .before .before .before .pre)) ((c .before .before .loop-test) .taken) ((c .place-at) .ensures) .1)
+part-put-record-end c =
+    let at-loop-test = c .before .before in let at-loop = at-loop-test .before in
+    let start-2 = at-loop .before .before .before .before .before .before in
+    omega (arith, part-within _ _ _ _ _ (at-loop .loop .inv _ refl (start-2 .pre)) (at-loop-test .loop-test .taken) ((c .place-at) .ensures) .1)
 
 put-record-requires : tie.Need-put-record-requires Inv-loop μ-loop
-put-record-requires c κs = part-asked _ _ _ _ _ ((c .before .before .before .before .before .loop) .inv _ refl (c .before .before .before .before .before .before .before .before .before .before .before .pre)) ((c .before .before .before .before .loop-test) .taken) ((c .before .before .place-at) .ensures) (come-few (c .before .before .before .before .before .before .before .before .before .before .before .pre))
+put-record-requires c κs =
+    let at-place-at = c .before .before in let at-loop-test = at-place-at .before .before in let at-loop = at-loop-test .before in
+    let start-2 = at-loop .before .before .before .before .before .before in
+    part-asked _ _ _ _ _ (at-loop .loop .inv _ refl (start-2 .pre)) (at-loop-test .loop-test .taken) (at-place-at .place-at .ensures) (come-few (start-2 .pre))
 
 loop-less : tie.Need-loop-less Inv-loop μ-loop
 loop-less c = search needs
 
 loop-again : tie.Need-loop-again Inv-loop μ-loop
-loop-again c = λ room e a. part-put _ _ _ _ _ ((c .before .before .before .before .before .before .before .before .loop) .inv room e a) ((c .before .before .before .before .before .before .before .loop-test) .taken) ((c .before .before .before .before .before .place-at) .ensures) ((c .before .before .put-record) .ensures) ((c .before .before .put-record) .kept .1 .1 .1 .0)
+loop-again c =
+    let at-put-record = c .before .before in let at-place-at = at-put-record .before .before .before in
+    let at-loop-test = at-place-at .before .before in let at-loop = at-loop-test .before in
+    λ room e a. part-put _ _ _ _ _ (at-loop .loop .inv room e a) (at-loop-test .loop-test .taken) (at-place-at .place-at .ensures) (at-put-record .put-record .ensures)
+    (at-put-record .put-record .kept .1 .1 .1 .0)
 
 mul-out : tie.Need-mul-out Inv-loop μ-loop
 mul-out c = search needs
 
 cast-out : tie.Need-cast-out Inv-loop μ-loop
-cast-out c = omega (arith, come-few (c .before .before .before .before .before .before .before .pre), (c .before .loop) .inv _ refl (c .before .before .before .before .before .before .before .pre) .size)
+cast-out c =
+    let at-loop = c .before in let start-2 = at-loop .before .before .before .before .before .before in
+    omega (arith, come-few (start-2 .pre), (at-loop .loop) .inv _ refl (start-2 .pre) .size)
 
 add-out : tie.Need-add-out Inv-loop μ-loop
-add-out c = omega (arith, come-few (c .before .before .before .before .before .before .before .pre), (c .before .loop) .inv _ refl (c .before .before .before .before .before .before .before .pre) .size)
+add-out c =
+    let at-loop = c .before in let start-2 = at-loop .before .before .before .before .before .before in
+    omega (arith, come-few (start-2 .pre), (at-loop .loop) .inv _ refl (start-2 .pre) .size)
 
 slice-write-out : tie.Need-slice-write-out Inv-loop μ-loop
-slice-write-out c = not-empty (c .before .before .before .before .before .before .before .pre) (all-put _ _ _ _ _ ((c .before .loop) .inv _ refl (c .before .before .before .before .before .before .before .pre)) ((c .loop-test) .left))
+slice-write-out c =
+    let at-loop = c .before in let start-2 = at-loop .before .before .before .before .before .before in
+    not-empty (start-2 .pre) (all-put _ _ _ _ _ (at-loop .loop .inv _ refl (start-2 .pre)) ((c .loop-test) .left))
 
 same-length : tie.Need-same-length Inv-loop μ-loop
-same-length c = length-set ((c .before .loop) .out) 0 _ ∙ (c .before .loop) .inv _ refl (c .before .before .before .before .before .before .before .pre) .size ∙ come-long (c .before .before .before .before .before .before .before .pre)
+same-length c =
+    let at-loop = c .before in let start-2 = at-loop .before .before .before .before .before .before in
+    length-set (at-loop .loop .out) 0 _ ∙ (at-loop .loop) .inv _ refl (start-2 .pre) .size ∙ come-long (start-2 .pre)
 
 returns : tie.Need-returns Inv-loop μ-loop
 returns c = record { each = λ a. writing-end a (all-put _ _ _ _ _ ((c .before .loop) .inv _ refl a) ((c .loop-test) .left)) }

@@ -30,16 +30,30 @@ unlike-requires : tie.Need-unlike-requires
 unlike-requires c κs = search needs
 
 returns-2 : tie.Need-returns-2
-returns-2 c = alike _ _ _ _ _ (c .before .before .before .before .before .before .before .value-at .ensures .0) (c .before .before .before .before .before .before .act-of .ensures) (c .before .before .before .before .before .part .ensures .0) (c .before .before .before .before .unstamped .ensures) (not-false _ (c .before .before .before .if1 .left)) (c .before .before .list .ensures .0) (c .before .unlike .ensures) (not-true _ (c .if2 .taken))
+returns-2 c =
+    let at-unlike = c .before in let at-list = at-unlike .before in let at-if1 = at-list .before in let at-unstamped = at-if1 .before in
+    let at-part = at-unstamped .before in let at-act-of = at-part .before in let at-value-at = at-act-of .before in
+    alike _ _ _ _ _ (at-value-at .value-at .ensures .0) (at-act-of .act-of .ensures) (at-part .part .ensures .0) (at-unstamped .unstamped .ensures) (not-false _ (at-if1 .if1 .left))
+    (at-list .list .ensures .0) (at-unlike .unlike .ensures) (not-true _ (c .if2 .taken))
 
 passed-over-requires : tie.Need-passed-over-requires
 passed-over-requires c κs = search needs
 
 returns-3 : tie.Need-returns-3
-returns-3 c = stamped _ _ _ _ _ (c .before .before .before .before .before .before .before .before .before .value-at .ensures .0) (c .before .before .before .before .before .before .before .before .act-of .ensures) (c .before .before .before .before .before .before .before .part .ensures .0) (c .before .before .before .before .before .before .unstamped .ensures) (not-false _ (c .before .before .before .before .before .if1 .left)) (c .before .before .before .before .list .ensures .0) (c .before .before .before .unlike .ensures) (not-false _ (c .before .before .if2 .left)) (c .before .passed-over .ensures) (not-true _ (c .if3 .taken))
+returns-3 c =
+    let at-passed-over = c .before in let at-if2 = at-passed-over .before in let at-unlike = at-if2 .before in let at-list = at-unlike .before in
+    let at-if1 = at-list .before in let at-unstamped = at-if1 .before in let at-part = at-unstamped .before in let at-act-of = at-part .before in
+    let at-value-at = at-act-of .before in
+    stamped _ _ _ _ _ (at-value-at .value-at .ensures .0) (at-act-of .act-of .ensures) (at-part .part .ensures .0) (at-unstamped .unstamped .ensures) (not-false _ (at-if1 .if1 .left))
+    (at-list .list .ensures .0) (at-unlike .unlike .ensures) (not-false _ (at-if2 .if2 .left)) (at-passed-over .passed-over .ensures) (not-true _ (c .if3 .taken))
 
 returns-4 : tie.Need-returns-4
-returns-4 c = passed _ _ _ _ _ (c .before .before .before .before .before .before .before .before .before .value-at .ensures .0) (c .before .before .before .before .before .before .before .before .act-of .ensures) (c .before .before .before .before .before .before .before .part .ensures .0) (c .before .before .before .before .before .before .unstamped .ensures) (not-false _ (c .before .before .before .before .before .if1 .left)) (c .before .before .before .before .list .ensures .0) (c .before .before .before .unlike .ensures) (not-false _ (c .before .before .if2 .left)) (c .before .passed-over .ensures) (not-false _ (c .if3 .left))
+returns-4 c =
+    let at-passed-over = c .before in let at-if2 = at-passed-over .before in let at-unlike = at-if2 .before in let at-list = at-unlike .before in
+    let at-if1 = at-list .before in let at-unstamped = at-if1 .before in let at-part = at-unstamped .before in let at-act-of = at-part .before in
+    let at-value-at = at-act-of .before in
+    passed _ _ _ _ _ (at-value-at .value-at .ensures .0) (at-act-of .act-of .ensures) (at-part .part .ensures .0) (at-unstamped .unstamped .ensures) (not-false _ (at-if1 .if1 .left))
+    (at-list .list .ensures .0) (at-unlike .unlike .ensures) (not-false _ (at-if2 .if2 .left)) (at-passed-over .passed-over .ensures) (not-false _ (c .if3 .left))
 
 pub list-for-spec : {M : Type 1} → statement M
 list-for-spec =

@@ -24,10 +24,14 @@ shared-slice-read-start : tie.Need-shared-slice-read-start Inv-loop μ-loop
 shared-slice-read-start c = search needs
 
 cast-start : tie.Need-cast-start Inv-loop μ-loop
-cast-start c = omega (arith, recorded _ ((c .before .before .loop) .i) ((c .before .before .before .before .before .before .before .before .before .pre) .0))
+cast-start c =
+    let at-loop = c .before .before in let on-the-way = at-loop .before .before .before .before .before .before in let start = on-the-way .before in
+    omega (arith, recorded _ (at-loop .loop .i) (start .pre .0))
 
 list-for-requires : tie.Need-list-for-requires Inv-loop μ-loop
-list-for-requires c κs = recorded _ _ ((c .before .before .before .before .before .before .before .before .before .pre) .0)
+list-for-requires c κs =
+    let on-the-way = c .before .before .before .before .before .before in let start = on-the-way .before .before .before in
+    recorded _ _ (start .pre .0)
 
 mul-table : tie.Need-mul-table Inv-loop μ-loop
 mul-table c = search needs
@@ -36,10 +40,15 @@ slice-write-table : tie.Need-slice-write-table Inv-loop μ-loop
 slice-write-table c = omega (arith, (c .before .before .before .loop) .inv .long)
 
 added-requires : tie.Need-added-requires Inv-loop μ-loop
-added-requires c κs = recorded _ _ ((c .before .before .before .before .before .before .before .before .before .before .pre) .0)
+added-requires c κs =
+    let on-the-way = c .before .before .before .before .before .before in let start = on-the-way .before .before .before .before in
+    recorded _ _ (start .pre .0)
 
 add-more : tie.Need-add-more Inv-loop μ-loop
-add-more c = omega (arith, (c .before .before .before .before .loop) .inv .small, (c .before .before .before .before .loop) .inv .within, (c .before .before .before .before .before .before .before .before .before .before .before .pre) .2, (c .added) .ensures .1)
+add-more c =
+    let at-loop = c .before .before .before .before in let on-the-way = at-loop .before .before .before .before .before .before in
+    let start = on-the-way .before in
+    omega (arith, (at-loop .loop) .inv .small, (at-loop .loop) .inv .within, (start .pre) .2, (c .added) .ensures .1)
 
 add-i : tie.Need-add-i Inv-loop μ-loop
 add-i c = search needs
@@ -51,10 +60,14 @@ loop-again : tie.Need-loop-again Inv-loop μ-loop
 loop-again c = listing-next _ _ _ _ _ ((c .before .before .before .before .loop) .inv) ((c .before .before .before .loop-test) .taken) ((c .before .list-for) .ensures) ((c .added) .ensures .0) ((c .added) .ensures .1)
 
 same-length : tie.Need-same-length Inv-loop μ-loop
-same-length c = (c .before .loop) .inv .long ∙ sym ((c .before .before .before .before .before .before .before .before .pre) .1)
+same-length c =
+    let at-loop = c .before in let on-the-way = at-loop .before .before .before .before .before .before in let start = on-the-way .before in
+    (at-loop .loop) .inv .long ∙ sym (start .pre .1)
 
 returns : tie.Need-returns Inv-loop μ-loop
-returns c = listing-all _ _ _ _ _ ((c .before .loop) .inv) ((c .loop-test) .left) ((c .before .before .before .before .before .before .before .before .pre) .2)
+returns c =
+    let at-loop = c .before in let on-the-way = at-loop .before .before .before .before .before .before in let start = on-the-way .before in
+    listing-all _ _ _ _ _ (at-loop .loop .inv) ((c .loop-test) .left) (start .pre .2)
 
 pub lists-spec : {M : Type 1} → statement M
 lists-spec =

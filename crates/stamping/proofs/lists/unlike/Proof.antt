@@ -35,10 +35,18 @@ enum-told-2 : tie.Need-enum-told-2
 enum-told-2 c = search needs
 
 returns-2 : tie.Need-returns-2
-returns-2 c = related-out _ _ _ _ (c .before .before .before .before .before .before .before .before .value-at .ensures .0) (c .before .before .before .before .before .before .before .kind-at .ensures) (c .before .before .before .before .before .c .given .1) (c .before .before .before .value-at2 .ensures .0) (c .before .before .kind-at2 .ensures) (c .enum-told2 .given .1)
+returns-2 c =
+    let at-kind-at2 = c .before .before in let at-value-at2 = at-kind-at2 .before in let at-c = at-value-at2 .before .before in
+    let at-kind-at = at-c .before .before in let at-value-at = at-kind-at .before in
+    related-out _ _ _ _ (at-value-at .value-at .ensures .0) (at-kind-at .kind-at .ensures) (at-c .c .given .1) (at-value-at2 .value-at2 .ensures .0) (at-kind-at2 .kind-at2 .ensures)
+    (c .enum-told2 .given .1)
 
 returns-3 : tie.Need-returns-3
-returns-3 c = both-there _ _ _ _ (c .before .before .before .before .before .before .before .before .before .value-at .ensures .0) (c .before .before .before .before .before .before .before .before .kind-at .ensures) (c .before .before .before .before .before .before .c .given .1) (c .before .before .before .before .value-at2 .ensures .0) (c .before .before .before .kind-at2 .ensures) (c .before .r .given .1)
+returns-3 c =
+    let at-r = c .before in let at-kind-at2 = at-r .before .before in let at-value-at2 = at-kind-at2 .before in
+    let at-c = at-value-at2 .before .before in let at-kind-at = at-c .before .before in let at-value-at = at-kind-at .before in
+    both-there _ _ _ _ (at-value-at .value-at .ensures .0) (at-kind-at .kind-at .ensures) (at-c .c .given .1) (at-value-at2 .value-at2 .ensures .0) (at-kind-at2 .kind-at2 .ensures)
+    (at-r .r .given .1)
 
 pub unlike-spec : {M : Type 1} → statement M
 unlike-spec =

@@ -36,7 +36,10 @@ same-length : tie.Need-same-length
 same-length c = search needs
 
 returns-5 : tie.Need-returns-5
-returns-5 c = same-marked (c .before .before .before .before .before .before .before .before .before .before .before .args .pack .now) (c .before .before .before .before .before .before .before .before .before .before .before .args .note) (c .before .before .before .before .before .before .before .before .before .before .before .args .current) (c .before .before .before .before .before .before .before .before .before .before .before .args .table .now) (c .before .before .before .before .before .before .before .if1 .left) (c .before .before .before .before .if5 .taken) (c .before .before .mark .ensures)
+returns-5 c =
+    let at-mark = c .before .before in let at-if5 = at-mark .before .before in let at-if1 = at-if5 .before .before .before in
+    let start = at-if1 .before .before .before .before in
+    same-marked (start .args .pack .now) (start .args .note) (start .args .current) (start .args .table .now) (at-if1 .if1 .left) (at-if5 .if5 .taken) (at-mark .mark .ensures)
 
 mark-requires-2 : tie.Need-mark-requires-2
 mark-requires-2 c κs = search needs
@@ -48,7 +51,11 @@ same-length-2 : tie.Need-same-length-2
 same-length-2 c = search needs
 
 returns-6 : tie.Need-returns-6
-returns-6 c = atom-marked (c .before .before .before .before .before .before .before .before .before .before .before .before .before .before .before .args .pack .now) (c .before .before .before .before .before .before .before .before .before .before .before .before .before .before .before .args .note) (c .before .before .before .before .before .before .before .before .before .before .before .before .before .before .before .args .current) (c .before .before .before .before .before .before .before .before .before .before .before .before .before .before .before .args .table .now) (c .before .before .before .before .before .before .before .before .before .before .before .if1 .left) (c .before .before .before .before .before .before .before .before .before .before .if3 .left) (c .before .before .before .before .before .before .before .before .before .if4 .left) (c .before .before .before .before .before .before .before .before .if5 .left) (c .before .before .before .before .before .before .mark2 .ensures) (c .before .before .mark3 .ensures)
+returns-6 c =
+    let at-mark3 = c .before .before in let at-mark2 = at-mark3 .before .before .before .before in let at-if5 = at-mark2 .before .before in
+    let at-if4 = at-if5 .before in let at-if3 = at-if4 .before in let at-if1 = at-if3 .before in let start = at-if1 .before .before .before .before in
+    atom-marked (start .args .pack .now) (start .args .note) (start .args .current) (start .args .table .now) (at-if1 .if1 .left) (at-if3 .if3 .left) (at-if4 .if4 .left)
+    (at-if5 .if5 .left) (at-mark2 .mark2 .ensures) (at-mark3 .mark3 .ensures)
 
 pub ask-note-spec : {M : Type 1} → statement M
 ask-note-spec =

@@ -22,10 +22,14 @@ shared-slice-read-ask-note : tie.Need-shared-slice-read-ask-note Inv-loop μ-loo
 shared-slice-read-ask-note c = omega (arith, c .before .loop-test .taken, c .before .before .before .before .before .before .pre .room)
 
 ask-note-requires : tie.Need-ask-note-requires Inv-loop μ-loop
-ask-note-requires c κs = mark-asked _ _ _ _ (c .before .before .before .loop .inv) (c .before .before .loop-test .taken) (c .before .before .before .before .before .before .before .pre)
+ask-note-requires c κs =
+    let at-loop-test = c .before .before in let at-loop = at-loop-test .before in let start = at-loop .before .before .before .before in
+    mark-asked _ _ _ _ (at-loop .loop .inv) (at-loop-test .loop-test .taken) (start .pre)
 
 add-i : tie.Need-add-i Inv-loop μ-loop
-add-i c = omega (arith, c .before .before .before .before .before .loop-test .taken, c .before .before .before .before .before .before .before .before .before .before .pre .room)
+add-i c =
+    let at-loop-test = c .before .before .before .before .before in let start = at-loop-test .before .before .before .before .before in
+    omega (arith, at-loop-test .loop-test .taken, start .pre .room)
 
 loop-less : tie.Need-loop-less Inv-loop μ-loop
 loop-less c = omega (arith, c .before .before .before .before .before .loop-test .taken)

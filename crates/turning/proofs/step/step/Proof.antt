@@ -30,7 +30,9 @@ mul-related : tie.Need-mul-related
 mul-related c = search needs
 
 shared-slice-read-related : tie.Need-shared-slice-read-related
-shared-slice-read-related c = omega (arith, three-words (c .before .before .before .before .before .before .before .pre .0) (slots-of (test-kind _ (c .before .before .match .keys1)) test-slots))
+shared-slice-read-related c =
+    let at-match = c .before .before in let start = at-match .before .before .before .before .before in
+    omega (arith, three-words (start .pre .0) (slots-of (test-kind _ (at-match .match .keys1)) test-slots))
 
 member-requires : tie.Need-member-requires
 member-requires c κs = search needs
@@ -39,7 +41,9 @@ tested-requires : tie.Need-tested-requires
 tested-requires c κs = search needs
 
 turned-requires : tie.Need-turned-requires
-turned-requires c κs = (c .before .before .before .before .before .before .before .pre .0, turned-slots _ (c .before .if1 .left) (omega (arith, c .if2 .taken)))
+turned-requires c κs =
+    let at-if1 = c .before in let start = at-if1 .before .before .before .before .before .before in
+    (start .pre .0, turned-slots _ (at-if1 .if1 .left) (omega (arith, c .if2 .taken)))
 
 add-only : tie.Need-add-only
 add-only c = search needs
@@ -48,28 +52,43 @@ mul-only : tie.Need-mul-only
 mul-only c = search needs
 
 shared-slice-read-only : tie.Need-shared-slice-read-only
-shared-slice-read-only c = omega (arith, four-words (c .before .before .before .before .before .before .before .before .before .before .pre .0) (only-kind _ (c .before .if3 .taken)))
+shared-slice-read-only c =
+    let at-if3 = c .before in let on-the-way = at-if3 .before .before .before .before .before .before in
+    let start = on-the-way .before .before .before in
+    omega (arith, four-words (start .pre .0) (only-kind _ (at-if3 .if3 .taken)))
 
 only-requires : tie.Need-only-requires
 only-requires c κs = search needs
 
 returns : tie.Need-returns
-returns c = only-taken (c .before .before .before .before .before .before .before .before .before .before .before .pre .0) (only-kind _ (c .before .before .if3 .taken)) (c .before .before .before .turned .ensures .0) (c .before .before .before .turned .ensures .1) (c .only .ensures)
+returns c =
+    let at-if3 = c .before .before in let at-turned = at-if3 .before in let on-the-way = at-turned .before .before .before .before .before .before in
+    let start = on-the-way .before .before in
+    only-taken (start .pre .0) (only-kind _ (at-if3 .if3 .taken)) (at-turned .turned .ensures .0) (at-turned .turned .ensures .1) (c .only .ensures)
 
 went-requires : tie.Need-went-requires
 went-requires c κs = search needs
 
 returns-2 : tie.Need-returns-2
-returns-2 c = test-taken (c .before .before .before .before .before .before .before .before .before .pre .0) (test-kind _ (c .before .before .before .before .match .keys1)) (c .before .member .ensures) (c .tested .ensures)
+returns-2 c =
+    let at-member = c .before in let at-match = at-member .before .before .before in let start = at-match .before .before .before .before .before in
+    test-taken (start .pre .0) (test-kind _ (at-match .match .keys1)) (at-member .member .ensures) (c .tested .ensures)
 
 returns-3 : tie.Need-returns-3
-returns-3 c = went-taken (c .before .before .before .before .before .before .before .before .before .before .pre .0) (aggregates _ (c .before .before .before .before .if1 .left) (omega (arith, c .before .before .before .if2 .taken, c .before .if3 .left))) (c .before .before .turned .ensures .0) (c .before .before .turned .ensures .1) (c .went .ensures)
+returns-3 c =
+    let at-if3 = c .before in let at-turned = at-if3 .before in let at-if2 = at-turned .before in let at-if1 = at-if2 .before in
+    let start = at-if1 .before .before .before .before .before .before in
+    went-taken (start .pre .0) (aggregates _ (at-if1 .if1 .left) (omega (arith, at-if2 .if2 .taken, at-if3 .if3 .left))) (at-turned .turned .ensures .0) (at-turned .turned .ensures .1)
+    (c .went .ensures)
 
 returns-4 : tie.Need-returns-4
 returns-4 c = none-taken (c .before .before .before .before .before .before .pre .0) (no-slots _ (omega (arith, (c .before .before .shared-slice-known4) .given (c .before .before .before .before .before .before .args .node .at))) (c .before .match .rest .1) (λ l. omega arith))
 
 returns-5 : tie.Need-returns-5
-returns-5 c = none-taken (c .before .before .before .before .before .before .before .pre .0) (no-slots _ (omega (arith, (c .before .before .before .shared-slice-known4) .given (c .before .before .before .before .before .before .before .args .node .at))) (c .before .before .match .rest .1) (λ l. omega arith))
+returns-5 c =
+    let at-match = c .before .before in let at-shared-slice-known4 = at-match .before in
+    let start = at-shared-slice-known4 .before .before .before .before in
+    none-taken (start .pre .0) (no-slots _ (omega (arith, (at-shared-slice-known4 .shared-slice-known4) .given (start .args .node .at))) (at-match .match .rest .1) (λ l. omega arith))
 
 pub step-spec : {M : Type 1} → statement M
 step-spec =

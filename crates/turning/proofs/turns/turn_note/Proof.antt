@@ -27,10 +27,14 @@ cast-opened : tie.Need-cast-opened
 cast-opened c = search needs
 
 sub-opened : tie.Need-sub-opened
-sub-opened c = omega (arith, some-field ((c .before .before .before .before .before .before .before .pre)))
+sub-opened c =
+    let on-the-way = c .before .before .before .before .before .before in let start = on-the-way .before in
+    omega (arith, some-field ((start .pre)))
 
 opened-requires : tie.Need-opened-requires
-opened-requires c κs = root-stands ((c .before .before .before .before .before .before .before .pre)) ((c .if1) .left)
+opened-requires c κs =
+    let on-the-way = c .before .before .before .before .before .before in let start = on-the-way .before in
+    root-stands ((start .pre)) ((c .if1) .left)
 
 mul-notes : tie.Need-mul-notes
 mul-notes c = search needs

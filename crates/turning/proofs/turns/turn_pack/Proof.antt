@@ -7,13 +7,19 @@ use Rattle.turning.proofs.turns.turn_pack.Statement.{statement}
 use Rattle.turning.proofs.turns.turn_pack.Tie as tie
 
 add-from : tie.Need-add-from
-add-from c = omega (arith, few-relations _ _ _ _ _ _ _ _ _ ((c .before .before .before .before .before .before .before .pre)))
+add-from c =
+    let on-the-way = c .before .before .before .before .before .before in let start = on-the-way .before in
+    omega (arith, few-relations _ _ _ _ _ _ _ _ _ ((start .pre)))
 
 add-to : tie.Need-add-to
-add-to c = omega (arith, few-notes _ _ _ _ _ _ _ _ _ ((c .before .before .before .before .before .before .before .before .pre)))
+add-to c =
+    let on-the-way = c .before .before .before .before .before .before in let start = on-the-way .before .before in
+    omega (arith, few-notes _ _ _ _ _ _ _ _ _ ((start .pre)))
 
 turns-requires : tie.Need-turns-requires
-turns-requires c κs = rules-asked _ _ _ _ _ _ _ _ _ ((c .before .before .before .before .before .before .before .before .before .before .pre))
+turns-requires c κs =
+    let on-the-way = c .before .before .before .before .before .before in let start = on-the-way .before .before .before .before in
+    rules-asked _ _ _ _ _ _ _ _ _ ((start .pre))
 
 enum-told : tie.Need-enum-told
 enum-told c = search needs
@@ -28,19 +34,35 @@ same-length-2 : tie.Need-same-length-2
 same-length-2 c = (c .before .before .before .before .before .before .turns) .ensures .wide
 
 returns : tie.Need-returns
-returns c = pack-stopped _ _ _ _ _ _ _ _ _ ((c .before .before .before .before .before .before .before .before .before .before .before .before .before .before .before .before .before .pre)) ((c .before .before .before .before .before .before .turns) .ensures) (λ e. refused-not ((c .enum-told2) .given .1) e)
+returns c =
+    let at-turns = c .before .before .before .before .before .before in let on-the-way = at-turns .before .before .before .before .before .before in
+    let start = on-the-way .before .before .before .before .before in
+    pack-stopped _ _ _ _ _ _ _ _ _ ((start .pre)) (at-turns .turns .ensures) (λ e. refused-not ((c .enum-told2) .given .1) e)
 
 turns-requires-2 : tie.Need-turns-requires-2
-turns-requires-2 c κs = relations-asked _ _ _ _ _ _ _ _ _ ((c .before .before .before .before .before .before .before .before .before .before .before .before .before .before .before .before .before .before .before .pre)) ((c .before .before .before .before .before .before .before .before .turns) .ensures) ((c .before .before .enum-told) .given .1)
+turns-requires-2 c κs =
+    let at-enum-told = c .before .before in let at-turns = at-enum-told .before .before .before .before .before .before in
+    let on-the-way = at-turns .before .before .before .before .before .before in let start = on-the-way .before .before .before .before .before in
+    relations-asked _ _ _ _ _ _ _ _ _ ((start .pre)) (at-turns .turns .ensures) (at-enum-told .enum-told .given .1)
 
 same-length-3 : tie.Need-same-length-3
-same-length-3 c = (c .before .before .before .before .turns2) .ensures .long ∙ (c .before .before .before .before .before .before .before .before .before .before .before .before .before .turns) .ensures .long
+same-length-3 c =
+    let at-turns2 = c .before .before .before .before in let on-the-way = at-turns2 .before .before .before .before .before .before in
+    let at-turns = on-the-way .before .before .before in
+    (at-turns2 .turns2) .ensures .long ∙ (at-turns .turns) .ensures .long
 
 same-length-4 : tie.Need-same-length-4
-same-length-4 c = (c .before .before .before .before .turns2) .ensures .wide ∙ (c .before .before .before .before .before .before .before .before .before .before .before .before .before .turns) .ensures .wide
+same-length-4 c =
+    let at-turns2 = c .before .before .before .before in let on-the-way = at-turns2 .before .before .before .before .before .before in
+    let at-turns = on-the-way .before .before .before in
+    (at-turns2 .turns2) .ensures .wide ∙ (at-turns .turns) .ensures .wide
 
 returns-2 : tie.Need-returns-2
-returns-2 c = pack-ended _ _ _ _ _ _ _ _ _ ((c .before .before .before .before .before .before .before .before .before .before .before .before .before .before .before .before .before .before .before .before .before .before .before .before .pre)) ((c .before .before .before .before .before .before .before .before .before .before .before .before .before .turns) .ensures) ((c .before .before .before .before .before .before .before .enum-told) .given .1) ((c .before .before .before .before .turns2) .ensures)
+returns-2 c =
+    let at-turns2 = c .before .before .before .before in let at-enum-told = at-turns2 .before .before .before in
+    let at-turns = at-enum-told .before .before .before .before .before .before in
+    let on-the-way = at-turns .before .before .before .before .before .before in let start = on-the-way .before .before .before .before .before in
+    pack-ended _ _ _ _ _ _ _ _ _ ((start .pre)) (at-turns .turns .ensures) (at-enum-told .enum-told .given .1) (at-turns2 .turns2 .ensures)
 
 pub turn-pack-spec : {M : Type 1} → statement M
 turn-pack-spec =

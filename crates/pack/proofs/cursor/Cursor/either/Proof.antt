@@ -35,11 +35,22 @@ stop-requires-2 c κs = search needs
 
 returns-3 : tie.Need-returns-3
 unfolding allowedHere
-returns-3 c = word-on _ _ _ _ _ (c .before .before .before .before .before .before .word .ensures) (c .before .before .before .before .f .given .1) (⊎-elim (λ w. either-second _ _ _ (w .1 .left)) (λ w. either-first _ _ _ (w .left)) (c .before .before .if1 .came)) (⊎-elim (λ w. rw (w .1 .left, c .before .before .before .before .before .before .before .before .pre .1) (sym (c .before .allows .ensures) ∙ (c .if3 .taken))) (λ w. rw (w .left, c .before .before .before .before .before .before .before .before .pre .0) (sym (c .before .allows .ensures) ∙ (c .if3 .taken))) (c .before .before .if1 .came)) refl
+returns-3 c =
+    let at-allows = c .before in let at-if1 = at-allows .before in let at-f = at-if1 .before .before in let at-word = at-f .before .before in
+    let start = at-word .before .before in
+    word-on _ _ _ _ _ (at-word .word .ensures) (at-f .f .given .1) (⊎-elim (λ w. either-second _ _ _ (w .1 .left)) (λ w. either-first _ _ _ (w .left)) (at-if1 .if1 .came))
+    (⊎-elim (λ w. rw (w .1 .left, start .pre .1) (sym (at-allows .allows .ensures) ∙ (c .if3 .taken)))
+    (λ w. rw (w .left, start .pre .0) (sym (at-allows .allows .ensures) ∙ (c .if3 .taken))) (at-if1 .if1 .came)) refl
 
 returns-4 : tie.Need-returns-4
 unfolding allowedHere
-returns-4 c = (c .stop2 .ensures) ∙ word-value _ _ _ _ _ (c .before .before .before .before .before .before .before .word .ensures) (c .before .before .before .before .before .f .given .1) (⊎-elim (λ w. either-second _ _ _ (w .1 .left)) (λ w. either-first _ _ _ (w .left)) (c .before .before .before .if1 .came)) (⊎-elim (λ w. rw (w .1 .left, c .before .before .before .before .before .before .before .before .before .pre .1) (sym (c .before .before .allows .ensures) ∙ (c .before .if3 .left))) (λ w. rw (w .left, c .before .before .before .before .before .before .before .before .before .pre .0) (sym (c .before .before .allows .ensures) ∙ (c .before .if3 .left))) (c .before .before .before .if1 .came))
+returns-4 c =
+    let at-if3 = c .before in let at-allows = at-if3 .before in let at-if1 = at-allows .before in let at-f = at-if1 .before .before in
+    let at-word = at-f .before .before in let start = at-word .before .before in
+    (c .stop2 .ensures) ∙ word-value _ _ _ _ _ (at-word .word .ensures) (at-f .f .given .1)
+    (⊎-elim (λ w. either-second _ _ _ (w .1 .left)) (λ w. either-first _ _ _ (w .left)) (at-if1 .if1 .came))
+    (⊎-elim (λ w. rw (w .1 .left, start .pre .1) (sym (at-allows .allows .ensures) ∙ (at-if3 .if3 .left)))
+    (λ w. rw (w .left, start .pre .0) (sym (at-allows .allows .ensures) ∙ (at-if3 .if3 .left))) (at-if1 .if1 .came))
 
 pub either-spec : {M : Type 1} → statement M
 either-spec =

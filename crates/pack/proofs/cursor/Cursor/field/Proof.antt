@@ -34,11 +34,19 @@ stop-requires-2 c κs = search needs
 
 returns-3 : tie.Need-returns-3
 unfolding allowedHere
-returns-3 c = word-on _ _ _ _ _ (c .before .before .before .before .before .before .word .ensures) (c .before .before .before .before .f .given .1) (only-same _ _ (c .before .before .if1 .left)) (rw ((c .before .before .if1 .left), (c .before .before .before .before .before .before .before .before .pre)) (sym (c .before .allows .ensures) ∙ (c .if2 .taken))) refl ∙ field-word _ _ _ _ _
+returns-3 c =
+    let at-allows = c .before in let at-if1 = at-allows .before in let at-f = at-if1 .before .before in let at-word = at-f .before .before in
+    let start = at-word .before .before in
+    word-on _ _ _ _ _ (at-word .word .ensures) (at-f .f .given .1) (only-same _ _ (at-if1 .if1 .left))
+    (rw ((at-if1 .if1 .left), (start .pre)) (sym (at-allows .allows .ensures) ∙ (c .if2 .taken))) refl ∙ field-word _ _ _ _ _
 
 returns-4 : tie.Need-returns-4
 unfolding allowedHere
-returns-4 c = (c .stop2 .ensures) ∙ word-value _ _ _ _ _ (c .before .before .before .before .before .before .before .word .ensures) (c .before .before .before .before .before .f .given .1) (only-same _ _ (c .before .before .before .if1 .left)) (rw ((c .before .before .before .if1 .left), (c .before .before .before .before .before .before .before .before .before .pre)) (sym (c .before .before .allows .ensures) ∙ (c .before .if2 .left))) ∙ field-word _ _ _ _ _
+returns-4 c =
+    let at-if2 = c .before in let at-allows = at-if2 .before in let at-if1 = at-allows .before in let at-f = at-if1 .before .before in
+    let at-word = at-f .before .before in let start = at-word .before .before in
+    (c .stop2 .ensures) ∙ word-value _ _ _ _ _ (at-word .word .ensures) (at-f .f .given .1) (only-same _ _ (at-if1 .if1 .left))
+    (rw ((at-if1 .if1 .left), (start .pre)) (sym (at-allows .allows .ensures) ∙ (at-if2 .if2 .left))) ∙ field-word _ _ _ _ _
 
 pub field-spec : {M : Type 1} → statement M
 field-spec =
