@@ -35,7 +35,10 @@ add-result c = search needs
 
 returns-2 : tie.Need-returns-2
 unfolding slotIn slotsIn
-returns-2 c = (sym (whole-at (slotIn (c .before .before .before .before .before .args .dir .now)) 4096 (c .before .before .before .before .before .args .name) (omega (arith, c .before .before .before .before .before .pre .most)) ∙ rw (← (c .before .before .link .ensures .0), ne-eqb _ _ (c .before .if1 .left), lt-ltb _ _ (c .if2 .taken)) refl), omega (arith, c .if2 .taken))
+returns-2 c =
+    let at-if1 = c .before in let at-link = at-if1 .before in let start = at-link .before .before .before in
+    (sym (whole-at (slotIn (start .args .dir .now)) 4096 (start .args .name) (omega (arith, start .pre .most)) ∙ rw
+    (← (at-link .link .ensures .0), ne-eqb _ _ (at-if1 .if1 .left), lt-ltb _ _ (c .if2 .taken)) refl), omega (arith, c .if2 .taken))
 
 cast-result-2 : tie.Need-cast-result-2
 cast-result-2 c = search needs
@@ -45,7 +48,10 @@ add-result-2 c = search needs
 
 returns-3 : tie.Need-returns-3
 unfolding slotIn slotsIn
-returns-3 c = (sym (whole-at (slotIn (c .before .before .before .before .before .args .dir .now)) 4096 (c .before .before .before .before .before .args .name) (omega (arith, c .before .before .before .before .before .pre .most)) ∙ rw (← (c .before .before .link .ensures .0), ne-eqb _ _ (c .before .if1 .left), le-ltb _ _ (c .if2 .left)) refl), omega arith)
+returns-3 c =
+    let at-if1 = c .before in let at-link = at-if1 .before in let start = at-link .before .before .before in
+    (sym (whole-at (slotIn (start .args .dir .now)) 4096 (start .args .name) (omega (arith, start .pre .most)) ∙ rw
+    (← (at-link .link .ensures .0), ne-eqb _ _ (at-if1 .if1 .left), le-ltb _ _ (c .if2 .left)) refl), omega arith)
 
 pub slots-spec : {M : Type 1} → statement M
 slots-spec =

@@ -36,7 +36,10 @@ loop-less : tie.Need-loop-less Inv-loop μ-loop
 loop-less c = search needs
 
 loop-again : tie.Need-loop-again Inv-loop μ-loop
-loop-again c = path-next _ _ _ _ _ (c .before .before .before .loop .inv) (c .before .before .before .before .before .before .pre .1) (omega arith) (read-one _ {steps = 0} (reaches-one (c .before .before .before .before .before .before .pre .2) (omega (arith, c .before .before .before .loop .inv .low, c .before .before .before .loop .inv .long))) (c .before .declared .ensures) .says) (c .next-name .ensures)
+loop-again c =
+    let at-declared = c .before in let at-loop = at-declared .before .before in let start-2 = at-loop .before .before .before in
+    path-next _ _ _ _ _ (at-loop .loop .inv) (start-2 .pre .1) (omega arith)
+    (read-one _ {steps = 0} (reaches-one (start-2 .pre .2) (omega (arith, at-loop .loop .inv .low, at-loop .loop .inv .long))) (at-declared .declared .ensures) .says) (c .next-name .ensures)
 
 same-length : tie.Need-same-length Inv-loop μ-loop
 same-length c = c .before .loop .inv .long

@@ -29,7 +29,10 @@ loop-holds : tie.Need-loop-holds Inv-loop μ-loop
 loop-holds c = begin _ _ _ _ _ (c .before .before .pre .settleable)
 
 walk-requires : tie.Need-walk-requires Inv-loop μ-loop
-walk-requires c κs = (name-walkable (c .before .before .before .before .before .before .pre) (c .before .before .before .loop .inv) (omega (arith, c .before .before .before .loop .inv .long)), subst (Reaches (c .before .before .before .before .before .before .args .dir .now)) (sym (c .before .before .before .loop .inv .long)) (c .before .before .before .before .before .before .pre .reaches))
+walk-requires c κs =
+    let at-loop = c .before .before .before in let start = at-loop .before .before .before in
+    (name-walkable (start .pre) (at-loop .loop .inv) (omega (arith, at-loop .loop .inv .long)), subst (Reaches (start .args .dir .now)) (sym (at-loop .loop .inv .long))
+    (start .pre .reaches))
 
 add-j : tie.Need-add-j Inv-loop μ-loop
 add-j c = search needs

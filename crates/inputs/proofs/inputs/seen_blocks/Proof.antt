@@ -16,13 +16,20 @@ loop-holds : tie.Need-loop-holds Inv-loop μ-loop
 loop-holds c = λ low few. begin-blocks _ _ _ _ _ low few
 
 seen-block-requires : tie.Need-seen-block-requires Inv-loop μ-loop
-seen-block-requires c κs = record { place = block-near _ _ _ _ _ ((c .before .before .before .pre) .0) ((c .before .before .before .pre) .1) ((c .before .loop) .inv ((c .before .before .before .pre) .0) ((c .before .before .before .pre) .1)); before = (c .before .loop) .inv ((c .before .before .before .pre) .0) ((c .before .before .before .pre) .1) .small }
+seen-block-requires c κs =
+    let at-loop = c .before in let start = at-loop .before .before in
+    record { place = block-near _ _ _ _ _ (start .pre .0) (start .pre .1) (at-loop .loop .inv (start .pre .0) (start .pre .1)); before = (at-loop .loop) .inv (start .pre .0)
+    (start .pre .1) .small }
 
 returns : tie.Need-returns Inv-loop μ-loop
-returns c = lacking _ _ _ _ _ ((c .before .before .before .before .before .pre) .0) ((c .before .before .before .before .before .pre) .1) ((c .before .before .before .loop) .inv ((c .before .before .before .before .before .pre) .0) ((c .before .before .before .before .before .pre) .1)) (omega arith) ((c .before .seen-block) .ensures) ((c .if1) .taken)
+returns c =
+    let at-seen-block = c .before in let at-loop = at-seen-block .before .before in let start = at-loop .before .before in
+    lacking _ _ _ _ _ (start .pre .0) (start .pre .1) (at-loop .loop .inv (start .pre .0) (start .pre .1)) (omega arith) (at-seen-block .seen-block .ensures) ((c .if1) .taken)
 
 after-block-requires : tie.Need-after-block-requires Inv-loop μ-loop
-after-block-requires c κs = block-near _ _ _ _ _ ((c .before .before .before .before .before .pre) .0) ((c .before .before .before .before .before .pre) .1) ((c .before .before .before .loop) .inv ((c .before .before .before .before .before .pre) .0) ((c .before .before .before .before .before .pre) .1))
+after-block-requires c κs =
+    let at-loop = c .before .before .before in let start = at-loop .before .before in
+    block-near _ _ _ _ _ (start .pre .0) (start .pre .1) (at-loop .loop .inv (start .pre .0) (start .pre .1))
 
 add-i : tie.Need-add-i Inv-loop μ-loop
 add-i c = search needs

@@ -259,7 +259,12 @@ after-judgment-add-judgments : (t : ℕ) → after-judgment-lts.Need-add-judgmen
 after-judgment-add-judgments t c = omega (arith, (c .before .before .before .before .before .before .pre) .1 .0 .most, (c .before .before .before .before .before .before .pre) .1 .1)
 
 after-judgment-children-requires : (t : ℕ) → after-judgment-lts.Need-children-requires (after-judgment-calls t) (after-judgment-at t) after-judgment.Post
-after-judgment-children-requires t c κs = let k = kindOf (getD ((c .before .before .before .before .before .before .args) .s .now) ((c .before .before .before .before .before .before .args) .at) 0) in (omega (arith, (c .before .before .before .shared-slice-known2) .given ((c .before .before .before .before .before .before .args) .at)), (c .before .before .before .before .before .before .pre) .1 .0 .tabled, judgments-in-row k (above 96 k ((c .before .if1) .left) ((c .before .before .match) .rest .0 .0 .0 .0 .1)) ((c .if2) .taken))
+after-judgment-children-requires t c κs =
+    let at-if1 = c .before in let at-match = at-if1 .before in let at-shared-slice-known2 = at-match .before in
+    let start-2 = at-shared-slice-known2 .before .before .before in
+    let k = kindOf (getD (start-2 .args .s .now) (start-2 .args .at) 0) in
+    (omega (arith, (at-shared-slice-known2 .shared-slice-known2) .given (start-2 .args .at)), (start-2 .pre) .1 .0 .tabled, judgments-in-row k
+    (above 96 k (at-if1 .if1 .left) (at-match .match .rest .0 .0 .0 .0 .1)) ((c .if2) .taken))
 
 after-judgment-judgments-requires : (t : ℕ) → after-judgment-lts.Need-judgments-requires (after-judgment-calls t) (after-judgment-at t) after-judgment.Post
 after-judgment-judgments-requires t c κs =
@@ -333,7 +338,13 @@ after-judgment-returns-6 t c =
     (steady-judgment k (omega (arith, lo)) (at-if2 .if2 .taken)) (at-judgments .judgments .ensures)
 
 after-judgment-returns-7 : (t : ℕ) → after-judgment-lts.Need-returns-7 (after-judgment-calls t) (after-judgment-at t) after-judgment.Post
-after-judgment-returns-7 t c = let k : ℕ = kindOf (getD ((c .before .before .before .before .before .args) .s .now) ((c .before .before .before .before .before .args) .at) 0) in let m = (c .before .match) .rest in let lo : 104 < k = ⊎-elim (λ x. absurd (omega (arith, x .taken, (c .before .before .before .before .before .pre) .1 .2))) (λ y. leaf-past k (y .1 .left) (m .0 .0 .0 .1) (m .0 .0 .1) (m .0 .1) (m .1)) ((c .if1) .came) in let hi : k < 256 = omega (arith, (c .before .before .shared-slice-known2) .given ((c .before .before .before .before .before .args) .at)) in after-leaf _ _ _ _ k (valueOf (getD ((c .before .before .before .before .before .args) .s .now) ((c .before .before .before .before .before .args) .at) 0)) _ (leaf-last (valueOf (getD ((c .before .before .before .before .before .args) .s .now) ((c .before .before .before .before .before .args) .at) 0)) k (omega (arith, lo)) hi) false (plain-last k lo hi) _ refl
+after-judgment-returns-7 t c =
+    let at-match = c .before in let at-shared-slice-known2 = at-match .before in let start-2 = at-shared-slice-known2 .before .before .before in
+    let k : ℕ = kindOf (getD (start-2 .args .s .now) (start-2 .args .at) 0) in let m = (at-match .match) .rest in let lo : 104 < k = ⊎-elim
+    (λ x. absurd (omega (arith, x .taken, (start-2 .pre) .1 .2))) (λ y. leaf-past k (y .1 .left) (m .0 .0 .0 .1) (m .0 .0 .1) (m .0 .1) (m .1))
+    ((c .if1) .came) in let hi : k < 256 = omega (arith, (at-shared-slice-known2 .shared-slice-known2) .given (start-2 .args .at)) in after-leaf _ _ _ _ k
+    (valueOf (getD (start-2 .args .s .now) (start-2 .args .at) 0)) _ (leaf-last (valueOf (getD (start-2 .args .s .now) (start-2 .args .at) 0)) k (omega (arith, lo)) hi) false
+    (plain-last k lo hi) _ refl
 
 after-scalar-mul-w : (t : ℕ) → after-scalar-lts.Need-mul-w (after-scalar-calls t) (after-scalar-at t) after-scalar.Post
 after-scalar-mul-w t c = omega (arith, (c .before .before .pre) .1 .0 .most, (c .before .before .pre) .1 .1)
@@ -390,7 +401,10 @@ after-scalar-only-related-requires t c κs =
     (start-2 .pre .1 .0 .most, omega (arith, (start-2 .pre) .1 .1))
 
 after-scalar-children-requires : (t : ℕ) → after-scalar-lts.Need-children-requires (after-scalar-calls t) (after-scalar-at t) after-scalar.Post
-after-scalar-children-requires t c κs = let k = kindOf (getD ((c .before .before .before .before .before .before .args) .s .now) ((c .before .before .before .before .before .before .args) .at) 0) in (omega (arith, (c .before .before .before .shared-slice-known2) .given ((c .before .before .before .before .before .before .args) .at)), (c .before .before .before .before .before .before .pre) .1 .0 .tabled, scalars-in-row k ((c .before .if1) .left) ((c .if2) .taken))
+after-scalar-children-requires t c κs =
+    let at-if1 = c .before in let at-shared-slice-known2 = at-if1 .before .before in let start-2 = at-shared-slice-known2 .before .before .before in
+    let k = kindOf (getD (start-2 .args .s .now) (start-2 .args .at) 0) in
+    (omega (arith, (at-shared-slice-known2 .shared-slice-known2) .given (start-2 .args .at)), (start-2 .pre) .1 .0 .tabled, scalars-in-row k (at-if1 .if1 .left) ((c .if2) .taken))
 
 after-scalar-add-scalars-2 : (t : ℕ) → after-scalar-lts.Need-add-scalars-2 (after-scalar-calls t) (after-scalar-at t) after-scalar.Post
 after-scalar-add-scalars-2 t c =
@@ -483,7 +497,14 @@ after-scalar-returns-6 t c =
     (aggregate-kind k lo (at-if3 .if3 .taken)) (noted-aggregate k lo (at-if3 .if3 .taken)) (at-aggregate .aggregate .ensures)
 
 after-scalar-returns-7 : (t : ℕ) → after-scalar-lts.Need-returns-7 (after-scalar-calls t) (after-scalar-at t) after-scalar.Post
-after-scalar-returns-7 t c = ⊎-elim (λ x. after-leaf _ _ _ _ (kindOf (getD ((c .before .before .before .before .before .args) .s .now) ((c .before .before .before .before .before .args) .at) 0)) (valueOf (getD ((c .before .before .before .before .before .args) .s .now) ((c .before .before .before .before .before .args) .at) 0)) _ (leaf-low (valueOf (getD ((c .before .before .before .before .before .args) .s .now) ((c .before .before .before .before .before .args) .at) 0)) (kindOf (getD ((c .before .before .before .before .before .args) .s .now) ((c .before .before .before .before .before .args) .at) 0)) (x .taken)) false (plain-low (kindOf (getD ((c .before .before .before .before .before .args) .s .now) ((c .before .before .before .before .before .args) .at) 0)) (x .taken)) _ refl) (λ y. let k = kindOf (getD ((c .before .before .before .before .before .args) .s .now) ((c .before .before .before .before .before .args) .at) 0) in let z = (c .before .match) .rest .1 in let hi : k < 96 = omega (arith, (c .before .before .before .before .before .pre) .1 .2) in let lo : 78 < k = omega (arith, above 78 k (y .2 .left) z) in after-leaf _ _ _ _ k (valueOf (getD ((c .before .before .before .before .before .args) .s .now) ((c .before .before .before .before .before .args) .at) 0)) _ (leaf-between (valueOf (getD ((c .before .before .before .before .before .args) .s .now) ((c .before .before .before .before .before .args) .at) 0)) k (y .2 .left) z hi) false (plain-between k lo hi) _ refl) ((c .if1) .came)
+after-scalar-returns-7 t c =
+    let at-match = c .before in let start-2 = at-match .before .before .before .before in
+    ⊎-elim (λ x. after-leaf _ _ _ _ (kindOf (getD (start-2 .args .s .now) (start-2 .args .at) 0)) (valueOf (getD (start-2 .args .s .now) (start-2 .args .at) 0)) _
+    (leaf-low (valueOf (getD (start-2 .args .s .now) (start-2 .args .at) 0)) (kindOf (getD (start-2 .args .s .now) (start-2 .args .at) 0)) (x .taken)) false
+    (plain-low (kindOf (getD (start-2 .args .s .now) (start-2 .args .at) 0)) (x .taken)) _ refl)
+    (λ y. let k = kindOf (getD (start-2 .args .s .now) (start-2 .args .at) 0) in let z = (at-match .match) .rest .1 in let hi : k < 96 = omega
+    (arith, (start-2 .pre) .1 .2) in let lo : 78 < k = omega (arith, above 78 k (y .2 .left) z) in after-leaf _ _ _ _ k (valueOf (getD (start-2 .args .s .now) (start-2 .args .at) 0)) _
+    (leaf-between (valueOf (getD (start-2 .args .s .now) (start-2 .args .at) 0)) k (y .2 .left) z hi) false (plain-between k lo hi) _ refl) ((c .if1) .came)
 
 aggregate-up-to-requires : (t : ℕ) → aggregate-lts.Need-up-to-requires (aggregate-calls t) (aggregate-at t) aggregate.Post
 unfolding entryOf table
@@ -491,25 +512,41 @@ aggregate-up-to-requires t c κs = ((c .before .before .pre) .1 .0 .most, (c .be
 
 aggregate-returns : (t : ℕ) → aggregate-lts.Need-returns (aggregate-calls t) (aggregate-at t) aggregate.Post
 unfolding follow fields fieldsOf
-aggregate-returns t c = let g = fault-large _ _ _ _ ((c .before .up-to) .ensures (boundOf ((c .before .before .before .before .args) .t .now))) ((c .if1) .taken) in let q = fault-code _ _ _ _ ((c .before .up-to) .ensures (boundOf ((c .before .before .before .before .args) .t .now))) ((c .if1) .taken) in refuses _ (then-code _ _ _ _ (first-code _ _ _ _ _ q ((c .before .before .before .before .pre) .1 .0 .most) ((c .before .before .before .before .pre) .1 .1) g) ((c .before .before .before .before .pre) .1 .0 .most) ((c .before .before .before .before .pre) .1 .1) g) g
+aggregate-returns t c =
+    let at-up-to = c .before in let start-2 = at-up-to .before .before .before in
+    let g = fault-large _ _ _ _ (at-up-to .up-to .ensures (boundOf (start-2 .args .t .now))) ((c .if1) .taken) in let q = fault-code _ _ _ _
+    (at-up-to .up-to .ensures (boundOf (start-2 .args .t .now))) ((c .if1) .taken) in refuses _
+    (then-code _ _ _ _ (first-code _ _ _ _ _ q (start-2 .pre .1 .0 .most) (start-2 .pre .1 .1) g) (start-2 .pre .1 .0 .most) (start-2 .pre .1 .1) g) g
 
 aggregate-add-up-to : (t : ℕ) → aggregate-lts.Need-add-up-to (aggregate-calls t) (aggregate-at t) aggregate.Post
 aggregate-add-up-to t c = omega (arith, (c .before .before .before .before .pre) .1 .0 .most, (c .before .before .before .before .pre) .1 .1)
 
 aggregate-up-to-requires-2 : (t : ℕ) → aggregate-lts.Need-up-to-requires-2 (aggregate-calls t) (aggregate-at t) aggregate.Post
 unfolding entryOf table
-aggregate-up-to-requires-2 t c κs = let m1 = passed _ _ _ _ ((c .before .up-to) .ensures (boundOf ((c .before .before .before .before .args) .t .now))) ((c .before .before .before .before .pre) .1 .0 .most) ((c .before .before .before .before .pre) .1 .1) ((c .if1) .left) ((c .before .before .before .before .args) .at + 1) refl in ((c .before .before .before .before .pre) .1 .0 .most, m1 .there, up-to-any 81 refl)
+aggregate-up-to-requires-2 t c κs =
+    let at-up-to = c .before in let start-2 = at-up-to .before .before .before in
+    let m1 = passed _ _ _ _ (at-up-to .up-to .ensures (boundOf (start-2 .args .t .now))) (start-2 .pre .1 .0 .most) (start-2 .pre .1 .1) ((c .if1) .left)
+    (start-2 .args .at + 1) refl in (start-2 .pre .1 .0 .most, m1 .there, up-to-any 81 refl)
 
 aggregate-returns-2 : (t : ℕ) → aggregate-lts.Need-returns-2 (aggregate-calls t) (aggregate-at t) aggregate.Post
 unfolding follow fields fieldsOf
-aggregate-returns-2 t c = let m1 = passed _ _ _ _ ((c .before .before .before .up-to) .ensures (boundOf ((c .before .before .before .before .before .before .args) .t .now))) ((c .before .before .before .before .before .before .pre) .1 .0 .most) ((c .before .before .before .before .before .before .pre) .1 .1) ((c .before .before .if1) .left) ((c .before .before .before .before .before .before .args) .at + 1) refl in let g = fault-large _ _ _ _ ((c .before .up-to2) .ensures (boundOf ((c .before .before .before .before .before .before .args) .t .now))) ((c .if2) .taken) in let q = fault-code _ _ _ _ ((c .before .up-to2) .ensures (boundOf ((c .before .before .before .before .before .before .args) .t .now))) ((c .if2) .taken) in refuses _ (then-code _ _ _ _ (next-code _ _ _ _ _ (m1 .same) (m1 .small) (first-code _ _ _ _ _ q ((c .before .before .before .before .before .before .pre) .1 .0 .most) (m1 .there) g)) ((c .before .before .before .before .before .before .pre) .1 .0 .most) ((c .before .before .before .before .before .before .pre) .1 .1) g) g
+aggregate-returns-2 t c =
+    let at-up-to2 = c .before in let at-if1 = at-up-to2 .before in let at-up-to = at-if1 .before in let start-2 = at-up-to .before .before .before in
+    let m1 = passed _ _ _ _ (at-up-to .up-to .ensures (boundOf (start-2 .args .t .now))) (start-2 .pre .1 .0 .most) (start-2 .pre .1 .1) (at-if1 .if1 .left)
+    (start-2 .args .at + 1) refl in let g = fault-large _ _ _ _ (at-up-to2 .up-to2 .ensures (boundOf (start-2 .args .t .now))) ((c .if2) .taken) in let q = fault-code _ _ _ _
+    (at-up-to2 .up-to2 .ensures (boundOf (start-2 .args .t .now))) ((c .if2) .taken) in refuses _
+    (then-code _ _ _ _ (next-code _ _ _ _ _ (m1 .same) (m1 .small) (first-code _ _ _ _ _ q (start-2 .pre .1 .0 .most) (m1 .there) g)) (start-2 .pre .1 .0 .most) (start-2 .pre .1 .1) g) g
 
 aggregate-add-up-to-2 : (t : ℕ) → aggregate-lts.Need-add-up-to-2 (aggregate-calls t) (aggregate-at t) aggregate.Post
 aggregate-add-up-to-2 t c = omega (arith, (c .before .before .before .before .before .before .pre) .1 .0 .most, (c .before .before .before .before .before .before .pre) .1 .1)
 
 aggregate-up-to-requires-3 : (t : ℕ) → aggregate-lts.Need-up-to-requires-3 (aggregate-calls t) (aggregate-at t) aggregate.Post
 unfolding entryOf table
-aggregate-up-to-requires-3 t c κs = let m1 = passed _ _ _ _ ((c .before .before .before .up-to) .ensures (boundOf ((c .before .before .before .before .before .before .args) .t .now))) ((c .before .before .before .before .before .before .pre) .1 .0 .most) ((c .before .before .before .before .before .before .pre) .1 .1) ((c .before .before .if1) .left) ((c .before .before .before .before .before .before .args) .at + 1) refl in let m2 = passed _ _ _ _ ((c .before .up-to2) .ensures (boundOf ((c .before .before .before .before .before .before .args) .t .now))) ((c .before .before .before .before .before .before .pre) .1 .0 .most) (m1 .there) ((c .if2) .left) ((c .before .before .before .before .before .before .args) .at + 2) (omega arith) in ((c .before .before .before .before .before .before .pre) .1 .0 .most, m2 .there, up-to-any 86 refl)
+aggregate-up-to-requires-3 t c κs =
+    let at-up-to2 = c .before in let at-if1 = at-up-to2 .before in let at-up-to = at-if1 .before in let start-2 = at-up-to .before .before .before in
+    let m1 = passed _ _ _ _ (at-up-to .up-to .ensures (boundOf (start-2 .args .t .now))) (start-2 .pre .1 .0 .most) (start-2 .pre .1 .1) (at-if1 .if1 .left)
+    (start-2 .args .at + 1) refl in let m2 = passed _ _ _ _ (at-up-to2 .up-to2 .ensures (boundOf (start-2 .args .t .now))) (start-2 .pre .1 .0 .most) (m1 .there) ((c .if2) .left)
+    (start-2 .args .at + 2) (omega arith) in (start-2 .pre .1 .0 .most, m2 .there, up-to-any 86 refl)
 
 aggregate-returns-3 : (t : ℕ) → aggregate-lts.Need-returns-3 (aggregate-calls t) (aggregate-at t) aggregate.Post
 unfolding follow fields fieldsOf
@@ -767,7 +804,10 @@ exists-up-to-requires t c κs = ((c .before .before .pre) .1 .0 .most, (c .befor
 
 exists-returns : (t : ℕ) → exists-lts.Need-returns (exists-calls t) (exists-at t) exists.Post
 unfolding follow fields fieldsOf
-exists-returns t c = let g = fault-large _ _ _ _ ((c .before .up-to) .ensures (boundOf ((c .before .before .before .before .args) .t .now))) ((c .if1) .taken) in let q = fault-code _ _ _ _ ((c .before .up-to) .ensures (boundOf ((c .before .before .before .before .args) .t .now))) ((c .if1) .taken) in refuses _ (then-code _ _ _ _ (last-code _ _ _ _ q) ((c .before .before .before .before .pre) .1 .0 .most) ((c .before .before .before .before .pre) .1 .1) g) g
+exists-returns t c =
+    let at-up-to = c .before in let start-2 = at-up-to .before .before .before in
+    let g = fault-large _ _ _ _ (at-up-to .up-to .ensures (boundOf (start-2 .args .t .now))) ((c .if1) .taken) in let q = fault-code _ _ _ _
+    (at-up-to .up-to .ensures (boundOf (start-2 .args .t .now))) ((c .if1) .taken) in refuses _ (then-code _ _ _ _ (last-code _ _ _ _ q) (start-2 .pre .1 .0 .most) (start-2 .pre .1 .1) g) g
 
 exists-cast-note : (t : ℕ) → exists-lts.Need-cast-note (exists-calls t) (exists-at t) exists.Post
 exists-cast-note t c = search needs

@@ -127,4 +127,6 @@ returns-5 c =
     (at-f3 .f3 .given .1) (at-blocks2 .blocks2 .ensures) (at-f4 .f4 .given .1) (at-count .count .ensures) (c .count2 .ensures)
 
 pub records-spec : {M : Type 1} → statement M
-records-spec = tie.close (tie.spec defaulted-requires enum-known-f1 enum-told refused-requires returns relations-requires enum-known-f2 enum-told-2 refused-requires-2 same-length same-length-2 returns-2 count-requires rules-requires enum-known-f3 enum-told-3 refused-requires-3 same-length-3 same-length-4 returns-3 blocks-requires enum-known-f4 enum-told-4 refused-requires-4 same-length-5 same-length-6 returns-4 count-requires-2 same-length-7 same-length-8 returns-5)
+records-spec = tie.close (tie.spec defaulted-requires enum-known-f1 enum-told refused-requires returns relations-requires enum-known-f2 enum-told-2 refused-requires-2 same-length
+    same-length-2 returns-2 count-requires rules-requires enum-known-f3 enum-told-3 refused-requires-3 same-length-3 same-length-4 returns-3 blocks-requires enum-known-f4 enum-told-4
+    refused-requires-4 same-length-5 same-length-6 returns-4 count-requires-2 same-length-7 same-length-8 returns-5)

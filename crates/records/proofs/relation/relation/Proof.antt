@@ -113,4 +113,5 @@ returns-3 c =
     ))
 
 pub relation-spec : {M : Type 1} → statement M
-relation-spec = tie.close (tie.spec new-name-requires enum-known-f1 enum-told same-length returns relation-tail-requires enum-known-f2 enum-told-2 same-length-2 same-length-3 returns-2 mul-dir slice-write-dir cast-dir mul-dir-2 add-dir cast-dir-2 add-dir-2 mul-dir-3 slice-write-dir-2 same-length-4 same-length-5 returns-3)
+relation-spec = tie.close (tie.spec new-name-requires enum-known-f1 enum-told same-length returns relation-tail-requires enum-known-f2 enum-told-2 same-length-2 same-length-3 returns-2
+    mul-dir slice-write-dir cast-dir mul-dir-2 add-dir cast-dir-2 add-dir-2 mul-dir-3 slice-write-dir-2 same-length-4 same-length-5 returns-3)

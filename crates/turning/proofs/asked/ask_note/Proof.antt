@@ -18,16 +18,24 @@ shared-slice-read-word : tie.Need-shared-slice-read-word
 shared-slice-read-word c = place-inside (c .before .before .before .pre)
 
 returns : tie.Need-returns
-returns c = relation-marked (c .before .before .before .before .before .args .pack .now) (c .before .before .before .before .before .args .note) (c .before .before .before .before .before .args .current) (c .before .before .before .before .before .args .table .now) (c .before .if1 .taken) (c .if2 .taken)
+returns c =
+    let at-if1 = c .before in let start = at-if1 .before .before .before .before in
+    relation-marked (start .args .pack .now) (start .args .note) (start .args .current) (start .args .table .now) (at-if1 .if1 .taken) (c .if2 .taken)
 
 returns-2 : tie.Need-returns-2
-returns-2 c = rule-marked (c .before .before .before .before .before .args .pack .now) (c .before .before .before .before .before .args .note) (c .before .before .before .before .before .args .current) (c .before .before .before .before .before .args .table .now) (c .before .if1 .taken) (c .if2 .left)
+returns-2 c =
+    let at-if1 = c .before in let start = at-if1 .before .before .before .before in
+    rule-marked (start .args .pack .now) (start .args .note) (start .args .current) (start .args .table .now) (at-if1 .if1 .taken) (c .if2 .left)
 
 returns-3 : tie.Need-returns-3
-returns-3 c = low-marked (c .before .before .before .before .before .args .pack .now) (c .before .before .before .before .before .args .note) (c .before .before .before .before .before .args .current) (c .before .before .before .before .before .args .table .now) (c .before .if1 .left) (c .if3 .taken)
+returns-3 c =
+    let at-if1 = c .before in let start = at-if1 .before .before .before .before in
+    low-marked (start .args .pack .now) (start .args .note) (start .args .current) (start .args .table .now) (at-if1 .if1 .left) (c .if3 .taken)
 
 returns-4 : tie.Need-returns-4
-returns-4 c = high-marked (c .before .before .before .before .before .before .args .pack .now) (c .before .before .before .before .before .before .args .note) (c .before .before .before .before .before .before .args .current) (c .before .before .before .before .before .before .args .table .now) (c .before .before .if1 .left) (c .if4 .taken)
+returns-4 c =
+    let at-if1 = c .before .before in let start = at-if1 .before .before .before .before in
+    high-marked (start .args .pack .now) (start .args .note) (start .args .current) (start .args .table .now) (at-if1 .if1 .left) (c .if4 .taken)
 
 mark-requires : tie.Need-mark-requires
 mark-requires c κs = search needs
