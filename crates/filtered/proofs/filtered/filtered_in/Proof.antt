@@ -77,13 +77,7 @@ same-length-6 : tie.Need-same-length-6
 same-length-6 c = search needs
 
 returns-3 : tie.Need-returns-3
-returns-3 c =
-    let on-the-way = c .before .before .before .before .before .before in let at-fill = on-the-way .before .before in
-    let on-the-way-2 = at-fill .before .before .before .before .before .before in let at-r = on-the-way-2 .before in
-    let at-check-directory = at-r .before .before .before .before in
-    let on-the-way-3 = at-check-directory .before .before .before .before .before .before in let start = on-the-way-3 .before in
-    let d = directed (start .pre .0 .clear) (at-check-directory .check-directory .ensures) (at-r .r .given .1) in filter-done _ _ _ (d .checked) (d .named) (omega arith)
-    (at-fill .fill .ensures)
+returns-3 c = let d = directed (c .before .before .before .before .before .before .before .before .before .before .before .before .before .before .before .before .before .before .before .before .before .before .before .before .before .before .pre .0 .clear) (c .before .before .before .before .before .before .before .before .before .before .before .before .before .before .before .before .before .before .before .check-directory .ensures) (c .before .before .before .before .before .before .before .before .before .before .before .before .before .before .before .r .given .1) in filter-done _ _ _ (d .checked) (d .named) (omega arith) (c .before .before .before .before .before .before .before .before .fill .ensures)
 
 pub filtered-in-spec : {M : Type 1} → statement M
 filtered-in-spec =
