@@ -63,7 +63,7 @@ module _ {ws : List ℕ} (c : IsPack ws) where
   short-checked = let l : length (words the-pack) ≡ length ws = ap length its-words in omega (arith, words-length the-pack, is-fine .most)
 
   pub below-most : {n : ℕ} → Named ws n → n ≤ 4096
-  below-most k = omega (arith, k .names the-pack (c .reads), parts the-pack is-fine .most)
+  below-most k = omega (arith, k the-pack (c .reads), parts the-pack is-fine .most)
 
 -- ---- the kinds
 
@@ -119,7 +119,7 @@ module _ {ws : List ℕ} {l : Layout} {dir : List ℕ} (d : IsDirectory ws l dir
   its-names = d .noted .named p (d .checked .reads)
 
   its-count : l .relations ≡ length rs
-  its-count = d .counted .relations p (d .checked .reads)
+  its-count = d .counted p (d .checked .reads)
 
   pub its-fuel : l .relations + 1 ≡ suc (length (declared rs))
   its-fuel = add-one (l .relations) ∙ ap suc (its-count ∙ sym (length-map rs (λ (r : Relation). r .name)))
@@ -128,14 +128,14 @@ module _ {ws : List ℕ} {l : Layout} {dir : List ℕ} (d : IsDirectory ws l dir
   few-relations = omega (arith, its-count, parts p fine .few-relations)
 
   its-most : {t : List ℕ} → ClearTable (l .names) t → ClearTable (p .names) t
-  its-most {t} lent = subst (λ (n : ℕ). ClearTable n t) (d .named .names p (d .checked .reads)) lent
+  its-most {t} lent = subst (λ (n : ℕ). ClearTable n t) (d .named p (d .checked .reads)) lent
 
   pub settleable : {marks : List ℕ} → ClearTable (l .names) marks → Settleable table marks names 0 (l .relations + 1)
   settleable lent = rw (its-fuel, its-names) (settleable-pack p fine table its-index (its-most lent))
 
   -- the names of the relations are among N
   pub its-low : (j : ℕ) → getD names j 0 < l .names
-  its-low j = rw its-names (omega (arith, d .named .names p (d .checked .reads), names-below (p .names) (parts p fine .least) [] rs (parts p fine .relations-fine) j))
+  its-low j = rw its-names (omega (arith, d .named p (d .checked .reads), names-below (p .names) (parts p fine .least) [] rs (parts p fine .relations-fine) j))
 
   pub kinds-marked : {marks₀ : List ℕ} → ClearTable (l .names) marks₀ → {marks : List ℕ} {steps : ℕ} → SettledAll table marks₀ names 0 (l .relations + 1) marks steps → KindsMarked ws steps names marks
   kinds-marked lent {marks} {steps} s =
@@ -161,6 +161,6 @@ module _ {ws names marks : List ℕ} {steps : ℕ} (c : IsPack ws) (m : KindsMar
       let p : Pack = c .pack in
       rw (m .named p (c .reads))
       (record {
-        names-below = λ j. omega (arith, names-below (p .names) (parts p (is-fine c) .least) [] (p .relations) (parts p (is-fine c) .relations-fine) j, named .names p (c .reads));
+        names-below = λ j. omega (arith, names-below (p .names) (parts p (is-fine c) .least) [] (p .relations) (parts p (is-fine c) .relations-fine) j, named p (c .reads));
         settled = λ j h. (let e = m .marked p (c .reads) (getD (declared (p .relations)) j 0) (among-at (declared (p .relations)) j h) in omega arith);
       })

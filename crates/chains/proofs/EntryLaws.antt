@@ -372,15 +372,15 @@ module _ {ws d : List ℕ} (clear : Clear (namesSaid ws) d) {r : Laid} {d′ : L
   directed =
       record {
         checked = it;
-        named = record { names = of-any (λ q. l .names ≡ q .names) (ap (λ (x : Layout). x .names) laid) };
+        named = of-any (λ q. l .names ≡ q .names) (ap (λ (x : Layout). x .names) laid);
         reaches =
             record {
               most = omega (arith, ap (λ (x : Layout). x .names) laid, parts p fine .most);
               long = omega (arith, ap (λ (x : Layout). x .names) laid, ap length same-directory, as-long p fine d clear-names);
             };
-        counted = record { relations = of-any (λ q. l .relations ≡ length (q .relations)) (ap (λ (x : Layout). x .relations) laid) };
-        ruled = record { after = of-any (λ q. l .rules ≡ relationsEnd (q .names) (firstRelation q) (q .relations)) (ap (λ (x : Layout). x .rules) laid ∙ rules-there p fine d clear-names) };
-        blocked = record { after = of-any (λ q. l .blocks ≡ blocksAt (q .names) 2 (toRow q .1)) (ap (λ (x : Layout). x .blocks) laid) };
+        counted = of-any (λ q. l .relations ≡ length (q .relations)) (ap (λ (x : Layout). x .relations) laid);
+        ruled = of-any (λ q. l .rules ≡ relationsEnd (q .names) (firstRelation q) (q .relations)) (ap (λ (x : Layout). x .rules) laid ∙ rules-there p fine d clear-names);
+        blocked = of-any (λ q. l .blocks ≡ blocksAt (q .names) 2 (toRow q .1)) (ap (λ (x : Layout). x .blocks) laid);
         noted =
             record {
               named = of-any (λ q. namesIn d′ (l .relations) ≡ declared (q .relations))
@@ -413,7 +413,7 @@ room-all ws = room-for {n = namesSaid ws} 4096 refl (said-most ws) (omega arith)
 
 -- of a checked pack they are as long as N asks
 pub lent-said : {ws dir t : List ℕ} {l : Layout} → IsDirectory ws l dir → ClearTable (namesSaid ws) t → ClearTable (l .names) t
-lent-said {ws} {t = t} d lent = subst (λ (n : ℕ). ClearTable n t) (said-names ws (d .checked) ∙ sym (d .named .names (d .checked .pack) (d .checked .reads))) lent
+lent-said {ws} {t = t} d lent = subst (λ (n : ℕ). ClearTable n t) (said-names ws (d .checked) ∙ sym (d .named (d .checked .pack) (d .checked .reads))) lent
 
 pub reaches-kept : {d d′ : List ℕ} {n : ℕ} → length d′ ≡ length d → Reaches d n → Reaches d′ n
 reaches-kept e r = record { most = r .most; long = omega (arith, r .long) }

@@ -23,13 +23,17 @@ pub record IsPack (ws : List ℕ) : Type 0 where
   pub pack : Pack
   pub reads : read ws ≡ yes pack
 
+-- what holds of the pack that words are read as
+abbrev pub OfPack : List ℕ → (Pack → Type 0) → Type 0
+OfPack ws P = (p : Pack) → read ws ≡ yes p → P p
+
 -- the number of relations
-pub record Counted (ws : List ℕ) (count : ℕ) : Type 0 where
-  pub relations : (p : Pack) → read ws ≡ yes p → count ≡ length (p .relations)
+abbrev pub Counted : List ℕ → ℕ → Type 0
+Counted ws count = OfPack ws (λ p. count ≡ length (p .relations))
 
 -- the number of names
-pub record Named (ws : List ℕ) (n : ℕ) : Type 0 where
-  pub names : (p : Pack) → read ws ≡ yes p → n ≡ p .names
+abbrev pub Named : List ℕ → ℕ → Type 0
+Named ws n = OfPack ws (λ p. n ≡ p .names)
 
 -- the place where the record of a name starts, 0 for a name that no relation declares
 abbrev pub placeIn : ℕ → Option Relation → ℕ
@@ -53,12 +57,12 @@ pub record RelationsNoted (ws names starts : List ℕ) : Type 0 where
   pub placed : (p : Pack) → read ws ≡ yes p → (m : ℕ) → getD starts m 0 ≡ recordOf p m
 
 -- the place of the count of rules (22), which stands after the relations
-pub record RulesAt (ws : List ℕ) (at : ℕ) : Type 0 where
-  pub after : (p : Pack) → read ws ≡ yes p → at ≡ relationsEnd (p .names) (firstRelation p) (p .relations)
+abbrev pub RulesAt : List ℕ → ℕ → Type 0
+RulesAt ws at = OfPack ws (λ p. at ≡ relationsEnd (p .names) (firstRelation p) (p .relations))
 
 -- the place of the count of blocks (28), which stands after the rules
-pub record BlocksAt (ws : List ℕ) (at : ℕ) : Type 0 where
-  pub after : (p : Pack) → read ws ≡ yes p → at ≡ blocksAt (p .names) 2 (toRow p .1)
+abbrev pub BlocksAt : List ℕ → ℕ → Type 0
+BlocksAt ws at = OfPack ws (λ p. at ≡ blocksAt (p .names) 2 (toRow p .1))
 
 -- a table with a word for each of so many names, all 0
 pub record ClearTable (names : ℕ) (t : List ℕ) : Type 0 where

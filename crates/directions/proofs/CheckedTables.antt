@@ -152,9 +152,6 @@ module _ (ws acts taken₀ : List ℕ) (p : Pack) (h : read ws ≡ yes p) (says 
 
 -- the lists lead to the kinds of each declared name
 pub settled : {ws records acts taken : List ℕ} {steps : ℕ} → TablesFilled ws records acts taken steps → KindsReady ws acts
-settled {ws} {acts = acts} a =
-    record {
-      kinds = λ q e m i.
-          let v = words-read ws q e in
-          ap (namesAt ws) (a .filled .says .lists q e m i) ∙ ap (λ (x : List ℕ). namesAt x (placeOf q (ownAnswer (q .relations) m))) (sym (v .same)) ∙ place-holds q (v .fine) m;
-    }
+settled {ws} {acts = acts} a = λ q e m i.
+    let v = words-read ws q e in
+    ap (namesAt ws) (a .filled .says .lists q e m i) ∙ ap (λ (x : List ℕ). namesAt x (placeOf q (ownAnswer (q .relations) m))) (sym (v .same)) ∙ place-holds q (v .fine) m

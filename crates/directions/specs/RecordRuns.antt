@@ -10,7 +10,7 @@ use Rattle.definitions.specs.Records.{Relation, Body, Rule, Pack}
 use Rattle.definitions.specs.Pack.{yes, read, relation}
 use Rattle.definitions.specs.Kinds.{declared, kindsOf}
 use Rattle.definitions.specs.Places.{relationWords, firstRelation, namesAt}
-use Rattle.chains.specs.PackDirectory.{IsPack}
+use Rattle.chains.specs.PackDirectory.{OfPack, IsPack}
 use Rattle.filtered.specs.Acts.{actList}
 use Rattle.filtered.specs.Taking.{Filled}
 use Rattle.definitions.specs.Tree.{treeWords}
@@ -53,8 +53,8 @@ pub record RelationKeeps (p : Pack) (r : Relation) : Type 0 where
   pub known : among (r .name) (declared (p .relations)) ≡ true
 
 -- the lists of the names that the pack declares are their kinds
-pub record KindsReady (ws acts : List ℕ) : Type 0 where
-  pub kinds : (p : Pack) → read ws ≡ yes p → (m : ℕ) → among m (declared (p .relations)) ≡ true → namesAt ws (actList (getD acts m 0)) ≡ kindsOf (p .relations) m
+abbrev pub KindsReady : List ℕ → List ℕ → Type 0
+KindsReady ws acts = OfPack ws (λ p. (m : ℕ) → among m (declared (p .relations)) ≡ true → namesAt ws (actList (getD acts m 0)) ≡ kindsOf (p .relations) m)
 
 -- ---- all trees of a pack
 

@@ -111,7 +111,7 @@ module _ {ws t : List ℕ} (p : Pack) (h : read ws ≡ yes p) (k : KnowsEntities
     named = any (λ (r : Relation). namesEntity e (r .derivation)) rs
 
     it : getD t e 0 ≡ known named (taken rs e)
-    it = k .holds p h e
+    it = k p h e
 
     directly : directOf (getD t e 0) ≡ orNone (direct rs e)
     unfolding direct
@@ -194,13 +194,11 @@ module _ {ws t : List ℕ} (p : Pack) (h : read ws ≡ yes p) (k : KnowsEntities
 module _ {ws t : List ℕ} (c : IsPack ws) (k : KnowsEntities ws t) {n : ℕ} (named : Named ws n) where
   pub inner-asked : n ≤ length t → InnerAsked t n
   inner-asked long =
-      let q = named .names (c .pack) (c .reads) in
+      let q = named (c .pack) (c .reads) in
       subst (InnerAsked t) (sym q) (asked (c .pack) (c .reads) k (omega arith))
 
   pub filter-left : (f : Filter) (marks : List ℕ) {m : ℕ} {left : List ℕ} → InnerFor f t m marks → m ≡ n → left ≡ tableFrom (saidIn f t marks) 0 (length marks) → length marks ≡ n → FilterLeft f ws left
   filter-left f marks i q e s =
-      record {
-        holds = λ p h.
-            let r : n ≡ p .names = named .names p h in
-            e ∙ ap (tableFrom (saidIn f t marks) 0) (s ∙ r) ∙ table-said p h k f marks (subst (λ (m : ℕ). InnerFor f t m marks) (q ∙ r) i);
-      }
+      λ p h.
+      let r : n ≡ p .names = named p h in
+      e ∙ ap (tableFrom (saidIn f t marks) 0) (s ∙ r) ∙ table-said p h k f marks (subst (λ (m : ℕ). InnerFor f t m marks) (q ∙ r) i)

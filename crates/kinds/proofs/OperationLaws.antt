@@ -35,7 +35,7 @@ kinds-refused ws lent e o = made-refused allKindsWords kindSteps ws lent e o
 
 module _ (ws lent : List ℕ) (c : IsPack ws) {count : ℕ} (k : Counted ws count) where
   one-each : length (allKindsWords (c .pack)) ≡ count
-  one-each = words-count (c .pack) ∙ sym (k .relations (c .pack) (c .reads))
+  one-each = words-count (c .pack) ∙ sym (k (c .pack) (c .reads))
 
   pub kinds-room : length lent < count → {a : Answer} → a ≡ noRoom → Answered allKindsAnswer allKindsBuffer ws lent a lent
   unfolding allKindsAnswer allKindsBuffer
@@ -55,11 +55,11 @@ module _ (ws : List ℕ) (name : ℕ) where
   module _ (c : IsPack ws) {n : ℕ} (k : Named ws n) where
     pub name-unknown : n ≤ name → unknown name ≡ kindsOfAnswer ws name
     unfolding kindsOfAnswer
-    name-unknown h = sym (simp (c .reads, ← k .names (c .pack) (c .reads), le-ltb name n h))
+    name-unknown h = sym (simp (c .reads, ← k (c .pack) (c .reads), le-ltb name n h))
 
     pub name-place : name < n → {place : ℕ} → OwnPlace ws name place → Given place 0 ≡ kindsOfAnswer ws name
     unfolding kindsOfAnswer
-    name-place h o = sym (simp (c .reads, ← k .names (c .pack) (c .reads), lt-ltb name n h, ← o .says (c .pack) (c .reads)))
+    name-place h o = sym (simp (c .reads, ← k (c .pack) (c .reads), lt-ltb name n h, ← o (c .pack) (c .reads)))
 
 -- ---- Lean
 
@@ -74,12 +74,12 @@ module _ (ws : List ℕ) (a b : ℕ) where
   module _ (c : IsPack ws) {n : ℕ} (k : Named ws n) where
     pub first-unknown : n ≤ a → unknown a ≡ leanAnswer ws a b
     unfolding leanAnswer
-    first-unknown h = sym (simp (c .reads, ← k .names (c .pack) (c .reads), le-ltb a n h))
+    first-unknown h = sym (simp (c .reads, ← k (c .pack) (c .reads), le-ltb a n h))
 
     pub second-unknown : a < n → n ≤ b → unknown b ≡ leanAnswer ws a b
     unfolding leanAnswer
-    second-unknown h l = sym (simp (c .reads, ← k .names (c .pack) (c .reads), lt-ltb a n h, le-ltb b n l))
+    second-unknown h l = sym (simp (c .reads, ← k (c .pack) (c .reads), lt-ltb a n h, le-ltb b n l))
 
     pub leans-or-not : a < n → b < n → {r : Bool} → Leaning ws a b r → Given (yesNo r) 0 ≡ leanAnswer ws a b
     unfolding leanAnswer
-    leans-or-not h l o = sym (simp (c .reads, ← k .names (c .pack) (c .reads), lt-ltb a n h, lt-ltb b n l, ← o .says (c .pack) (c .reads)))
+    leans-or-not h l o = sym (simp (c .reads, ← k (c .pack) (c .reads), lt-ltb a n h, lt-ltb b n l, ← o (c .pack) (c .reads)))

@@ -203,8 +203,8 @@ module _ {ws : List ℕ} (dir : List ℕ) {acts taken : List ℕ} {steps : ℕ} 
         let B : List ℕ = blocksWords (p .blocks) in
         omega (
           arith,
-          ruled .after p h,
-          blocked .after p h,
+          ruled p h,
+          blocked p h,
           S .long,
           ap length (S .same),
           length-append (S .before) (wordOf 28 (length (p .blocks)) ∷ B),
@@ -218,10 +218,10 @@ module _ {ws : List ℕ} (dir : List ℕ) {acts taken : List ℕ} {steps : ℕ} 
 
     rules-begin : rootsOf (rulesNoted p) ≡ beginnings (rules + 1) rulesPieces
     unfolding rulesNoted
-    rules-begin = run-roots n (1 + length (relationsNoted p)) (firstRule p) (p .rules) (omega arith) ∙ ap (λ (x : ℕ). beginnings (x + 1) rulesPieces) (sym (ruled .after p h))
+    rules-begin = run-roots n (1 + length (relationsNoted p)) (firstRule p) (p .rules) (omega arith) ∙ ap (λ (x : ℕ). beginnings (x + 1) rulesPieces) (sym (ruled p h))
 
     before-long : length before ≡ blocks + 1
-    before-long = length-append (S .before) (wordOf 28 (length (p .blocks)) ∷ []) ∙ omega (arith, S .long, blocked .after p h)
+    before-long = length-append (S .before) (wordOf 28 (length (p .blocks)) ∷ []) ∙ omega (arith, S .long, blocked p h)
 
     blocks-begin : blockPlaces ws (blocks + 1) (length (p .blocks)) ≡ beginnings (blocks + 1) (map (blockPiece n) (p .blocks))
     blocks-begin =
@@ -237,7 +237,7 @@ module _ {ws : List ℕ} (dir : List ℕ) {acts taken : List ℕ} {steps : ℕ} 
         ∙ ap (λ (l : List ℕ). 0 ∷ (orderIn dir count ++ (rules ∷ (beginnings (rules + 1) rulesPieces ++ (blocks ∷ l))))) blocks-begin
         ∙ ap (λ (x : ℕ). 0 ∷ (orderIn dir count ++ (rules ∷ (beginnings (rules + 1) rulesPieces ++ (x ∷ beginnings (x + 1) (map (blockPiece n) (p .blocks))))))) blocks-at
         ∙ ap (λ (l : List ℕ). 0 ∷ (orderIn dir count ++ l)) (sym (begin-others p rules)) ∙ ap (λ (l : List ℕ). 0 ∷ (l ++ beginnings rules (otherPieces p))) (order-is count named)
-        ∙ ap (λ (x : ℕ). 0 ∷ (placesIn p ++ beginnings x (otherPieces p))) (ruled .after p h) ∙ sym (begin-pieces p)
+        ∙ ap (λ (x : ℕ). 0 ∷ (placesIn p ++ beginnings x (otherPieces p))) (ruled p h) ∙ sym (begin-pieces p)
 
 -- ---- for the code
 

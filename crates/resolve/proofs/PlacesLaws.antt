@@ -191,7 +191,7 @@ module _ {ws dir notes : List ℕ} {f : Figures} {room : ℕ} (o : OrderAsked ws
   i = reads-inputs ws p h (a .directory .blocked)
 
   many : f .relations ≡ length (p .relations)
-  many = a .counts ∙ a .directory .counted .relations p h
+  many = a .counts ∙ a .directory .counted p h
 
   blocks-many : count ≡ length (p .blocks)
   blocks-many = a .many ∙ i .counts
@@ -199,7 +199,7 @@ module _ {ws dir notes : List ℕ} {f : Figures} {room : ℕ} (o : OrderAsked ws
   near : (f .rules + 1 ≡ length (front22 p)) × (length (front22 p) ≤ 8192)
   near =
       let m = w .most in
-      (omega (arith, a .ruled, a .directory .ruled .after p h, front22-long p), omega (arith, ap length (pack-words-22 p), length-append (front22 p) (rulesOn p), words-length p))
+      (omega (arith, a .ruled, a .directory .ruled p h, front22-long p), omega (arith, ap length (pack-words-22 p), length-append (front22 p) (rulesOn p), words-length p))
 
   rules-many : valueAt ws (f .rules) ≡ length (p .rules)
   rules-many =

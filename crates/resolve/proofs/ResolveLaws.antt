@@ -157,7 +157,7 @@ module _ {ws dir acts taken work notes : List ℕ} {k : Counts} (a : TreesAsked 
     pub trees-turned : name ≡ table.none → {o : Ended} {left : List ℕ} → PackTurned ws o left → TreesCame ws o left
     trees-turned z {o} {left} t =
         let e = none-equal (defaultedEqual T (p .defaulted)) refl (sym name-is ∙ z) in
-        record { each = of-pack o left (subst (λ (x : Outcome Pack). TurnedAs x o left) (sym (whole-none e)) (t .each p h)) }
+        of-pack o left (subst (λ (x : Outcome Pack). TurnedAs x o left) (sym (whole-none e)) (t p h))
 
     -- one of them
     module _ (not-none : name ≡ table.none → ⊥) where
@@ -176,11 +176,9 @@ module _ {ws dir acts taken work notes : List ℕ} {k : Counts} (a : TreesAsked 
 
       pub trees-equal : (left : List ℕ) → TreesCame ws (ended.Refused (record { number = 9; place = getD starts name 0; name = name; other = 0 })) left
       trees-equal left =
-          record {
-            each = of-pack (ended.Refused (record { number = 9; place = getD starts name 0; name = name; other = 0 })) left
-                (subst (λ (o : Outcome Pack). TurnedAs o (ended.Refused (record { number = 9; place = getD starts name 0; name = name; other = 0 })) left) (sym (whole-some name it-is))
-                (ap (λ (x : ℕ). ended.Refused (record { number = 9; place = x; name = name; other = 0 })) start-is));
-          }
+          of-pack (ended.Refused (record { number = 9; place = getD starts name 0; name = name; other = 0 })) left
+          (subst (λ (o : Outcome Pack). TurnedAs o (ended.Refused (record { number = 9; place = getD starts name 0; name = name; other = 0 })) left) (sym (whole-some name it-is))
+          (ap (λ (x : ℕ). ended.Refused (record { number = 9; place = x; name = name; other = 0 })) start-is))
 
 -- ---- the answers
 
@@ -201,7 +199,7 @@ module _ {ws : List ℕ} (c : IsPack ws) (lent : List ℕ) where
   same-refusal {x} {y} e = let z : x ≡ y = cc in z
 
   pub resolve-stopped : {o : Ended} {left : List ℕ} {r : Refusal} → TreesCame ws o left → o ≡ ended.Refused r → Answered resolveAnswer resolveBuffer ws lent (Refused r) lent
-  resolve-stopped {o} {left} {r} t e = go (resolvedTrees q) refl (t .each q (c .reads))
+  resolve-stopped {o} {left} {r} t e = go (resolvedTrees q) refl (t q (c .reads))
     where
       go : (u : Outcome Pack) → resolvedTrees q ≡ u → TurnedAs u o left → Answered resolveAnswer resolveBuffer ws lent (Refused r) lent
       go (done x) s k = absurd (ended-either (sym (k .0) ∙ e))
@@ -227,7 +225,7 @@ module _ {ws : List ℕ} (c : IsPack ws) (lent : List ℕ) where
     pub stands : left ≡ words whole
 
   pub whole-done : {o : Ended} {left : List ℕ} → TreesCame ws o left → o ≡ ended.All → WholeDone left
-  whole-done {o} {left} t e = go (resolvedTrees q) refl (t .each q (c .reads))
+  whole-done {o} {left} t e = go (resolvedTrees q) refl (t q (c .reads))
     where
       go : (u : Outcome Pack) → resolvedTrees q ≡ u → TurnedAs u o left → WholeDone left
       go (done x) s k = record { whole = x; outcome = s; resolves = turned-done x s; stands = k .1 }
@@ -283,7 +281,7 @@ module _ {ws dir acts taken asked₀ notes : List ℕ} {f : Figures} {work : Lis
         record {
           says = λ r e.
               let low = its-low r e in
-              let long : r .name < length asked₀ = omega (arith, a .lent .long, a .directory .named .names its checked) in
+              let long : r .name < length asked₀ = omega (arith, a .lent .long, a .directory .named its checked) in
               ap (λ (t : List ℕ). getD t (r .name) 0) (m .each (notesOfPack its) (a .noted .held) (a .noted .many) there ∙ ap (λ (x : List ℕ). markNotes x (notesOfPack its) 4096 asked₀) same-words)
               ∙ marks-are its fine r e (omega (arith, parts its fine .most)) asked₀ long (a .lent .clear (r .name));
         }
@@ -297,7 +295,7 @@ module _ {ws dir acts taken asked₀ notes : List ℕ} {f : Figures} {work : Lis
             taken = taken;
             tabled = its-tables;
             records = startsIn dir;
-            counts = a .counts ∙ a .directory .counted .relations its checked;
+            counts = a .counts ∙ a .directory .counted its checked;
             begins = b;
             asks = asks;
             whole = d .whole;
@@ -317,7 +315,7 @@ module _ {ws dir acts taken asked₀ notes : List ℕ} {f : Figures} {work : Lis
       record {
         steps = f .steps;
         tabled = its-tables;
-        reaches = subst (Reaches dir) (a .directory .named .names its checked) (a .directory .reaches);
+        reaches = subst (Reaches dir) (a .directory .named its checked) (a .directory .reaches);
         turns = record {
           pack = its;
           checked = checked;
@@ -347,7 +345,7 @@ module _ {ws d e d′ e′ : List ℕ} {r : Laid} {l : Layout} (clear : Clear (n
 
   pub checked-asked : {acts taken asked work : List ℕ} {room : ℕ} → RoomFor ws e room → TablesFor ws d acts taken asked → length d′ ≡ length d → length e′ ≡ length e → length work ≡ length ws → CheckedAsked ws l d′ acts taken asked e′ room work
   checked-asked {acts} {taken} {asked} to tables long kept same =
-      let names : namesSaid ws ≡ l .names = said-names ws (its-directory .checked) ∙ sym (its-directory .named .names (its-directory .checked .pack) (its-directory .checked .reads)) in
+      let names : namesSaid ws ≡ l .names = said-names ws (its-directory .checked) ∙ sym (its-directory .named (its-directory .checked .pack) (its-directory .checked .reads)) in
       record {
         directory = its-directory;
         reaches = record { most = tables .reaches .most; long = omega (arith, tables .reaches .long) };

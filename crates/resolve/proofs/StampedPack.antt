@@ -78,7 +78,7 @@ module _ (p : Pack) (w : WellFormed p) where
         let fine = with-tail p w (keeps .used) r s (keeps .fine) t in
         let part : actPart (getD acts (s .name) 0) ≡ partAt at (some s) =
         ap (λ (m : ℕ). actPart (getD acts m 0)) (t .0) ∙ says .parts p h (r .name) ∙ ap (partAt (startOf n (r .name) (firstRelation p) (p .relations))) found ∙ ap (λ (x : ℕ). partAt x (some r)) starts ∙ sym (part-kept p at at r s e) in
-        let kinds : namesAt ws (actList (getD acts (s .name) 0)) ≡ kindsOf (p .relations) (s .name) = settled .kinds p h (s .name) (ap (λ (v : ℕ). among v (declared (p .relations))) (t .0) ∙ keeps .known) in
+        let kinds : namesAt ws (actList (getD acts (s .name) 0)) ≡ kindsOf (p .relations) (s .name) = settled p h (s .name) (ap (λ (v : ℕ). among v (declared (p .relations))) (t .0) ∙ keeps .known) in
         let told : getD asked (s .name) 0 ≡ pick (atomNames p (s .name) || inDerivation roleJudgment (s .derivation)) 1 0 =
         ap (λ (m : ℕ). getD asked m 0) (t .0) ∙ asks .says r found ∙ ap (λ (b : Bool). pick (atomNames p (r .name) || b) 1 0) (sym (relation-held roleJudgment p at r s e))
         ∙ ap (λ (m : ℕ). pick (atomNames p m || inDerivation roleJudgment (s .derivation)) 1 0) (sym (t .0)) in
