@@ -39,7 +39,7 @@ module _ (f : Filter) (ws lent : List ℕ) where
 
     pub filter-done : n ≤ length lent → {out : List ℕ} → FilterLeft f ws out → Answered (filterAnswer f) (filterBuffer f) ws lent (Given n 0) (putMid 0 (n - 0) lent out)
     unfolding filterAnswer filterBuffer
-    filter-done h l = made-done (filterWords f) noSteps ws lent c one-name h refl (l (c .pack) (c .reads))
+    filter-done h l = made-done (filterWords f) noSteps ws lent c one-name h refl (l .holds (c .pack) (c .reads))
 
 -- they refuse by Check's numbers and 16 alone
 pub filter-numbers : (f : Filter) (ws : List ℕ) (room : ℕ) (r : Refusal) → filterAnswer f ws room ≡ Refused r → CheckRefuses ws r ⊎ NoRoom r

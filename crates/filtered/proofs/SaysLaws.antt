@@ -111,7 +111,7 @@ module _ {ws t : List ℕ} (p : Pack) (h : read ws ≡ yes p) (k : KnowsEntities
     named = any (λ (r : Relation). namesEntity e (r .derivation)) rs
 
     it : getD t e 0 ≡ known named (taken rs e)
-    it = k p h e
+    it = k .holds p h e
 
     directly : directOf (getD t e 0) ≡ orNone (direct rs e)
     unfolding direct
@@ -199,6 +199,8 @@ module _ {ws t : List ℕ} (c : IsPack ws) (k : KnowsEntities ws t) {n : ℕ} (n
 
   pub filter-left : (f : Filter) (marks : List ℕ) {m : ℕ} {left : List ℕ} → InnerFor f t m marks → m ≡ n → left ≡ tableFrom (saidIn f t marks) 0 (length marks) → length marks ≡ n → FilterLeft f ws left
   filter-left f marks i q e s =
-      λ p h.
-      let r : n ≡ p .names = named p h in
-      e ∙ ap (tableFrom (saidIn f t marks) 0) (s ∙ r) ∙ table-said p h k f marks (subst (λ (m : ℕ). InnerFor f t m marks) (q ∙ r) i)
+      record {
+        holds = λ p h.
+            let r : n ≡ p .names = named p h in
+            e ∙ ap (tableFrom (saidIn f t marks) 0) (s ∙ r) ∙ table-said p h k f marks (subst (λ (m : ℕ). InnerFor f t m marks) (q ∙ r) i);
+      }

@@ -283,5 +283,5 @@ module _ {ws : List ℕ} {l : Layout} {dir marks : List ℕ} {steps : ℕ} (d : 
               parts = λ p h n. same actPart n ∙ part-is (slotsIn dir) (d .noted) (d .slotted) m low few p h n;
               lists = λ p h n i. same actList n ∙ list-is (slotsIn dir) (d .noted) (d .slotted) m low few p h n i;
             };
-        knows = λ p h. entity-known (slotsIn dir) (d .noted) (d .slotted) m low p h (subst (λ (n : ℕ). ClearTable n t₀) (d .named p h) lent) (q .takes);
+        knows = record { holds = λ p h. entity-known (slotsIn dir) (d .noted) (d .slotted) m low p h (subst (λ (n : ℕ). ClearTable n t₀) (d .named p h) lent) (q .takes) };
       }

@@ -14,7 +14,6 @@ use Rattle.definitions.specs.declared.operation.Filter.the-variants.{Direct, In
 use Rattle.definitions.specs.Chain.{own, same}
 use Rattle.definitions.specs.Filtered.{upTo, innerStep, filterWords}
 use Rattle.definitions.specs.Answers.{tableFrom}
-use Rattle.chains.specs.PackDirectory.{OfPack}
 use Rattle.chains.specs.Entry.{Reaches, wordIn, declaredBy, declarationsIn}
 use Rattle.chains.specs.Settle.{Settleable, SettledAll}
 use Rattle.filtered.specs.Taking.{several}
@@ -99,5 +98,5 @@ InnerFor Alias taken n marks = Unit {0}
 InnerFor Unresolved taken n marks = Unit {0}
 
 -- the words of a filtered table
-abbrev pub FilterLeft : Filter → List ℕ → List ℕ → Type 0
-FilterLeft f ws out = OfPack ws (λ p. out ≡ filterWords f p)
+pub record FilterLeft (f : Filter) (ws out : List ℕ) : Type 0 where
+  pub holds : (p : Pack) → read ws ≡ yes p → out ≡ filterWords f p

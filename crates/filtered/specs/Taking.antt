@@ -16,7 +16,7 @@ use Rattle.definitions.specs.Filtered.{kindAt, taken, namesEntity}
 use Rattle.definitions.specs.Places.{namesAt}
 use Rattle.chains.specs.Record.{valueAt}
 use Rattle.definitions.specs.Kinds.{allKinds}
-use Rattle.chains.specs.PackDirectory.{OfPack, RelationsNoted}
+use Rattle.chains.specs.PackDirectory.{RelationsNoted}
 use Rattle.filtered.specs.Acts.{actList, actFor, actsFrom, ActsOf}
 
 -- the code's kind as an option
@@ -83,8 +83,8 @@ unfoldable pub NamesLow : ℕ → List ℕ → Type 0
 NamesLow most names = (j : ℕ) → getD names j 0 < most
 
 -- what is known of every entity of a checked pack
-abbrev pub KnowsEntities : List ℕ → List ℕ → Type 0
-KnowsEntities ws t = OfPack ws (λ p. (e : ℕ) → getD t e 0 ≡ known (any (λ r. namesEntity e (r .derivation)) (p .relations)) (taken (p .relations) e))
+pub record KnowsEntities (ws t : List ℕ) : Type 0 where
+  pub holds : (p : Pack) → read ws ≡ yes p → (e : ℕ) → getD t e 0 ≡ known (any (λ r. namesEntity e (r .derivation)) (p .relations)) (taken (p .relations) e)
 
 -- the tables of a checked pack: the relations' names in record order, the places where their records start, what aggregates over them do, and what is known of entities
 pub record Filled (ws names records acts taken : List ℕ) (steps : ℕ) : Type 0 where

@@ -194,7 +194,10 @@ its-sourced {ws} {dir} {l} d {a} h =
 module _ {ws names records : List ℕ} (c : IsPack ws) (noted : RelationsNoted ws names records) where
   pub its-leaning : {count a b : ℕ} {r : Bool} → Counted ws count → r ≡ leadsWithin (sourcesIn ws records) count a b → Leaning ws a b r
   unfolding leans
-  its-leaning {count} {a} {b} k e = λ q h.
-      e ∙ ap (λ (s : ℕ → List ℕ). leadsWithin s count a b) (ap (λ (v : List ℕ). sourcesIn v records) (sym (its-words c)) ∙ sources-are (c .pack) (is-fine c) records (noted .placed (c .pack) (c .reads)))
-      ∙ ap (λ (m : ℕ). leadsWithin (sources ((c .pack) .relations)) m a b) (k (c .pack) (c .reads))
-      ∙ ap (λ (p : Pack). leans (p .relations) a b) (same-pack ws (c .reads) h)
+  its-leaning {count} {a} {b} k e =
+      record {
+        says = λ q h.
+            e ∙ ap (λ (s : ℕ → List ℕ). leadsWithin s count a b) (ap (λ (v : List ℕ). sourcesIn v records) (sym (its-words c)) ∙ sources-are (c .pack) (is-fine c) records (noted .placed (c .pack) (c .reads)))
+            ∙ ap (λ (m : ℕ). leadsWithin (sources ((c .pack) .relations)) m a b) (k (c .pack) (c .reads))
+            ∙ ap (λ (p : Pack). leans (p .relations) a b) (same-pack ws (c .reads) h);
+      }

@@ -157,7 +157,7 @@ module _ {ws dir acts taken work notes : List ℕ} {k : Counts} (a : TreesAsked 
     pub trees-turned : name ≡ table.none → {o : Ended} {left : List ℕ} → PackTurned ws o left → TreesCame ws o left
     trees-turned z {o} {left} t =
         let e = none-equal (defaultedEqual T (p .defaulted)) refl (sym name-is ∙ z) in
-        of-pack o left (subst (λ (x : Outcome Pack). TurnedAs x o left) (sym (whole-none e)) (t p h))
+        record { each = of-pack o left (subst (λ (x : Outcome Pack). TurnedAs x o left) (sym (whole-none e)) (t .each p h)) }
 
     -- one of them
     module _ (not-none : name ≡ table.none → ⊥) where
@@ -176,9 +176,11 @@ module _ {ws dir acts taken work notes : List ℕ} {k : Counts} (a : TreesAsked 
 
       pub trees-equal : (left : List ℕ) → TreesCame ws (ended.Refused (record { number = 9; place = getD starts name 0; name = name; other = 0 })) left
       trees-equal left =
-          of-pack (ended.Refused (record { number = 9; place = getD starts name 0; name = name; other = 0 })) left
-          (subst (λ (o : Outcome Pack). TurnedAs o (ended.Refused (record { number = 9; place = getD starts name 0; name = name; other = 0 })) left) (sym (whole-some name it-is))
-          (ap (λ (x : ℕ). ended.Refused (record { number = 9; place = x; name = name; other = 0 })) start-is))
+          record {
+            each = of-pack (ended.Refused (record { number = 9; place = getD starts name 0; name = name; other = 0 })) left
+                (subst (λ (o : Outcome Pack). TurnedAs o (ended.Refused (record { number = 9; place = getD starts name 0; name = name; other = 0 })) left) (sym (whole-some name it-is))
+                (ap (λ (x : ℕ). ended.Refused (record { number = 9; place = x; name = name; other = 0 })) start-is));
+          }
 
 -- ---- the answers
 
@@ -199,7 +201,7 @@ module _ {ws : List ℕ} (c : IsPack ws) (lent : List ℕ) where
   same-refusal {x} {y} e = let z : x ≡ y = cc in z
 
   pub resolve-stopped : {o : Ended} {left : List ℕ} {r : Refusal} → TreesCame ws o left → o ≡ ended.Refused r → Answered resolveAnswer resolveBuffer ws lent (Refused r) lent
-  resolve-stopped {o} {left} {r} t e = go (resolvedTrees q) refl (t q (c .reads))
+  resolve-stopped {o} {left} {r} t e = go (resolvedTrees q) refl (t .each q (c .reads))
     where
       go : (u : Outcome Pack) → resolvedTrees q ≡ u → TurnedAs u o left → Answered resolveAnswer resolveBuffer ws lent (Refused r) lent
       go (done x) s k = absurd (ended-either (sym (k .0) ∙ e))
@@ -225,7 +227,7 @@ module _ {ws : List ℕ} (c : IsPack ws) (lent : List ℕ) where
     pub stands : left ≡ words whole
 
   pub whole-done : {o : Ended} {left : List ℕ} → TreesCame ws o left → o ≡ ended.All → WholeDone left
-  whole-done {o} {left} t e = go (resolvedTrees q) refl (t q (c .reads))
+  whole-done {o} {left} t e = go (resolvedTrees q) refl (t .each q (c .reads))
     where
       go : (u : Outcome Pack) → resolvedTrees q ≡ u → TurnedAs u o left → WholeDone left
       go (done x) s k = record { whole = x; outcome = s; resolves = turned-done x s; stands = k .1 }

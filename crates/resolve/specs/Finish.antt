@@ -16,7 +16,7 @@ use Rattle.definitions.specs.Kinds.{find, allKinds}
 use Rattle.records.specs.declared.directory.Layout.{Layout}
 use Rattle.records.specs.Directory.{Clear}
 use Rattle.checking.specs.Checked.{namesSaid}
-use Rattle.chains.specs.PackDirectory.{OfPack, ClearTable, IsDirectory}
+use Rattle.chains.specs.PackDirectory.{ClearTable, IsDirectory}
 use Rattle.definitions.specs.Answers.{tableFrom, Outcome, done, refused}
 use Rattle.chains.specs.Record.{valueAt}
 use Rattle.chains.specs.Entry.{Reaches, startsIn, namesIn}
@@ -43,8 +43,8 @@ unfoldable pub resolvedTrees : Pack → Outcome Pack
 resolvedTrees p = elim (defaultedEqual (tables (p .relations)) (p .defaulted)) [ some n ↦ refused (equalRefusal p n) | none ↦ treesResolved p ]
 
 -- what comes of them in the words of the pack
-abbrev pub TreesCame : List ℕ → Ended → List ℕ → Type 0
-TreesCame ws o left = OfPack ws (λ p. TurnedAs (resolvedTrees p) o left)
+pub record TreesCame (ws : List ℕ) (o : Ended) (left : List ℕ) : Type 0 where
+  pub each : (p : Pack) → read ws ≡ yes p → TurnedAs (resolvedTrees p) o left
 
 -- the tables of a checked pack, its notes, and a copy of its words
 pub record TreesAsked (ws dir acts taken work notes : List ℕ) (c : Counts) : Type 0 where

@@ -169,7 +169,7 @@ module _ (ws acts taken words₀ notes₀ : List ℕ) (blocks count relations al
     all-not e = let z : _≡_ {A = ℕ} 0 1 = cc in omega arith
 
     of-pack : (left : List ℕ) (r : Ended) → TurnedAs (treesResolved p) r left → PackTurned ws r left
-    of-pack left r h = λ q e. subst (λ (x : Pack). TurnedAs (treesResolved x) r left) (same-pack ws (a .checked) e) h
+    of-pack left r h = record { each = λ q e. subst (λ (x : Pack). TurnedAs (treesResolved x) r left) (same-pack ws (a .checked) e) h }
 
     -- a rule is refused
     module _ (no : o ≡ ended.All → ⊥) where

@@ -16,7 +16,6 @@ use Rattle.definitions.specs.Direction.{turn, Membership, relatedKind}
 use mathlib.Core.Option.{Option, none, some}
 use Rattle.definitions.specs.Answers.{Outcome, done, refused}
 use Rattle.definitions.specs.ResolvingTrees.{Citing, currentOf, relatedOf, NodeStep, goes, stops}
-use Rattle.chains.specs.PackDirectory.{OfPack}
 use Rattle.directions.specs.Words.{tablesIn, memberIn}
 use Rattle.directions.specs.RecordRuns.{treesResolved}
 use Rattle.turning.specs.declared.step.Out.{Out}
@@ -178,5 +177,5 @@ abbrev pub TurnedAs : Outcome Pack → Ended → List ℕ → Type 0
 TurnedAs (done q) o left = (o ≡ ended.All) × (left ≡ words q)
 TurnedAs (refused r) o left = o ≡ ended.Refused r
 
-abbrev pub PackTurned : List ℕ → Ended → List ℕ → Type 0
-PackTurned ws o left = OfPack ws (λ p. TurnedAs (treesResolved p) o left)
+pub record PackTurned (ws : List ℕ) (o : Ended) (left : List ℕ) : Type 0 where
+  pub each : (p : Pack) → read ws ≡ yes p → TurnedAs (treesResolved p) o left
