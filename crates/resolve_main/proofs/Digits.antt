@@ -1,16 +1,13 @@
--- Laws of digits.
-use Prim.Native.Nat.{ℕ, zero, suc, _+_, _-_, _*_, _/_, _%_, _^_, _<_, _≤_}
-use native.Mathlib.Nat.{pow-suc, one-le-pow, mod-eq-of-lt}
+-- Laws of hexadecimal digits.
+use Prim.Native.Nat.{ℕ, _+_, _/_, _%_, _^_, _<_, _≤_}
 use native.Mathlib.Omega.{arith}
-use mathlib.Core.Path.{_≡_, refl, ap, sym, _∙_}
-use mathlib.Core.Bool.{Bool, true, false}
-use mathlib.Core.List.{List, [], _∷_, _++_, map}
-use lib.Dec.{ltb}
-use borrow.Author.Tests.{lt-ltb, le-ltb, ltb-true, ltb-false}
-use Rattle.io.specs.Digits as io
+use mathlib.Core.Path.{_≡_, ap, sym}
+use mathlib.Core.Bool.{Bool}
+use mathlib.Core.List.{_∷_}
+use borrow.Author.Tests.{lt-ltb, le-ltb}
 use Rattle.definitions.specs.Table.{pick}
 use Rattle.definitions.specs.Bytes.{wordFrom}
-use Rattle.resolve_main.specs.Text.{codes, digitOf, digitsUpTo, hexadecimal, lineOf}
+use Rattle.resolve_main.specs.Text.{codes, digitOf, lineOf}
 
 pub digit-decimal : (d : ℕ) → d < 10 → 48 + d ≡ digitOf d
 digit-decimal d h = ap (λ (b : Bool). pick b (48 + d) (55 + d)) (sym (lt-ltb d 10 h))
@@ -18,7 +15,7 @@ digit-decimal d h = ap (λ (b : Bool). pick b (48 + d) (55 + d)) (sym (lt-ltb d 
 pub digit-letter : (d : ℕ) → 10 ≤ d → 55 + d ≡ digitOf d
 digit-letter d h = ap (λ (b : Bool). pick b (48 + d) (55 + d)) (sym (le-ltb d 10 h))
 
--- ---- a word's hexadecimal digits, from its bytes
+-- a word's, from its bytes
 
 module _ (a b c d : ℕ) (ha : a < 256) (hb : b < 256) (hc : c < 256) (hd : d < 256) where
   abbrev w : ℕ

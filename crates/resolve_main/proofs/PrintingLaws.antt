@@ -1,6 +1,6 @@
 -- Laws of texts that are added one behind the other.
 use Prim.Native.Nat.{ℕ, _+_, _≤_, _<_}
-use native.Mathlib.Nat.{add-zero, add-assoc}
+use native.Mathlib.Nat.{add-zero, zero-add, add-assoc}
 use native.Mathlib.Numerals.{add-one}
 use native.Mathlib.Omega.{arith}
 use mathlib.Core.Path.{_≡_, refl, ap, sym, _∙_}
@@ -54,3 +54,7 @@ adds-as {s} {s′} {before} {after} {m} {m′} {at} {e} a q h = rw (← q) (reco
 -- a turn of copying
 pub copy-turn : (s before text : List ℕ) (at i : ℕ) → at + i < length before → i < length s → text ≡ paste before at s i → set text (at + i) (getD s i 0) ≡ paste before at s (i + 1)
 copy-turn s before text at i h k e = rw (e, add-one i) (paste-suc before at s i 0 h k)
+
+-- a text that is added to nothing
+pub prints : {s s′ before after : List ℕ} {m e : ℕ} → Adds s m 0 before e after → s ≡ s′ → Prints s′ before e after
+prints {s} {s′} {before} a q = rw (← q) (record { long = a .ends ∙ zero-add (length s); there = a .there ∙ ap (λ (n : ℕ). s ++ drop n before) (zero-add (length s)) })

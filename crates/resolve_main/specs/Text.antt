@@ -1,6 +1,6 @@
 -- What the program prints. 01: "it prints `ok 6 0` (length, steps), then these words, one a line, eight upper-case digits. A refusal prints
 -- `refused 1 0 0 0` (number, place, name, other)".
-use Prim.Native.Nat.{ℕ, zero, suc, _+_, _/_, _%_, _^_}
+use Prim.Native.Nat.{ℕ, zero, suc, _+_, _*_, _/_, _%_, _^_}
 use Prim.Native.Char.{code}
 use Prim.Native.String.{String, [] as nothing, _∷_ as _then_}
 use mathlib.Core.List.{List, [], _∷_, _++_, map}
@@ -31,6 +31,14 @@ decimal n = digitsUpTo n n
 abbrev pub hexadecimal : ℕ → List ℕ
 hexadecimal w =
     w / 16 ^ 7 % 16 ∷ w / 16 ^ 6 % 16 ∷ w / 16 ^ 5 % 16 ∷ w / 16 ^ 4 % 16 ∷ w / 16 ^ 3 % 16 ∷ w / 16 ^ 2 % 16 ∷ w / 16 % 16 ∷ w % 16 ∷ []
+
+-- the number that digits read as
+unfoldable pub readOn : ℕ → ℕ → List ℕ → ℕ
+readOn base n [] = n
+readOn base n (d ∷ ds) = readOn base (base * n + d) ds
+
+abbrev pub valueIn : ℕ → List ℕ → ℕ
+valueIn base ds = readOn base 0 ds
 
 -- a number after a space
 abbrev pub spaced : ℕ → List ℕ
