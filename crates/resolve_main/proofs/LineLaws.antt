@@ -8,9 +8,12 @@ use lib.ListN.{length, take, drop, getD}
 use lib.Seq.{take-add, take-all}
 use lib.Dec.{leb}
 use borrow.Author.Tests.{leb-true, leb-false}
+use Rattle.definitions.specs.declared.answer.Answer.{Answer}
+use Rattle.definitions.specs.declared.answer.Answer.the-variants.{Given, Refused}
+use Rattle.definitions.specs.declared.answer.Refusal.{Refusal}
 use Rattle.definitions.specs.Bytes.{wordFrom, wordsOf}
 use Rattle.wire.proofs.ByteLaws.{four, words-cons, words-length}
-use Rattle.resolve_main.specs.Text.{lineOf, linesOf}
+use Rattle.resolve_main.specs.Text.{lineOf, linesOf, okLine, refusedLine, textOf}
 use Rattle.resolve_main.specs.Printing.{Adds}
 use Rattle.resolve_main.proofs.PrintingLaws.{adds-none, and-then, adds-as}
 
@@ -54,7 +57,7 @@ pub lines-turn : (out before : List ℕ) (i start : ℕ) {text after : List ℕ}
 lines-turn out before i start h k a b = adds-as (and-then a k b) (one-more out i h) (omega arith)
 
 -- the first n of them, as far as there are words
-pub words-there : (bytes : List ℕ) (n m : ℕ) → m ≡ min (length bytes / 4) n → take m (wordsOf bytes) ≡ take n (wordsOf bytes)
+words-there : (bytes : List ℕ) (n m : ℕ) → m ≡ min (length bytes / 4) n → take m (wordsOf bytes) ≡ take n (wordsOf bytes)
 words-there bytes n m e = go (leb n (length bytes / 4)) refl
   where
     go : (b : Bool) → leb n (length bytes / 4) ≡ b → take m (wordsOf bytes) ≡ take n (wordsOf bytes)
@@ -63,3 +66,13 @@ words-there bytes n m e = go (leb n (length bytes / 4)) refl
         let k = leb-false n (length bytes / 4) f in
         let l = words-length bytes in
         take-all m (wordsOf bytes) (omega arith) ∙ sym (take-all n (wordsOf bytes) (omega arith))
+
+-- the text of an answer, by what it is
+pub given-text : (out : List ℕ) {a b : Answer} {n steps m : ℕ} → a ≡ b → a ≡ Given n steps → m ≡ min (length out / 4) n
+    → okLine n steps ++ linesOf (take m (wordsOf out)) ≡ textOf b (wordsOf out)
+unfolding textOf
+given-text out {a} {b} {n} {steps} {m} d e l = rw (← d, e, words-there out n m l)
+
+pub refused-text : (ws : List ℕ) {a b : Answer} {r : Refusal} → a ≡ b → a ≡ Refused r → refusedLine (r .number) (r .place) (r .name) (r .other) ≡ textOf b ws
+unfolding textOf
+refused-text ws d e = rw (← d, e)

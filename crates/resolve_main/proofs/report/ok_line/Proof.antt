@@ -28,7 +28,8 @@ same-length : tie.Need-same-length
 same-length c = search needs
 
 returns : tie.Need-returns
-returns c = ?
+returns c =
+    adds-as (and-then (and-then (and-then (c .before .before .before .before .before .before .before .before .before .before .before .before .before .before .before .put .ensures) (omega arith) (c .before .before .before .before .before .before .before .before .before .before .before .next .ensures)) (omega arith) (c .before .before .before .before .before .before .before .next2 .ensures)) (omega arith) (c .before .before .put2 .ensures)) refl (omega arith)
 
 pub ok-line-spec : {M : Type 1} → statement M
 ok-line-spec =

@@ -43,7 +43,8 @@ same-length : tie.Need-same-length
 same-length c = search needs
 
 returns : tie.Need-returns
-returns c = ?
+returns c =
+    adds-as (and-then (and-then (and-then (and-then (and-then (c .before .before .before .before .before .before .before .before .before .before .before .before .before .before .before .before .before .before .before .before .before .before .before .before .before .before .put .ensures) (omega arith) (c .before .before .before .before .before .before .before .before .before .before .before .before .before .before .before .before .before .before .before .before .before .next .ensures)) (omega arith) (c .before .before .before .before .before .before .before .before .before .before .before .before .before .before .before .before .before .next2 .ensures)) (omega arith) (c .before .before .before .before .before .before .before .before .before .before .before .before .next3 .ensures)) (omega arith) (c .before .before .before .before .before .before .before .next4 .ensures)) (omega arith) (c .before .before .put2 .ensures)) refl (omega arith)
 
 pub refused-line-spec : {M : Type 1} → statement M
 refused-line-spec =

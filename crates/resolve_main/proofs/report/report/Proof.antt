@@ -1,10 +1,9 @@
 -- `resolve_main::report::report` meets its contract, by the two kinds of answers.
 use borrow.Author.Needs.{needs}
 use native.Mathlib.Omega.{arith}
-use mathlib.Core.Path.{refl, ap, sym, _∙_}
-use Rattle.resolve_main.specs.Text.{okLine, linesOf, textOf}
+use Rattle.definitions.specs.Bytes.{wordsOf}
 use Rattle.resolve_main.proofs.PrintingLaws.{and-then, prints}
-use Rattle.resolve_main.proofs.LineLaws.{words-there}
+use Rattle.resolve_main.proofs.LineLaws.{given-text, refused-text}
 use Rattle.resolve_main.proofs.report.report.Statement.{statement}
 use Rattle.resolve_main.proofs.report.report.Tie as tie
 
@@ -36,13 +35,18 @@ same-length : tie.Need-same-length
 same-length c = search needs
 
 returns : tie.Need-returns
-returns c = ?
+returns c =
+    let start = c .before .before .before .before .before .before .before .before .before .before .before .before .before .before .before in
+    prints (and-then (c .before .before .before .before .before .before .before .ok-line .ensures) (omega arith) (c .before .before .lines .ensures))
+    (given-text (start .args .out .now) (c .before .before .before .before .before .before .before .before .before .before .before .before .decode .ensures) (c .before .before .before .before .before .before .before .before .before .before .count .given .1) (c .before .before .before .before .room .ensures))
 
 same-length-2 : tie.Need-same-length-2
 same-length-2 c = search needs
 
 returns-2 : tie.Need-returns-2
-returns-2 c = ?
+returns-2 c =
+    let start = c .before .before .before .before .before .before .before .before .before .before in
+    prints (c .before .before .refused-line .ensures) (refused-text (wordsOf (start .args .out .now)) (c .before .before .before .before .before .before .before .decode .ensures) (c .before .before .before .before .before .r .given .1))
 
 pub report-spec : {M : Type 1} → statement M
 report-spec =
