@@ -58,3 +58,13 @@ copy-turn s before text at i h k e = rw (e, add-one i) (paste-suc before at s i 
 -- a text that is added to nothing
 pub prints : {s s′ before after : List ℕ} {m e : ℕ} → Adds s m 0 before e after → s ≡ s′ → Prints s′ before e after
 prints {s} {s′} {before} a q = rw (← q) (record { long = a .ends ∙ zero-add (length s); there = a .there ∙ ap (λ (n : ℕ). s ++ drop n before) (zero-add (length s)) })
+
+pub prints-as : {s s′ before after : List ℕ} {e : ℕ} → Prints s before e after → s ≡ s′ → Prints s′ before e after
+prints-as p q = rw (← q) p
+
+-- so many bytes are there to be written
+pub prints-within : {s before after : List ℕ} {e : ℕ} → Prints s before e after → e ≤ length after
+prints-within {s} {before} p = omega (arith, p .long, simp length-append at (ap length (p .there)))
+
+pub prints-front : {s before after : List ℕ} {e : ℕ} → Prints s before e after → e ≡ length (take e after)
+prints-front {after = after} {e = e} p = sym (length-take-le e after (prints-within p))

@@ -4,11 +4,14 @@ use Prim.Native.Nat.{ℕ, zero, suc, _+_, _*_, _/_, _%_, _^_}
 use Prim.Native.Char.{code}
 use Prim.Native.String.{String, [] as nothing, _∷_ as _then_}
 use mathlib.Core.List.{List, [], _∷_, _++_, map}
-use lib.ListN.{take}
+use lib.ListN.{length, take}
 use lib.Dec.{ltb}
 use Rattle.definitions.specs.declared.answer.Answer.{Answer}
 use Rattle.definitions.specs.declared.answer.Answer.the-variants.{Given, Refused}
 use Rattle.definitions.specs.Table.{pick}
+use Rattle.definitions.specs.Bytes.{wordsOf, encode, inRoom, outBytes}
+use Rattle.definitions.specs.Operations.{resolveAnswer, resolveBuffer}
+use Rattle.wire.specs.Decoding.{decode}
 
 -- a text is the list of its characters' codes
 abbrev pub codes : String → List ℕ
@@ -54,11 +57,15 @@ linesOf (w ∷ ws) = lineOf w ++ linesOf ws
 
 -- an answer, whose value is how many of these words were written
 abbrev pub okLine : ℕ → ℕ → List ℕ
-okLine length steps = codes "ok" ++ spaced length ++ spaced steps ++ codes "\n"
+okLine count steps = codes "ok" ++ spaced count ++ spaced steps ++ codes "\n"
 
 abbrev pub refusedLine : ℕ → ℕ → ℕ → ℕ → List ℕ
 refusedLine number place name other = codes "refused" ++ spaced number ++ spaced place ++ spaced name ++ spaced other ++ codes "\n"
 
 unfoldable pub textOf : Answer → List ℕ → List ℕ
-textOf (Given length steps) words = okLine length steps ++ linesOf (take length words)
+textOf (Given count steps) words = okLine count steps ++ linesOf (take count words)
 textOf (Refused r) words = refusedLine (r .number) (r .place) (r .name) (r .other)
+
+-- the text for a pack in bytes, of which Resolve writes into an output: its answer, as its number has it, and the words in the output then
+abbrev pub printed : List ℕ → List ℕ → List ℕ
+printed bytes out = textOf (decode (encode (inRoom resolveAnswer (length out) bytes))) (wordsOf (outBytes resolveAnswer resolveBuffer bytes out))

@@ -1,6 +1,7 @@
 // An answer as text. Each function adds to the text that stands in the slice before `at`, and gives where it ends then.
 use definitions::answer::Answer;
 use definitions::answer::Refusal;
+use host::cogunwa_resolve;
 use wire::answer::decode;
 use wire::bytes::room;
 ghost use mathlib.Core.Path.{_≡_};
@@ -9,7 +10,7 @@ ghost use Prim.Native.Nat.{_+_, _*_, _/_, _<_, _≤_};
 ghost use lib.ListN.{length, take};
 ghost use Rattle.definitions.specs.Bytes.{wordFrom, wordsOf};
 ghost use Rattle.wire.specs.Decoding.{decode};
-ghost use Rattle.resolve_main.specs.Text.{digitOf, spaced, lineOf, linesOf, okLine, refusedLine, textOf};
+ghost use Rattle.resolve_main.specs.Text.{digitOf, spaced, lineOf, linesOf, okLine, refusedLine, textOf, printed};
 ghost use Rattle.resolve_main.specs.Printing.{Adds, Prints};
 
 fn put(bytes: &[u8], text: &mut [u8], at: usize) -> usize
@@ -111,4 +112,13 @@ pub fn report(answer: u64, out: &[u8], text: &mut [u8]) -> usize
         }
         Answer::Refused(r) => refused_line(r, text),
     }
+}
+
+// The text of what Resolve answers for a pack. The words are written to the output.
+pub fn resolved_text(pack: &[u8], out: &mut [u8], text: &mut [u8]) -> usize
+    requires { ⌜ 96 + 9 * (length (now out) / 4) ≤ length (now text) ⌝ }
+    ensures { λ r. ⌜ Prints (printed (now (pack .entry)) (now (out .entry))) (now (text .entry)) r (now (text .exit)) ⌝ }
+{
+    let answer = cogunwa_resolve(pack, out);
+    report(answer, out, text)
 }
