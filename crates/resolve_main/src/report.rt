@@ -72,7 +72,14 @@ fn lines(out: &[u8], count: usize, text: &mut [u8], from: usize) -> usize
     let mut i = 0;
     while i < count {
         let word = 4 * i;
-        at = line(out[word], out[word + 1], out[word + 2], out[word + 3], text, at);
+        at = line(
+            out[word],
+            out[word + 1],
+            out[word + 2],
+            out[word + 3],
+            text,
+            at,
+        );
         i += 1;
     }
     at
