@@ -2,13 +2,16 @@
 // `ok LENGTH STEPS` and then the words, or `refused NUMBER PLACE NAME OTHER`.
 mod report;
 
-use cogunwa::cogunwa_resolve;
+use libc::STDIN_FILENO;
+use libc::STDOUT_FILENO;
 use pack::kinds::Pack;
+use report::resolved_text;
 
 fn main() {
     let mut pack = io::large_buffer();
     let mut out = [0u8; 4 * Pack::MOST_WORDS];
-    let n = io::read_full(0, &mut pack);
-    let answer = cogunwa_resolve(&pack[..n], &mut out);
-    report::report(answer, &out);
+    let mut text = [0u8; 96 + 9 * Pack::MOST_WORDS];
+    let n = io::read_full(STDIN_FILENO, &mut pack);
+    let count = resolved_text(&pack[..n], &mut out, &mut text);
+    io::write_all(STDOUT_FILENO, &text[..count]);
 }

@@ -1,17 +1,39 @@
-// What the program writes to standard output.
-use libc::STDOUT_FILENO;
-use wire::answer::Field;
+// An answer as text. Each function adds to the text that stands in the slice before `at`, and gives where it ends then.
+use definitions::answer::Answer;
+use definitions::answer::Refusal;
+use cogunwa::cogunwa_resolve;
+use wire::answer::decode;
+use wire::bytes::room;
 ghost use mathlib.Core.Path.{_≡_};
-ghost use Prim.Native.Nat.{_<_};
-ghost use Rattle.resolve_main.specs.Text.{digitOf};
+ghost use mathlib.Core.List.{_++_};
+ghost use Prim.Native.Nat.{_+_, _*_, _/_, _<_, _≤_};
+ghost use lib.ListN.{length, take};
+ghost use Rattle.definitions.specs.Bytes.{wordFrom, wordsOf};
+ghost use Rattle.wire.specs.Decoding.{decode};
+ghost use Rattle.resolve_main.specs.Text.{digitOf, spaced, lineOf, linesOf, okLine, refusedLine, textOf, printed};
+ghost use Rattle.resolve_main.specs.Printing.{Adds, Prints};
 
-fn text(bytes: &[u8]) {
-    io::write_all(STDOUT_FILENO, bytes);
+fn put(bytes: &[u8], text: &mut [u8], at: usize) -> usize
+    requires { ⌜ at + length (now bytes) ≤ length (now text) ⌝ }
+    ensures { λ r. ⌜ Adds (now (bytes .entry)) (length (now (bytes .entry))) at (now (text .entry)) r (now (text .exit)) ⌝ }
+{
+    let mut i = 0;
+    while i < bytes.len() {
+        text[at + i] = bytes[i];
+        i += 1;
+    }
+    at + i
 }
 
-fn next_number(n: u64) {
-    text(b" ");
-    io::print_decimal(STDOUT_FILENO, n);
+// A number after a space.
+fn next(n: u64, text: &mut [u8], at: usize) -> usize
+    requires { ⌜ at + 21 ≤ length (now text) ⌝ }
+    ensures { λ r. ⌜ Adds (spaced n) 21 at (now (text .entry)) r (now (text .exit)) ⌝ }
+{
+    let mut digits = [0u8; 20];
+    let count = io::decimal(n, &mut digits);
+    let from = put(b" ", text, at);
+    put(&digits[..count], text, from)
 }
 
 // An upper-case hexadecimal digit.
@@ -23,7 +45,10 @@ fn digit(d: u8) -> u8
 }
 
 // A word on a line of its own, from its bytes, the low one first.
-fn line(a: u8, b: u8, c: u8, d: u8) {
+fn line(a: u8, b: u8, c: u8, d: u8, text: &mut [u8], at: usize) -> usize
+    requires { ⌜ at + 9 ≤ length (now text) ⌝ }
+    ensures { λ r. ⌜ Adds (lineOf (wordFrom a b c d)) 9 at (now (text .entry)) r (now (text .exit)) ⌝ }
+{
     let digits = [
         digit(d / 16),
         digit(d % 16),
@@ -35,42 +60,72 @@ fn line(a: u8, b: u8, c: u8, d: u8) {
         digit(a % 16),
         b'\n',
     ];
-    text(&digits);
+    put(&digits, text, at)
 }
 
-// So many words, as far as there are bytes.
-fn lines(out: &[u8], count: u64) {
-    let mut at: usize = 0;
-    let mut left = count;
-    while 0 < left {
-        if out.len() < 4 {
-            return;
+// The first words of the output.
+fn lines(out: &[u8], count: usize, text: &mut [u8], from: usize) -> usize
+    requires { ⌜ (4 * count ≤ length (now out)) × (from + 9 * count ≤ length (now text)) ⌝ }
+    ensures { λ r. ⌜ Adds (linesOf (take count (wordsOf (now (out .entry))))) (9 * count) from (now (text .entry)) r (now (text .exit)) ⌝ }
+{
+    let mut at = from;
+    let mut i = 0;
+    while i < count {
+        let word = 4 * i;
+        at = line(
+            out[word],
+            out[word + 1],
+            out[word + 2],
+            out[word + 3],
+            text,
+            at,
+        );
+        i += 1;
+    }
+    at
+}
+
+fn ok_line(count: u32, steps: u32, text: &mut [u8]) -> usize
+    requires { ⌜ 96 ≤ length (now text) ⌝ }
+    ensures { λ r. ⌜ Adds (okLine count steps) 96 0 (now (text .entry)) r (now (text .exit)) ⌝ }
+{
+    let name = put(b"ok", text, 0);
+    let other = next(count as u64, text, name);
+    let end = next(steps as u64, text, other);
+    put(b"\n", text, end)
+}
+
+fn refused_line(r: Refusal, text: &mut [u8]) -> usize
+    requires { ⌜ 96 ≤ length (now text) ⌝ }
+    ensures { λ e. ⌜ Adds (refusedLine (r .number) (r .place) (r .name) (r .other)) 96 0 (now (text .entry)) e (now (text .exit)) ⌝ }
+{
+    let number = put(b"refused", text, 0);
+    let place = next(r.number as u64, text, number);
+    let name = next(r.place as u64, text, place);
+    let other = next(r.name as u64, text, name);
+    let end = next(r.other as u64, text, other);
+    put(b"\n", text, end)
+}
+
+// The text of an answer, of which a number and an output are given.
+pub fn report(answer: u64, out: &[u8], text: &mut [u8]) -> usize
+    requires { ⌜ 96 + 9 * (length (now out) / 4) ≤ length (now text) ⌝ }
+    ensures { λ r. ⌜ Prints (textOf (decode answer) (wordsOf (now (out .entry)))) (now (text .entry)) r (now (text .exit)) ⌝ }
+{
+    match decode(answer) {
+        Answer::Given(count, steps) => {
+            let at = ok_line(count, steps, text);
+            lines(out, room(out.len(), count as usize), text, at)
         }
-        if out.len() - 4 < at {
-            return;
-        }
-        line(out[at], out[at + 1], out[at + 2], out[at + 3]);
-        at += 4;
-        left -= 1;
+        Answer::Refused(r) => refused_line(r, text),
     }
 }
 
-// The host's answer, and the words that go with it: where the number is 0, the name is how many they are and the other the steps.
-pub fn report(answer: u64, out: &[u8]) {
-    let name = answer / Field::NAME % Field::NAMES;
-    let other = answer / Field::OTHER;
-    if answer % Field::PLACE == 0 {
-        text(b"ok");
-        next_number(name);
-        next_number(other);
-        text(b"\n");
-        lines(out, name);
-        return;
-    }
-    text(b"refused");
-    next_number(answer % Field::PLACE);
-    next_number(answer / Field::PLACE % Field::PLACES as u64);
-    next_number(name);
-    next_number(other);
-    text(b"\n");
+// The text of what Resolve answers for a pack. The words are written to the output.
+pub fn resolved_text(pack: &[u8], out: &mut [u8], text: &mut [u8]) -> usize
+    requires { ⌜ 96 + 9 * (length (now out) / 4) ≤ length (now text) ⌝ }
+    ensures { λ r. ⌜ Prints (printed (now (pack .entry)) (now (out .entry))) (now (text .entry)) r (now (text .exit)) ⌝ }
+{
+    let answer = cogunwa_resolve(pack, out);
+    report(answer, out, text)
 }

@@ -26,7 +26,7 @@ words-length (a ∷ b ∷ c ∷ []) = refl
 words-length (a ∷ b ∷ c ∷ d ∷ bytes) = omega (arith, words-length bytes)
 
 -- four bytes from a place on, and the rest
-four : (bytes : List ℕ) (at : ℕ) → at + 4 ≤ length bytes
+pub four : (bytes : List ℕ) (at : ℕ) → at + 4 ≤ length bytes
     → drop at bytes ≡ getD bytes at 0 ∷ getD bytes (at + 1) 0 ∷ getD bytes (at + 2) 0 ∷ getD bytes (at + 3) 0 ∷ drop (at + 4) bytes
 four bytes at h =
     let h0 : at < length bytes = omega arith in
@@ -35,10 +35,10 @@ four bytes at h =
     let h3 : suc (suc (suc at)) < length bytes = omega arith in
     simp towards-suc (rw (drop-cons bytes at 0, drop-cons bytes (suc at) 0, drop-cons bytes (suc (suc at)) 0, drop-cons bytes (suc (suc (suc at))) 0))
 
-next-four : (i : ℕ) → 4 * (i + 1) ≡ 4 * i + 4
+pub next-four : (i : ℕ) → 4 * (i + 1) ≡ 4 * i + 4
 next-four i = omega arith
 
-words-cons : (a b c d : ℕ) (bytes : List ℕ) → wordsOf (a ∷ b ∷ c ∷ d ∷ bytes) ≡ wordFrom a b c d ∷ wordsOf bytes
+pub words-cons : (a b c d : ℕ) (bytes : List ℕ) → wordsOf (a ∷ b ∷ c ∷ d ∷ bytes) ≡ wordFrom a b c d ∷ wordsOf bytes
 unfolding wordsOf
 words-cons a b c d bytes = refl
 

@@ -1,3 +1,4 @@
 pub mod ByteLaws
 pub mod Room
 pub mod OverBytes
+pub mod DecodingLaws

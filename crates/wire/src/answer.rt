@@ -1,10 +1,12 @@
 // Answers as one number.
 use crate::bytes::store;
 use definitions::answer::Answer;
+use definitions::answer::Refusal;
 ghost use mathlib.Core.Path.{_≡_};
 ghost use lib.ListN.{length};
 ghost use Rattle.definitions.specs.Bytes.{inBits, encode, outAfter};
 ghost use Rattle.wire.specs.Loading.{FitsOutput};
+ghost use Rattle.wire.specs.Decoding.{decode};
 
 // The fields of an answer's number, the lowest first: how many values each has, and what one of it counts.
 pub struct Field {}
@@ -40,6 +42,25 @@ pub fn encode(a: Answer) -> u64
         Answer::Given(value, steps) => in_bits(0, 0, value, steps),
         Answer::Refused(r) => in_bits(r.number, r.place, r.name, r.other),
     }
+}
+
+// The answer that a number is of.
+pub fn decode(r: u64) -> Answer
+    ensures { λ a. ⌜ a ≡ decode r ⌝ }
+{
+    let number = (r % Field::PLACE) as u32;
+    let place = (r / Field::PLACE % Field::PLACES as u64) as usize;
+    let name = (r / Field::NAME % Field::NAMES) as u32;
+    let other = (r / Field::OTHER % Field::OTHERS as u64) as u32;
+    if number == 0 {
+        return Answer::Given(name, other);
+    }
+    Answer::Refused(Refusal {
+        number,
+        place,
+        name,
+        other,
+    })
 }
 
 // An answer, with as many of the words as it says as bytes in the output.

@@ -1,64 +1,81 @@
--- `resolve_main::report::lines` meets its contract.
-use borrow.Author.Needs.{needs}
+-- `resolve_main::report::lines` meets its contract: the lines of the words that were passed.
+use native.Mathlib.Omega.{arith}
+use Prim.Native.Nat.{ℕ, _*_, _-_, _≤_}
+use mathlib.Core.Path.{_≡_, refl, _∙_}
+use mathlib.Core.List.{List}
+use lib.ListN.{length, take}
+use Rattle.definitions.specs.Bytes.{wordsOf}
+use Rattle.resolve_main.specs.Text.{linesOf}
+use Rattle.resolve_main.specs.Printing.{Adds}
+use Rattle.resolve_main.proofs.LineLaws.{lines-none, lines-turn}
 use Rattle.resolve_main.proofs.report.lines.Statement.{statement}
 use Rattle.resolve_main.proofs.report.lines.Tie as tie
 
+record Printed (out : List ℕ) (count : ℕ) (before : List ℕ) (start : ℕ) (text : List ℕ) (at i : ℕ) : Type 0 where
+  within : i ≤ count
+  long : length text ≡ length before
+  adds : Adds (linesOf (take i (wordsOf out))) (9 * i) start before at text
+
 abbrev Inv-loop : tie.InvT-loop
-Inv-loop out count at₀ left₀ at left = Unit {0}
+Inv-loop out count text₀ from at₀ i₀ text at i = Printed out count text₀ from text at i
 
 abbrev μ-loop : tie.MeasureT-loop
-μ-loop out count at₀ left₀ at left = left
+μ-loop out count text₀ from at₀ i₀ text at i = count - i
 
 loop-holds : tie.Need-loop-holds Inv-loop μ-loop
-loop-holds c = tt
+loop-holds c = record { within = omega arith; long = refl; adds = let start = c .before .before in lines-none (start .args .out .now) (start .args .text .now) (start .args .from) }
 
-returns : tie.Need-returns Inv-loop μ-loop
-returns c = tt
-
-sub-if2 : tie.Need-sub-if2 Inv-loop μ-loop
-sub-if2 c = search needs
-
-returns-2 : tie.Need-returns-2 Inv-loop μ-loop
-returns-2 c = tt
+mul-word : tie.Need-mul-word Inv-loop μ-loop
+mul-word c = omega arith
 
 shared-slice-read-line : tie.Need-shared-slice-read-line Inv-loop μ-loop
-shared-slice-read-line c = search needs
+shared-slice-read-line c = omega arith
 
 add-line : tie.Need-add-line Inv-loop μ-loop
-add-line c = search needs
+add-line c = omega arith
 
 shared-slice-read-line-2 : tie.Need-shared-slice-read-line-2 Inv-loop μ-loop
-shared-slice-read-line-2 c = search needs
+shared-slice-read-line-2 c = omega arith
 
 add-line-2 : tie.Need-add-line-2 Inv-loop μ-loop
-add-line-2 c = search needs
+add-line-2 c = omega arith
 
 shared-slice-read-line-3 : tie.Need-shared-slice-read-line-3 Inv-loop μ-loop
-shared-slice-read-line-3 c = search needs
+shared-slice-read-line-3 c = omega arith
 
 add-line-3 : tie.Need-add-line-3 Inv-loop μ-loop
-add-line-3 c = search needs
+add-line-3 c = omega arith
 
 shared-slice-read-line-4 : tie.Need-shared-slice-read-line-4 Inv-loop μ-loop
-shared-slice-read-line-4 c = search needs
+shared-slice-read-line-4 c = omega arith
 
 line-requires : tie.Need-line-requires Inv-loop μ-loop
-line-requires c κs = search needs
+line-requires c κs = omega arith
 
-add-at : tie.Need-add-at Inv-loop μ-loop
-add-at c = search needs
-
-sub-left : tie.Need-sub-left Inv-loop μ-loop
-sub-left c = search needs
+add-i : tie.Need-add-i Inv-loop μ-loop
+add-i c = omega arith
 
 loop-less : tie.Need-loop-less Inv-loop μ-loop
-loop-less c = search needs
+loop-less c = omega arith
 
 loop-again : tie.Need-loop-again Inv-loop μ-loop
-loop-again c = tt
+loop-again c =
+    let l = c .before .before .before .before .before .before .before .before .before .loop in
+    let start = c .before .before .before .before .before .before .before .before .before .before .before .before in
+    record {
+      within = omega arith;
+      long = c .before .before .line .kept .1 .1 .1 .1 .0 ∙ l .inv .long;
+      adds = lines-turn (start .args .out .now) (start .args .text .now) (l .i) (start .args .from) (omega arith) (omega arith) (l .inv .adds) (c .before .before .line .ensures);
+    }
 
-returns-3 : tie.Need-returns-3 Inv-loop μ-loop
-returns-3 c = tt
+same-length : tie.Need-same-length Inv-loop μ-loop
+same-length c = c .before .loop .inv .long
+
+returns : tie.Need-returns Inv-loop μ-loop
+returns c =
+    let l = c .before .loop in
+    let e : l .i ≡ c .before .before .before .before .args .count = omega arith in
+    rw (← e) (l .inv .adds)
 
 pub lines-spec : {M : Type 1} → statement M
 lines-spec =
@@ -67,9 +84,7 @@ lines-spec =
     Inv-loop
     μ-loop
     loop-holds
-    returns
-    sub-if2
-    returns-2
+    mul-word
     shared-slice-read-line
     add-line
     shared-slice-read-line-2
@@ -78,8 +93,8 @@ lines-spec =
     add-line-3
     shared-slice-read-line-4
     line-requires
-    add-at
-    sub-left
+    add-i
     loop-less
     loop-again
-    returns-3)
+    same-length
+    returns)

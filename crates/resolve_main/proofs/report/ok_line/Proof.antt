@@ -1,0 +1,45 @@
+-- `resolve_main::report::ok_line` meets its contract.
+use borrow.Author.Needs.{needs}
+use native.Mathlib.Omega.{arith}
+use mathlib.Core.Path.{refl}
+use Rattle.resolve_main.proofs.PrintingLaws.{and-then, adds-as}
+use Rattle.resolve_main.proofs.report.ok_line.Statement.{statement}
+use Rattle.resolve_main.proofs.report.ok_line.Tie as tie
+
+slice-aggregate-put : tie.Need-slice-aggregate-put
+slice-aggregate-put c = search needs
+
+put-requires : tie.Need-put-requires
+put-requires c κs = search needs
+
+next-requires : tie.Need-next-requires
+next-requires c κs = search needs
+
+next-requires-2 : tie.Need-next-requires-2
+next-requires-2 c κs = search needs
+
+slice-aggregate-put-2 : tie.Need-slice-aggregate-put-2
+slice-aggregate-put-2 c = search needs
+
+put-requires-2 : tie.Need-put-requires-2
+put-requires-2 c κs = search needs
+
+same-length : tie.Need-same-length
+same-length c = search needs
+
+returns : tie.Need-returns
+returns c =
+    adds-as (and-then (and-then (and-then (c .before .before .before .before .before .before .before .before .before .before .before .before .before .before .before .put .ensures) (omega arith) (c .before .before .before .before .before .before .before .before .before .before .before .next .ensures)) (omega arith) (c .before .before .before .before .before .before .before .next2 .ensures)) (omega arith) (c .before .before .put2 .ensures)) refl (omega arith)
+
+pub ok-line-spec : {M : Type 1} → statement M
+ok-line-spec =
+    tie.close
+    (tie.spec
+    slice-aggregate-put
+    put-requires
+    next-requires
+    next-requires-2
+    slice-aggregate-put-2
+    put-requires-2
+    same-length
+    returns)

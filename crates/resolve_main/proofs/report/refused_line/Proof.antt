@@ -1,0 +1,65 @@
+-- `resolve_main::report::refused_line` meets its contract.
+use borrow.Author.Needs.{needs}
+use native.Mathlib.Omega.{arith}
+use mathlib.Core.Path.{refl}
+use Rattle.resolve_main.proofs.PrintingLaws.{and-then, adds-as}
+use Rattle.resolve_main.proofs.report.refused_line.Statement.{statement}
+use Rattle.resolve_main.proofs.report.refused_line.Tie as tie
+
+slice-aggregate-put : tie.Need-slice-aggregate-put
+slice-aggregate-put c = search needs
+
+put-requires : tie.Need-put-requires
+put-requires c κs = search needs
+
+cast-next : tie.Need-cast-next
+cast-next c = search needs
+
+next-requires : tie.Need-next-requires
+next-requires c κs = search needs
+
+next-requires-2 : tie.Need-next-requires-2
+next-requires-2 c κs = search needs
+
+cast-next-2 : tie.Need-cast-next-2
+cast-next-2 c = search needs
+
+next-requires-3 : tie.Need-next-requires-3
+next-requires-3 c κs = search needs
+
+cast-next-3 : tie.Need-cast-next-3
+cast-next-3 c = search needs
+
+next-requires-4 : tie.Need-next-requires-4
+next-requires-4 c κs = search needs
+
+slice-aggregate-put-2 : tie.Need-slice-aggregate-put-2
+slice-aggregate-put-2 c = search needs
+
+put-requires-2 : tie.Need-put-requires-2
+put-requires-2 c κs = search needs
+
+same-length : tie.Need-same-length
+same-length c = search needs
+
+returns : tie.Need-returns
+returns c =
+    adds-as (and-then (and-then (and-then (and-then (and-then (c .before .before .before .before .before .before .before .before .before .before .before .before .before .before .before .before .before .before .before .before .before .before .before .before .before .before .put .ensures) (omega arith) (c .before .before .before .before .before .before .before .before .before .before .before .before .before .before .before .before .before .before .before .before .before .next .ensures)) (omega arith) (c .before .before .before .before .before .before .before .before .before .before .before .before .before .before .before .before .before .next2 .ensures)) (omega arith) (c .before .before .before .before .before .before .before .before .before .before .before .before .next3 .ensures)) (omega arith) (c .before .before .before .before .before .before .before .next4 .ensures)) (omega arith) (c .before .before .put2 .ensures)) refl (omega arith)
+
+pub refused-line-spec : {M : Type 1} → statement M
+refused-line-spec =
+    tie.close
+    (tie.spec
+    slice-aggregate-put
+    put-requires
+    cast-next
+    next-requires
+    next-requires-2
+    cast-next-2
+    next-requires-3
+    cast-next-3
+    next-requires-4
+    slice-aggregate-put-2
+    put-requires-2
+    same-length
+    returns)
