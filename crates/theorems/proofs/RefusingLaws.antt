@@ -32,7 +32,8 @@ use Rattle.definitions.specs.declared.operation.Question.{Question}
 use Rattle.definitions.specs.declared.operation.Question.the-variants.{Check, KindsOf, Lean}
 use Rattle.definitions.specs.declared.operation.Writing.{Writing}
 use Rattle.definitions.specs.declared.operation.Writing.the-variants.{Rewrite, AllKinds, Filtered, Resolve}
-use Rattle.theorems.specs.Refusing.{checkNumbers, numbersTo, numbersOf, Among, numberIn, NoneOrAmong, QuestionRefuses, WritingRefuses}
+use Rattle.wire.specs.Decoding.{numberField}
+use Rattle.theorems.specs.Refusing.{checkNumbers, numbersTo, numbersOf, Among, NoneOrAmong, QuestionRefuses, WritingRefuses}
 
 -- ---- numbers among numbers
 
@@ -124,22 +125,22 @@ over-numbers numbers f h one bytes r e = go (areWords (length bytes)) e
 
 -- ---- in the number that the host's function answers
 
-given-number : (v s : ℕ) → numberIn (encode (Given v s)) ≡ 0
+given-number : (v s : ℕ) → numberField (encode (Given v s)) ≡ 0
 given-number v s = omega arith
 
-refused-number : (r : Refusal) → r .number < 64 → numberIn (encode (Refused r)) ≡ r .number
+refused-number : (r : Refusal) → r .number < 64 → numberField (encode (Refused r)) ≡ r .number
 refused-number r h = omega arith
 
 -- an answer that refuses by some numbers
 module _ (numbers : List ℕ) (low : allBelow 64 numbers ≡ true) (a : Answer) (h : (r : Refusal) → a ≡ Refused r → Among (r .number) numbers) where
-  host-tells : (r : Refusal) → a ≡ Refused r → numberIn (encode a) ≡ r .number
-  host-tells r e = ap (λ (b : Answer). numberIn (encode b)) e ∙ refused-number r (among-below 64 numbers low (r .number) (h r e))
+  host-tells : (r : Refusal) → a ≡ Refused r → numberField (encode a) ≡ r .number
+  host-tells r e = ap (λ (b : Answer). numberField (encode b)) e ∙ refused-number r (among-below 64 numbers low (r .number) (h r e))
 
-  host-number : NoneOrAmong (numberIn (encode a)) numbers
+  host-number : NoneOrAmong (numberField (encode a)) numbers
   host-number = go a refl
     where
-      go : (b : Answer) → a ≡ b → NoneOrAmong (numberIn (encode a)) numbers
-      go (Given v s) e = inl (ap (λ (b : Answer). numberIn (encode b)) e ∙ given-number v s)
+      go : (b : Answer) → a ≡ b → NoneOrAmong (numberField (encode a)) numbers
+      go (Given v s) e = inl (ap (λ (b : Answer). numberField (encode b)) e ∙ given-number v s)
       go (Refused r) e = inr (rw (host-tells r e) (h r e))
 
 to-low : (q : Question) → (allBelow 64 (numbersTo q) ≡ true) × Among 1 (numbersTo q)
@@ -190,7 +191,7 @@ unfolding outAfter
 after-refused (Given v s) written out r e = absurd (no-given e)
 after-refused (Refused s) written out r e = refl
 
-after-number : (a : Answer) (written out : List ℕ) → (numberIn (encode a) ≡ 0 → ⊥) → outAfter a written out ≡ out
+after-number : (a : Answer) (written out : List ℕ) → (numberField (encode a) ≡ 0 → ⊥) → outAfter a written out ≡ out
 unfolding outAfter
 after-number (Given v s) written out h = absurd (h (given-number v s))
 after-number (Refused s) written out h = refl
@@ -218,7 +219,7 @@ every-writing w =
       host-tells = λ bytes out n after g. rw (g .answers) (host-tells (numbersOf w) (of-low w .0) (answered bytes out) (over bytes out));
       words-kept = refusal-keeps w;
       bytes-kept = λ bytes out n after g r e. g .leaves ∙ after-refused (answered bytes out) (written bytes out) out r e;
-      host-kept = λ bytes out n after g h. g .leaves ∙ after-number (answered bytes out) (written bytes out) out (λ z. h (ap numberIn (g .answers) ∙ z));
+      host-kept = λ bytes out n after g h. g .leaves ∙ after-number (answered bytes out) (written bytes out) out (λ z. h (ap numberField (g .answers) ∙ z));
     }
   where
     answered : List ℕ → List ℕ → Answer

@@ -10,6 +10,7 @@ use Rattle.definitions.specs.declared.answer.Refusal.{Refusal}
 use Rattle.definitions.specs.declared.answer.Answer.the-variants.{Refused}
 use Rattle.definitions.specs.Form.{among}
 use Rattle.definitions.specs.Bytes.{encode, overBytes, inRoom, Gives}
+use Rattle.wire.specs.Decoding.{numberField}
 use Rattle.definitions.specs.declared.operation.Question.{Question}
 use Rattle.definitions.specs.declared.operation.Question.the-variants.{Check, KindsOf, Lean}
 use Rattle.definitions.specs.declared.operation.Writing.{Writing}
@@ -38,10 +39,6 @@ numbersOf Resolve = checkNumbers ++ (9 ∷ 10 ∷ 11 ∷ 12 ∷ 13 ∷ 14 ∷ 15
 abbrev pub Among : ℕ → List ℕ → Type 0
 Among number numbers = among number numbers ≡ true
 
--- the number in what a function of the host answers: bits 0 to 5, and 0 for no refusal
-abbrev pub numberIn : ℕ → ℕ
-numberIn n = n % 2 ^ 6
-
 abbrev pub NoneOrAmong : ℕ → List ℕ → Type 0
 NoneOrAmong number numbers = (number ≡ 0) ⊎ Among number numbers
 
@@ -51,9 +48,9 @@ pub record QuestionRefuses (q : Question) : Type 0 where
   -- "refuses by document 01's numbers alone"
   pub words-numbers : (ws : List ℕ) (r : Refusal) → answerTo q ws ≡ Refused r → Among (r .number) (numbersTo q)
   pub bytes-numbers : (bytes : List ℕ) (r : Refusal) → overBytes (answerTo q) bytes ≡ Refused r → Among (r .number) (numbersTo q)
-  pub host-numbers : (bytes : List ℕ) (n : ℕ) → n ≡ encode (overBytes (answerTo q) bytes) → NoneOrAmong (numberIn n) (numbersTo q)
+  pub host-numbers : (bytes : List ℕ) (n : ℕ) → n ≡ encode (overBytes (answerTo q) bytes) → NoneOrAmong (numberField n) (numbersTo q)
   -- and that number is the refusal's
-  pub host-tells : (bytes : List ℕ) (n : ℕ) → n ≡ encode (overBytes (answerTo q) bytes) → (r : Refusal) → overBytes (answerTo q) bytes ≡ Refused r → numberIn n ≡ r .number
+  pub host-tells : (bytes : List ℕ) (n : ℕ) → n ≡ encode (overBytes (answerTo q) bytes) → (r : Refusal) → overBytes (answerTo q) bytes ≡ Refused r → numberField n ≡ r .number
 
 -- ---- the operations that write: with any lent words, any output, and by what the host's function promises of its number and the output after it
 
@@ -64,10 +61,10 @@ pub record WritingRefuses (w : Writing) : Type 0 where
   -- "refuses by document 01's numbers alone"
   pub words-numbers : (ws : List ℕ) (room : ℕ) (r : Refusal) → answerOf w ws room ≡ Refused r → Among (r .number) (numbersOf w)
   pub bytes-numbers : (bytes out : List ℕ) (r : Refusal) → inRoom (answerOf w) (length out) bytes ≡ Refused r → Among (r .number) (numbersOf w)
-  pub host-numbers : (bytes out : List ℕ) (n : ℕ) (after : List ℕ) → Promised w bytes out n after → NoneOrAmong (numberIn n) (numbersOf w)
+  pub host-numbers : (bytes out : List ℕ) (n : ℕ) (after : List ℕ) → Promised w bytes out n after → NoneOrAmong (numberField n) (numbersOf w)
   -- and that number is the refusal's
-  pub host-tells : (bytes out : List ℕ) (n : ℕ) (after : List ℕ) → Promised w bytes out n after → (r : Refusal) → inRoom (answerOf w) (length out) bytes ≡ Refused r → numberIn n ≡ r .number
+  pub host-tells : (bytes out : List ℕ) (n : ℕ) (after : List ℕ) → Promised w bytes out n after → (r : Refusal) → inRoom (answerOf w) (length out) bytes ≡ Refused r → numberField n ≡ r .number
   -- "a refusal changes no lent word": on words; on bytes, where the answer is a refusal; and where the number that is answered says so
   pub words-kept : (ws lent : List ℕ) (r : Refusal) → answerOf w ws (length lent) ≡ Refused r → bufferOf w ws lent ≡ lent
   pub bytes-kept : (bytes out : List ℕ) (n : ℕ) (after : List ℕ) → Promised w bytes out n after → (r : Refusal) → inRoom (answerOf w) (length out) bytes ≡ Refused r → after ≡ out
-  pub host-kept : (bytes out : List ℕ) (n : ℕ) (after : List ℕ) → Promised w bytes out n after → (numberIn n ≡ 0 → ⊥) → after ≡ out
+  pub host-kept : (bytes out : List ℕ) (n : ℕ) (after : List ℕ) → Promised w bytes out n after → (numberField n ≡ 0 → ⊥) → after ≡ out
