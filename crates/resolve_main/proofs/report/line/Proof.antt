@@ -41,8 +41,14 @@ same-length c = search needs
 
 returns : tie.Need-returns
 returns c =
-    let x = c .before .before .before .before .before .before .before .before .before .before .before .before .before .before .args in
-    adds-as (c .before .before .put .ensures) (line-from (x .a) (x .b) (x .c) (x .d) (omega arith) (omega arith) (omega arith) (omega arith) (c .before .before .before .before .before .before .before .before .before .before .before .before .digit .ensures) (c .before .before .before .before .before .before .before .before .before .before .before .digit2 .ensures) (c .before .before .before .before .before .before .before .before .before .before .digit3 .ensures) (c .before .before .before .before .before .before .before .before .before .digit4 .ensures) (c .before .before .before .before .before .before .before .before .digit5 .ensures) (c .before .before .before .before .before .before .before .digit6 .ensures) (c .before .before .before .before .before .before .digit7 .ensures) (c .before .before .before .before .before .digit8 .ensures)) (omega arith)
+    let at-put = c .before .before in let at-digit8 = at-put .before .before .before in let at-digit7 = at-digit8 .before in
+    let at-digit6 = at-digit7 .before in let at-digit5 = at-digit6 .before in let at-digit4 = at-digit5 .before in
+    let at-digit3 = at-digit4 .before in let at-digit2 = at-digit3 .before in let at-digit = at-digit2 .before in
+    let start = at-digit .before .before in
+    let x = start .args in
+    adds-as (at-put .put .ensures) (line-from (x .a) (x .b) (x .c) (x .d) (omega arith) (omega arith) (omega arith) (omega arith) (at-digit .digit .ensures)
+    (at-digit2 .digit2 .ensures) (at-digit3 .digit3 .ensures) (at-digit4 .digit4 .ensures) (at-digit5 .digit5 .ensures) (at-digit6 .digit6 .ensures) (at-digit7 .digit7 .ensures)
+    (at-digit8 .digit8 .ensures)) (omega arith)
 
 pub line-spec : {M : Type 1} → statement M
 line-spec =

@@ -26,18 +26,23 @@ slice-aggregate-put-2 c = search needs
 
 put-requires-2 : tie.Need-put-requires-2
 put-requires-2 c κs =
-    let written = c .before .before .before .before .before .before .before .decimal in
-    omega (arith, written .ensures .0 .1, few-digits (c .before .before .before .before .before .before .before .before .before .before .args .n) (written .result) (omega arith) (written .ensures .1 .0))
+    let on-the-way = c .before .before .before .before .before .before in let at-decimal = on-the-way .before in
+    let start-2 = at-decimal .before .before .before in
+    let written = at-decimal .decimal in
+    omega (arith, written .ensures .0 .1, few-digits (start-2 .args .n) (written .result) (omega arith) (written .ensures .1 .0))
 
 same-length : tie.Need-same-length
 same-length c = search needs
 
 returns : tie.Need-returns
 returns c =
-    let start = c .before .before .before .before .before .before .before .before .before .before .before .before .before in
-    let written = c .before .before .before .before .before .before .before .before .before .before .decimal in
+    let at-put2 = c .before .before in let at-put = at-put2 .before .before .before .before .before in
+    let at-decimal = at-put .before .before .before in let at-before = at-decimal .before .before in
+    let start = at-before .before in
+    let written = at-decimal .decimal in
     let text = written .ensures .1 .1 ∙ as-written (start .args .n) (written .result) (written .ensures .1 .0) in
-    adds-as (and-then (c .before .before .before .before .before .before .before .put .ensures) (omega arith) (c .before .before .put2 .ensures)) (ap (λ (t : List ℕ). 32 ∷ t) text) (omega (arith, written .ensures .0 .1, few-digits (start .args .n) (written .result) (omega arith) (written .ensures .1 .0)))
+    adds-as (and-then (at-put .put .ensures) (omega arith) (at-put2 .put2 .ensures)) (ap (λ (t : List ℕ). 32 ∷ t) text)
+    (omega (arith, written .ensures .0 .1, few-digits (start .args .n) (written .result) (omega arith) (written .ensures .1 .0)))
 
 pub next-spec : {M : Type 1} → statement M
 next-spec =

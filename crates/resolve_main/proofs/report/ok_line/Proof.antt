@@ -29,7 +29,10 @@ same-length c = search needs
 
 returns : tie.Need-returns
 returns c =
-    adds-as (and-then (and-then (and-then (c .before .before .before .before .before .before .before .before .before .before .before .before .before .before .before .put .ensures) (omega arith) (c .before .before .before .before .before .before .before .before .before .before .before .next .ensures)) (omega arith) (c .before .before .before .before .before .before .before .next2 .ensures)) (omega arith) (c .before .before .put2 .ensures)) refl (omega arith)
+    let at-put2 = c .before .before in let at-next2 = at-put2 .before .before .before .before .before in
+    let at-next = at-next2 .before .before .before .before in let at-put = at-next .before .before .before .before in
+    adds-as (and-then (and-then (and-then (at-put .put .ensures) (omega arith) (at-next .next .ensures)) (omega arith) (at-next2 .next2 .ensures)) (omega arith)
+    (at-put2 .put2 .ensures)) refl (omega arith)
 
 pub ok-line-spec : {M : Type 1} → statement M
 ok-line-spec =

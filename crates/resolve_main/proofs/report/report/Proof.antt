@@ -36,9 +36,11 @@ same-length c = search needs
 
 returns : tie.Need-returns
 returns c =
-    let start = c .before .before .before .before .before .before .before .before .before .before .before .before .before .before .before in
-    prints (and-then (c .before .before .before .before .before .before .before .ok-line .ensures) (omega arith) (c .before .before .lines .ensures))
-    (given-text (start .args .out .now) (c .before .before .before .before .before .before .before .before .before .before .before .before .decode .ensures) (c .before .before .before .before .before .before .before .before .before .before .count .given .1) (c .before .before .before .before .room .ensures))
+    let at-lines = c .before .before in let at-room = at-lines .before .before in let at-ok-line = at-room .before .before .before in
+    let at-count = at-ok-line .before .before .before in let at-decode = at-count .before .before in let at-before = at-decode .before .before in
+    let start = at-before .before in
+    prints (and-then (at-ok-line .ok-line .ensures) (omega arith) (at-lines .lines .ensures))
+    (given-text (start .args .out .now) (at-decode .decode .ensures) (at-count .count .given .1) (at-room .room .ensures))
 
 same-length-2 : tie.Need-same-length-2
 same-length-2 c = search needs

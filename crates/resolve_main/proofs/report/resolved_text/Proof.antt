@@ -17,7 +17,9 @@ same-length-2 : tie.Need-same-length-2
 same-length-2 c = search needs
 
 returns : tie.Need-returns
-returns c = resolved-text (c .before .before .before .before .before .before .before .cogunwa-resolve .ensures) (c .before .before .report .ensures)
+returns c =
+    let at-report = c .before .before in let at-cogunwa-resolve = at-report .before .before .before .before .before in
+    resolved-text (at-cogunwa-resolve .cogunwa-resolve .ensures) (at-report .report .ensures)
 
 pub resolved-text-spec : {M : Type 1} → statement M
 resolved-text-spec =
