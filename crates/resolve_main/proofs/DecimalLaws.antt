@@ -1,4 +1,4 @@
--- The digits of a number read as the number, with no zero in front; and they are those that `io::decimal` writes.
+-- The digits of a number are below ten and read as the number, with no zero in front; and they are those that `io::decimal` writes.
 use Prim.Native.Nat.{ℕ, zero, suc, _+_, _-_, _*_, _/_, _%_, _^_, _<_, _≤_}
 use native.Mathlib.Nat.{pow-suc, one-le-pow, pow-le-pow-right, mod-eq-of-lt}
 use native.Mathlib.Omega.{arith}
@@ -6,7 +6,7 @@ use mathlib.Core.Path.{_≡_, refl, ap, sym, _∙_}
 use mathlib.Core.Bool.{Bool, true, false}
 use mathlib.Core.List.{List, [], _∷_, _++_, map, map-append}
 use lib.Dec.{ltb, leb}
-use borrow.Author.Tests.{lt-ltb, le-ltb, ltb-false, leb-true, leb-false}
+use borrow.Author.Tests.{lt-ltb, le-ltb, ltb-true, ltb-false, leb-true, leb-false}
 use Rattle.io.specs.Digits.{glyph, digits, Fewest}
 use Rattle.definitions.specs.Table.{pick}
 use Rattle.resolve_main.specs.Text.{digitOf, digitsUpTo, decimal, hexadecimal, readOn, numberRead}
@@ -39,6 +39,27 @@ hexadecimal-value w h = rw (top, step (w / 16 ^ 6) (w / 16 ^ 7) (omega arith), s
 
     top : 16 * 0 + w / 16 ^ 7 % 16 ≡ w / 16 ^ 7
     top = omega arith
+
+-- each is below ten
+abbrev pub BelowTen : List ℕ → Type 0
+BelowTen [] = Unit {0}
+BelowTen (d ∷ ds) = (d < 10) × BelowTen ds
+
+below-last : (ds : List ℕ) (d : ℕ) → BelowTen ds → d < 10 → BelowTen (ds ++ (d ∷ []))
+below-last [] d h l = (l, tt)
+below-last (e ∷ ds) d (g, h) l = (g, below-last ds d h l)
+
+digits-below : (k n : ℕ) → n ≤ k → BelowTen (digitsUpTo k n)
+unfolding digitsUpTo
+digits-below zero n h = (omega arith, tt)
+digits-below (suc k) n h = go (ltb n 10) refl (digits-below k (n / 10))
+  where
+    go : (b : Bool) → ltb n 10 ≡ b → (n / 10 ≤ k → BelowTen (digitsUpTo k (n / 10))) → BelowTen (pick b (n ∷ []) (digitsUpTo k (n / 10) ++ (n % 10 ∷ [])))
+    go true e rest = (ltb-true n 10 e, tt)
+    go false e rest = let l = ltb-false n 10 e in below-last (digitsUpTo k (n / 10)) (n % 10) (rest (omega arith)) (omega arith)
+
+pub decimal-below : (n : ℕ) → BelowTen (decimal n)
+decimal-below n = digits-below n n (omega arith)
 
 -- no zero in front but that of 0 itself
 first-digit : (k n : ℕ) (ds : List ℕ) → n ≤ k → digitsUpTo k n ≡ 0 ∷ ds → n ≡ 0

@@ -55,7 +55,7 @@ unfoldable pub linesOf : List ℕ → List ℕ
 linesOf [] = []
 linesOf (w ∷ ws) = lineOf w ++ linesOf ws
 
--- an answer, whose value is how many of these words were written
+-- an answer, whose value is how many of the words were written
 abbrev pub okLine : ℕ → ℕ → List ℕ
 okLine count steps = codes "ok" ++ spaced count ++ spaced steps ++ codes "\n"
 
@@ -66,6 +66,6 @@ unfoldable pub textOf : Answer → List ℕ → List ℕ
 textOf (Given count steps) words = okLine count steps ++ linesOf (take count words)
 textOf (Refused r) words = refusedLine (r .number) (r .place) (r .name) (r .other)
 
--- the text for a pack in bytes, of which Resolve writes into an output: its answer, as its number has it, and the words in the output then
+-- what the program prints for the bytes of a pack: Resolve's answer, as the host's number gives it, and the words in the output that it wrote to
 abbrev pub printed : List ℕ → List ℕ → List ℕ
 printed bytes out = textOf (decode (encode (inRoom resolveAnswer (length out) bytes))) (wordsOf (outBytes resolveAnswer resolveBuffer bytes out))

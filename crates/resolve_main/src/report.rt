@@ -86,8 +86,8 @@ fn lines(out: &[u8], count: usize, text: &mut [u8], from: usize) -> usize
 }
 
 fn ok_line(count: u32, steps: u32, text: &mut [u8]) -> usize
-    requires { ⌜ 96 ≤ length (now text) ⌝ }
-    ensures { λ r. ⌜ Adds (okLine count steps) 96 0 (now (text .entry)) r (now (text .exit)) ⌝ }
+    requires { ⌜ 92 ≤ length (now text) ⌝ }
+    ensures { λ r. ⌜ Adds (okLine count steps) 92 0 (now (text .entry)) r (now (text .exit)) ⌝ }
 {
     let name = put(b"ok", text, 0);
     let other = next(count as u64, text, name);
@@ -96,8 +96,8 @@ fn ok_line(count: u32, steps: u32, text: &mut [u8]) -> usize
 }
 
 fn refused_line(r: Refusal, text: &mut [u8]) -> usize
-    requires { ⌜ 96 ≤ length (now text) ⌝ }
-    ensures { λ e. ⌜ Adds (refusedLine (r .number) (r .place) (r .name) (r .other)) 96 0 (now (text .entry)) e (now (text .exit)) ⌝ }
+    requires { ⌜ 92 ≤ length (now text) ⌝ }
+    ensures { λ e. ⌜ Adds (refusedLine (r .number) (r .place) (r .name) (r .other)) 92 0 (now (text .entry)) e (now (text .exit)) ⌝ }
 {
     let number = put(b"refused", text, 0);
     let place = next(r.number as u64, text, number);
@@ -107,9 +107,9 @@ fn refused_line(r: Refusal, text: &mut [u8]) -> usize
     put(b"\n", text, end)
 }
 
-// The text of an answer, of which a number and an output are given.
+// The text of the answer that a number is of, with the words of the output.
 pub fn report(answer: u64, out: &[u8], text: &mut [u8]) -> usize
-    requires { ⌜ 96 + 9 * (length (now out) / 4) ≤ length (now text) ⌝ }
+    requires { ⌜ 92 + 9 * (length (now out) / 4) ≤ length (now text) ⌝ }
     ensures { λ r. ⌜ Prints (textOf (decode answer) (wordsOf (now (out .entry)))) (now (text .entry)) r (now (text .exit)) ⌝ }
 {
     match decode(answer) {
@@ -121,9 +121,9 @@ pub fn report(answer: u64, out: &[u8], text: &mut [u8]) -> usize
     }
 }
 
-// The text of what Resolve answers for a pack. The words are written to the output.
+// The text of what Resolve answers for a pack and writes to the output.
 pub fn resolved_text(pack: &[u8], out: &mut [u8], text: &mut [u8]) -> usize
-    requires { ⌜ 96 + 9 * (length (now out) / 4) ≤ length (now text) ⌝ }
+    requires { ⌜ 92 + 9 * (length (now out) / 4) ≤ length (now text) ⌝ }
     ensures { λ r. ⌜ Prints (printed (now (pack .entry)) (now (out .entry))) (now (text .entry)) r (now (text .exit)) ⌝ }
 {
     let answer = cogunwa_resolve(pack, out);
