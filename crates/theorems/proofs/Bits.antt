@@ -1,5 +1,5 @@
 -- No answer is too large for its bits: the number that a function of the host answers gives the operation's answer back (`answers-again`, over bytes by `over-bytes-fits`).
-use Prim.Native.Nat.{ℕ, _^_, _<_, _≤_}
+use Prim.Native.Nat.{ℕ, _/_, _^_, _<_, _≤_}
 use native.Mathlib.Omega.{arith}
 use mathlib.Core.Path.{_≡_, refl}
 use mathlib.Core.Bool.{Bool, true, false, _||_, _&&_}
@@ -33,7 +33,9 @@ use Rattle.chains.proofs.ListAt.{own-holds}
 use Rattle.definitions.specs.Resolving.{resolved}
 use Rattle.directions.proofs.Numbers.{refused-number}
 use Rattle.theorems.proofs.RefusalNames.{Told, resolved-told}
-use Rattle.theorems.proofs.Faithful.{FitsBits}
+use Rattle.definitions.specs.Bytes.{encode, inRoom}
+use Rattle.wire.specs.Decoding.{decode}
+use Rattle.theorems.proofs.Faithful.{FitsBits, decode-again, over-bytes-fits}
 use Rattle.over_bytes.proofs.Writes.{few-words, few-places, few-names}
 
 -- Check's refusals, and what is answered for a pack
@@ -148,3 +150,7 @@ lean-fits ws a b h k = reads ws _ (λ p e. go p (ltb a (p .names)) (ltb b (p .na
 pub filtered-fits : (f : Filter) (ws : List ℕ) (room : ℕ) → FitsBits (filterAnswer f ws room)
 unfolding filterAnswer
 filtered-fits f ws room = reads ws _ (λ p e. writes (filterWords f p) 0 room (omega (arith, few-names f ws p e)) (omega arith))
+
+-- so the program, which decodes the number, prints Resolve's answer
+pub resolve-decoded : (b : ℕ) (bytes : List ℕ) → decode (encode (inRoom resolveAnswer b bytes)) ≡ inRoom resolveAnswer b bytes
+resolve-decoded b bytes = decode-again (inRoom resolveAnswer b bytes) (over-bytes-fits (λ ws. resolveAnswer ws (b / 4)) (λ ws. resolve-fits ws (b / 4)) bytes)

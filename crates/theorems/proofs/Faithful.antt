@@ -9,7 +9,9 @@ use lib.ListN.{length}
 use Rattle.definitions.specs.declared.answer.Answer.{Answer}
 use Rattle.definitions.specs.declared.answer.Answer.the-variants.{Given, Refused}
 use Rattle.definitions.specs.Table.{pick}
-use Rattle.definitions.specs.Bytes.{wordFrom, wordsOf, bytesOf, inBits, encode, areWords, notWords, overBytes}
+use Rattle.definitions.specs.Bytes.{wordFrom, wordsOf, bytesOf, encode, areWords, notWords, overBytes}
+use Rattle.wire.specs.Decoding.{decode}
+use Rattle.wire.proofs.DecodingLaws.{given-again, refused-again}
 use Rattle.theorems.specs.RoundTrips.{Below}
 
 -- the bytes of a word one after the other
@@ -47,45 +49,19 @@ bytes-again (a ∷ b ∷ c ∷ []) h k = absurd (omega arith)
 bytes-again (a ∷ b ∷ c ∷ d ∷ bytes) (ha, (hb, (hc, (hd, h)))) k =
     rw (first a b c d ha hb hc hd, second a b c d ha hb hc hd, third a b c d ha hb hc hd, fourth a b c d ha hb hc hd, bytes-again bytes h (omega arith))
 
--- the parts of an answer's number, of which none is too large for its bits
-pub parts-again : (number place name other : ℕ) → number < 2 ^ 6 → place < 2 ^ 14 → name < 2 ^ 32 → other < 2 ^ 12
-    → (inBits number place name other % 2 ^ 6 ≡ number)
-    × (inBits number place name other / 2 ^ 6 % 2 ^ 14 ≡ place)
-    × (inBits number place name other / 2 ^ 20 % 2 ^ 32 ≡ name)
-    × (inBits number place name other / 2 ^ 52 ≡ other)
-parts-again number place name other h k l m = (omega arith, omega arith, omega arith, omega arith)
-
 -- an answer of which no part is too large for its bits
 abbrev pub FitsBits : Answer → Type 0
 FitsBits (Given value steps) = (value < 2 ^ 32) × (steps < 2 ^ 12)
 FitsBits (Refused r) = (0 < r .number) × (r .number < 2 ^ 6) × (r .place < 2 ^ 14) × (r .name < 2 ^ 32) × (r .other < 2 ^ 12)
 
-same-refusal : {n p m o n′ p′ m′ o′ : ℕ} → n ≡ n′ → p ≡ p′ → m ≡ m′ → o ≡ o′
-    → Refused (record { number = n; place = p; name = m; other = o }) ≡ Refused (record { number = n′; place = p′; name = m′; other = o′ })
-same-refusal e f g h = cc
+-- the number gives the answer back
+pub decode-again : (a : Answer) → FitsBits a → decode (encode a) ≡ a
+decode-again (Given value steps) (h, k) = given-again value steps h k
+decode-again (Refused r) (z, h, k, l, m) = refused-again r z h k l m
 
 -- two answers with one number are one answer
 pub answers-again : (a b : Answer) → FitsBits a → FitsBits b → encode a ≡ encode b → a ≡ b
-answers-again (Given v s) (Given v′ s′) (f, g) (f′, g′) e =
-    let x = parts-again 0 0 v s (omega arith) (omega arith) f g in
-    let y = parts-again 0 0 v′ s′ (omega arith) (omega arith) f′ g′ in
-    let value : v ≡ v′ = sym (x .2) ∙ rw e (y .2) in
-    let steps : s ≡ s′ = sym (x .3) ∙ rw e (y .3) in
-    cc
-answers-again (Given v s) (Refused r) (f, g) (a, b, c, d, h) e =
-    let x = parts-again 0 0 v s (omega arith) (omega arith) f g in
-    let y = parts-again (r .number) (r .place) (r .name) (r .other) b c d h in
-    let number : 0 ≡ r .number = sym (x .0) ∙ rw e (y .0) in
-    absurd (omega arith)
-answers-again (Refused r) (Given v s) (a, b, c, d, h) (f, g) e =
-    let x = parts-again 0 0 v s (omega arith) (omega arith) f g in
-    let y = parts-again (r .number) (r .place) (r .name) (r .other) b c d h in
-    let number : r .number ≡ 0 = sym (y .0) ∙ rw e (x .0) in
-    absurd (omega arith)
-answers-again (Refused r) (Refused r′) (a, b, c, d, h) (a′, b′, c′, d′, h′) e =
-    let x = parts-again (r .number) (r .place) (r .name) (r .other) b c d h in
-    let y = parts-again (r′ .number) (r′ .place) (r′ .name) (r′ .other) b′ c′ d′ h′ in
-    same-refusal (sym (x .0) ∙ rw e (y .0)) (sym (x .1) ∙ rw e (y .1)) (sym (x .2) ∙ rw e (y .2)) (sym (x .3) ∙ rw e (y .3))
+answers-again a b f g e = sym (decode-again a f) ∙ ap decode e ∙ decode-again b g
 
 -- an operation whose answers all fit, over bytes
 pub over-bytes-fits : (answer : List ℕ → Answer) → ((ws : List ℕ) → FitsBits (answer ws)) → (bytes : List ℕ) → FitsBits (overBytes answer bytes)
