@@ -131,6 +131,19 @@ impl Relation {
         self.derive(|d| d.current_slot = slot)
     }
 
+    pub fn slots(self, current: u32, related: u32) -> Relation {
+        self.derive(|d| (d.current_slot, d.related_slot) = (current, related))
+    }
+
+    pub fn predicate(self, predicate: Tree) -> Relation {
+        self.derive(|d| d.predicate = predicate)
+    }
+
+    pub fn origin(mut self, origin: u32) -> Relation {
+        self.origin = origin;
+        self
+    }
+
     pub fn entity(self, entity: u32) -> Relation {
         self.derive(|d| d.entity = entity)
     }
