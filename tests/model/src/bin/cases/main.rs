@@ -8,6 +8,7 @@
 //! A good pack is put together from records, a damaged one is a good one with a word changed; what each comes to is the
 //! model's answer. The sections say what they are there for, and see that the model answers so. The last part is the file of
 //! the original's answers, which the model is held to.
+mod by_chance;
 mod checking;
 mod entries;
 mod following;
@@ -26,6 +27,7 @@ fn whole() -> List {
     checking::sections(&mut list);
     following::sections(&mut list);
     turning::sections(&mut list);
+    by_chance::sections(&mut list);
     originals::section(&mut list);
     list
 }
