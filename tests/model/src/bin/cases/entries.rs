@@ -120,7 +120,8 @@ pub fn totals(list: &List) -> String {
 
 /// The packs of a list's bytes with the calls on each, or nothing where they are no list.
 pub fn read(bytes: &[u8]) -> Option<Vec<(Vec<u32>, Vec<Call>)>> {
-    let words: Vec<u32> = bytes.chunks(4).map(|word| word.try_into().map(u32::from_le_bytes)).collect::<Result<_, _>>().ok()?;
+    let words: Vec<u32> =
+        bytes.chunks(4).map(|word| word.try_into().map(u32::from_le_bytes)).collect::<Result<_, _>>().ok()?;
     let mut rest = &words[..];
     let mut row = vec![0; WORDS];
     let mut cases: Vec<(Vec<u32>, Vec<Call>)> = vec![];

@@ -76,7 +76,7 @@ fn worked(list: &mut List) {
         &[
             follows(1, 2),
             follows(2, 3).entities(&[1]),
-            follows(3, 4).path(1),
+            follows(3, 4).path_over(4, 1),
             named(4).kinds(&[5]).source(5),
             follows(6, 6),
             typed(7, &[1]),
@@ -116,7 +116,7 @@ fn graphs(list: &mut List) {
         ("list-21", follows(1, 2).entities(&[5])),
         ("list-9", follows(1, 2).kinds(&[5])),
         ("path-0", follows(1, 2).path(0)),
-        ("path-1", follows(1, 2).path(1)),
+        ("path-1", follows(1, 2).path_over(2, 1)),
         ("no-source", named(1).derived()),
         ("no-derivation", named(1)),
     ] {
@@ -131,7 +131,7 @@ fn graphs(list: &mut List) {
     let not_read = [
         follows(0, 9).path(0),
         follows(1, 8).entities(&[2]),
-        follows(2, 7).path(8),
+        follows(2, 7).path_over(7, 8),
         named(3).kinds(&[6]).source(6),
         follows(4, 0),
     ];
@@ -141,8 +141,9 @@ fn graphs(list: &mut List) {
     assert_kinds(list, 2 + 1, &[0; 2]);
     for k in [0, 1, 8] {
         let over = |first: Relation| [first, typed(1, &[4, 5]), follows(2, 0)];
-        graph(list, &format!("path-of-{k}"), 6, &over(follows(0, 1).path(k)));
-        list.ok(&format!("path-of-{k}-list-21"), &of(6, &over(follows(0, 1).path(k).entities(&[3]))).words()).ask();
+        graph(list, &format!("path-of-{k}"), 6, &over(follows(0, 1).path_over(1, k)));
+        list.ok(&format!("path-of-{k}-list-21"), &of(6, &over(follows(0, 1).path_over(1, k).entities(&[3]))).words())
+            .ask();
         // After 6 to 9, 11 to 13, the path and 17 to 20; list 9 of the next relation after one kind and a predicate more.
         let place = 4 + 4 + 3 + 3 * k + 4;
         assert_kinds(list, 3, &[place, place + 3 + 3, place]);
@@ -196,13 +197,19 @@ fn many(list: &mut List) {
     for (name, relations, steps, deal) in [
         ("chain", with(each(&|i| i + 1), 511, typed(511, &[1, 2])), 512, true),
         ("chain-undeclared", each(&|i| i + 1), 513, true),
-        ("chain-back", with(each(&|i| i.max(1) - 1), 0, named(0).entities(&[3])), 512, true),
-        ("ring", each(&|i| (i + 1) % 512), 512, true),
+        ("chain-back", with(each(&|i| i.max(1) - 1), 0, named(0).entities(&[3])), 512, false),
+        ("ring", each(&|i| (i + 1) % 512), 512, false),
         ("ring-fed", each(&|i| if i < 511 { i + 1 } else { 256 }), 512, true),
         ("rings-of-2", each(&|i| i ^ 1), 512, false),
         ("rings-of-1", each(&|i| i), 512, false),
         ("one-undeclared", each(&|_| 699), 513, false),
-        ("one-source", with(each(&|_| 511), 511, typed(511, &[9])), 512, true),
+        ("one-source", with(each(&|_| 511), 511, typed(511, &[9])), 512, false),
+        (
+            "pairs",
+            (0..512).map(|i| if i % 2 == 0 { typed(i, &[i, i + 1]) } else { follows(i, i - 1) }).collect(),
+            512,
+            false,
+        ),
         ("own", own(&|i| vec![i]), 512, false),
         ("plain", own(&|_| vec![]), 512, false),
     ] {
@@ -250,12 +257,8 @@ fn entities(list: &mut List) {
         graph(list, &format!("slot-{slot}-of-{k}-inherited"), 10, &[typed(2, &kinds), inherits]);
     }
     graph(list, "entity-none", 6, &[named(1).entities(&[4]), entity_of(2, 5, &[4], 0)]);
-    let none = [
-        follows(1, 1).entity(5),
-        follows(2, 3).entity(4),
-        entity_of(3, 2, &[1], 0),
-        follows(4, 3).path(0).entity(0),
-    ];
+    let none =
+        [follows(1, 1).entity(5), follows(2, 3).entity(4), entity_of(3, 2, &[1], 0), follows(4, 3).path(0).entity(0)];
     graph(list, "entity-no-kinds", 6, &none);
     // The kinds that 5 takes, and what direct and alias come to there.
     for (name, kinds, direct, alias) in [

@@ -101,19 +101,17 @@ impl List {
         self.cases.last_mut().unwrap()
     }
 
-    /// Words that Check accepts or not, with Rewrite in rooms around their number and Resolve in some.
+    /// Words that Check accepts or not, with Rewrite and Resolve in rooms around what they need, in turn.
     pub fn any(&mut self, name: &str, words: &[u32]) -> &mut Case {
         let turn = self.cases.len() % 3;
         let length = words.len() as u32;
-        let accepted = read(words).is_ok();
-        let rooms = if accepted { about(words.len()) } else { vec![0, length] };
-        let case = self.add(name, words, &rooms);
-        if accepted {
-            case.resolve(|n| [[n, n - 1], [n + 1, 0], [MUCH, n - 1]][turn].to_vec());
-        } else {
+        if read(words).is_err() {
+            let case = self.add(name, words, &[[length, 0, MUCH][(turn + 1) % 3]]);
             case.call("resolve", &[[length, 0, MUCH][turn]]);
+            return case;
         }
-        case
+        let case = self.add(name, words, &[length, [length - 1, 0, length + 3][turn]]);
+        case.resolve(|n| [[n, n - 1], [n + 1, 0], [MUCH, n - 1]][turn].to_vec())
     }
 
     pub fn ok(&mut self, name: &str, words: &[u32]) -> &mut Case {
@@ -150,12 +148,12 @@ impl List {
     }
 
     /// A pack that Resolve refuses, with number, name and other, whatever the room.
-    pub fn stopped(&mut self, wanted: [u32; 3], name: &str, pack: &Pack) {
+    pub fn stopped(&mut self, wanted: [u32; 3], name: &str, pack: &Pack) -> &mut Case {
         let words = pack.words();
         let case = self.add(name, &words, &[words.len() as u32]);
         let result = case.reading.as_ref().unwrap().resolve(MUCH as usize);
         assert!(result.as_ref().is_err_and(|r| [r.number, r.name, r.other] == wanted), "{name}: {result:?}");
-        case.resolve(|_| vec![]);
+        case.resolve(|_| vec![])
     }
 }
 

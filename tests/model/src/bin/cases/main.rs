@@ -4,6 +4,7 @@
 //!     cargo run --release --bin cases -- print           lists the calls by the numbers that the program tells
 //!     cargo run --release --bin cases -- case NUMBER     lists those of one case, with all words
 //!     cargo run --release --bin cases -- check FILE      holds every answer of a list to the model
+//!     cargo run --release --bin cases -- mistakes FILE   how many answers of a list notice each mistake of the model
 //!
 //! A good pack is put together from records, a damaged one is a good one with a word changed; what each comes to is the
 //! model's answer. The sections say what they are there for, and see that the model answers so. The last part is the file of
@@ -17,6 +18,7 @@ mod make;
 mod originals;
 mod turning;
 
+use cogunwa_model::faults::{self, FAULTS, Of};
 use cogunwa_model::replay::hex;
 use list::{Call, List};
 use std::process::ExitCode;
@@ -57,22 +59,50 @@ fn print(list: &List, only: Option<usize>) {
     }
 }
 
-/// Says where a list does not have the model's answers, and whether it has them all.
-fn check(bytes: &[u8]) -> bool {
-    let (mut answers, mut wrong) = (0, 0);
-    for (i, (words, calls)) in entries::read(bytes).expect("a list of cases").iter().enumerate() {
+type Cases = Vec<(Vec<u32>, Vec<Call>)>;
+
+/// The cases of a file.
+fn cases(file: &str) -> Cases {
+    entries::read(&fs::read(file).unwrap()).expect("a list of cases")
+}
+
+/// Runs the calls of a list by the model, all or those of Check; `tell` is told the numbers of those that it answers otherwise,
+/// and how.
+fn differing(cases: &Cases, only_check: bool, mut tell: impl FnMut(usize, usize, &Call, &Call)) -> usize {
+    let mut wrong = 0;
+    for (i, (words, calls)) in cases.iter().enumerate() {
         let reading = cogunwa_model::read(words);
-        for (k, call) in calls.iter().enumerate() {
-            answers += 1;
+        let calls = calls.iter().enumerate().filter(|(_, call)| !only_check || call.operation == "check");
+        for (k, call) in calls {
             let found = list::answered(&reading, call.operation, &call.arguments);
             if found != *call {
                 wrong += 1;
-                println!("{}.{} {}: {}, by the model {}", i + 1, k + 1, asked(call), answer(call), answer(&found));
+                tell(i + 1, k + 1, call, &found);
             }
         }
     }
-    println!("{answers} answers, {wrong} differ");
+    wrong
+}
+
+/// Says where a list does not have the model's answers, and whether it has them all.
+fn check(cases: &Cases) -> bool {
+    let wrong = differing(cases, false, |case, number, call, found| {
+        println!("{case}.{number} {}: {}, by the model {}", asked(call), answer(call), answer(found));
+    });
+    println!("{} answers, {wrong} differ", cases.iter().map(|(_, calls)| calls.len()).sum::<usize>());
     wrong == 0
+}
+
+/// Says how many answers of a list notice each mistake that the model can make, and whether each is noticed.
+fn mistakes(cases: &Cases) -> bool {
+    let mut all = true;
+    for &(fault, of, text) in FAULTS {
+        // Nothing else is run on what is no pack.
+        let noticed = faults::with(fault, || differing(cases, of == Of::Check, |_, _, _, _| ()));
+        println!("{noticed:6} {text}");
+        all &= noticed > 0;
+    }
+    all
 }
 
 fn run(arguments: &[&str]) -> Option<bool> {
@@ -86,7 +116,8 @@ fn run(arguments: &[&str]) -> Option<bool> {
         }
         ["print"] => print(&whole(), None),
         ["case", number] => print(&whole(), Some(number.parse().ok()?)),
-        ["check", file] => return Some(check(&fs::read(file).unwrap())),
+        ["check", file] => return Some(check(&cases(file))),
+        ["mistakes", file] => return Some(mistakes(&cases(file))),
         _ => return None,
     }
     Some(true)
@@ -98,7 +129,7 @@ fn main() -> ExitCode {
         Some(true) => ExitCode::SUCCESS,
         Some(false) => ExitCode::FAILURE,
         None => {
-            println!("cases write FOLDER, cases print, cases case NUMBER, or cases check FILE");
+            println!("cases write FOLDER, cases print, cases case NUMBER, cases check FILE, or cases mistakes FILE");
             ExitCode::from(2)
         }
     }

@@ -174,8 +174,8 @@ pub fn every_kind() -> Pack {
     let third_derived = third.derived.as_mut().unwrap();
     (third_derived.path, third_derived.member) = (Some(vec![[1, 0, NONE]]), 3);
     (third_derived.current_slot, third_derived.related_slot, third.arity) = (NONE, NONE, NONE);
-    let fourth = named(0).path(0).entities(&[0, 1, 2, 3, 4, 5, 6, 7]).predicate(Tree::leaf(104, 1));
-    let fifth = named(58).kinds(&[10, 11, 12, 13, 14, 15, 16, 17]).path(8).predicate(Tree::leaf(105, 59));
+    let fourth = named(0).path(0).entities(&[0]).predicate(Tree::leaf(104, 1));
+    let fifth = named(58).kinds(&[10, 11, 12]).path(2).predicate(Tree::leaf(105, 59));
     let onlys = node(70, 2, [only_of(1, (0, 1), 82, 30), only_of(5, (7, 9), 84, 31)]);
     let bodies = vec![node(68, 4, sums), node(97, 0, []), onlys, Tree::leaf(106, 0)];
     Pack {
@@ -197,7 +197,8 @@ pub fn medium() -> Pack {
     let counted = sum(74, 3, (0, 1), Some(compared));
     let choice = node(71, 0, [Tree::leaf(105, 4), counted, only_of(5, (0, 1), 84, 6)]);
     let and = node(97, 2, [atom(5), exists(7, node(100, 0, [Tree::leaf(106, 3)]))]);
-    let last = named(5).origin(8).source(3).path(1).entity(1).entities(&[2]).predicate(packs::member(3, (0, 1)));
+    let last =
+        named(5).origin(8).source(3).path_over(3, 1).entity(1).entities(&[2]).predicate(packs::member(3, (0, 1)));
     Pack {
         n: 30,
         defaulted: vec![5, 9],

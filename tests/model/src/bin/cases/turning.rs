@@ -42,7 +42,9 @@ fn listed(name: u32, kinds: &[u32]) -> Relation {
 }
 
 fn worked(list: &mut List) {
-    list.section("resolve: 01's cases, what is tempting and what OnlyRelated is refused for, with what 01 says they come to");
+    list.section(
+        "resolve: 01's cases, what is tempting and what OnlyRelated is refused for, with what 01 says they come to",
+    );
     for case in cases::named() {
         let words = case.pack.words();
         let name = format!("named-{}", case.name.replace([' ', '\''], "-"));
@@ -108,7 +110,8 @@ fn tempting(list: &mut List) {
     // Membership carried into patterns.
     let pattern = |t: Tree| holds(node(72, 1, [leaf(), chosen(t)]));
     let subject = |t: Tree| holds(node(72, 1, [chosen(t), leaf()]));
-    let over_5 = |kinds: &[u32], own: &[u32], tree: Tree| small(&[typed(5, kinds), listed(6, own).predicate(tree)], &[]);
+    let over_5 =
+        |kinds: &[u32], own: &[u32], tree: Tree| small(&[typed(5, kinds), listed(6, own).predicate(tree)], &[]);
     list.kept("pattern-member", &over_5(&[2, 1], &[1, 2], pattern(member(5))));
     list.kept("pattern-not-open", &over_5(&[1, 1], &[1, 1], pattern(member(5))));
     list.stopped([10, 6, 1], "subject-open", &over_5(&[1, 1], &[1, 1], subject(member(5))));
@@ -195,15 +198,16 @@ fn framed(list: &mut List) {
         let seven = listed(7, &[2, 1]).slots(0, 0).predicate(holds(around(chosen(member(8)))));
         let pack = small(&[&self::around()[..], &[seven]].concat(), &[]);
         let case = format!("10-member-below-{name}");
-        if lost { drop(list.kept(&case, &pack)) } else { list.stopped([10, 7, 2], &case, &pack) }
+        if lost {
+            list.kept(&case, &pack)
+        } else {
+            list.stopped([10, 7, 2], &case, &pack)
+        };
     }
     let parts = [node(72, 1, [chosen(member(4)), chosen(member(4))]), chosen(member(4))];
     list.turned("member-lost-and-after", &in_predicate(node(68, 2, parts), &[]));
     list.section("resolve: 01, 'place the node, name the citing one': 10 to 15 below every node");
-    let good = [
-        block(6, &[item(13, false, 1), item(14, true, 3), item(12, true, 1)]),
-        block(6, &[item(15, false, 2)]),
-    ];
+    let good = [block(6, &[item(13, false, 1), item(14, true, 3), item(12, true, 1)]), block(6, &[item(15, false, 2)])];
     let bad = [&good[..], &[no_sequence(6)]].concat();
     let input = |name: u32| only_of(5, AUTHOR, 82, name);
     for Frame { name, around, inside, .. } in frames() {
@@ -216,7 +220,11 @@ fn framed(list: &mut List) {
             (14, input(not_boolean), &good, not_boolean),
             (15, input(14), &good, 14),
         ] {
-            list.stopped([number, 17, other], &format!("{number}-below-{name}"), &in_rule(around(tree.clone()), blocks));
+            list.stopped(
+                [number, 17, other],
+                &format!("{number}-below-{name}"),
+                &in_rule(around(tree.clone()), blocks),
+            );
             if matches!(number, 10 | 15) || matches!(name, "root" | "pattern" | "where-75" | "periods-n") {
                 let case = format!("{number}-below-{name}-predicate");
                 list.stopped([number, 7, other], &case, &in_predicate(around(tree), blocks));
@@ -226,7 +234,9 @@ fn framed(list: &mut List) {
 }
 
 fn first_refusals(list: &mut List) {
-    list.section("resolve: 01, 'Rules in order, bodies in order', then 'Relation predicates in order': the first of several");
+    list.section(
+        "resolve: 01, 'Rules in order, bodies in order', then 'Relation predicates in order': the first of several",
+    );
     let (eight, nine) = (|| typed(8, &[2, 2]), || typed(9, &[1, 1]));
     let (open, missing) = (|| count(8), || only(5));
     let inside = || listed(7, &[1, 2]).predicate(holds(open()));
@@ -397,7 +407,11 @@ fn inputs(list: &mut List) {
         let rule = from(6, ruled([over(5, holds(only(5)))]));
         let pack = with_blocks(small(&[five()], &[rule]), &[own(&[item(12, true, owner)])]);
         let name = format!("input-where-{owner}");
-        if owner == 2 { drop(list.turned(&name, &pack)) } else { list.stopped([15, 17, 12], &name, &pack) }
+        if owner == 2 {
+            list.turned(&name, &pack)
+        } else {
+            list.stopped([15, 17, 12], &name, &pack)
+        };
     }
 }
 
@@ -503,7 +517,9 @@ fn directions(list: &mut List) {
 }
 
 fn kind_0(list: &mut List) {
-    list.section("resolve: 01, 'entity = related kind or 0': an unknown entity is the name 0; a known kind 0 is not unknown");
+    list.section(
+        "resolve: 01, 'entity = related kind or 0': an unknown entity is the name 0; a known kind 0 is not unknown",
+    );
     let (zero, zeros) = (|| typed(8, &[0, 2]), || typed(9, &[0, 0]));
     let of_0 = |tree: Tree| [ruled_by(17, 0, tree)];
     let open = [10, 17, 0];
@@ -526,7 +542,9 @@ fn kind_0(list: &mut List) {
 }
 
 fn members(list: &mut List) {
-    list.section("resolve: 01, 'RelationMember': 'both membership kinds and a typed relation are needed or slots stay'");
+    list.section(
+        "resolve: 01, 'RelationMember': 'both membership kinds and a typed relation are needed or slots stay'",
+    );
     // The kinds and slots of the relation whose predicate it is, the kinds of the one that it asks, and what comes: slots are
     // kept (0), set (1), or 10.
     for (name, own, (a, b), over, what) in [
@@ -558,7 +576,10 @@ fn members(list: &mut List) {
     ] {
         let pack = small(&[typed(5, over), listed(6, own).slots(a, b).predicate(member(5))], &[]);
         let name = format!("member-{name}");
-        if what == 10 { list.stopped([10, 6, over[0]], &name, &pack) } else { drop(list.resolves(&name, &pack, what == 1)) }
+        match what {
+            10 => list.stopped([10, 6, over[0]], &name, &pack),
+            _ => list.resolves(&name, &pack, what == 1),
+        };
     }
     list.kept("member-no-kinds", &small(&[typed(5, &[0, 0]), filtered(6).source(9).predicate(member(5))], &[]));
     let inherits = [typed(5, &[2, 1]), typed(4, &[1, 2]), filtered(6).source(4).predicate(member(5))];
@@ -571,7 +592,10 @@ fn members(list: &mut List) {
         node(99, 2, [said(), member(5)]),
         exists(5, member(5)),
     ];
-    list.turned("member-below-judgments", &small(&[typed(5, &[2, 1]), listed(6, &[1, 2]).predicate(node(97, 5, every))], &[]));
+    list.turned(
+        "member-below-judgments",
+        &small(&[typed(5, &[2, 1]), listed(6, &[1, 2]).predicate(node(97, 5, every))], &[]),
+    );
 }
 
 fn four() -> Relation {
@@ -597,7 +621,7 @@ fn stamping(list: &mut List) {
         ("from-list-21", listed(4, &[5, 6]).kinds(&[1, 2]), inherits(), true),
         ("ring", four(), filtered(6).source(6), false),
         ("undeclared", four(), filtered(6).source(9), false),
-        ("path", four(), inherits().path(1), false),
+        ("path", four(), inherits().path_over(4, 1), false),
         ("path-0", four(), inherits().path(0), false),
         ("empty-source", named(4), inherits(), false),
     ] {
@@ -634,7 +658,11 @@ fn stamping(list: &mut List) {
         ("kind-0-current-out", (1, 0), &[0], false),
     ] {
         let nine = small(&[four(), filtered(6).slots(a, b).kinds(kinds)], &[]);
-        list.resolves(&format!("stamp-{name}-inherited"), &small(&[typed(4, kinds), inherits().slots(a, b)], &[]), stamped);
+        list.resolves(
+            &format!("stamp-{name}-inherited"),
+            &small(&[typed(4, kinds), inherits().slots(a, b)], &[]),
+            stamped,
+        );
         list.resolves(&format!("stamp-{name}-list-9"), &nine, stamped);
     }
     list.section("resolve: 01, stamping comes last: the tables are those of the pack as it stood");
@@ -671,7 +699,11 @@ fn passing_over(list: &mut List) {
     let inherits = || filtered(6).source(4);
     for (name, tree) in [("102", atom(4)), ("103", exists(4, said())), ("104", Tree::leaf(104, 0))] {
         for (i, (six, stamped)) in forms().into_iter().enumerate() {
-            list.resolves(&format!("stamp-holds-{name}-{i}"), &small(&[four(), six.predicate(tree.clone())], &[]), stamped);
+            list.resolves(
+                &format!("stamp-holds-{name}-{i}"),
+                &small(&[four(), six.predicate(tree.clone())], &[]),
+                stamped,
+            );
         }
         // In a rule or in another's predicate it does not count.
         let another = listed(7, &[1, 2]).predicate(tree.clone());
@@ -717,7 +749,9 @@ fn passing_over(list: &mut List) {
 }
 
 fn rooms(list: &mut List) {
-    list.section("resolve: 01, 'more than the output slice has'; 'output past the length is untouched': slices of every length");
+    list.section(
+        "resolve: 01, 'more than the output slice has'; 'output past the length is untouched': slices of every length",
+    );
     let every = |n: u32| (0..n + 4).chain([8192, 8400, 8448]).collect::<Vec<_>>();
     let grows = with_blocks(small(&[four(), filtered(6).source(4)], &[ruled([count(4)])]), &[no_sequence(NONE)]);
     list.turned("room-grows", &grows).resolve(every);
@@ -758,8 +792,7 @@ fn lengths(list: &mut List) {
         if stamped == 96 {
             list.turned("long-many-96", &pack);
         } else {
-            list.stopped([16, 0, 0], &format!("long-many-{stamped}"), &pack);
-            list.cases.last_mut().unwrap().resolve(|_| vec![8191, 8192, 8193, MUCH]);
+            list.stopped([16, 0, 0], &format!("long-many-{stamped}"), &pack).resolve(|_| vec![8191, 8192, 8193, MUCH]);
         }
     }
     // Other refusals come first.
@@ -771,6 +804,10 @@ fn lengths(list: &mut List) {
     for case in cases::all().into_iter().filter(|case| !named.contains(&case.name)) {
         let name = format!("large-{}", case.name.replace([' ', ','], "-"));
         let words = case.pack.words();
+        // Only those that are short in the list, as their words come again and again.
+        if words.chunk_by(|a, b| a == b).count() > 3300 {
+            continue;
+        }
         list.add(&name, &words, &[words.len() as u32]).resolve(|n| vec![n.min(8192), n - 1]);
     }
 }
@@ -816,7 +853,11 @@ fn deep(list: &mut List) {
         let rule = from(6, ruled([wheres(74, 15, holds(only(5)))]));
         let pack = with_blocks(small(&[five()], &[rule]), &[block(6, &[item(12, true, owner)])]);
         let name = format!("deep-where-input-{owner}");
-        if owner == 2 { drop(list.turned(&name, &pack)) } else { list.stopped([15, 17, 12], &name, &pack) }
+        if owner == 2 {
+            list.turned(&name, &pack)
+        } else {
+            list.stopped([15, 17, 12], &name, &pack)
+        };
     }
     // Two deep arms: the second starts where the first ends.
     let arms = |a: u32, b: u32| [a, b].map(|relation| nested(count(relation), |t| node(66, 0, [t]), 30));
