@@ -98,6 +98,12 @@ fn limits(list: &mut List) {
     list.refused(4, "bodies-0", &Pack { rules: vec![rule(0, 0, vec![])], ..empty(1) }.words());
     list.ok("no-path", &of(named(0).derived()).words());
     list.ok("no-sequence", &Pack { blocks: vec![no_sequence(NONE)], ..empty(1) }.words());
+    let lists_empty = Pack {
+        rules: vec![rule(0, 0, vec![node(68, 0, []), node(98, 0, [])])],
+        blocks: vec![block(NONE, &[])],
+        ..of(named(0).path(0).predicate(node(97, 0, [])))
+    };
+    list.ok("lists-empty", &lists_empty.words());
     // Every limit at once, as far as the words reach.
     let many = Pack {
         n: 4096,
@@ -240,7 +246,7 @@ fn any_values(list: &mut List) {
 }
 
 /// Nodes with one child that goes on down, a scalar below scalars or a judgment below judgments.
-const LINKS: [(&str, fn(Tree) -> Tree); 17] = [
+const LINKS: [(&str, Around); 17] = [
     ("one", |t| node(66, 1, [t])),
     ("left", |t| node(67, 1, [t, leaf()])),
     ("right", |t| node(67, 1, [leaf(), t])),
@@ -261,7 +267,7 @@ const LINKS: [(&str, fn(Tree) -> Tree); 17] = [
 ];
 
 /// Two levels each, from a judgment to a scalar and back.
-const TURNS: [(&str, fn(Tree) -> Tree); 6] = [
+const TURNS: [(&str, Around); 6] = [
     ("where-74", |t| holds(sum(74, 3, (0, 1), Some(t)))),
     ("where-75", |t| holds(sum(75, 3, (0, 1), Some(t)))),
     ("where-76", |t| holds(sum(76, 3, (0, 1), Some(t)))),

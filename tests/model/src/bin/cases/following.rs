@@ -68,6 +68,14 @@ fn worked(list: &mut List) {
     assert_eq!(ring.direct(7).unwrap(), [NONE, NONE, NONE, 4, 3, 3, NONE]);
     assert_eq!(ring.innermost(7).unwrap(), [NONE; 7]);
     graph(list, "A4", 6, &[five(), entity_of(4, 3, &[2, 0], 0)]);
+    // 3 on to 4, 4 on to 5, 5 to itself; 6 takes 0 and 1; 0 is named and takes nothing.
+    let takers =
+        [(1, 3, 4), (2, 4, 5), (3, 5, 5), (4, 6, 0), (5, 6, 1)].map(|(x, e, kind)| entity_of(x, e, &[kind], 0));
+    graph(list, "innermost-itself", 8, &[&takers[..], &[entity_of(6, 0, &[], 0)]].concat());
+    let reading = list.cases.last().unwrap().reading.as_ref().unwrap();
+    assert_eq!(reading.innermost(8).unwrap(), [NONE, NONE, NONE, 5, 5, 5, NONE, NONE]);
+    assert_eq!(reading.alias(8).unwrap(), [0, 0, 0, 1, 1, 0, 1, 0]);
+    assert_eq!(reading.unresolved(8).unwrap(), [1, 0, 0, 0, 0, 0, 0, 0]);
     // Field 12 leads on whatever else the declaration says.
     graph_edges(
         list,

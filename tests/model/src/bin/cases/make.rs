@@ -208,10 +208,13 @@ pub fn medium() -> Pack {
     }
 }
 
+/// What is put around a tree.
+pub type Around = fn(Tree) -> Tree;
+
 /// A way to stand around a scalar.
 pub struct Frame {
     pub name: &'static str,
-    pub around: fn(Tree) -> Tree,
+    pub around: Around,
     /// Whether membership is lost below, and whether the entity turns from 2 to 1 there: in a where tree over 5[1, 2].
     pub lost: bool,
     pub inside: bool,
@@ -219,7 +222,7 @@ pub struct Frame {
 
 /// Every node in each of its places for children.
 pub fn frames() -> Vec<Frame> {
-    let kept: [(&str, fn(Tree) -> Tree); 18] = [
+    let kept: [(&str, Around); 18] = [
         ("root", |t| t),
         ("one", |t| node(66, 1, [t])),
         ("left", |t| node(67, 1, [t, leaf()])),
@@ -239,7 +242,7 @@ pub fn frames() -> Vec<Frame> {
         ("not", |t| chosen(node(100, 0, [holds(t)]))),
         ("exists", |t| chosen(exists(3, holds(t)))),
     ];
-    let lost: [(&str, fn(Tree) -> Tree); 5] = [
+    let lost: [(&str, Around); 5] = [
         ("pattern", |t| node(72, 1, [leaf(), t])),
         ("pattern-last", |t| node(72, 2, [leaf(), leaf(), t])),
         ("periods", |t| node(73, 6, [t])),
@@ -247,7 +250,7 @@ pub fn frames() -> Vec<Frame> {
         ("periods-n", |t| node(73, 1, [leaf(), t])),
     ];
     // The slots are those that the entity 2 gives, so that nothing but what is below can change.
-    let inside: [(&str, fn(Tree) -> Tree); 4] = [
+    let inside: [(&str, Around); 4] = [
         ("where-74", |t| sum(74, 5, (1, 0), Some(holds(t)))),
         ("where-75", |t| sum(75, 5, (1, 0), Some(holds(t)))),
         ("where-76", |t| sum(76, 5, (1, 0), Some(holds(t)))),

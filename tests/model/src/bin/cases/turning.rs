@@ -820,7 +820,7 @@ fn wheres(kind: u8, times: usize, inner: Tree) -> Tree {
 fn deep(list: &mut List) {
     list.section("resolve: 01, 'Depth 32 passes'");
     let (eight, nine) = (|| typed(8, &[2, 2]), || typed(4, &[2, 1]));
-    let scalars: [(&str, fn(Tree) -> Tree); 6] = [
+    let scalars: [(&str, Around); 6] = [
         ("one", |t| node(66, 0, [t])),
         ("right", |t| node(67, 0, [leaf(), t])),
         ("else", |t| node(71, 0, [said(), leaf(), t])),
@@ -833,7 +833,7 @@ fn deep(list: &mut List) {
         let open = small(&[eight()], &[ruled([nested(count(8), link, 31)])]);
         list.stopped([10, 17, 2], &format!("deep-{name}-open"), &open);
     }
-    let judgments: [(&str, fn(Tree) -> Tree); 3] =
+    let judgments: [(&str, Around); 3] =
         [("not", |t| node(100, 0, [t])), ("and", |t| node(97, 2, [said(), t])), ("exists", |t| exists(19, t))];
     for (name, link) in judgments {
         let six = |relation: u32, kinds: &[u32]| listed(6, kinds).predicate(nested(member(relation), link, 31));
