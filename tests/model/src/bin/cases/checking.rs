@@ -442,9 +442,11 @@ fn places(list: &mut List) {
     let every = every_kind().words();
     for (at, &word) in every.iter().enumerate() {
         let kind = (word >> 24) as u8;
-        let wrong = [kind.wrapping_add(1), kind.wrapping_sub(1), kind ^ 128, 0, 255, kind.wrapping_add(32)];
-        let wrong: Vec<u8> = wrong.into_iter().filter(|&other| !fits(kind, other)).collect();
-        let other = wrong[at % wrong.len()];
+        // In turn one of those that are near, or any.
+        let near = [kind.wrapping_add(1), kind ^ 128, kind.wrapping_sub(1), 0, kind.wrapping_add(32), 255];
+        let any = (0..=255u8).map(|step| (at as u8).wrapping_mul(97).wrapping_add(step));
+        let mut wrong = near.into_iter().cycle().skip(at / 2).take(6 * (1 - at % 2)).chain(any);
+        let other = wrong.find(|&other| !fits(kind, other)).unwrap();
         list.refused(2, &format!("kind-{other}-at-{at}"), &put(&every, at, other, word & NONE));
     }
     list.section("8 words left over");

@@ -54,7 +54,8 @@ fn print(list: &List, only: Option<usize>) {
         let words = |words: &[u32]| if only.is_some() { hex(words) } else { format!("{} words", words.len()) };
         println!("{number} {name}: {}", words(&case.words));
         for (k, call) in case.calls.iter().enumerate() {
-            println!("{number}.{} {name} > {} | {} | {}", k + 1, asked(call), answer(call), words(&call.words));
+            let written = if call.words.is_empty() { String::new() } else { format!(" | {}", words(&call.words)) };
+            println!("{number}.{} {name} > {} | {}{written}", k + 1, asked(call), answer(call));
         }
     }
 }
@@ -109,8 +110,11 @@ fn run(arguments: &[&str]) -> Option<bool> {
     match arguments {
         ["write", folder] => {
             let list = whole();
-            let totals = entries::totals(&list);
-            fs::write(format!("{folder}/stdin"), entries::written(&list)).unwrap();
+            let (bytes, totals) = (entries::written(&list), entries::totals(&list));
+            let read = entries::read(&bytes).expect("what is written is a list");
+            let made = list.cases.iter().map(|case| (&case.words, &case.calls));
+            assert!(read.iter().map(|(words, calls)| (words, calls)).eq(made), "what is written is read");
+            fs::write(format!("{folder}/stdin"), bytes).unwrap();
             fs::write(format!("{folder}/stdout"), &totals).unwrap();
             print!("{totals}");
         }
