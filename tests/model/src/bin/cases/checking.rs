@@ -3,7 +3,7 @@
 use crate::list::List;
 use crate::make::*;
 use cogunwa_model::packs::{named, of_length, rule, smallest};
-use cogunwa_model::records::{Derivation, NONE, Pack, Relation, Tree};
+use cogunwa_model::records::{NONE, Pack, Relation, Tree};
 use cogunwa_model::word;
 
 pub fn sections(list: &mut List) {
@@ -67,17 +67,13 @@ type Counted<'a> = (&'a str, u8, u32, &'a dyn Fn(u32) -> Pack);
 fn limits(list: &mut List) {
     list.section("limits, and one past each");
     let of = |relation: Relation| Pack { relations: vec![relation], ..empty(9) };
-    let own = |d: &dyn Fn(&mut Derivation)| {
-        let mut relation = named(0).derived();
-        d(relation.derived.as_mut().unwrap());
-        of(relation)
-    };
+    let names = |count: u32| (0..count).collect::<Vec<_>>();
     let counted: [Counted; 9] = [
-        ("defaulted", 3, 512, &|k| Pack { defaulted: (0..k).collect(), ..empty(4096) }),
+        ("defaulted", 3, 512, &|k| Pack { defaulted: names(k), ..empty(4096) }),
         ("relations", 5, 512, &|k| Pack { relations: (0..k).map(named).collect(), ..empty(4096) }),
-        ("slots", 9, 8, &|k| of(named(0).kinds(&(0..k).collect::<Vec<_>>()))),
+        ("slots", 9, 8, &|k| of(named(0).kinds(&names(k)))),
         ("path", 13, 8, &|k| of(named(0).path(k))),
-        ("entities", 21, 8, &|k| own(&|d| d.kinds = (0..k).collect())),
+        ("entities", 21, 8, &|k| of(named(0).entities(&names(k)))),
         ("rules", 22, 1024, &|k| Pack { rules: vec![rule(0, 0, vec![leaf()]); k as usize], ..empty(1) }),
         ("bodies", 26, 64, &|k| Pack { rules: vec![rule(0, 0, vec![leaf(); k as usize])], ..empty(1) }),
         ("blocks", 28, 64, &|k| Pack { blocks: vec![no_sequence(NONE); k as usize], ..empty(1) }),
@@ -92,7 +88,11 @@ fn limits(list: &mut List) {
         let count = place(&one, kind, 0);
         list.refused(4, &format!("{name}-none-less"), &put(&one, count, kind, NONE - 1));
         // None is a count of path steps and of items, but then none may follow.
-        let number = if kind == 13 || kind == 30 { [2, 8][usize::from(kind == 30)] } else { 4 };
+        let number = match kind {
+            13 => 2,
+            30 => 8,
+            _ => 4,
+        };
         list.refused(number, &format!("{name}-none"), &put(&one, count, kind, NONE));
     }
     list.refused(4, "bodies-0", &Pack { rules: vec![rule(0, 0, vec![])], ..empty(1) }.words());
@@ -125,8 +125,7 @@ fn edges(kind: u8, value: u32, n: u32) -> Vec<u32> {
         9 | 21 => about(&[0, 8, 9, NONE]),
         13 => about(&[0, 8, 9, NONE - 1, NONE]),
         22 => about(&[0, 1024, 1025, NONE]),
-        26 => about(&[0, 64, 65, NONE]),
-        28 => about(&[0, 64, 65, NONE]),
+        26 | 28 => about(&[0, 64, 65, NONE]),
         30 => about(&[0, 1024, 1025, NONE - 1, NONE]),
         // Names, among them those of other relations; and names or none.
         6 => vec![1, 5, n - 1, n, NONE],

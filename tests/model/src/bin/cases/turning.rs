@@ -32,11 +32,11 @@ fn from(origin: u32, rule: Rule) -> Rule {
     Rule { origin, ..rule }
 }
 
-/// A relation of these slot kinds, a filter of them as list 21, and one of an entity.
 fn five() -> Relation {
     typed(5, &[1, 2])
 }
 
+/// A filter with list 21.
 fn listed(name: u32, kinds: &[u32]) -> Relation {
     filtered(name).entities(kinds)
 }
@@ -305,7 +305,7 @@ fn first_refusals(list: &mut List) {
     }
 }
 
-/// What an OnlyRelated comes to: a refusal's number, or 0.
+/// An OnlyRelated to be asked over blocks.
 struct Asked<'l> {
     list: &'l mut List,
     relations: Vec<Relation>,
@@ -315,7 +315,7 @@ struct Asked<'l> {
 }
 
 impl Asked<'_> {
-    /// The same in a rule and in a predicate of one origin.
+    /// The same in a rule and in a predicate of one origin: it is refused by a number, or by none where that is 0.
     fn ask(&mut self, number: u32, name: &str, blocks: &[Block]) {
         let Asked { list, relations, tree, origin, entity } = self;
         let rule = from(*origin, ruled_by(17, *entity, tree.clone()));
@@ -420,7 +420,11 @@ fn directions(list: &mut List) {
     for (a, b) in [(0, 0), (1, 1), (0, 1), (1, 0), (2, 0), (NONE, NONE), (0, NONE), (5, 5)] {
         for entity in 0..4 {
             let pack = small(&[five()], &[ruled_by(17, entity, sum(74, 5, (a, b), None))]);
-            let turns = matches!((entity, a, b), (1, ..) if (a, b) != (0, 1)) || entity == 2 && (a, b) != (1, 0);
+            let turns = match entity {
+                1 => (a, b) != (0, 1),
+                2 => (a, b) != (1, 0),
+                _ => false,
+            };
             list.resolves(&format!("slots-{a}-{b}-entity-{entity}"), &pack, turns);
         }
     }
@@ -792,7 +796,7 @@ fn lengths(list: &mut List) {
         if stamped == 96 {
             list.turned("long-many-96", &pack);
         } else {
-            list.stopped([16, 0, 0], &format!("long-many-{stamped}"), &pack).resolve(|_| vec![8191, 8192, 8193, MUCH]);
+            list.stopped([16, 0, 0], &format!("long-many-{stamped}"), &pack).resolve(|_| vec![8191, 8192, 8193]);
         }
     }
     // Other refusals come first.
