@@ -35,11 +35,12 @@ fn both_ways(list: &mut List, name: &str, pack: &Pack) {
     }
 }
 
-/// The same at the edges of rooms and names, for all names and all pairs of names of the pack, or of those below 8.
+/// The same at the edges of rooms and names, for all names and all pairs of those that relations and sources have.
 fn graph_edges(list: &mut List, name: &str, n: u32, relations: &[Relation]) {
-    let names: Vec<u32> = (0..n.min(8)).collect();
-    let pairs: Vec<(u32, u32)> = names.iter().flat_map(|&a| names.iter().map(move |&b| (a, b))).collect();
-    list.ok(name, &of(n, relations).words()).ask_edges(&names, &pairs);
+    let case = list.ok(name, &of(n, relations).words());
+    let met = case.met();
+    let pairs: Vec<(u32, u32)> = met.iter().flat_map(|&a| met.iter().map(move |&b| (a, b))).collect();
+    case.ask_edges(&(0..n).collect::<Vec<_>>(), &pairs);
 }
 
 /// The steps of the last case, and the places that All kinds writes.
