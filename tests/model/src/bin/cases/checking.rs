@@ -463,10 +463,10 @@ fn places(list: &mut List) {
 
 fn heads(list: &mut List) {
     list.section("kinds that begin no tree of the sort");
-    for kind in [0, 1, 27, 33, 34, 63, 79, 80, 86, 87, 95, 96, 100, 106, 107, 127, 128, 192, 206, 255] {
+    for kind in [0, 1, 27, 33, 34, 63, 79, 80, 82, 84, 86, 87, 95, 96, 100, 106, 107, 127, 128, 192, 206, 255] {
         list.refused(2, &format!("scalar-head-{kind}"), &put(&one_body(leaf()), 10, kind, 0));
     }
-    for kind in [0, 1, 27, 33, 34, 63, 64, 71, 78, 79, 80, 86, 87, 95, 107, 127, 128, 224, 234, 255] {
+    for kind in [0, 1, 27, 33, 34, 63, 64, 71, 78, 79, 80, 82, 84, 86, 87, 95, 107, 127, 128, 224, 234, 255] {
         list.refused(2, &format!("judgment-head-{kind}"), &put(&one_body(said()), 10, kind, 0));
     }
     for kind in [82, 84] {
