@@ -9,9 +9,9 @@ use cogunwa_model::{Chance, Reading, read};
 
 /// The forms, how many packs of each and of how many words at most.
 const FORMS: [(Form, usize, usize); 5] = [
-    (Form::Program, 94, 110),
-    (Form::Turning, 80, 125),
-    (Form::Mixed, 20, 220),
+    (Form::Program, 86, 110),
+    (Form::Turning, 73, 125),
+    (Form::Mixed, 16, 220),
     (Form::Tangled, 20, 180),
     (Form::Entities, 20, 160),
 ];

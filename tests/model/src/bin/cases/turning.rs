@@ -809,7 +809,7 @@ fn lengths(list: &mut List) {
         let name = format!("large-{}", case.name.replace([' ', ','], "-"));
         let words = case.pack.words();
         // Only those that are short in the list, as their words come again and again.
-        if words.chunk_by(|a, b| a == b).count() > 3300 {
+        if words.chunk_by(|a, b| a == b).count() > 3500 {
             continue;
         }
         list.add(&name, &words, &[words.len() as u32]).resolve(|n| vec![n.min(8192), n - 1]);
