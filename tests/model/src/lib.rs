@@ -1,5 +1,5 @@
-//! Document 01 in plain Rust, and packs to try it on: what the tests of the wrapper and the comparison with the original hold
-//! the library to. It shares no code with the library, the wrapper or the original.
+//! Document 01 in plain Rust, and packs to try it on: what the tests of the wrapper, the comparison with the original and the
+//! list of cases hold the library to. It shares no code with the library, the wrapper or the original.
 //!
 //! - `records`: the records of a pack, and the words that they are written with
 //! - `read`: Check, from words to records; and Rewrite
@@ -18,6 +18,8 @@
 //! - `damage`: packs damaged at a word
 //! - `dealt`: packs dealt out again
 //! - `replay`: what shows a pack on which a test fails, and runs it again
+//!
+//! The program `cases` makes the list of packs and answers that the proved program of that name replays.
 
 pub mod cases;
 pub mod chains;

@@ -118,8 +118,13 @@ impl Relation {
 
     /// A path of so many steps; without this there is none.
     pub fn path(self, steps: u32) -> Relation {
-        let step = [self.name, 0, 1];
-        self.derive(|d| d.path = Some(vec![step; steps as usize]))
+        let name = self.name;
+        self.path_over(name, steps)
+    }
+
+    /// A path of so many steps, each over a relation.
+    pub fn path_over(self, relation: u32, steps: u32) -> Relation {
+        self.derive(|d| d.path = Some(vec![[relation, 0, 1]; steps as usize]))
     }
 
     /// List 21.
@@ -129,6 +134,19 @@ impl Relation {
 
     pub fn current_slot(self, slot: u32) -> Relation {
         self.derive(|d| d.current_slot = slot)
+    }
+
+    pub fn slots(self, current: u32, related: u32) -> Relation {
+        self.derive(|d| (d.current_slot, d.related_slot) = (current, related))
+    }
+
+    pub fn predicate(self, predicate: Tree) -> Relation {
+        self.derive(|d| d.predicate = predicate)
+    }
+
+    pub fn origin(mut self, origin: u32) -> Relation {
+        self.origin = origin;
+        self
     }
 
     pub fn entity(self, entity: u32) -> Relation {

@@ -1,4 +1,4 @@
-//! The fixed list of the original's answers, lines of text that tests/make_cases.py takes up.
+//! The fixed list of the original's answers, lines of text that the model's program `cases` takes up.
 
 use crate::cases;
 use crate::compare::{self, Counts, Told};

@@ -10,7 +10,8 @@ pub struct Case {
     pub words: Vec<u32>,
 }
 
-/// Every case of the list, by its number; `tests/make_cases.py` says what the list's words are.
+/// Every case of the list, by its number; `tests/model/src/bin/cases/entries.rs` says what the list's words
+/// are.
 pub fn replayed() -> Vec<Case> {
     let list = concat!(env!("CARGO_MANIFEST_DIR"), "/../../crates/cases/stdin");
     let list = std::fs::read(list).unwrap();

@@ -1,147 +1,139 @@
-//! A list for the program `cases`, made from the model, and the list that there is, held to it:
+//! The list of packs that the program `cases` replays, made from the model, and what the program must write of it:
 //!
 //!     cargo run --release --bin cases -- write FOLDER    writes FOLDER/stdin and FOLDER/stdout
-//!     cargo run --release --bin cases -- check FILE      holds every answer of the list to the model
+//!     cargo run --release --bin cases -- print           lists the calls by the numbers that the program tells
+//!     cargo run --release --bin cases -- case NUMBER     lists those of one case, with all words
+//!     cargo run --release --bin cases -- check FILE      holds every answer of a list to the model
+//!     cargo run --release --bin cases -- mistakes FILE   how many answers of a list notice each mistake of the model
+//!
+//! A good pack is put together from records, a damaged one is a good one with a word changed; what each comes to is the
+//! model's answer. The sections say what they are there for, and see that the model answers so. The last part is the file of
+//! the original's answers, which the model is held to.
+mod by_chance;
+mod checking;
+mod entries;
+mod following;
 mod list;
-mod text;
+mod make;
+mod originals;
+mod turning;
 
-use cogunwa_model::damage::damaged;
-use cogunwa_model::dealt::dealt;
-use cogunwa_model::generate::{self, Form};
-use cogunwa_model::{Chance, NONE, cases, large, limits, packs};
-use list::{Entry, List};
+use cogunwa_model::faults::{self, FAULTS, Of};
+use cogunwa_model::replay::hex;
+use list::{Call, List};
 use std::process::ExitCode;
 use std::{env, fs};
 
-fn lengths(list: &mut List) {
-    list.section("01, Check: 1 under 6 or over 8,192 words; the total");
-    let smallest = packs::smallest();
-    list.add("smallest", &smallest, true);
-    for length in 0..6 {
-        list.add(&format!("length-{length}"), &smallest[..length], false);
-    }
-    for length in [8191, 8192, 8193, 8400] {
-        list.add(&format!("length-{length}"), &packs::of_length(length), true);
-        list.add(&format!("length-{length}-zeros"), &vec![0; length], false);
-    }
-    for total in [0, 5, 7, NONE] {
-        let mut words = smallest.clone();
-        words[0] = cogunwa_model::word(1, total);
-        list.add(&format!("total-{total}"), &words, false);
-    }
-}
-
-fn at_limits(list: &mut List) {
-    list.section("limits, one below each, at it and one above; and cut short");
-    for (i, words) in limits::limits().iter().enumerate() {
-        list.add(&format!("limit-{i}"), words, false);
-        let short = words[..words.len() - 1].to_vec();
-        list.add(&format!("limit-{i}-cut"), &packs::with_total(short), false);
-    }
-}
-
-/// At every place of the sample: cut there, another kind there, and values at the edges.
-fn places(list: &mut List) {
-    list.section("every place of the sample");
-    let sample = packs::household();
-    let n = sample[1] & NONE;
-    list.add("sample", &sample, true);
-    for place in 0..sample.len() {
-        let mut put = |name: &str, word: u32| {
-            let mut words = sample.clone();
-            words[place] = word;
-            list.add(&format!("{name}-at-{place}"), &words, false);
-        };
-        let word = sample[place];
-        put("kind-more", word.wrapping_add(1 << 24));
-        put("kind-far", word ^ 1 << 31);
-        put("value-none", word | NONE);
-        put("value-n", word & !NONE | n);
-        put("value-more", word & !NONE | (word + 1) & NONE);
-        if place >= 6 {
-            list.add(&format!("cut-at-{place}"), &packs::with_total(sample[..place].to_vec()), false);
-        }
-    }
-}
-
-fn named(list: &mut List) {
-    list.section("01's cases, packs at the limits and packs with as many nodes of one sort as fit");
-    for case in cases::all() {
-        let name = case.name.replace([' ', '\'', ','], "-");
-        list.add(&name, &case.pack.words(), case.pack.n < 100);
-    }
-}
-
-fn far(list: &mut List) {
-    list.section("packs that go as far as they can");
-    for (i, (_, words)) in large::all().iter().enumerate() {
-        list.add(&format!("far-{i}"), words, false);
-    }
-}
-
-fn by_chance(list: &mut List, form: Form, count: u64, longest: usize) {
-    list.section(&format!("packs by chance, dealt out again and damaged: {form:?}"));
-    let mut found = 0;
-    for number in 0.. {
-        let mut r = Chance::nth(2026, number);
-        let (made, _) = generate::made(&mut r, form);
-        let words = made.pack.words();
-        if words.len() > longest {
-            continue;
-        }
-        let name = format!("{form:?}-{number}").to_lowercase();
-        list.add(&name, &words, found % 8 == 0);
-        list.add(&format!("{name}-dealt"), &dealt(&mut r, &made.pack).words(), false);
-        list.add(&format!("{name}-damaged"), &damaged(&mut r, &words), found % 8 == 0);
-        found += 1;
-        if found == count {
-            return;
-        }
-    }
-}
-
 fn whole() -> List {
     let mut list = List::default();
-    lengths(&mut list);
-    at_limits(&mut list);
-    places(&mut list);
-    named(&mut list);
-    far(&mut list);
-    by_chance(&mut list, Form::Program, 200, 150);
-    by_chance(&mut list, Form::Turning, 150, 200);
-    by_chance(&mut list, Form::Mixed, 80, 400);
-    by_chance(&mut list, Form::Tangled, 80, 300);
-    by_chance(&mut list, Form::Entities, 80, 300);
-    list.0.retain(|entry| if let Entry::Case(case) = entry { text::fits(case) } else { true });
+    checking::sections(&mut list);
+    following::sections(&mut list);
+    turning::sections(&mut list);
+    by_chance::sections(&mut list);
+    originals::section(&mut list);
     list
 }
 
-fn run(args: &[String]) -> Option<bool> {
-    let [command, path] = args else { return None };
-    match command.as_str() {
-        "write" => {
-            let (stdin, stdout) = text::written(&whole());
-            fs::write(format!("{path}/stdin"), stdin).unwrap();
-            fs::write(format!("{path}/stdout"), &stdout).unwrap();
-            print!("{stdout}");
-            Some(true)
-        }
-        "check" => {
-            let (wrong, answers) = text::differences(&fs::read_to_string(path).unwrap()).expect("a list of cases");
-            wrong.iter().for_each(|line| println!("{line}"));
-            println!("{answers} answers, {} differ", wrong.len());
-            Some(wrong.is_empty())
-        }
-        _ => None,
+fn answer(call: &Call) -> String {
+    match call.answer {
+        [0, 0, value, steps] => format!("given {value} {steps}"),
+        [number, place, name, other] => format!("refused {number} {place} {name} {other}"),
     }
 }
 
+fn asked(call: &Call) -> String {
+    call.arguments.iter().fold(call.operation.to_string(), |text, argument| format!("{text} {argument}"))
+}
+
+/// Lists every case under the headings of its section, or one with all words.
+fn print(list: &List, only: Option<usize>) {
+    for (i, case) in list.cases.iter().enumerate().filter(|(i, _)| only.is_none_or(|only| only == i + 1)) {
+        let headings = list.headings.iter().filter(|(before, _)| *before == i);
+        headings.for_each(|(_, heading)| println!("# {heading}"));
+        let (number, name) = (i + 1, &case.name);
+        let words = |words: &[u32]| if only.is_some() { hex(words) } else { format!("{} words", words.len()) };
+        println!("{number} {name}: {}", words(&case.words));
+        for (k, call) in case.calls.iter().enumerate() {
+            let written = if call.words.is_empty() { String::new() } else { format!(" | {}", words(&call.words)) };
+            println!("{number}.{} {name} > {} | {}{written}", k + 1, asked(call), answer(call));
+        }
+    }
+}
+
+type Cases = Vec<(Vec<u32>, Vec<Call>)>;
+
+/// The cases of a file.
+fn cases(file: &str) -> Cases {
+    entries::read(&fs::read(file).unwrap()).expect("a list of cases")
+}
+
+/// Runs the calls of a list by the model, all or those of Check; `tell` is told the numbers of those that it answers otherwise,
+/// and how.
+fn differing(cases: &Cases, only_check: bool, mut tell: impl FnMut(usize, usize, &Call, &Call)) -> usize {
+    let mut wrong = 0;
+    for (i, (words, calls)) in cases.iter().enumerate() {
+        let reading = cogunwa_model::read(words);
+        let calls = calls.iter().enumerate().filter(|(_, call)| !only_check || call.operation == "check");
+        for (k, call) in calls {
+            let found = list::answered(&reading, call.operation, &call.arguments);
+            if found != *call {
+                wrong += 1;
+                tell(i + 1, k + 1, call, &found);
+            }
+        }
+    }
+    wrong
+}
+
+/// Says where a list does not have the model's answers, and whether it has them all.
+fn check(cases: &Cases) -> bool {
+    let wrong = differing(cases, false, |case, number, call, found| {
+        println!("{case}.{number} {}: {}, by the model {}", asked(call), answer(call), answer(found));
+    });
+    println!("{} answers, {wrong} differ", cases.iter().map(|(_, calls)| calls.len()).sum::<usize>());
+    wrong == 0
+}
+
+/// Says how many answers of a list notice each mistake that the model can make, and whether each is noticed.
+fn mistakes(cases: &Cases) -> bool {
+    let mut all = true;
+    for &(fault, of, text) in FAULTS {
+        // Nothing else is run on what is no pack.
+        let noticed = faults::with(fault, || differing(cases, of == Of::Check, |_, _, _, _| ()));
+        println!("{noticed:6} {text}");
+        all &= noticed > 0;
+    }
+    all
+}
+
+fn run(arguments: &[&str]) -> Option<bool> {
+    match arguments {
+        ["write", folder] => {
+            let list = whole();
+            let (bytes, totals) = (entries::written(&list), entries::totals(&list));
+            let read = entries::read(&bytes).expect("what is written is a list");
+            let made = list.cases.iter().map(|case| (&case.words, &case.calls));
+            assert!(read.iter().map(|(words, calls)| (words, calls)).eq(made), "what is written is read");
+            fs::write(format!("{folder}/stdin"), bytes).unwrap();
+            fs::write(format!("{folder}/stdout"), &totals).unwrap();
+            print!("{totals}");
+        }
+        ["print"] => print(&whole(), None),
+        ["case", number] => print(&whole(), Some(number.parse().ok()?)),
+        ["check", file] => return Some(check(&cases(file))),
+        ["mistakes", file] => return Some(mistakes(&cases(file))),
+        _ => return None,
+    }
+    Some(true)
+}
+
 fn main() -> ExitCode {
-    match run(&env::args().skip(1).collect::<Vec<_>>()) {
+    let arguments: Vec<String> = env::args().skip(1).collect();
+    match run(&arguments.iter().map(String::as_str).collect::<Vec<_>>()) {
         Some(true) => ExitCode::SUCCESS,
         Some(false) => ExitCode::FAILURE,
         None => {
-            println!("cases write FOLDER, or cases check FILE");
+            println!("cases write FOLDER, cases print, cases case NUMBER, cases check FILE, or cases mistakes FILE");
             ExitCode::from(2)
         }
     }
