@@ -47,11 +47,11 @@ fn short(words: &[u32], digits: usize) -> String {
     out.join(" ")
 }
 
-/// Whether the lines of a case are no longer than what the program reads at once.
+/// Whether the program has room for a case: for its words, and for each of its lines.
 pub fn fits(case: &Case) -> bool {
     let mut out = String::new();
     write_case(&mut out, case);
-    out.lines().all(|line| line.len() < 65_536)
+    case.words.len() <= 8400 && out.lines().all(|line| line.len() < 65_536)
 }
 
 fn write_case(out: &mut String, case: &Case) {
