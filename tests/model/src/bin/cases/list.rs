@@ -1,140 +1,112 @@
 //! A list of cases, each a pack with calls on it. Every answer is the model's.
 
-use cogunwa_model::records::Pack;
-use cogunwa_model::{Outcome, Reading, Refusal, read};
+use cogunwa_model::{Outcome, Reading, read};
 
-pub const TABLES: [&str; 4] = ["direct", "innermost", "alias", "unresolved"];
+/// The operations, in the order of their numbers in a list.
+pub const OPERATIONS: [&str; 10] =
+    ["check", "rewrite", "all_kinds", "kinds_of", "lean", "direct", "innermost", "alias", "unresolved", "resolve"];
 
-/// A call of one of the operations but Check and Rewrite, which are run on every pack: its name, its room or names, what it
-/// answers and the words that it writes.
+/// A call: what it is lent or asked for, what it answers, and the words that it writes.
 pub struct Call {
     pub operation: &'static str,
-    pub arguments: Vec<u32>,
-    pub answer: Outcome<[u32; 2]>,
+    /// The room, and two names.
+    pub arguments: [u32; 3],
+    /// The fields of a refusal, or 0, 0, a value and the steps.
+    pub answer: [u32; 4],
     pub written: Vec<u32>,
 }
 
 pub struct Case {
     pub name: String,
     pub words: Vec<u32>,
-    pub check: Outcome<()>,
-    /// For Rewrite.
-    pub rooms: Vec<usize>,
     pub calls: Vec<Call>,
 }
 
-pub enum Entry {
-    Section(String),
-    Case(Case),
-}
-
 #[derive(Default)]
-pub struct List(pub Vec<Entry>);
+pub struct List(pub Vec<Case>);
 
-/// What an operation answers: two numbers, the value and the steps, and the words that it writes.
-pub fn answer(reading: &Reading, operation: &str, arguments: &[u32]) -> Outcome<([u32; 2], Vec<u32>)> {
-    let room = arguments[0] as usize;
-    let given = |(words, steps): (Vec<u32>, u32)| ([words.len() as u32, steps], words);
+/// What an operation answers, and the words that it writes.
+pub fn answer(reading: &Outcome<Reading>, operation: &str, arguments: [u32; 3]) -> ([u32; 4], Vec<u32>) {
+    let [room, first, second] = arguments;
+    let room = room as usize;
+    let value = |value: u32| (value, 0, vec![]);
+    let given = |(words, steps): (Vec<u32>, u32)| (words.len() as u32, steps, words);
     let plain = |words: Vec<u32>| given((words, 0));
-    Ok(match operation {
-        "all_kinds" => given(reading.all_kinds(room)?),
-        "resolve" => given(reading.resolve(room)?),
-        "direct" => plain(reading.direct(room)?),
-        "innermost" => plain(reading.innermost(room)?),
-        "alias" => plain(reading.alias(room)?),
-        "unresolved" => plain(reading.unresolved(room)?),
-        "kinds_of" => ([reading.kinds_of(arguments[0])?.unwrap_or(0) as u32, 0], vec![]),
-        "lean" => ([reading.lean(arguments[0], arguments[1])?.into(), 0], vec![]),
+    let answer = reading.as_ref().map_err(|refusal| *refusal).and_then(|reading| match operation {
+        "check" => Ok(value(1)),
+        "rewrite" => reading.rewrite(room).map(plain),
+        "all_kinds" => reading.all_kinds(room).map(given),
+        "kinds_of" => reading.kinds_of(first).map(|place| value(place.unwrap_or(0) as u32)),
+        "lean" => reading.lean(first, second).map(|leans| value(leans.into())),
+        "direct" => reading.direct(room).map(plain),
+        "innermost" => reading.innermost(room).map(plain),
+        "alias" => reading.alias(room).map(plain),
+        "unresolved" => reading.unresolved(room).map(plain),
+        "resolve" => reading.resolve(room).map(given),
         _ => panic!("there is no operation {operation}"),
-    })
-}
-
-/// Rooms at the edges of what is needed.
-fn about(needs: usize) -> Vec<u32> {
-    let mut rooms = [0, needs.saturating_sub(1), needs, needs + 3].map(|room| room as u32).to_vec();
-    rooms.dedup();
-    rooms
+    });
+    match answer {
+        Ok((value, steps, words)) => ([0, 0, value, steps], words),
+        Err(r) => ([r.number, r.place as u32, r.name, r.other], vec![]),
+    }
 }
 
 impl List {
-    pub fn section(&mut self, text: &str) {
-        self.0.push(Entry::Section(text.into()));
-    }
-
-    pub fn cases(&self) -> impl Iterator<Item = &Case> {
-        self.0.iter().filter_map(|entry| if let Entry::Case(case) = entry { Some(case) } else { None })
-    }
-
     /// A pack, or words that are none, with calls of every operation: at the edges of rooms and names, or few.
     pub fn add(&mut self, name: &str, words: &[u32], edges: bool) {
-        assert!(!name.contains([' ', '|']) && self.cases().all(|case| case.name != name), "{name}");
-        let reading = read(words);
-        let check = reading.as_ref().map(drop).map_err(|refusal| *refusal);
-        let length = words.len();
-        let rooms = if check.is_ok() { vec![0, length - 1, length, length + 3] } else { vec![0, length] };
-        let mut case = Case { name: name.into(), words: words.to_vec(), check, rooms, calls: vec![] };
-        match &reading {
-            Ok(reading) => case.ask(reading, edges),
-            Err(refusal) => case.ask_refused(*refusal, edges),
-        }
-        self.0.push(Entry::Case(case));
+        assert!(self.0.iter().all(|case| case.name != name), "{name}");
+        let mut case = Case { name: name.into(), words: words.to_vec(), calls: vec![] };
+        case.ask(&read(words), edges);
+        self.0.push(case);
     }
 }
 
 impl Case {
-    fn call(&mut self, operation: &'static str, arguments: &[u32], answer: Outcome<([u32; 2], Vec<u32>)>) {
-        let (answer, written) = match answer {
-            Ok((given, words)) => (Ok(given), words),
-            Err(refusal) => (Err(refusal), vec![]),
-        };
-        self.calls.push(Call { operation, arguments: arguments.to_vec(), answer, written });
+    fn call(&mut self, reading: &Outcome<Reading>, operation: &'static str, arguments: [u32; 3]) {
+        let (answer, written) = answer(reading, operation, arguments);
+        self.calls.push(Call { operation, arguments, answer, written });
     }
 
-    fn ask(&mut self, reading: &Reading, edges: bool) {
-        let Pack { n, relations, .. } = &reading.pack;
-        let needs = |operation: &str| match operation {
-            "all_kinds" => relations.len(),
-            "resolve" => reading.resolve(8192).map_or(8192, |(words, _)| words.len()),
-            _ => *n as usize,
-        };
-        for operation in ["resolve", "all_kinds"].into_iter().chain(TABLES) {
-            let needs = needs(operation);
-            let rooms = if edges { about(needs) } else { vec![needs as u32] };
+    fn ask(&mut self, reading: &Outcome<Reading>, edges: bool) {
+        self.call(reading, "check", [0; 3]);
+        let length = self.words.len();
+        let result = reading.as_ref().map_or(length, |r| r.resolve(8192).map_or(8192, |(words, _)| words.len()));
+        let (n, relations) = reading.as_ref().map_or((1, 0), |r| (r.pack.n, r.pack.relations.len()));
+        for operation in OPERATIONS {
+            let needs = match operation {
+                "check" | "kinds_of" | "lean" => continue,
+                "rewrite" => length,
+                "resolve" => result,
+                "all_kinds" => relations,
+                _ => n as usize,
+            };
+            let mut rooms = if edges { vec![0, needs.saturating_sub(1), needs, needs + 3] } else { vec![needs] };
+            rooms.dedup();
             for room in rooms {
-                self.call(operation, &[room], answer(reading, operation, &[room]));
+                self.call(reading, operation, [room as u32, 0, 0]);
             }
         }
-        // The names of relations and their sources, and what is no name.
+        let names = self.names(reading, n, edges);
+        for (i, &name) in names.iter().enumerate() {
+            self.call(reading, "kinds_of", [0, name, 0]);
+            for &other in &names[if edges { 0 } else { i }..] {
+                self.call(reading, "lean", [0, name, other]);
+            }
+        }
+    }
+
+    /// The first names of relations and their sources, and what is no name.
+    fn names(&self, reading: &Outcome<Reading>, n: u32, edges: bool) -> Vec<u32> {
+        let relations = reading.as_ref().map_or(&[][..], |reading| &reading.pack.relations[..]);
         let sources = relations.iter().filter_map(|relation| relation.derived.as_ref()).map(|d| d.source);
-        let mut names: Vec<u32> = relations.iter().map(|r| r.name).chain(sources).filter(|name| name < n).collect();
+        let names = relations.iter().map(|relation| relation.name).chain(sources).filter(|&name| name < n);
+        let mut names: Vec<u32> = names.collect();
         names.sort();
         names.dedup();
         names.truncate(if edges { 12 } else { 4 });
         if edges {
-            names.extend([*n, u32::MAX]);
+            names.extend([n, u32::MAX]);
         }
-        for (i, &name) in names.iter().enumerate() {
-            self.call("kinds_of", &[name], answer(reading, "kinds_of", &[name]));
-            for &other in &names[if edges { 0 } else { i }..] {
-                self.call("lean", &[name, other], answer(reading, "lean", &[name, other]));
-            }
-        }
-    }
-
-    /// Check's refusal, of every operation.
-    fn ask_refused(&mut self, refusal: Refusal, edges: bool) {
-        let rooms = if edges { about(self.words.len()) } else { vec![self.words.len() as u32] };
-        for room in rooms {
-            self.call("resolve", &[room], Err(refusal));
-        }
-        if edges {
-            for operation in ["all_kinds"].into_iter().chain(TABLES) {
-                self.call(operation, &[8400], Err(refusal));
-            }
-            for name in [0, u32::MAX] {
-                self.call("kinds_of", &[name], Err(refusal));
-                self.call("lean", &[name, 0], Err(refusal));
-            }
-        }
+        names
     }
 }

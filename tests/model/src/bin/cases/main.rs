@@ -3,18 +3,18 @@
 //!     cargo run --release --bin cases -- write FOLDER    writes FOLDER/stdin and FOLDER/stdout
 //!     cargo run --release --bin cases -- check FILE      holds every answer of the list to the model
 mod list;
-mod text;
+mod words;
 
 use cogunwa_model::damage::damaged;
 use cogunwa_model::dealt::dealt;
 use cogunwa_model::generate::{self, Form};
 use cogunwa_model::{Chance, NONE, cases, large, limits, packs};
-use list::{Entry, List};
+use list::List;
 use std::process::ExitCode;
 use std::{env, fs};
 
+/// 01, Check: 1 under 6 or over 8,192 words; the total.
 fn lengths(list: &mut List) {
-    list.section("01, Check: 1 under 6 or over 8,192 words; the total");
     let smallest = packs::smallest();
     list.add("smallest", &smallest, true);
     for length in 0..6 {
@@ -31,8 +31,8 @@ fn lengths(list: &mut List) {
     }
 }
 
+/// Limits, one below each, at it and one above; and cut short.
 fn at_limits(list: &mut List) {
-    list.section("limits, one below each, at it and one above; and cut short");
     for (i, words) in limits::limits().iter().enumerate() {
         list.add(&format!("limit-{i}"), words, false);
         let short = words[..words.len() - 1].to_vec();
@@ -42,7 +42,6 @@ fn at_limits(list: &mut List) {
 
 /// At every place of the sample: cut there, another kind there, and values at the edges.
 fn places(list: &mut List) {
-    list.section("every place of the sample");
     let sample = packs::household();
     let n = sample[1] & NONE;
     list.add("sample", &sample, true);
@@ -64,23 +63,23 @@ fn places(list: &mut List) {
     }
 }
 
+/// 01's cases, packs at the limits and packs with as many nodes of one sort as fit.
 fn named(list: &mut List) {
-    list.section("01's cases, packs at the limits and packs with as many nodes of one sort as fit");
     for case in cases::all() {
         let name = case.name.replace([' ', '\'', ','], "-");
         list.add(&name, &case.pack.words(), case.pack.n < 100);
     }
 }
 
+/// Packs that go as far as they can.
 fn far(list: &mut List) {
-    list.section("packs that go as far as they can");
     for (i, (_, words)) in large::all().iter().enumerate() {
         list.add(&format!("far-{i}"), words, false);
     }
 }
 
+/// Packs by chance, dealt out again and damaged.
 fn by_chance(list: &mut List, form: Form, count: u64, longest: usize) {
-    list.section(&format!("packs by chance, dealt out again and damaged: {form:?}"));
     let mut found = 0;
     for number in 0.. {
         let mut r = Chance::nth(2026, number);
@@ -112,22 +111,29 @@ fn whole() -> List {
     by_chance(&mut list, Form::Mixed, 80, 400);
     by_chance(&mut list, Form::Tangled, 80, 300);
     by_chance(&mut list, Form::Entities, 80, 300);
-    list.0.retain(|entry| if let Entry::Case(case) = entry { text::fits(case) } else { true });
+    list.0.retain(|case| case.words.len() <= words::MOST);
     list
+}
+
+/// Low byte first.
+fn word_of(bytes: &[u8]) -> u32 {
+    bytes.iter().rev().fold(0, |word, &byte| word << 8 | u32::from(byte))
 }
 
 fn run(args: &[String]) -> Option<bool> {
     let [command, path] = args else { return None };
     match command.as_str() {
         "write" => {
-            let (stdin, stdout) = text::written(&whole());
-            fs::write(format!("{path}/stdin"), stdin).unwrap();
+            let (stdin, stdout) = words::written(&whole());
+            fs::write(format!("{path}/stdin"), stdin.iter().flat_map(|word| word.to_le_bytes()).collect::<Vec<u8>>())
+                .unwrap();
             fs::write(format!("{path}/stdout"), &stdout).unwrap();
             print!("{stdout}");
             Some(true)
         }
         "check" => {
-            let (wrong, answers) = text::differences(&fs::read_to_string(path).unwrap()).expect("a list of cases");
+            let list: Vec<u32> = fs::read(path).unwrap().chunks(4).map(word_of).collect();
+            let (wrong, answers) = words::differences(&list).expect("a list of cases");
             wrong.iter().for_each(|line| println!("{line}"));
             println!("{answers} answers, {} differ", wrong.len());
             Some(wrong.is_empty())
