@@ -18,6 +18,8 @@
 //! - `damage`: packs damaged at a word
 //! - `dealt`: packs dealt out again
 //! - `replay`: what shows a pack on which a test fails, and runs it again
+//!
+//! The binary `cases` makes a list for the program of this name, and holds the list that there is to the model.
 
 pub mod cases;
 pub mod chains;
