@@ -2,11 +2,11 @@
 mod beside;
 
 use cogunwa::bytes_of;
+use cogunwa_model::check;
 use cogunwa_model::damage::damaged;
 use cogunwa_model::generate::Form;
 use cogunwa_model::packs::{Words, with_total};
-use cogunwa_model::replay::by_chance;
-use cogunwa_model::{Chance, check};
+use cogunwa_model::replay::{by_chance, each};
 use std::collections::BTreeMap;
 
 // How often each answer came up; 0 stands for yes.
@@ -61,18 +61,15 @@ fn other_packs_whole_and_damaged() {
 
 #[test]
 fn any_bytes() {
-    let mut chance = Chance::new(7);
     let mut tally = Tally::default();
-    for length in 0..600 {
-        for _ in 0..10 {
-            let bytes: Vec<u8> = (0..length).map(|_| chance.below(256) as u8).collect();
-            tally.compare(&bytes);
-            // The same with the first words of a pack before them.
-            let mut words = Words::start(1 + chance.below(4096));
-            words.put(3, 0);
-            let bytes = [bytes_of(&words.0), bytes].concat();
-            tally.compare(&if bytes.len() % 4 == 0 { bytes_of(&with_total(cogunwa::words_of(&bytes))) } else { bytes });
-        }
-    }
+    each(7, 6000, |number, chance| {
+        let bytes: Vec<u8> = (0..number / 10).map(|_| chance.below(256) as u8).collect();
+        tally.compare(&bytes);
+        // The same with the first words of a pack before them.
+        let mut words = Words::start(1 + chance.below(4096));
+        words.put(3, 0);
+        let bytes = [bytes_of(&words.0), bytes].concat();
+        tally.compare(&if bytes.len() % 4 == 0 { bytes_of(&with_total(cogunwa::words_of(&bytes))) } else { bytes });
+    });
     assert!(!tally.0.contains_key(&0));
 }

@@ -3,6 +3,7 @@ use cogunwa::{Refusal, STACK_BYTES, bytes_of, resolve_vec};
 use cogunwa_model::generate::{self, Form};
 use cogunwa_model::large::{self, LEVELS, atoms, blocks, deep_tree, kinds_in_a_row, nested_sums, sources, with_tree};
 use cogunwa_model::limits::limits;
+use cogunwa_model::replay::hex;
 use cogunwa_model::{Chance, packs};
 use std::hint::black_box;
 use std::thread;
@@ -72,25 +73,30 @@ fn every_operation_is_measured() {
 fn within_the_constant() {
     let packs = all_packs();
     let deepest = with_stack(2 * PAINTED, || {
-        let mut deepest = [(0, ""); OPERATIONS.len()];
-        for (what, words) in &packs {
+        let mut deepest = [(0, 0); OPERATIONS.len()];
+        for (i, (_, words)) in packs.iter().enumerate() {
             let pack = bytes_of(words);
             for ((_, operation), deepest) in OPERATIONS.iter().zip(&mut deepest) {
                 for room in [32_768, 1028, 0] {
                     let mut out = vec![0; room];
                     let depth = depth_of(|| _ = black_box(operation(&pack, &mut out)));
-                    *deepest = (*deepest).max((depth, what));
+                    *deepest = (*deepest).max((depth, i));
                 }
             }
         }
         deepest
     });
-    for ((name, _), (depth, what)) in OPERATIONS.iter().zip(&deepest) {
-        println!("{name:18} {depth:7} bytes, on {what}");
+    for ((name, _), &(depth, i)) in OPERATIONS.iter().zip(&deepest) {
+        println!("{name:18} {depth:7} bytes, on {}", packs[i].0);
     }
     // A page for what a call reserves and does not write, and for the caller's own frames.
-    let most = deepest.iter().map(|&(depth, _)| depth).max().unwrap();
-    assert!(most + 4096 <= STACK_BYTES, "{most} bytes and a page are more than the {STACK_BYTES} of the constant");
+    let (most, i) = deepest.into_iter().max().unwrap();
+    let words = hex(&packs[i].1);
+    assert!(
+        most + 4096 <= STACK_BYTES,
+        "{most} bytes and a page are more than {STACK_BYTES}, on {}\n{words}",
+        packs[i].0
+    );
     on_a_thread_of_that_size(&packs.iter().map(|(_, words)| bytes_of(words)).collect::<Vec<_>>());
 }
 
@@ -105,19 +111,14 @@ fn on_a_thread_of_that_size(packs: &[Vec<u8>]) {
 }
 
 /// Packs that go as far as they can in one way or another, and packs by chance.
-fn all_packs() -> Vec<(&'static str, Vec<u32>)> {
-    let mut all = vec![("the sample", packs::household())];
-    all.extend(large::all());
-    all.extend(limits().into_iter().map(|words| ("a pack at a limit", words)));
+fn all_packs() -> Vec<(String, Vec<u32>)> {
+    let mut all = vec![("the sample".into(), packs::household())];
+    all.extend(large::all().into_iter().map(|(what, words)| (what.into(), words)));
+    all.extend(limits().into_iter().map(|words| ("a pack at a limit".into(), words)));
     for number in 0..60 {
-        for (what, form) in [
-            ("a mixed pack", Form::Mixed),
-            ("a tangled pack", Form::Tangled),
-            ("a pack of entities", Form::Entities),
-            ("a turning pack", Form::Turning),
-            ("a program's pack", Form::Program),
-        ] {
-            all.push((what, generate::words(&mut Chance::nth(7, number), form)));
+        for form in [Form::Mixed, Form::Tangled, Form::Entities, Form::Turning, Form::Program] {
+            let words = generate::words(&mut Chance::nth(7, number), form);
+            all.push((format!("pack {number} of seed 7 ({form:?})"), words));
         }
     }
     all

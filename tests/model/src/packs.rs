@@ -43,7 +43,7 @@ pub fn typed(name: u32, kinds: &[u32]) -> Relation {
     Relation { name, origin: NONE, arity: kinds.len() as u32, kinds: kinds.to_vec(), derived: None }
 }
 
-/// A predicate that nothing is said of.
+/// A RoleDerived: a predicate that keeps no relation from being stamped.
 pub fn holds() -> Tree {
     Tree::leaf(106, 0)
 }

@@ -40,22 +40,30 @@ impl Drop for Tried<'_> {
     }
 }
 
-/// A pack by chance: shown where the test fails while this is held.
-struct Turn<'w> {
+/// What is tried by chance: shown where the test fails while this is held.
+struct Turn {
     seed: u64,
     number: u64,
-    form: Form,
-    words: &'w [u32],
 }
 
-impl Drop for Turn<'_> {
+impl Drop for Turn {
     fn drop(&mut self) {
         if thread::panicking() {
-            let Turn { seed, number, form, words } = self;
+            let Turn { seed, number } = self;
             eprintln!(
-                "failed on pack {number} of seed {seed} ({form:?}); COGUNWA_SEED={seed} COGUNWA_PACK={number} runs it again"
+                "failed on number {number} of seed {seed}: COGUNWA_SEED={seed} COGUNWA_PACK={number} runs it again"
             );
-            eprintln!("the pack:\n{}", hex(words));
+        }
+    }
+}
+
+/// A pack by chance, shown likewise.
+struct Made<'w>(Form, &'w [u32]);
+
+impl Drop for Made<'_> {
+    fn drop(&mut self) {
+        if thread::panicking() {
+            eprintln!("the pack by chance ({:?}):\n{}", self.0, hex(self.1));
         }
     }
 }
@@ -65,24 +73,29 @@ fn number_of(variable: &str) -> Option<u64> {
     Some(text.parse().unwrap_or_else(|_| panic!("{variable}: {text} is no number")))
 }
 
-/// Tries so many packs by chance, of these forms in turn, and answers whether all were tried, so that what was met can be
-/// counted. What a test makes by chance of its own follows from the pack's number too.
-pub fn by_chance(seed: u64, count: u64, forms: &[Form], mut test: impl FnMut(&[u32], &mut Chance)) -> bool {
+/// Tries so many times, each with the chance that follows from the seed and the number; answers whether all were tried, so that
+/// what was met can be counted.
+pub fn each(seed: u64, count: u64, mut test: impl FnMut(u64, &mut Chance)) -> bool {
     let seed = number_of("COGUNWA_SEED").unwrap_or(seed);
     let only = number_of("COGUNWA_PACK");
-    let words = words_to_replay();
-    let numbers = match (only, &words) {
-        (Some(number), _) => number..number + 1,
-        (None, Some(_)) => 0..1,
-        (None, None) => 0..count,
-    };
-    let all = only.is_none() && words.is_none();
+    let numbers = only.map_or(0..count, |number| number..number + 1);
     for number in numbers {
-        let form = forms[(number % forms.len() as u64) as usize];
-        let mut chance = Chance::nth(seed, number);
-        let made = words.clone().unwrap_or_else(|| generate::words(&mut chance, form));
-        let turn = Turn { seed, number, form, words: &made };
-        test(turn.words, &mut chance);
+        let _turn = Turn { seed, number };
+        test(number, &mut Chance::nth(seed, number));
     }
-    all
+    only.is_none()
+}
+
+/// Tries so many packs by chance, of these forms in turn; answers whether all were tried. What a test makes by chance of its
+/// own follows from the pack's number too.
+pub fn by_chance(seed: u64, count: u64, forms: &[Form], mut test: impl FnMut(&[u32], &mut Chance)) -> bool {
+    let words = words_to_replay();
+    let count = if words.is_some() { 1 } else { count };
+    let all = each(seed, count, |number, chance| {
+        let form = forms[(number % forms.len() as u64) as usize];
+        let made = words.clone().unwrap_or_else(|| generate::words(chance, form));
+        let made = Made(form, &made);
+        test(made.1, chance);
+    });
+    all && words.is_none()
 }

@@ -64,7 +64,7 @@ fn bearing(kinds: &[u32], kind: u32) -> Vec<u32> {
     (0..).zip(kinds).filter(|&(_, &k)| k == kind).map(|(slot, _)| slot).collect()
 }
 
-/// 1 less the slot, where a mistake has typed relations of more than two slots.
+/// 1 - slot. Only with a mistake is a slot above 1.
 fn opposite(slot: u32) -> u32 {
     1u32.wrapping_sub(slot) % (1 << 24)
 }
