@@ -1,7 +1,7 @@
 // An answer as text. Each function adds to the text that stands in the slice before `at`, and gives where it ends then.
+use cogunwa::cogunwa_resolve;
 use definitions::answer::Answer;
 use definitions::answer::Refusal;
-use cogunwa::cogunwa_resolve;
 use wire::answer::decode;
 use wire::bytes::room;
 ghost use mathlib.Core.Path.{_≡_};

@@ -36,9 +36,11 @@ add-result c = search needs
 returns-2 : tie.Need-returns-2
 unfolding slotIn slotsIn
 returns-2 c =
-    let at-if1 = c .before in let at-link = at-if1 .before in let start = at-link .before .before .before in
-    (sym (whole-at (slotIn (start .args .dir .now)) 4096 (start .args .name) (omega (arith, start .pre .most)) ∙ rw
-    (← (at-link .link .ensures .0), ne-eqb _ _ (at-if1 .if1 .left), lt-ltb _ _ (c .if2 .taken)) refl), omega (arith, c .if2 .taken))
+    let at-if1 = c .before in let at-link = at-if1 .before in let start = at-link .before .before .before in (
+      sym (whole-at (slotIn (start .args .dir .now)) 4096 (start .args .name) (omega (arith, start .pre .most)) ∙ rw
+          (← (at-link .link .ensures .0), ne-eqb _ _ (at-if1 .if1 .left), lt-ltb _ _ (c .if2 .taken)) refl),
+      omega (arith, c .if2 .taken),
+    )
 
 cast-result-2 : tie.Need-cast-result-2
 cast-result-2 c = search needs
@@ -49,9 +51,11 @@ add-result-2 c = search needs
 returns-3 : tie.Need-returns-3
 unfolding slotIn slotsIn
 returns-3 c =
-    let at-if1 = c .before in let at-link = at-if1 .before in let start = at-link .before .before .before in
-    (sym (whole-at (slotIn (start .args .dir .now)) 4096 (start .args .name) (omega (arith, start .pre .most)) ∙ rw
-    (← (at-link .link .ensures .0), ne-eqb _ _ (at-if1 .if1 .left), le-ltb _ _ (c .if2 .left)) refl), omega arith)
+    let at-if1 = c .before in let at-link = at-if1 .before in let start = at-link .before .before .before in (
+      sym (whole-at (slotIn (start .args .dir .now)) 4096 (start .args .name) (omega (arith, start .pre .most)) ∙ rw
+          (← (at-link .link .ensures .0), ne-eqb _ _ (at-if1 .if1 .left), le-ltb _ _ (c .if2 .left)) refl),
+      omega arith,
+    )
 
 pub slots-spec : {M : Type 1} → statement M
 slots-spec =

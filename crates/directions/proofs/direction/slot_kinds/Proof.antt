@@ -31,9 +31,11 @@ enum-told c = search needs
 returns-2 : tie.Need-returns-2
 returns-2 c =
     let at-kind-at = c .before .before in let at-value-at = at-kind-at .before in let at-list = at-value-at .before in let at-if1 = at-list .before in
-    let at-part = at-if1 .before in
-    (first-unknown _ _ (at-part .part .ensures .0) (at-if1 .if1 .left) (at-list .list .ensures .0) (at-value-at .value-at .ensures .0) (at-kind-at .kind-at .ensures)
-    (c .enum-told .given .1), tt)
+    let at-part = at-if1 .before in (
+      first-unknown _ _ (at-part .part .ensures .0) (at-if1 .if1 .left) (at-list .list .ensures .0) (at-value-at .value-at .ensures .0) (at-kind-at .kind-at .ensures)
+          (c .enum-told .given .1),
+      tt,
+    )
 
 add-value-at : tie.Need-add-value-at
 add-value-at c = search needs

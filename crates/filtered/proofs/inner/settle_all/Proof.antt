@@ -30,9 +30,11 @@ loop-holds c = begin _ _ _ _ _ (c .before .before .pre .settleable)
 
 walk-requires : tie.Need-walk-requires Inv-loop μ-loop
 walk-requires c κs =
-    let at-loop = c .before .before .before in let start = at-loop .before .before .before in
-    (name-walkable (start .pre) (at-loop .loop .inv) (omega (arith, at-loop .loop .inv .long)), subst (Reaches (start .args .dir .now)) (sym (at-loop .loop .inv .long))
-    (start .pre .reaches))
+    let at-loop = c .before .before .before in let start = at-loop .before .before .before in (
+      name-walkable (start .pre) (at-loop .loop .inv) (omega (arith, at-loop .loop .inv .long)),
+      subst (Reaches (start .args .dir .now)) (sym (at-loop .loop .inv .long))
+          (start .pre .reaches),
+    )
 
 add-j : tie.Need-add-j Inv-loop μ-loop
 add-j c = search needs

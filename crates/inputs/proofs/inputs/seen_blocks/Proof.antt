@@ -18,8 +18,11 @@ loop-holds c = λ low few. begin-blocks _ _ _ _ _ low few
 seen-block-requires : tie.Need-seen-block-requires Inv-loop μ-loop
 seen-block-requires c κs =
     let at-loop = c .before in let start = at-loop .before .before in
-    record { place = block-near _ _ _ _ _ (start .pre .0) (start .pre .1) (at-loop .loop .inv (start .pre .0) (start .pre .1)); before = (at-loop .loop) .inv (start .pre .0)
-    (start .pre .1) .small }
+    record {
+      place = block-near _ _ _ _ _ (start .pre .0) (start .pre .1) (at-loop .loop .inv (start .pre .0) (start .pre .1));
+      before = (at-loop .loop) .inv (start .pre .0)
+          (start .pre .1) .small;
+    }
 
 returns : tie.Need-returns Inv-loop μ-loop
 returns c =

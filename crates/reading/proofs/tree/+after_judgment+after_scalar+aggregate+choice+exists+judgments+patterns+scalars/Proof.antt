@@ -262,9 +262,12 @@ after-judgment-children-requires : (t : ℕ) → after-judgment-lts.Need-childre
 after-judgment-children-requires t c κs =
     let at-if1 = c .before in let at-match = at-if1 .before in let at-shared-slice-known2 = at-match .before in
     let start-2 = at-shared-slice-known2 .before .before .before in
-    let k = kindOf (getD (start-2 .args .s .now) (start-2 .args .at) 0) in
-    (omega (arith, (at-shared-slice-known2 .shared-slice-known2) .given (start-2 .args .at)), (start-2 .pre) .1 .0 .tabled, judgments-in-row k
-    (above 96 k (at-if1 .if1 .left) (at-match .match .rest .0 .0 .0 .0 .1)) ((c .if2) .taken))
+    let k = kindOf (getD (start-2 .args .s .now) (start-2 .args .at) 0) in (
+      omega (arith, (at-shared-slice-known2 .shared-slice-known2) .given (start-2 .args .at)),
+      (start-2 .pre) .1 .0 .tabled,
+      judgments-in-row k
+          (above 96 k (at-if1 .if1 .left) (at-match .match .rest .0 .0 .0 .0 .1)) ((c .if2) .taken),
+    )
 
 after-judgment-judgments-requires : (t : ℕ) → after-judgment-lts.Need-judgments-requires (after-judgment-calls t) (after-judgment-at t) after-judgment.Post
 after-judgment-judgments-requires t c κs =

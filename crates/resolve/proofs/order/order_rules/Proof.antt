@@ -39,8 +39,13 @@ sub-places c = omega (arith, some-root (c .before .before .before .before .pre) 
 mul-places : tie.Need-mul-places Inv-loop μ-loop
 mul-places c =
     let at-loop-test = c .before .before in let at-loop = at-loop-test .before in let start = at-loop .before in
-    omega (arith, (start .pre) .few, (at-loop .loop) .inv _ refl (start .pre) .long, root-room (start .pre) (at-loop .loop .inv _ refl (start .pre)) (at-loop-test .loop-test .taken)
-    ((c .if1) .left))
+    omega (
+      arith,
+      (start .pre) .few,
+      (at-loop .loop) .inv _ refl (start .pre) .long,
+      root-room (start .pre) (at-loop .loop .inv _ refl (start .pre)) (at-loop-test .loop-test .taken)
+          ((c .if1) .left),
+    )
 
 slice-write-places : tie.Need-slice-write-places Inv-loop μ-loop
 slice-write-places c = root-room (c .before .before .before .before .pre) ((c .before .before .before .loop) .inv _ refl (c .before .before .before .before .pre)) ((c .before .before .loop-test) .taken) ((c .if1) .left)
@@ -48,8 +53,13 @@ slice-write-places c = root-room (c .before .before .before .before .pre) ((c .b
 add-k : tie.Need-add-k Inv-loop μ-loop
 add-k c =
     let at-loop-test = c .before .before in let at-loop = at-loop-test .before in let start = at-loop .before in
-    omega (arith, (start .pre) .few, (at-loop .loop) .inv _ refl (start .pre) .long, root-room (start .pre) (at-loop .loop .inv _ refl (start .pre)) (at-loop-test .loop-test .taken)
-    ((c .if1) .left))
+    omega (
+      arith,
+      (start .pre) .few,
+      (at-loop .loop) .inv _ refl (start .pre) .long,
+      root-room (start .pre) (at-loop .loop .inv _ refl (start .pre)) (at-loop-test .loop-test .taken)
+          ((c .if1) .left),
+    )
 
 loop-less-2 : tie.Need-loop-less-2 Inv-loop μ-loop
 loop-less-2 c = omega arith

@@ -24,9 +24,12 @@ add-place c = search needs
 
 put-lists-requires : tie.Need-put-lists-requires
 put-lists-requires c κs =
-    let at-slots-place = c .before in let at-if1 = at-slots-place .before in let start = at-if1 .before .before .before .before in
-    (omega arith, omega (arith, list-inside _ _ (start .pre .0) (at-if1 .if1 .left) (ap (λ (x : ℕ). x + 4) (at-slots-place .slots-place .ensures .0))), room-first _ _
-    (rw (piece-stamped _ _ (at-if1 .if1 .left) (ap (λ (x : ℕ). x + 4) (at-slots-place .slots-place .ensures .0))) at (start .pre .1)))
+    let at-slots-place = c .before in let at-if1 = at-slots-place .before in let start = at-if1 .before .before .before .before in (
+      omega arith,
+      omega (arith, list-inside _ _ (start .pre .0) (at-if1 .if1 .left) (ap (λ (x : ℕ). x + 4) (at-slots-place .slots-place .ensures .0))),
+      room-first _ _
+          (rw (piece-stamped _ _ (at-if1 .if1 .left) (ap (λ (x : ℕ). x + 4) (at-slots-place .slots-place .ensures .0))) at (start .pre .1)),
+    )
 
 add-put-words : tie.Need-add-put-words
 add-put-words c = search needs
