@@ -14,7 +14,7 @@ pub data Link (R : Type 0) : Type 0 where
   end : R → Link R
   next : ℕ → Link R
 
--- the same step with its answer turned into another
+-- the same link with another answer in place of its own
 abbrev pub mapped : {R S : Type 0} → (R → S) → Link R → Link S
 mapped g (end r) = end (g r)
 mapped g (next n) = next n
