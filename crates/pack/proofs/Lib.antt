@@ -1,4 +1,5 @@
 pub mod Listed
+pub mod EachFollows
 pub mod FormLaws
 pub mod PackLaws
 pub mod StepLaws

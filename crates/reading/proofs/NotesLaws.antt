@@ -8,10 +8,10 @@ use lib.ListN.{length, drop, getD, set, length-append, length-map, length-set}
 use lib.Seq.{sets, getD-set-same, set-set, set-comm}
 use lib.Dec.{eqb}
 use Rattle.definitions.specs.declared.table.Follows.{Follows}
-use Rattle.definitions.specs.declared.table.Follows.the-variants.{Nothing, Counted, OneScalar, TwoScalars, Scalars, Patterns, Periods, OneJudgment, Judgments, Choice, Aggregate, OnlyRelated, Slots, Atom, Exists}
 use Rattle.definitions.specs.Table.{pick, entryOf, fieldsOf, childrenOf}
 use Rattle.definitions.specs.Form.{word, only, FineEach, Fine}
 use Rattle.pack.proofs.FormLaws.{lawful}
+use Rattle.pack.proofs.EachFollows.{where-true}
 use Rattle.definitions.specs.Tree.{Tree, Forest, node, more, ofForest, heads, lastField, fields, follow, tree, size, sizes}
 use Rattle.definitions.specs.Tree as trees
 use Rattle.reading.specs.Notes.{lookBy, lookOf, noted, Note, note, within, contextOf, noteCode, notesOf, notesIn}
@@ -93,21 +93,7 @@ pub record Opens (w : Follows) : Type 0 where
 
 opens : (w : Follows) → lookBy w .opens ≡ true → Opens w
 unfolding lookBy
-opens Nothing e = no (sym e)
-opens Counted e = no (sym e)
-opens OneScalar e = no (sym e)
-opens TwoScalars e = no (sym e)
-opens Scalars e = no (sym e)
-opens Patterns e = no (sym e)
-opens Periods e = no (sym e)
-opens OneJudgment e = no (sym e)
-opens Judgments e = no (sym e)
-opens Choice e = no (sym e)
-opens Aggregate e = record { noted = refl; first = refl; rest = refl }
-opens OnlyRelated e = record { noted = refl; first = refl; rest = refl }
-opens Slots e = no (sym e)
-opens Atom e = no (sym e)
-opens Exists e = no (sym e)
+opens = where-true (λ w. lookBy w .opens) Opens (record { noted = refl; first = refl; rest = refl }, (record { noted = refl; first = refl; rest = refl }, tt))
 
 no-base : (inside : ℕ) (lost : Bool) → contextOf inside lost % 8192 ≡ 0
 no-base inside true = omega arith

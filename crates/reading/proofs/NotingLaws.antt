@@ -3,10 +3,11 @@ use Prim.Native.Nat.{ℕ, zero, suc, _+_, _-_, _%_, _≤_, _<_}
 use native.Mathlib.Omega.{arith}
 use mathlib.Core.Path.{_≡_, refl, ap, sym, _∙_, subst}
 use mathlib.Core.List.{List, [], _∷_}
-use mathlib.Core.Bool.{Bool, true, false}
+use mathlib.Core.Bool.{Bool, true, false, _&&_}
+use lib.Dec.{ltb}
 use lib.ListN.{length, drop, getD, replicate}
 use Rattle.definitions.specs.declared.table.Follows.{Follows}
-use Rattle.definitions.specs.declared.table.Follows.the-variants.{Nothing, Counted, OneScalar, TwoScalars, Scalars, Patterns, Periods, OneJudgment, Judgments, Choice, Aggregate, OnlyRelated, Slots, Atom, Exists}
+use Rattle.definitions.specs.declared.table.Follows.the-variants.{Aggregate, Exists}
 use Rattle.pack.specs.declared.cursor.Step.the-variants.{On}
 use Rattle.definitions.specs.Table.{pick, kindOf, valueOf, entryOf, table, fieldsOf, childrenOf, howMany, judgment}
 use Rattle.definitions.specs.Form.{Read, got, refused, mapRead, Form, word, each, _▹_, via, only, wordsBy, Fine, readBy}
@@ -15,6 +16,7 @@ use Rattle.pack.specs.Readers.{stepOf, skipOver, codedStep}
 use Rattle.pack.proofs.FormLaws.{lawful, clash}
 use Rattle.pack.proofs.StepLaws.{went, by-each, each-last}
 use Rattle.pack.proofs.Listed.{in-range}
+use Rattle.pack.proofs.EachFollows.{alike}
 use Rattle.reading.specs.Notes.{lookBy, noted}
 use Rattle.reading.specs.Noting.{losing, push, inNext, past, childIn, noteTree, noteForest, noteFollow, Came, NotedCode, Sorted, Rows, Shape}
 use Rattle.reading.proofs.TreeLaws.{followed, no-fields, only-fields, Row, by-row, Leaf, by-leaf}
@@ -114,27 +116,10 @@ module _ (n sort : ℕ) (ws : List ℕ) (at : ℕ) where
 
 -- ---- what follows a head word
 
-no-cons : {A B : Type 0} {x : A} {xs : List A} → x ∷ xs ≡ [] → B
-no-cons e = let z = ap length e in absurd (omega arith)
-
 -- inside a node without fields nothing stands
 bare-shut : (w : Follows) → fieldsOf w ≡ [] → lookBy w .opens ≡ false
 unfolding fieldsOf lookBy
-bare-shut Nothing e = refl
-bare-shut Counted e = refl
-bare-shut OneScalar e = refl
-bare-shut TwoScalars e = refl
-bare-shut Scalars e = refl
-bare-shut Patterns e = refl
-bare-shut Periods e = refl
-bare-shut OneJudgment e = refl
-bare-shut Judgments e = refl
-bare-shut Choice e = refl
-bare-shut Aggregate e = no-cons e
-bare-shut OnlyRelated e = no-cons e
-bare-shut Slots e = refl
-bare-shut Atom e = refl
-bare-shut Exists e = refl
+bare-shut w e = alike (λ w. lookBy w .opens) (λ w. ltb 0 (length (fieldsOf w)) && lookBy w .opens) refl w ∙ rw e refl
 
 add-none : (a : ℕ) → a + 0 ≡ a
 add-none a = omega arith

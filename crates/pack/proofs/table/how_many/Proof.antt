@@ -1,15 +1,17 @@
 -- `pack::table::how_many` meets its contract, case by case: in the last arm the case is one of those that nothing of one sort follows.
 -- Assumes nothing.
-use mathlib.Core.Path.{_≡_, refl}
+use mathlib.Core.Path.{_≡_, refl, sym, _∙_}
 use mathlib.Core.List.{List, [], _∷_}
+use mathlib.Core.Bool.{Bool, true, false}
 use Prim.Native.Nat.{ℕ}
 use borrow.Author.Needs.{needs}
+use mir.Val.{hasKey}
 use denote.Enum.Declared.{tagOf}
 use types.Run.{OneOf, miss}
-use Rattle.definitions.specs.Table.{howMany}
+use Rattle.definitions.specs.Table.{pick, howMany}
 use Rattle.definitions.specs.declared.table.Follows.{Follows}
-use Rattle.definitions.specs.declared.table.Follows.the-variants.{Nothing, Counted, OneScalar, TwoScalars, Scalars, Patterns, Periods, OneJudgment, Judgments, Choice, Aggregate, OnlyRelated, Slots, Atom, Exists}
 use Rattle.definitions.proofs.table.Follows.{the-type}
+use Rattle.pack.proofs.EachFollows.{alike}
 use Rattle.pack.proofs.table.how_many.Statement.{statement}
 use Rattle.pack.proofs.table.how_many.Tie as tie
 
@@ -18,21 +20,11 @@ abbrev rest : List ℕ
 rest = 0 ∷ 1 ∷ 9 ∷ 10 ∷ 11 ∷ 12 ∷ 13 ∷ 14 ∷ []
 
 others : (f : Follows) (v : ℕ) → OneOf rest (tagOf the-type f) → 0 ≡ howMany f v
-others Nothing v h = refl
-others Counted v h = refl
-others OneScalar v h = absurd (miss rest 2 tt h)
-others TwoScalars v h = absurd (miss rest 3 tt h)
-others Scalars v h = absurd (miss rest 4 tt h)
-others Patterns v h = absurd (miss rest 5 tt h)
-others Periods v h = absurd (miss rest 6 tt h)
-others OneJudgment v h = absurd (miss rest 7 tt h)
-others Judgments v h = absurd (miss rest 8 tt h)
-others Choice v h = refl
-others Aggregate v h = refl
-others OnlyRelated v h = refl
-others Slots v h = refl
-others Atom v h = refl
-others Exists v h = refl
+others f v h = go (hasKey rest (tagOf the-type f)) refl
+  where
+    go : (b : Bool) → hasKey rest (tagOf the-type f) ≡ b → 0 ≡ howMany f v
+    go true e = sym (alike (λ f. howMany f v) (λ f. pick (hasKey rest (tagOf the-type f)) 0 (howMany f v)) refl f ∙ rw e refl)
+    go false e = absurd (miss rest (tagOf the-type f) (rw e tt) h)
 
 enum-told : tie.Need-enum-told
 enum-told c = search needs
