@@ -9,7 +9,7 @@ use lib.ListN.{length}
 use lib.Dec.{eqb}
 use borrow.Author.Tests.{eqb-true}
 use Rattle.definitions.specs.declared.table.Follows.{Follows}
-use Rattle.definitions.specs.declared.table.Follows.the-variants.{Nothing, Counted, OneScalar, TwoScalars, Scalars, Patterns, Periods, OneJudgment, Judgments, Choice, Aggregate, OnlyRelated, Slots, Atom, Exists}
+use Rattle.definitions.specs.declared.table.Follows.the-variants.{Aggregate}
 use Rattle.definitions.specs.Table.{pick, table, entryOf, fieldsOf, childrenOf}
 use Rattle.definitions.specs.Form.{only, allowedHere, FineEach, word, Fine}
 use Rattle.definitions.specs.Tree.{Tree, Forest, node, more, ofForest, heads, lastField, fields, follow, tree, Fields, size}
@@ -18,7 +18,8 @@ use Rattle.definitions.specs.declared.direction.Direction.the-variants.{Directe
 use Rattle.definitions.specs.Tables.{Derived, Tables}
 use Rattle.definitions.specs.Direction.{bearing, orElse, kindOrZero, matched, towards, turn, Membership, all, eachOnce, between, tested}
 use Rattle.definitions.specs.Answers.{Outcome, done, refused, andThen, mapDone}
-use Rattle.definitions.specs.ResolvingTrees.{Citing, currentOf, relatedOf, withSlots, valueOfNode, NodeStep, goes, stops, aggregate, allowedInput, onlyRelated, membershipTest, nodeStep, atNode, resolveTree, resolveForest}
+use Rattle.definitions.specs.ResolvingTrees.{Citing, currentOf, relatedOf, withSlots, NodeStep, goes, stops, nodeStep, atNode, resolveTree, resolveForest}
+use Rattle.directions.proofs.StepWays.{Way, plain, aggregates, relates, tests, undirected, test-undirected, derived, no-input, way}
 use Rattle.definitions.specs.Tree as trees
 use Rattle.definitions.specs.Direction as direction
 
@@ -166,26 +167,6 @@ abbrev StepFine : ℕ → Follows → ℕ → Fields → NodeStep → Type 0
 StepFine n w v fs (goes fs′ entity first rest) = FieldsFine n (fieldsOf w) fs′ × (childrenOf w v (lastField fs′) ≡ childrenOf w v (lastField fs))
 StepFine n w v fs (stops number other) = Unit {0}
 
-aggregate-fine : (n v : ℕ) (fs : Fields) (d : Direction) → FieldsFine n (fieldsOf Aggregate) fs → DirectionFits d → StepFine n Aggregate v fs (aggregate fs d)
-unfolding fieldsOf
-aggregate-fine n v fs (Directed c r k) h q = (slots-fine n _ fs c r h (q .0) (q .1), ap (childrenOf Aggregate v) (last-kept n _ _ fs c r h))
-aggregate-fine n v fs (Open e) h q = tt
-
-only-fine : (n v : ℕ) (inp : ℕ → ℕ → Option ℕ) (fs : Fields) (d : Direction) → FieldsFine n (fieldsOf OnlyRelated) fs → DirectionFits d → StepFine n OnlyRelated v fs (onlyRelated inp fs d)
-unfolding fieldsOf
-only-fine n v inp fs (Open e) h q = tt
-only-fine n v inp fs (Directed c r owner) h q = go (eqb (valueOfNode fs .0) 84) (inp owner (valueOfNode fs .1))
-  where
-    go : (b : Bool) (o : Option ℕ) → StepFine n OnlyRelated v fs (pick b (stops 11 (valueOfNode fs .1)) (allowedInput (withSlots c r fs) (valueOfNode fs .1) o))
-    go true o = tt
-    go false none = (slots-fine n _ fs c r h (q .0) (q .1), ap (childrenOf OnlyRelated v) (last-kept n _ _ fs c r h))
-    go false (some number) = tt
-
-test-fine : (n v : ℕ) (fs : Fields) (entity : ℕ) (m : Membership) (d : Direction) → FieldsFine n (fieldsOf Slots) fs → DirectionFits d → StepFine n Slots v fs (membershipTest fs entity m d)
-unfolding fieldsOf childrenOf
-test-fine n v fs entity m (Directed c r k) h q = (slots-fine n _ fs c r h (q .0) (q .1), refl)
-test-fine n v fs entity m (Open k) h q = tt
-
 module _ (n : ℕ) where
   -- a tree as its head, fields and children
   abbrev pub NodeFine : ℕ → ℕ → ℕ → ℕ → Fields → Forest → Type 0
@@ -209,29 +190,23 @@ module _ (n : ℕ) where
       go false e = omega arith
 
 module _ (C : Citing) (fit : TablesFit (C .tables)) (n : ℕ) where
-  step-fine : (entity : ℕ) (m : Membership) (w : Follows) (v : ℕ) (fs : Fields) → FieldsFine n (fieldsOf w) fs → StepFine n w v fs (nodeStep C entity m w v fs)
-  unfolding nodeStep fieldsOf
-  step-fine entity m Nothing v fs h = (h, refl)
-  step-fine entity m Counted v fs h = (h, refl)
-  step-fine entity m OneScalar v fs h = (h, refl)
-  step-fine entity m TwoScalars v fs h = (h, refl)
-  step-fine entity m Scalars v fs h = (h, refl)
-  step-fine entity m Patterns v fs h = (h, refl)
-  step-fine entity m Periods v fs h = (h, refl)
-  step-fine entity m OneJudgment v fs h = (h, refl)
-  step-fine entity m Judgments v fs h = (h, refl)
-  step-fine entity m Choice v fs h = (h, refl)
-  step-fine entity m Aggregate v fs h =
+  turned-fits : (v entity : ℕ) (rest : List (List ℕ)) (fs : Fields) → FieldsFine n (slotted rest) fs → DirectionFits (turn (C .tables) v entity (currentOf fs) (relatedOf fs))
+  turned-fits v entity rest fs h = let s = slots-fit n rest fs h in turn-fits (C .tables) fit v entity (currentOf fs) (relatedOf fs) (s .0) (s .1)
+
+  step-fine : {entity : ℕ} {m : Membership} {v : ℕ} {fs : Fields} {w : Follows} {s : NodeStep} → Way C entity m v fs w s → FieldsFine n (fieldsOf w) fs → StepFine n w v fs s
+  unfolding fieldsOf childrenOf
+  step-fine (plain w e) h = (h, refl)
+  step-fine {entity} {m} {v} {fs} (aggregates c r kind e) h =
+      let q = subst (λ (d : Direction). DirectionFits d) e (turned-fits v entity _ fs h) in (slots-fine n _ fs c r h (q .0) (q .1), ap (childrenOf Aggregate v) (last-kept n _ _ fs c r h))
+  step-fine {entity} {m} {v} {fs} (relates c r owner e) h = let q = subst (λ (d : Direction). DirectionFits d) e (turned-fits v entity _ fs h) in (slots-fine n _ fs c r h (q .0) (q .1), refl)
+  step-fine {entity} {m} {v} {fs} (tests c r kind e) h =
       let s = slots-fit n _ fs h in
-      aggregate-fine n v fs (turn (C .tables) v entity (currentOf fs) (relatedOf fs)) h (turn-fits (C .tables) fit v entity (currentOf fs) (relatedOf fs) (s .0) (s .1))
-  step-fine entity m OnlyRelated v fs h =
-      let s = slots-fit n _ fs h in
-      only-fine n v (C .input) fs (turn (C .tables) v entity (currentOf fs) (relatedOf fs)) h (turn-fits (C .tables) fit v entity (currentOf fs) (relatedOf fs) (s .0) (s .1))
-  step-fine entity m Slots v fs h =
-      let s = slots-fit n _ fs h in
-      test-fine n v fs entity m (direction.memberDirection (C .tables) v m (currentOf fs) (relatedOf fs)) h (member-fits (C .tables) fit v m (currentOf fs) (relatedOf fs) (s .0) (s .1))
-  step-fine entity m Atom v fs h = (h, refl)
-  step-fine entity m Exists v fs h = (h, refl)
+      let q = subst (λ (d : Direction). DirectionFits d) e (member-fits (C .tables) fit v m (currentOf fs) (relatedOf fs) (s .0) (s .1)) in
+      (slots-fine n _ fs c r h (q .0) (q .1), refl)
+  step-fine (undirected w kind e) h = tt
+  step-fine (test-undirected kind e) h = tt
+  step-fine derived h = tt
+  step-fine (no-input owner number e) h = tt
 
   node-good : (d sort at k v : ℕ) (fs : Fields) (f : Forest) (b : ℕ) (s : NodeStep) → Fine (word (heads sort (suc d)) n) (k, v) → StepFine n (entryOf k .follows) v fs s
       → ((entity : ℕ) (first rest : Membership) → Good (λ f′. FineEach (λ s t. Fine (tree n d s) t) (childrenOf (entryOf k .follows) v (lastField fs)) (ofForest f′)) (resolveForest C entity first rest b f))
@@ -248,7 +223,7 @@ module _ (C : Citing) (fit : TablesFit (C .tables)) (n : ℕ) where
     tree-good (node k v fs f) zero sort entity m at h = absurd (no-level n sort k v fs f h)
     tree-good (node k v fs f) (suc d) sort entity m at h =
         let o = open-node n d sort k v fs f h in
-        node-good d sort at k v fs f (at + 1 + length fs) (nodeStep C entity m (entryOf k .follows) v fs) (o .0) (step-fine entity m (entryOf k .follows) v fs (o .1 .0))
+        node-good d sort at k v fs f (at + 1 + length fs) (nodeStep C entity m (entryOf k .follows) v fs) (o .0) (step-fine (way C entity m v fs (entryOf k .follows)) (o .1 .0))
         (λ e first rest. forest-good f d (childrenOf (entryOf k .follows) v (lastField fs)) e first rest (at + 1 + length fs) (o .1 .1))
 
     forest-good : (f : Forest) (d : ℕ) (sorts : List ℕ) (entity : ℕ) (first rest : Membership) (at : ℕ) → FineEach (λ s t. Fine (tree n d s) t) sorts (ofForest f)

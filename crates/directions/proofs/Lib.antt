@@ -3,6 +3,7 @@ pub mod TablesLaws
 pub mod CheckedTables
 pub mod EqualLaws
 pub mod DefaultedLaws
+pub mod StepWays
 pub mod KeepsForm
 pub mod TreeWords
 pub mod ResolvedFine

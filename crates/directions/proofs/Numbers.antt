@@ -1,30 +1,27 @@
 -- Refusals of trees, rules and predicates bear 10 to 15.
 use Prim.Native.Nat.{ℕ, _+_, _≤_}
 use native.Mathlib.Omega.{arith}
-use mathlib.Core.Path.{_≡_}
+use mathlib.Core.Path.{_≡_, subst}
 use mathlib.Core.List.{List, [], _∷_}
 use mathlib.Core.Bool.{Bool, true, false, _||_, not}
 use mathlib.Core.Option.{Option, none, some}
 use lib.ListN.{length}
 use lib.Dec.{eqb}
 use Rattle.definitions.specs.declared.table.Follows.{Follows}
-use Rattle.definitions.specs.declared.table.Follows.the-variants.{Nothing, Counted, OneScalar, TwoScalars, Scalars, Patterns, Periods, OneJudgment, Judgments, Choice, Aggregate, OnlyRelated, Slots, Atom, Exists}
 use Rattle.definitions.specs.declared.answer.Refusal.{Refusal}
 use Rattle.definitions.specs.Table.{pick, entryOf}
 use Rattle.definitions.specs.Tree.{Tree, Forest, node, more, Fields, size}
 use Rattle.definitions.specs.Records.{Item, Block, Derivation, Relation, Body, Rule, Pack}
 use Rattle.definitions.specs.Lean.{any}
 use Rattle.definitions.specs.Places.{relationWords, firstRelation}
-use Rattle.definitions.specs.Direction.{Membership, turn}
+use Rattle.definitions.specs.Direction.{Membership}
 use Rattle.definitions.specs.Inputs.{ofOrigin, noSequence, declarations, owned, input}
 use Rattle.definitions.specs.Answers.{Outcome, done, refused, andThen, mapDone}
-use Rattle.definitions.specs.ResolvingTrees.{Citing, currentOf, relatedOf, withSlots, valueOfNode, NodeStep, goes, stops, aggregate, allowedInput, onlyRelated, membershipTest, nodeStep, atNode, resolveTree, resolveForest, InRange}
-use Rattle.definitions.specs.declared.direction.Direction.{Direction}
-use Rattle.definitions.specs.declared.direction.Direction.the-variants.{Directed, Open}
+use Rattle.definitions.specs.ResolvingTrees.{Citing, valueOfNode, NodeStep, goes, stops, nodeStep, atNode, resolveTree, resolveForest, InRange}
 use Rattle.definitions.specs.Tables.{tables}
 use Rattle.definitions.specs.Resolving.{cites, predicatePlace, withPredicate, resolveBody, resolveBodies, bodySize, ruleBy, resolveRule, ruleWords, resolveRules, predicateBy, resolvePredicate, resolveDerivation, resolveRelation, resolveRelations, defaultedEqual, equalRefusal, firstRule, resolveRecords, resolved}
+use Rattle.directions.proofs.StepWays.{Way, plain, aggregates, relates, tests, undirected, test-undirected, derived, no-input, way}
 use Rattle.definitions.specs.Tree as trees
-use Rattle.definitions.specs.Direction as direction
 
 abbrev pub Numbered : {A : Type 0} → Outcome A → Type 0
 Numbered (done a) = Unit {0}
@@ -48,44 +45,16 @@ abbrev StepNumbered : NodeStep → Type 0
 StepNumbered (goes fs entity first rest) = Unit {0}
 StepNumbered (stops number other) = InRange number
 
-aggregate-numbered : (fs : Fields) (d : Direction) → StepNumbered (aggregate fs d)
-aggregate-numbered fs (Directed c r k) = tt
-aggregate-numbered fs (Open e) = (omega arith, omega arith)
-
-allowed-numbered : (fs : Fields) (n : ℕ) (o : Option ℕ) → OfInput o → StepNumbered (allowedInput fs n o)
-allowed-numbered fs n none h = tt
-allowed-numbered fs n (some number) h = h
-
-only-numbered : (inp : ℕ → ℕ → Option ℕ) → ((owner n : ℕ) → OfInput (inp owner n)) → (fs : Fields) (d : Direction) → StepNumbered (onlyRelated inp fs d)
-only-numbered inp h fs (Open e) = (omega arith, omega arith)
-only-numbered inp h fs (Directed c r owner) = go (eqb (valueOfNode fs .0) 84)
-  where
-    go : (b : Bool) → StepNumbered (pick b (stops 11 (valueOfNode fs .1)) (allowedInput (withSlots c r fs) (valueOfNode fs .1) (inp owner (valueOfNode fs .1))))
-    go true = (omega arith, omega arith)
-    go false = allowed-numbered (withSlots c r fs) (valueOfNode fs .1) (inp owner (valueOfNode fs .1)) (h owner (valueOfNode fs .1))
-
-test-numbered : (fs : Fields) (entity : ℕ) (m : Membership) (d : Direction) → StepNumbered (membershipTest fs entity m d)
-test-numbered fs entity m (Directed c r k) = tt
-test-numbered fs entity m (Open k) = (omega arith, omega arith)
-
 module _ (C : Citing) (h : (owner n : ℕ) → OfInput (C .input owner n)) where
-  step-numbered : (entity : ℕ) (m : Membership) (w : Follows) (v : ℕ) (fs : Fields) → StepNumbered (nodeStep C entity m w v fs)
-  unfolding nodeStep
-  step-numbered entity m Nothing v fs = tt
-  step-numbered entity m Counted v fs = tt
-  step-numbered entity m OneScalar v fs = tt
-  step-numbered entity m TwoScalars v fs = tt
-  step-numbered entity m Scalars v fs = tt
-  step-numbered entity m Patterns v fs = tt
-  step-numbered entity m Periods v fs = tt
-  step-numbered entity m OneJudgment v fs = tt
-  step-numbered entity m Judgments v fs = tt
-  step-numbered entity m Choice v fs = tt
-  step-numbered entity m Aggregate v fs = aggregate-numbered fs (turn (C .tables) v entity (currentOf fs) (relatedOf fs))
-  step-numbered entity m OnlyRelated v fs = only-numbered (C .input) h fs (turn (C .tables) v entity (currentOf fs) (relatedOf fs))
-  step-numbered entity m Slots v fs = test-numbered fs entity m (direction.memberDirection (C .tables) v m (currentOf fs) (relatedOf fs))
-  step-numbered entity m Atom v fs = tt
-  step-numbered entity m Exists v fs = tt
+  step-numbered : {entity : ℕ} {m : Membership} {v : ℕ} {fs : Fields} {w : Follows} {s : NodeStep} → Way C entity m v fs w s → StepNumbered s
+  step-numbered (plain w e) = tt
+  step-numbered (aggregates c r kind e) = tt
+  step-numbered (relates c r owner e) = tt
+  step-numbered (tests c r kind e) = tt
+  step-numbered (undirected w kind e) = (omega arith, omega arith)
+  step-numbered (test-undirected kind e) = (omega arith, omega arith)
+  step-numbered derived = (omega arith, omega arith)
+  step-numbered {entity} {m} {v} {fs} (no-input owner number e) = subst (λ (o : Option ℕ). OfInput o) e (h owner (valueOfNode fs .1))
 
   node-numbered : (at : ℕ) (s : NodeStep) → StepNumbered s → (on : Fields → ℕ → Membership → Membership → Outcome Tree)
       → ((fs : Fields) (entity : ℕ) (first rest : Membership) → Numbered (on fs entity first rest)) → Numbered (atNode C at s on)
@@ -97,7 +66,7 @@ module _ (C : Citing) (h : (owner n : ℕ) → OfInput (C .input owner n)) where
 
     tree-numbered : (entity : ℕ) (m : Membership) (at : ℕ) (t : Tree) → Numbered (resolveTree C entity m at t)
     tree-numbered entity m at (node k v fs f) =
-        node-numbered at (nodeStep C entity m (entryOf k .follows) v fs) (step-numbered entity m (entryOf k .follows) v fs) _
+        node-numbered at (nodeStep C entity m (entryOf k .follows) v fs) (step-numbered (way C entity m v fs (entryOf k .follows))) _
         (λ fs′ e first rest. map-numbered (node k v fs′) (resolveForest C e first rest (at + 1 + length fs) f) (forest-numbered e first rest (at + 1 + length fs) f))
 
     forest-numbered : (entity : ℕ) (first rest : Membership) (at : ℕ) (f : Forest) → Numbered (resolveForest C entity first rest at f)

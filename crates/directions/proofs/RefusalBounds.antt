@@ -10,7 +10,6 @@ use lib.Dec.{eqb}
 use borrow.Author.Tests.{eqb-true, ltb-true}
 use Rattle.definitions.specs.declared.answer.Refusal.{Refusal}
 use Rattle.definitions.specs.declared.table.Follows.{Follows}
-use Rattle.definitions.specs.declared.table.Follows.the-variants.{Nothing, Counted, OneScalar, TwoScalars, Scalars, Patterns, Periods, OneJudgment, Judgments, Choice, Aggregate, OnlyRelated, Slots, Atom, Exists}
 use Rattle.definitions.specs.Table.{pick, table, entryOf, fieldsOf, childrenOf}
 use Rattle.definitions.specs.Form.{FineEach, only, allowedHere, Fine}
 use Rattle.definitions.specs.Tree.{Tree, Forest, ofForest, node, more, lastField, tree, Fields, size, sizes}
@@ -18,8 +17,10 @@ use Rattle.definitions.specs.declared.direction.Direction.{Direction}
 use Rattle.definitions.specs.declared.direction.Direction.the-variants.{Directed, Open}
 use Rattle.definitions.specs.Tables.{Derived, Tables}
 use Rattle.definitions.specs.Direction.{bearing, orElse, kindOrZero, matched, towards, turn, Membership, all, eachOnce, tested}
+use Rattle.reading.specs.Notes.{lookBy}
 use Rattle.definitions.specs.Answers.{Outcome, done, refused, andThen, mapDone}
-use Rattle.definitions.specs.ResolvingTrees.{Citing, currentOf, relatedOf, withSlots, valueOfNode, NodeStep, goes, stops, aggregate, allowedInput, onlyRelated, membershipTest, nodeStep, atNode, resolveTree, resolveForest}
+use Rattle.definitions.specs.ResolvingTrees.{Citing, currentOf, relatedOf, valueOfNode, NodeStep, goes, stops, nodeStep, atNode, resolveTree, resolveForest}
+use Rattle.directions.proofs.StepWays.{Way, plain, aggregates, relates, tests, undirected, test-undirected, derived, no-input, way}
 use Rattle.directions.proofs.KeepsForm.{FieldsFine, slotted, open-node, no-level}
 use Rattle.directions.proofs.SmallKinds.{KindFits}
 use Rattle.definitions.specs.Tree as trees
@@ -142,44 +143,21 @@ module _ (most : ℕ) where
 
   -- ---- a node
 
-  aggregate-steps : (fs : Fields) (d : Direction) → KindFits most d → OpenFits most d → StepFits most (aggregate fs d)
-  aggregate-steps fs (Directed c r k) h o = (h, (tt, tt))
-  aggregate-steps fs (Open e) h o = (omega arith, o)
-
-  only-steps : (inp : ℕ → ℕ → Option ℕ) → ((owner n number : ℕ) → inp owner n ≡ some number → number < 16) → (fs : Fields) → valueOfNode fs .1 < most → (d : Direction) → OpenFits most d → StepFits most (onlyRelated inp fs d)
-  only-steps inp h fs u (Open e) o = (omega arith, o)
-  only-steps inp h fs u (Directed c r owner) o = go (eqb (valueOfNode fs .0) 84) (inp owner (valueOfNode fs .1)) refl
-    where
-      go : (b : Bool) (i : Option ℕ) → inp owner (valueOfNode fs .1) ≡ i → StepFits most (pick b (stops 11 (valueOfNode fs .1)) (allowedInput (withSlots c r fs) (valueOfNode fs .1) i))
-      go true i q = (omega arith, u)
-      go false none q = (omega arith, (tt, tt))
-      go false (some number) q = (h owner (valueOfNode fs .1) number q, u)
-
-  test-steps : (fs : Fields) (entity : ℕ) → entity < most → (m : Membership) → MemberSmall most m → (d : Direction) → OpenFits most d → StepFits most (membershipTest fs entity m d)
-  test-steps fs entity h m s (Directed c r k) o = (h, (s, s))
-  test-steps fs entity h m s (Open k) o = (omega arith, o)
+  lost-small : (b : Bool) (m : Membership) → MemberSmall most m → MemberSmall most (pick b none m)
+  lost-small true m s = tt
+  lost-small false m s = s
 
   module _ (C : Citing) (fit : CitingFits most C) where
-    step-fits : (n : ℕ) → n ≤ most → (entity : ℕ) → entity < most → (m : Membership) → MemberSmall most m → (w : Follows) (v : ℕ) (fs : Fields) → FieldsFine n (fieldsOf w) fs → StepFits most (nodeStep C entity m w v fs)
-    unfolding nodeStep fieldsOf
-    step-fits n l entity h m s Nothing v fs q = (h, (s, s))
-    step-fits n l entity h m s Counted v fs q = (h, (s, s))
-    step-fits n l entity h m s OneScalar v fs q = (h, (s, s))
-    step-fits n l entity h m s TwoScalars v fs q = (h, (s, s))
-    step-fits n l entity h m s Scalars v fs q = (h, (s, s))
-    step-fits n l entity h m s Patterns v fs q = (h, (s, tt))
-    step-fits n l entity h m s Periods v fs q = (h, (tt, tt))
-    step-fits n l entity h m s OneJudgment v fs q = (h, (s, s))
-    step-fits n l entity h m s Judgments v fs q = (h, (s, s))
-    step-fits n l entity h m s Choice v fs q = (h, (s, s))
-    step-fits n l entity h m s Aggregate v fs q =
-        aggregate-steps fs (turn (C .tables) v entity (currentOf fs) (relatedOf fs)) (fit .kinds v entity (currentOf fs) (relatedOf fs)) (turn-open (C .tables) v entity (currentOf fs) (relatedOf fs) h)
-    step-fits n l entity h m s OnlyRelated v fs q =
-        only-steps (C .input) (fit .inputs) fs (let t = third-fits n fs q in omega arith) (turn (C .tables) v entity (currentOf fs) (relatedOf fs)) (turn-open (C .tables) v entity (currentOf fs) (relatedOf fs) h)
-    step-fits n l entity h m s Slots v fs q =
-        test-steps fs entity h m s (direction.memberDirection (C .tables) v m (currentOf fs) (relatedOf fs)) (member-open (C .tables) v m (currentOf fs) (relatedOf fs) s)
-    step-fits n l entity h m s Atom v fs q = (h, (s, s))
-    step-fits n l entity h m s Exists v fs q = (h, (s, s))
+    step-fits : (n : ℕ) → n ≤ most → {entity : ℕ} {m : Membership} {v : ℕ} {fs : Fields} {w : Follows} {s : NodeStep} → Way C entity m v fs w s → entity < most → MemberSmall most m → FieldsFine n (fieldsOf w) fs → StepFits most s
+    unfolding fieldsOf
+    step-fits n l {entity} {m} (plain w e) h s q = (h, (lost-small (lookBy w .first) m s, lost-small (lookBy w .rest) m s))
+    step-fits n l {entity} {m} {v} {fs} (aggregates c r kind e) h s q = (subst (λ (d : Direction). KindFits most d) e (fit .kinds v entity (currentOf fs) (relatedOf fs)), (tt, tt))
+    step-fits n l (relates c r owner e) h s q = (omega arith, (tt, tt))
+    step-fits n l (tests c r kind e) h s q = (h, (s, s))
+    step-fits n l {entity} {m} {v} {fs} (undirected w kind e) h s q = (omega arith, subst (λ (d : Direction). OpenFits most d) e (turn-open (C .tables) v entity (currentOf fs) (relatedOf fs) h))
+    step-fits n l {entity} {m} {v} {fs} (test-undirected kind e) h s q = (omega arith, subst (λ (d : Direction). OpenFits most d) e (member-open (C .tables) v m (currentOf fs) (relatedOf fs) s))
+    step-fits n l {entity} {m} {v} {fs} derived h s q = (omega arith, omega (arith, third-fits n fs q))
+    step-fits n l {entity} {m} {v} {fs} (no-input owner number e) h s q = (fit .inputs owner (valueOfNode fs .1) number e, omega (arith, third-fits n fs q))
 
     node-refuses : (top at : ℕ) → at < top → (s : NodeStep) → StepFits most s → (on : Fields → ℕ → Membership → Membership → Outcome Tree)
         → ((fs : Fields) (entity : ℕ) → entity < most → (first : Membership) → MemberSmall most first → (rest : Membership) → MemberSmall most rest → Refuses most top (on fs entity first rest)) → Refuses most top (atNode C at s on)
@@ -193,7 +171,7 @@ module _ (most : ℕ) where
       tree-refuses (node k v fs f) n zero sort names h entity low m s at = absurd (no-level n sort k v fs f h)
       tree-refuses (node k v fs f) n (suc d) sort names h entity low m s at =
           let o = open-node n d sort k v fs f h in
-          node-refuses (at + (1 + length fs + sizes f)) at (omega arith) (nodeStep C entity m (entryOf k .follows) v fs) (step-fits n names entity low m s (entryOf k .follows) v fs (o .1 .0)) _
+          node-refuses (at + (1 + length fs + sizes f)) at (omega arith) (nodeStep C entity m (entryOf k .follows) v fs) (step-fits n names (way C entity m v fs (entryOf k .follows)) low s (o .1 .0)) _
           (λ fs′ e small first a rest b. map-refuses most (at + (1 + length fs + sizes f)) (node k v fs′) (resolveForest C e first rest (at + 1 + length fs) f)
           (refuses-below most (at + 1 + length fs + sizes f) (at + (1 + length fs + sizes f)) (omega arith) (resolveForest C e first rest (at + 1 + length fs) f)
           (forest-refuses f n d (childrenOf (entryOf k .follows) v (lastField fs)) names (o .1 .1) e small first a rest b (at + 1 + length fs))))

@@ -3,23 +3,17 @@ use Prim.Native.Nat.{ℕ, zero, suc, _+_}
 use native.Mathlib.Omega.{arith}
 use mathlib.Core.Path.{_≡_, refl, ap, _∙_}
 use mathlib.Core.List.{List, [], _∷_, _++_}
-use mathlib.Core.Bool.{Bool, true, false}
-use mathlib.Core.Option.{Option, none, some}
 use lib.ListN.{length, length-append}
-use lib.Dec.{eqb}
 use Rattle.definitions.specs.declared.table.Follows.{Follows}
-use Rattle.definitions.specs.declared.table.Follows.the-variants.{Nothing, Counted, OneScalar, TwoScalars, Scalars, Patterns, Periods, OneJudgment, Judgments, Choice, Aggregate, OnlyRelated, Slots, Atom, Exists}
-use Rattle.definitions.specs.Table.{pick, wordOf, entryOf, fieldsOf, childrenOf}
+use Rattle.definitions.specs.Table.{wordOf, entryOf, fieldsOf, childrenOf}
 use Rattle.definitions.specs.Form.{only, wordsEach, FineEach, word, wordsBy, Fine}
 use Rattle.definitions.specs.Tree.{Tree, Forest, node, more, ofForest, lastField, fields, follow, tree, Fields, fieldWords, treeWords, forestWords, size, sizes}
-use Rattle.definitions.specs.declared.direction.Direction.{Direction}
-use Rattle.definitions.specs.declared.direction.Direction.the-variants.{Directed, Open}
-use Rattle.definitions.specs.Direction.{turn, Membership}
+use Rattle.definitions.specs.Direction.{Membership}
 use Rattle.definitions.specs.Answers.{mapDone}
-use Rattle.definitions.specs.ResolvingTrees.{Citing, currentOf, relatedOf, withSlots, valueOfNode, NodeStep, goes, stops, aggregate, allowedInput, onlyRelated, membershipTest, nodeStep, atNode, resolveTree, resolveForest}
+use Rattle.definitions.specs.ResolvingTrees.{Citing, withSlots, NodeStep, goes, stops, nodeStep, atNode, resolveTree, resolveForest}
+use Rattle.directions.proofs.StepWays.{Way, plain, aggregates, relates, tests, undirected, test-undirected, derived, no-input, way}
 use Rattle.directions.proofs.KeepsForm.{Good, map-good, then-good, FieldsFine, open-node, no-level}
 use Rattle.definitions.specs.Tree as trees
-use Rattle.definitions.specs.Direction as direction
 
 fields-words : (n : ℕ) (kss : List (List ℕ)) (fs : Fields) → FieldsFine n kss fs → wordsEach (λ ks a. wordsBy (word (only ks) n) a) kss fs ≡ fieldWords fs
 unfolding wordsBy
@@ -85,41 +79,16 @@ abbrev pub StepLong : Fields → NodeStep → Type 0
 StepLong fs (goes fs′ entity first rest) = length fs′ ≡ length fs
 StepLong fs (stops number other) = Unit {0}
 
-aggregate-long : (fs : Fields) (d : Direction) → StepLong fs (aggregate fs d)
-aggregate-long fs (Directed c r k) = slots-length c r fs
-aggregate-long fs (Open e) = tt
-
-only-long : (inp : ℕ → ℕ → Option ℕ) (fs : Fields) (d : Direction) → StepLong fs (onlyRelated inp fs d)
-only-long inp fs (Open e) = tt
-only-long inp fs (Directed c r owner) = go (eqb (valueOfNode fs .0) 84) (inp owner (valueOfNode fs .1))
-  where
-    go : (b : Bool) (o : Option ℕ) → StepLong fs (pick b (stops 11 (valueOfNode fs .1)) (allowedInput (withSlots c r fs) (valueOfNode fs .1) o))
-    go true o = tt
-    go false none = slots-length c r fs
-    go false (some number) = tt
-
-test-long : (fs : Fields) (entity : ℕ) (m : Membership) (d : Direction) → StepLong fs (membershipTest fs entity m d)
-test-long fs entity m (Directed c r k) = slots-length c r fs
-test-long fs entity m (Open k) = tt
-
 module _ (C : Citing) where
-  pub step-long : (entity : ℕ) (m : Membership) (w : Follows) (v : ℕ) (fs : Fields) → StepLong fs (nodeStep C entity m w v fs)
-  unfolding nodeStep
-  step-long entity m Nothing v fs = refl
-  step-long entity m Counted v fs = refl
-  step-long entity m OneScalar v fs = refl
-  step-long entity m TwoScalars v fs = refl
-  step-long entity m Scalars v fs = refl
-  step-long entity m Patterns v fs = refl
-  step-long entity m Periods v fs = refl
-  step-long entity m OneJudgment v fs = refl
-  step-long entity m Judgments v fs = refl
-  step-long entity m Choice v fs = refl
-  step-long entity m Aggregate v fs = aggregate-long fs (turn (C .tables) v entity (currentOf fs) (relatedOf fs))
-  step-long entity m OnlyRelated v fs = only-long (C .input) fs (turn (C .tables) v entity (currentOf fs) (relatedOf fs))
-  step-long entity m Slots v fs = test-long fs entity m (direction.memberDirection (C .tables) v m (currentOf fs) (relatedOf fs))
-  step-long entity m Atom v fs = refl
-  step-long entity m Exists v fs = refl
+  pub step-long : {entity : ℕ} {m : Membership} {v : ℕ} {fs : Fields} {w : Follows} {s : NodeStep} → Way C entity m v fs w s → StepLong fs s
+  step-long (plain w e) = refl
+  step-long {entity} {m} {v} {fs} (aggregates c r kind e) = slots-length c r fs
+  step-long {entity} {m} {v} {fs} (relates c r owner e) = slots-length c r fs
+  step-long {entity} {m} {v} {fs} (tests c r kind e) = slots-length c r fs
+  step-long (undirected w kind e) = tt
+  step-long (test-undirected kind e) = tt
+  step-long derived = tt
+  step-long (no-input owner number e) = tt
 
   node-long : (at k v : ℕ) (fs : Fields) (f : Forest) (b : ℕ) (s : NodeStep) → StepLong fs s
       → ((entity : ℕ) (first rest : Membership) → Good (λ f′. sizes f′ ≡ sizes f) (resolveForest C entity first rest b f))
@@ -133,7 +102,7 @@ module _ (C : Citing) where
 
     pub size-kept : (t : Tree) (entity : ℕ) (m : Membership) (at : ℕ) → Good (λ t′. size t′ ≡ size t) (resolveTree C entity m at t)
     size-kept (node k v fs f) entity m at =
-        node-long at k v fs f (at + 1 + length fs) (nodeStep C entity m (entryOf k .follows) v fs) (step-long entity m (entryOf k .follows) v fs)
+        node-long at k v fs f (at + 1 + length fs) (nodeStep C entity m (entryOf k .follows) v fs) (step-long (way C entity m v fs (entryOf k .follows)))
         (λ e first rest. sizes-kept f e first rest (at + 1 + length fs))
 
     sizes-kept : (f : Forest) (entity : ℕ) (first rest : Membership) (at : ℕ) → Good (λ f′. sizes f′ ≡ sizes f) (resolveForest C entity first rest at f)
