@@ -19,7 +19,7 @@ use Rattle.definitions.specs.Tables.{Derived, Tables}
 use Rattle.definitions.specs.Direction.{bearing, orElse, kindOrZero, matched, towards, turn, Membership, all, eachOnce, between, tested}
 use Rattle.definitions.specs.Answers.{Outcome, done, refused, andThen, mapDone}
 use Rattle.definitions.specs.ResolvingTrees.{Citing, currentOf, relatedOf, withSlots, NodeStep, goes, stops, nodeStep, atNode, resolveTree, resolveForest}
-use Rattle.directions.proofs.StepWays.{Way, plain, aggregates, relates, tests, undirected, test-undirected, derived, no-input, way}
+use Rattle.directions.proofs.StepWays.{Way, slotless, aggregates, relates, tests, undirected, test-undirected, derived, no-input, way}
 use Rattle.definitions.specs.Tree as trees
 use Rattle.definitions.specs.Direction as direction
 
@@ -195,7 +195,7 @@ module _ (C : Citing) (fit : TablesFit (C .tables)) (n : ℕ) where
 
   step-fine : {entity : ℕ} {m : Membership} {v : ℕ} {fs : Fields} {w : Follows} {s : NodeStep} → Way C entity m v fs w s → FieldsFine n (fieldsOf w) fs → StepFine n w v fs s
   unfolding fieldsOf childrenOf
-  step-fine (plain w e) h = (h, refl)
+  step-fine (slotless w e) h = (h, refl)
   step-fine {entity} {m} {v} {fs} (aggregates c r kind e) h =
       let q = subst (λ (d : Direction). DirectionFits d) e (turned-fits v entity _ fs h) in (slots-fine n _ fs c r h (q .0) (q .1), ap (childrenOf Aggregate v) (last-kept n _ _ fs c r h))
   step-fine {entity} {m} {v} {fs} (relates c r owner e) h = let q = subst (λ (d : Direction). DirectionFits d) e (turned-fits v entity _ fs h) in (slots-fine n _ fs c r h (q .0) (q .1), refl)

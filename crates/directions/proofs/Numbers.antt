@@ -20,7 +20,7 @@ use Rattle.definitions.specs.Answers.{Outcome, done, refused, andThen, mapDone}
 use Rattle.definitions.specs.ResolvingTrees.{Citing, valueOfNode, NodeStep, goes, stops, nodeStep, atNode, resolveTree, resolveForest, InRange}
 use Rattle.definitions.specs.Tables.{tables}
 use Rattle.definitions.specs.Resolving.{cites, predicatePlace, withPredicate, resolveBody, resolveBodies, bodySize, ruleBy, resolveRule, ruleWords, resolveRules, predicateBy, resolvePredicate, resolveDerivation, resolveRelation, resolveRelations, defaultedEqual, equalRefusal, firstRule, resolveRecords, resolved}
-use Rattle.directions.proofs.StepWays.{Way, plain, aggregates, relates, tests, undirected, test-undirected, derived, no-input, way}
+use Rattle.directions.proofs.StepWays.{Way, slotless, aggregates, relates, tests, undirected, test-undirected, derived, no-input, way}
 use Rattle.definitions.specs.Tree as trees
 
 abbrev pub Numbered : {A : Type 0} → Outcome A → Type 0
@@ -47,7 +47,7 @@ StepNumbered (stops number other) = InRange number
 
 module _ (C : Citing) (h : (owner n : ℕ) → OfInput (C .input owner n)) where
   step-numbered : {entity : ℕ} {m : Membership} {v : ℕ} {fs : Fields} {w : Follows} {s : NodeStep} → Way C entity m v fs w s → StepNumbered s
-  step-numbered (plain w e) = tt
+  step-numbered (slotless w e) = tt
   step-numbered (aggregates c r kind e) = tt
   step-numbered (relates c r owner e) = tt
   step-numbered (tests c r kind e) = tt

@@ -20,7 +20,7 @@ use Rattle.definitions.specs.Direction.{bearing, orElse, kindOrZero, matched, t
 use Rattle.reading.specs.Notes.{lookBy}
 use Rattle.definitions.specs.Answers.{Outcome, done, refused, andThen, mapDone}
 use Rattle.definitions.specs.ResolvingTrees.{Citing, currentOf, relatedOf, valueOfNode, NodeStep, goes, stops, nodeStep, atNode, resolveTree, resolveForest}
-use Rattle.directions.proofs.StepWays.{Way, plain, aggregates, relates, tests, undirected, test-undirected, derived, no-input, way}
+use Rattle.directions.proofs.StepWays.{Way, slotless, aggregates, relates, tests, undirected, test-undirected, derived, no-input, way}
 use Rattle.directions.proofs.KeepsForm.{FieldsFine, slotted, open-node, no-level}
 use Rattle.directions.proofs.SmallKinds.{KindFits}
 use Rattle.definitions.specs.Tree as trees
@@ -150,7 +150,7 @@ module _ (most : ℕ) where
   module _ (C : Citing) (fit : CitingFits most C) where
     step-fits : (n : ℕ) → n ≤ most → {entity : ℕ} {m : Membership} {v : ℕ} {fs : Fields} {w : Follows} {s : NodeStep} → Way C entity m v fs w s → entity < most → MemberSmall most m → FieldsFine n (fieldsOf w) fs → StepFits most s
     unfolding fieldsOf
-    step-fits n l {entity} {m} (plain w e) h s q = (h, (lost-small (lookBy w .first) m s, lost-small (lookBy w .rest) m s))
+    step-fits n l {entity} {m} (slotless w e) h s q = (h, (lost-small (lookBy w .first) m s, lost-small (lookBy w .rest) m s))
     step-fits n l {entity} {m} {v} {fs} (aggregates c r kind e) h s q = (subst (λ (d : Direction). KindFits most d) e (fit .kinds v entity (currentOf fs) (relatedOf fs)), (tt, tt))
     step-fits n l (relates c r owner e) h s q = (omega arith, (tt, tt))
     step-fits n l (tests c r kind e) h s q = (h, (s, s))

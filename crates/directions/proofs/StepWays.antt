@@ -1,7 +1,6 @@
 -- The ways in which a node's step goes. Laws of steps go by these, and not by what follows the node's head word.
 use Prim.Native.Nat.{ℕ}
 use mathlib.Core.Path.{_≡_, refl, sym, _∙_, subst}
-use mathlib.Core.List.{List}
 use mathlib.Core.Bool.{Bool, true, false}
 use mathlib.Core.Option.{Option, none, some}
 use lib.Dec.{eqb}
@@ -27,12 +26,13 @@ module _ (C : Citing) (entity : ℕ) (m : Membership) (v : ℕ) (fs : Fields) wh
   abbrev onward : Follows → NodeStep
   onward w = goes fs entity (pick (lookBy w .first) none m) (pick (lookBy w .rest) none m)
 
-  pub plain-step : (w : Follows) → lookBy w .slots ≡ false → nodeStep C entity m w v fs ≡ onward w
+  pub slotless-step : (w : Follows) → lookBy w .slots ≡ false → nodeStep C entity m w v fs ≡ onward w
   unfolding nodeStep lookBy
-  plain-step w e = alike (λ w. nodeStep C entity m w v fs) (λ w. pick (lookBy w .slots) (nodeStep C entity m w v fs) (onward w)) refl w ∙ rw e refl
+  slotless-step w e = alike (λ w. nodeStep C entity m w v fs) (λ w. pick (lookBy w .slots) (nodeStep C entity m w v fs) (onward w)) refl w ∙ rw e refl
 
+  -- one with slots goes on with those of its direction; it stops where that is open, an OnlyRelated also at a derived name or at an input that is not allowed
   pub data Way : Follows → NodeStep → Type 0 where
-    plain : (w : Follows) → lookBy w .slots ≡ false → Way w (onward w)
+    slotless : (w : Follows) → lookBy w .slots ≡ false → Way w (onward w)
     aggregates : (c r kind : ℕ) → turned ≡ Directed c r kind → Way Aggregate (goes (withSlots c r fs) kind none none)
     relates : (c r owner : ℕ) → turned ≡ Directed c r owner → Way OnlyRelated (goes (withSlots c r fs) 0 none none)
     tests : (c r kind : ℕ) → tested ≡ Directed c r kind → Way Slots (goes (withSlots c r fs) entity m m)
@@ -65,4 +65,4 @@ module _ (C : Citing) (entity : ℕ) (m : Membership) (v : ℕ) (fs : Fields) wh
     where
       go : (b : Bool) → lookBy w .slots ≡ b → Way w (nodeStep C entity m w v fs)
       go true e = where-true (λ w. lookBy w .slots) (λ w. Way w (nodeStep C entity m w v fs)) (aggregate-way turned refl, (only-way turned refl, (test-way tested refl, tt))) w e
-      go false e = subst (λ (s : NodeStep). Way w s) (sym (plain-step w e)) (plain w e)
+      go false e = subst (λ (s : NodeStep). Way w s) (sym (slotless-step w e)) (slotless w e)

@@ -11,7 +11,7 @@ use Rattle.definitions.specs.Tree.{Tree, Forest, node, more, ofForest, lastFiel
 use Rattle.definitions.specs.Direction.{Membership}
 use Rattle.definitions.specs.Answers.{mapDone}
 use Rattle.definitions.specs.ResolvingTrees.{Citing, withSlots, NodeStep, goes, stops, nodeStep, atNode, resolveTree, resolveForest}
-use Rattle.directions.proofs.StepWays.{Way, plain, aggregates, relates, tests, undirected, test-undirected, derived, no-input, way}
+use Rattle.directions.proofs.StepWays.{Way, slotless, aggregates, relates, tests, undirected, test-undirected, derived, no-input, way}
 use Rattle.directions.proofs.KeepsForm.{Good, map-good, then-good, FieldsFine, open-node, no-level}
 use Rattle.definitions.specs.Tree as trees
 
@@ -81,7 +81,7 @@ StepLong fs (stops number other) = Unit {0}
 
 module _ (C : Citing) where
   pub step-long : {entity : ℕ} {m : Membership} {v : ℕ} {fs : Fields} {w : Follows} {s : NodeStep} → Way C entity m v fs w s → StepLong fs s
-  step-long (plain w e) = refl
+  step-long (slotless w e) = refl
   step-long {entity} {m} {v} {fs} (aggregates c r kind e) = slots-length c r fs
   step-long {entity} {m} {v} {fs} (relates c r owner e) = slots-length c r fs
   step-long {entity} {m} {v} {fs} (tests c r kind e) = slots-length c r fs

@@ -3,23 +3,19 @@ use Prim.Native.Nat.{ℕ, suc, _+_, _<_, _≤_}
 use native.Mathlib.Omega.{arith}
 use mathlib.Core.Path.{_≡_, refl, ap, sym, _∙_}
 use mathlib.Core.List.{List, [], _∷_, _++_, map, append-assoc}
-use mathlib.Core.Bool.{Bool, true, false, _||_}
-use mathlib.Core.Option.{Option, none, some}
+use mathlib.Core.Bool.{Bool, true, false, _||_, _&&_}
 use lib.ListN.{length, getD, set, take, drop, length-append, length-set}
 use lib.Seq.{sets, getD-at, getD-set-same, getD-set-other, set-at, drop-append-add}
-use lib.Dec.{eqb}
 use borrow.Author.Tests.{ne-eqb}
 use Rattle.definitions.specs.declared.table.Follows.{Follows}
-use Rattle.definitions.specs.declared.table.Follows.the-variants.{Nothing, Counted, OneScalar, TwoScalars, Scalars, Patterns, Periods, OneJudgment, Judgments, Choice, Aggregate, OnlyRelated, Slots, Atom, Exists}
 use Rattle.definitions.specs.Table.{pick, kindOf, valueOf, wordOf, entryOf, fieldsOf}
 use Rattle.definitions.specs.Tree.{Tree, Forest, node, more, Fields, fieldWords, treeWords, forestWords, size, sizes}
 use Rattle.definitions.specs.Tree as trees
-use Rattle.definitions.specs.declared.direction.Direction.{Direction}
-use Rattle.definitions.specs.declared.direction.Direction.the-variants.{Directed, Open}
-use Rattle.definitions.specs.Direction.{turn, Membership}
-use Rattle.definitions.specs.Direction as direction
+use Rattle.definitions.specs.Direction.{Membership}
 use Rattle.definitions.specs.Answers.{Outcome, done, refused, andThen, mapDone}
-use Rattle.definitions.specs.ResolvingTrees.{Citing, currentOf, relatedOf, withSlots, valueOfNode, NodeStep, goes, stops, aggregate, allowedInput, onlyRelated, membershipTest, nodeStep, atNode, resolveTree, resolveForest}
+use Rattle.definitions.specs.ResolvingTrees.{Citing, withSlots, NodeStep, goes, stops, nodeStep, atNode, resolveTree, resolveForest}
+use Rattle.pack.proofs.EachFollows.{alike, where-true}
+use Rattle.directions.proofs.StepWays.{Way, slotless, aggregates, relates, tests, undirected, test-undirected, derived, no-input, slotless-step, way}
 use Rattle.directions.proofs.TreeWords.{size-is, fields-length}
 use Rattle.turning.specs.Notes.{Note, lookBy, lookOf, noted, within, notesOf, notesIn}
 use Rattle.turning.specs.Turns.{KnownTables, Root, citing, Work, work, held, fieldsAt, stepAt, turnedBy, turnNode, turnNote, turnNotes}
@@ -71,101 +67,39 @@ or-true false = refl
 no : {A : Type 0} → true ≡ false → A
 no e = let z : _≡_ {A = ℕ} 0 1 = cc in absurd (omega arith)
 
+held-held : (lost by : Bool) (m : Membership) → held by (held lost m) ≡ held (lost || by) m
+held-held true true m = refl
+held-held true false m = refl
+held-held false by m = refl
+
 -- a node without slots goes on as it is
 quiet : (C : Citing) (entity : ℕ) (m : Membership) (lost : Bool) (w : Follows) (v : ℕ) (fs : Fields) → lookBy w .slots ≡ false
     → nodeStep C entity (held lost m) w v fs ≡ goes fs entity (held (lost || lookBy w .first) m) (held (lost || lookBy w .rest) m)
-unfolding nodeStep lookBy
-quiet C entity m lost Nothing v fs e = rw or-false
-quiet C entity m lost Counted v fs e = rw or-false
-quiet C entity m lost OneScalar v fs e = rw or-false
-quiet C entity m lost TwoScalars v fs e = rw or-false
-quiet C entity m lost Scalars v fs e = rw or-false
-quiet C entity m lost Patterns v fs e = rw (or-false, or-true)
-quiet C entity m lost Periods v fs e = rw or-true
-quiet C entity m lost OneJudgment v fs e = rw or-false
-quiet C entity m lost Judgments v fs e = rw or-false
-quiet C entity m lost Choice v fs e = rw or-false
-quiet C entity m lost Aggregate v fs e = no e
-quiet C entity m lost OnlyRelated v fs e = no e
-quiet C entity m lost Slots v fs e = no e
-quiet C entity m lost Atom v fs e = rw or-false
-quiet C entity m lost Exists v fs e = rw or-false
+quiet C entity m lost w v fs e = slotless-step C entity (held lost m) v fs w e ∙ (λ i. goes fs entity (held-held lost (lookBy w .first) m i) (held-held lost (lookBy w .rest) m i))
 
 -- and its children do not stand inside it
 shut : (w : Follows) → lookBy w .slots ≡ false → lookBy w .opens ≡ false
 unfolding lookBy
-shut Nothing e = refl
-shut Counted e = refl
-shut OneScalar e = refl
-shut TwoScalars e = refl
-shut Scalars e = refl
-shut Patterns e = refl
-shut Periods e = refl
-shut OneJudgment e = refl
-shut Judgments e = refl
-shut Choice e = refl
-shut Aggregate e = no e
-shut OnlyRelated e = no e
-shut Slots e = refl
-shut Atom e = refl
-shut Exists e = refl
+shut w e = alike (λ w. lookBy w .opens) (λ w. lookBy w .slots && lookBy w .opens) refl w ∙ rw e refl
 
 -- one with slots is noted, and hands on no membership, or the same
-aggregate-leaves : (entity : ℕ) (m : Membership) (lost : Bool) (fs : Fields) (d : Direction) → Leaves entity m lost Aggregate fs (aggregate fs d)
+step-leaves : (C : Citing) (entity : ℕ) (m : Membership) (lost : Bool) {v : ℕ} {fs : Fields} {w : Follows} {s : NodeStep} → Way C entity (held lost m) v fs w s → lookBy w .slots ≡ true → Leaves entity m lost w fs s
 unfolding lookBy
-aggregate-leaves entity m lost fs (Directed c r k) = (rw or-true, rw or-true, (c, r, refl), λ e. no e)
-aggregate-leaves entity m lost fs (Open e) = tt
-
-only-leaves : (entity : ℕ) (m : Membership) (lost : Bool) (inp : ℕ → ℕ → Option ℕ) (fs : Fields) (d : Direction) → Leaves entity m lost OnlyRelated fs (onlyRelated inp fs d)
-unfolding lookBy
-only-leaves entity m lost inp fs (Open e) = tt
-only-leaves entity m lost inp fs (Directed c r owner) = go (eqb (valueOfNode fs .0) 84) (inp owner (valueOfNode fs .1))
-  where
-    go : (b : Bool) (o : Option ℕ) → Leaves entity m lost OnlyRelated fs (pick b (stops 11 (valueOfNode fs .1)) (allowedInput (withSlots c r fs) (valueOfNode fs .1) o))
-    go true o = tt
-    go false none = (rw or-true, rw or-true, (c, r, refl), λ e. no e)
-    go false (some number) = tt
-
-test-leaves : (entity : ℕ) (m : Membership) (lost : Bool) (fs : Fields) (d : Direction) → Leaves entity m lost Slots fs (membershipTest fs entity (held lost m) d)
-unfolding lookBy
-test-leaves entity m lost fs (Directed c r k) = (rw or-false, rw or-false, (c, r, refl), λ e. refl)
-test-leaves entity m lost fs (Open k) = tt
+step-leaves C entity m lost (slotless w q) e = no (sym e ∙ q)
+step-leaves C entity m lost (aggregates c r kind q) e = (rw or-true, rw or-true, (c, r, refl), λ e. no e)
+step-leaves C entity m lost (relates c r owner q) e = (rw or-true, rw or-true, (c, r, refl), λ e. no e)
+step-leaves C entity m lost (tests c r kind q) e = (rw or-false, rw or-false, (c, r, refl), λ e. refl)
+step-leaves C entity m lost (undirected w kind q) e = tt
+step-leaves C entity m lost (test-undirected kind q) e = tt
+step-leaves C entity m lost derived e = tt
+step-leaves C entity m lost (no-input owner number q) e = tt
 
 pub look-leaves : (C : Citing) (entity : ℕ) (m : Membership) (lost : Bool) (w : Follows) (v : ℕ) (fs : Fields) → lookBy w .slots ≡ true → Leaves entity m lost w fs (nodeStep C entity (held lost m) w v fs)
-unfolding nodeStep lookBy
-look-leaves C entity m lost Nothing v fs e = no (sym e)
-look-leaves C entity m lost Counted v fs e = no (sym e)
-look-leaves C entity m lost OneScalar v fs e = no (sym e)
-look-leaves C entity m lost TwoScalars v fs e = no (sym e)
-look-leaves C entity m lost Scalars v fs e = no (sym e)
-look-leaves C entity m lost Patterns v fs e = no (sym e)
-look-leaves C entity m lost Periods v fs e = no (sym e)
-look-leaves C entity m lost OneJudgment v fs e = no (sym e)
-look-leaves C entity m lost Judgments v fs e = no (sym e)
-look-leaves C entity m lost Choice v fs e = no (sym e)
-look-leaves C entity m lost Aggregate v fs e = aggregate-leaves entity m lost fs (turn (C .tables) v entity (currentOf fs) (relatedOf fs))
-look-leaves C entity m lost OnlyRelated v fs e = only-leaves entity m lost (C .input) fs (turn (C .tables) v entity (currentOf fs) (relatedOf fs))
-look-leaves C entity m lost Slots v fs e = test-leaves entity m lost fs (direction.memberDirection (C .tables) v (held lost m) (currentOf fs) (relatedOf fs))
-look-leaves C entity m lost Atom v fs e = no (sym e)
-look-leaves C entity m lost Exists v fs e = no (sym e)
+look-leaves C entity m lost w v fs = step-leaves C entity m lost (way C entity (held lost m) v fs w)
 
 slots-noted : (w : Follows) → lookBy w .slots ≡ true → lookBy w .noted ≡ true
 unfolding lookBy
-slots-noted Nothing e = no (sym e)
-slots-noted Counted e = no (sym e)
-slots-noted OneScalar e = no (sym e)
-slots-noted TwoScalars e = no (sym e)
-slots-noted Scalars e = no (sym e)
-slots-noted Patterns e = no (sym e)
-slots-noted Periods e = no (sym e)
-slots-noted OneJudgment e = no (sym e)
-slots-noted Judgments e = no (sym e)
-slots-noted Choice e = no (sym e)
-slots-noted Aggregate e = refl
-slots-noted OnlyRelated e = refl
-slots-noted Slots e = refl
-slots-noted Atom e = refl
-slots-noted Exists e = refl
+slots-noted = where-true (λ w. lookBy w .slots) (λ w. lookBy w .noted ≡ true) (refl, (refl, (refl, tt)))
 
 pub slotted-noted : (k : ℕ) → lookOf k .slots ≡ true → noted k ≡ true
 unfolding noted

@@ -11,7 +11,6 @@ use borrow.Author.Tests.{ltb-true, ltb-false, lt-leb}
 use Rattle.definitions.specs.declared.table.Values.{Values}
 use Rattle.definitions.specs.declared.table.Values.the-variants.{Name}
 use Rattle.definitions.specs.declared.table.Follows.{Follows}
-use Rattle.definitions.specs.declared.table.Follows.the-variants.{Nothing, Counted, OneScalar, TwoScalars, Scalars, Patterns, Periods, OneJudgment, Judgments, Choice, Aggregate, OnlyRelated, Slots, Atom, Exists}
 use Rattle.definitions.specs.Table.{pick, wordOf, judgment, allowed, table, entryOf, fieldsOf, childrenOf}
 use Rattle.definitions.specs.Form.{FineEach, allowedHere, Fine, wordsBy}
 use Rattle.definitions.specs.Tree.{Tree, Forest, node, more, ofForest, lastField, root, tree, Fields, fieldWords, treeWords, forestWords, size}
@@ -20,7 +19,7 @@ use Rattle.definitions.specs.Records.{Derivation, Relation, Body, Pack}
 use Rattle.definitions.specs.Pack.{WellFormed, words, body, blocks}
 use Rattle.definitions.specs.Records as records
 use Rattle.definitions.specs.Pack as pack
-use Rattle.pack.proofs.Listed.{in-range}
+use Rattle.pack.proofs.EachFollows.{where-true}
 use Rattle.pack.proofs.PackLaws.{words-length}
 use Rattle.definitions.specs.Places.{relationWords, firstRelation}
 use Rattle.chains.proofs.RelationForm.{kept}
@@ -40,9 +39,6 @@ use Rattle.turning.proofs.RecordFlat.{value-is, kind-is, its-derivation
 
 -- ---- kinds with slots: their first fields are the slots
 
-no : {A : Type 0} → true ≡ false → A
-no e = let z : _≡_ {A = ℕ} 0 1 = cc in absurd (omega arith)
-
 abbrev SlotFields : Fields → Type 0
 SlotFields [] = ⊥
 SlotFields (a ∷ []) = ⊥
@@ -56,21 +52,7 @@ two-slots n rest (a ∷ b ∷ fs) h = (only-one (a .0) 80 (h .0 .0), only-one (b
 
 slot-fields : (n : ℕ) (w : Follows) (fs : Fields) → lookBy w .slots ≡ true → FieldsFine n (fieldsOf w) fs → SlotFields fs
 unfolding lookBy fieldsOf
-slot-fields n Nothing fs e h = no (sym e)
-slot-fields n Counted fs e h = no (sym e)
-slot-fields n OneScalar fs e h = no (sym e)
-slot-fields n TwoScalars fs e h = no (sym e)
-slot-fields n Scalars fs e h = no (sym e)
-slot-fields n Patterns fs e h = no (sym e)
-slot-fields n Periods fs e h = no (sym e)
-slot-fields n OneJudgment fs e h = no (sym e)
-slot-fields n Judgments fs e h = no (sym e)
-slot-fields n Choice fs e h = no (sym e)
-slot-fields n Aggregate fs e h = two-slots n _ fs h
-slot-fields n OnlyRelated fs e h = two-slots n _ fs h
-slot-fields n Slots fs e h = two-slots n _ fs h
-slot-fields n Atom fs e h = no (sym e)
-slot-fields n Exists fs e h = no (sym e)
+slot-fields n w fs = where-true (λ w. lookBy w .slots) (λ w. FieldsFine n (fieldsOf w) fs → SlotFields fs) (two-slots n _ fs, (two-slots n _ fs, (two-slots n _ fs, tt))) w
 
 values-small : (n : ℕ) (kss : List (List ℕ)) (a b : ℕ × ℕ) (fs : Fields) → FieldsFine n kss (a ∷ b ∷ fs) → (a .1 < 16777216) × (b .1 < 16777216)
 unfolding Fine

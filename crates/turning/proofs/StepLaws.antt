@@ -10,9 +10,10 @@ use lib.Seq.{sets, drop-cons}
 use lib.Dec.{eqb, ltb}
 use borrow.Author.Tests.{eq-eqb, ne-eqb, eqb-true, eqb-false, ltb-true, ltb-false}
 use Rattle.definitions.specs.declared.table.Follows.{Follows}
-use Rattle.definitions.specs.declared.table.Follows.the-variants.{Nothing, Counted, OneScalar, TwoScalars, Scalars, Patterns, Periods, OneJudgment, Judgments, Choice, Aggregate, OnlyRelated, Slots, Atom, Exists}
+use Rattle.definitions.specs.declared.table.Follows.the-variants.{Aggregate, OnlyRelated, Slots}
 use Rattle.definitions.specs.Table.{pick, kindOf, valueOf, entryOf, table, fieldsOf}
 use Rattle.pack.proofs.Listed.{in-range}
+use Rattle.pack.proofs.EachFollows.{where-true}
 use Rattle.definitions.specs.declared.direction.Direction.{Direction}
 use Rattle.definitions.specs.declared.direction.Direction.the-variants.{Directed, Open}
 use Rattle.definitions.specs.Direction.{Membership}
@@ -79,27 +80,10 @@ no-slots k small a c = go (ltb k 74) refl (ltb k 79) refl (ltb k 101) refl
     go false e false f true g = slots-middle k (ltb-false k 79 f) (ltb-true k 101 g)
     go false e false f false g = let l = ltb-false k 101 g in slots-last k (omega arith) small
 
-no : {A : Type 0} → true ≡ false → A
-no e = let z : _≡_ {A = ℕ} 0 1 = cc in absurd (omega arith)
-
 -- a node with slots has two fields
 pub two-or-more : (w : Follows) → lookBy w .slots ≡ true → 2 ≤ length (fieldsOf w)
 unfolding lookBy fieldsOf
-two-or-more Nothing e = no (sym e)
-two-or-more Counted e = no (sym e)
-two-or-more OneScalar e = no (sym e)
-two-or-more TwoScalars e = no (sym e)
-two-or-more Scalars e = no (sym e)
-two-or-more Patterns e = no (sym e)
-two-or-more Periods e = no (sym e)
-two-or-more OneJudgment e = no (sym e)
-two-or-more Judgments e = no (sym e)
-two-or-more Choice e = no (sym e)
-two-or-more Aggregate e = omega arith
-two-or-more OnlyRelated e = omega arith
-two-or-more Slots e = omega arith
-two-or-more Atom e = no (sym e)
-two-or-more Exists e = no (sym e)
+two-or-more = where-true (λ w. lookBy w .slots) (λ w. 2 ≤ length (fieldsOf w)) (omega arith, (omega arith, (omega arith, tt)))
 
 pub three-words : {ws : List ℕ} {at : ℕ} → NodeStands ws at → lookOf (kindHere ws at) .slots ≡ true → at + 2 < length ws
 three-words {ws} {at} s e = omega (arith, two-or-more (entryOf (kindHere ws at) .follows) e, s .fields)
