@@ -30,7 +30,8 @@ module _ (C : Citing) (entity : ℕ) (m : Membership) (v : ℕ) (fs : Fields) wh
   unfolding nodeStep lookBy
   slotless-step w e = alike (λ w. nodeStep C entity m w v fs) (λ w. pick (lookBy w .slots) (nodeStep C entity m w v fs) (onward w)) refl w ∙ rw e refl
 
-  -- one with slots goes on with those of its direction; it stops where that is open, an OnlyRelated also at a derived name or at an input that is not allowed
+  -- One with slots goes on with those of its direction. It stops where that is open; an OnlyRelated stops also at a derived name, and at
+  -- an input that is not allowed.
   pub data Way : Follows → NodeStep → Type 0 where
     slotless : (w : Follows) → lookBy w .slots ≡ false → Way w (onward w)
     aggregates : (c r kind : ℕ) → turned ≡ Directed c r kind → Way Aggregate (goes (withSlots c r fs) kind none none)

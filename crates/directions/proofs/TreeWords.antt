@@ -70,7 +70,7 @@ mutual
 
 -- ---- resolving keeps the number of words
 
-slots-length : (c r : ℕ) (fs : Fields) → length (withSlots c r fs) ≡ length fs
+pub slots-length : (c r : ℕ) (fs : Fields) → length (withSlots c r fs) ≡ length fs
 slots-length c r [] = refl
 slots-length c r (f ∷ []) = refl
 slots-length c r (f ∷ g ∷ fs) = refl

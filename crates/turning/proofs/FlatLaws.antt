@@ -16,7 +16,7 @@ use Rattle.definitions.specs.Answers.{Outcome, done, refused, andThen, mapDone}
 use Rattle.definitions.specs.ResolvingTrees.{Citing, withSlots, NodeStep, goes, stops, nodeStep, atNode, resolveTree, resolveForest}
 use Rattle.pack.proofs.EachFollows.{alike, where-true}
 use Rattle.directions.proofs.StepWays.{Way, slotless, aggregates, relates, tests, undirected, test-undirected, derived, no-input, slotless-step, way}
-use Rattle.directions.proofs.TreeWords.{size-is, fields-length}
+use Rattle.directions.proofs.TreeWords.{size-is, fields-length, slots-length}
 use Rattle.turning.specs.Notes.{Note, lookBy, lookOf, noted, within, notesOf, notesIn}
 use Rattle.turning.specs.Turns.{KnownTables, Root, citing, Work, work, held, fieldsAt, stepAt, turnedBy, turnNode, turnNote, turnNotes}
 
@@ -56,14 +56,6 @@ Leaves entity m lost w fs (goes fs′ e first rest) =
     (first ≡ held (lost || lookBy w .first) m) × (rest ≡ held (lost || lookBy w .rest) m) × ((c : ℕ) × (r : ℕ) × (fs′ ≡ withSlots c r fs)) × (lookBy w .opens ≡ false → e ≡ entity)
 Leaves entity m lost w fs (stops number other) = Unit {0}
 
-or-false : (b : Bool) → b || false ≡ b
-or-false true = refl
-or-false false = refl
-
-or-true : (b : Bool) → b || true ≡ true
-or-true true = refl
-or-true false = refl
-
 no : {A : Type 0} → true ≡ false → A
 no e = let z : _≡_ {A = ℕ} 0 1 = cc in absurd (omega arith)
 
@@ -86,9 +78,9 @@ shut w e = alike (λ w. lookBy w .opens) (λ w. lookBy w .slots && lookBy w .ope
 step-leaves : (C : Citing) (entity : ℕ) (m : Membership) (lost : Bool) {v : ℕ} {fs : Fields} {w : Follows} {s : NodeStep} → Way C entity (held lost m) v fs w s → lookBy w .slots ≡ true → Leaves entity m lost w fs s
 unfolding lookBy
 step-leaves C entity m lost (slotless w q) e = no (sym e ∙ q)
-step-leaves C entity m lost (aggregates c r kind q) e = (rw or-true, rw or-true, (c, r, refl), λ e. no e)
-step-leaves C entity m lost (relates c r owner q) e = (rw or-true, rw or-true, (c, r, refl), λ e. no e)
-step-leaves C entity m lost (tests c r kind q) e = (rw or-false, rw or-false, (c, r, refl), λ e. refl)
+step-leaves C entity m lost (aggregates c r kind q) e = (held-held lost true m, held-held lost true m, (c, r, refl), λ e. no e)
+step-leaves C entity m lost (relates c r owner q) e = (held-held lost true m, held-held lost true m, (c, r, refl), λ e. no e)
+step-leaves C entity m lost (tests c r kind q) e = (held-held lost false m, held-held lost false m, (c, r, refl), λ e. refl)
 step-leaves C entity m lost (undirected w kind q) e = tt
 step-leaves C entity m lost (test-undirected kind q) e = tt
 step-leaves C entity m lost derived e = tt
@@ -144,11 +136,6 @@ put (x ∷ xs) (y ∷ ys) before tail at same here =
     ∙ put xs ys (before ++ (y ∷ [])) tail (suc at) (omega arith) e ∙ append-assoc before (y ∷ []) (ys ++ tail)
 
 -- the slots put in their place
-slots-long : (c r : ℕ) (fs : Fields) → length (withSlots c r fs) ≡ length fs
-slots-long c r [] = refl
-slots-long c r (f ∷ []) = refl
-slots-long c r (f ∷ g ∷ fs) = refl
-
 put-slots : (c r : ℕ) (fs : Fields) (before tail : List ℕ) (at : ℕ) → length before ≡ at → sets (before ++ (fieldWords fs ++ tail)) at (take 2 (fieldWords (withSlots c r fs))) ≡ before ++ (fieldWords (withSlots c r fs) ++ tail)
 put-slots c r [] before tail at here = refl
 put-slots c r (f ∷ []) before tail at here = put (fieldWords (f ∷ [])) (fieldWords (f ∷ [])) before tail at refl here
@@ -303,7 +290,7 @@ module _ (K : KnownTables) (root : Root) (ws : List ℕ) where
       stepped (goes fs′ e first rest) leaves =
           let c = leaves .2 .0 in
           let r = leaves .2 .1 in
-          let long : length fs′ ≡ length fs = ap length (leaves .2 .2) ∙ slots-long c r fs in
+          let long : length fs′ ≡ length fs = ap length (leaves .2 .2) ∙ slots-length c r fs in
           let x = chosen results i inside entity (let q = its-room in omega arith) within-i some-note its (lookOf k .opens) e (leaves .3) in
           let one : length (before ++ (wordOf k v ∷ [])) ≡ at + 1 = length-append before (wordOf k v ∷ []) ∙ omega arith in
           let put-there : sets (stands before k v fs tail) (at + 1) (take 2 (fieldWords fs′)) ≡ (before ++ (wordOf k v ∷ fieldWords fs′)) ++ tail =
