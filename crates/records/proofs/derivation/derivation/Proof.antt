@@ -21,7 +21,7 @@ enum-told c = search needs
 
 returns : tie.Need-returns
 unfolding derivation
-returns c = noted-no _ _ _ _ _ _ (by-via _ _ _ _ _ _ _ _ (search (by-then, then-stop, last-stop) depth 14)) (c .enum-told .given .1)
+returns c = noted-no (by-via _ _ _ _ _ _ _ _ (search (by-then, then-stop, last-stop) depth 14)) (c .enum-told .given .1)
 
 open-requires : tie.Need-open-requires
 open-requires c κs =

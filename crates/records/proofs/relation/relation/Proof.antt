@@ -27,7 +27,7 @@ same-length c = search needs
 
 returns : tie.Need-returns
 unfolding relation
-returns c = noted-no _ _ _ _ _ _ (search walks depth 16) (c .enum-told .given .1)
+returns c = noted-no (search walks depth 16) (c .enum-told .given .1)
 
 relation-tail-requires : tie.Need-relation-tail-requires
 relation-tail-requires c κs =
@@ -51,7 +51,7 @@ unfolding relation
 returns-2 c =
     let at-relation-tail = c .before .before .before .before in let at-f1 = at-relation-tail .before .before .before in
     let at-new-name = at-f1 .before .before in
-    noted-no _ _ _ _ _ _ (by-via _ _ _ _ _ _ _ _ (by-then _ _ _ _ (at-new-name .new-name .ensures) _ _ (at-f1 .f1 .given .1)
+    noted-no (by-via _ _ _ _ _ _ _ _ (by-then _ _ _ _ (at-new-name .new-name .ensures) _ _ (at-f1 .f1 .given .1)
     (λ _. last-stop _ _ _ _ (at-relation-tail .relation-tail .ensures .answers) _ (c .enum-told2 .given .1)))) (c .enum-told2 .given .1)
 
 mul-dir : tie.Need-mul-dir

@@ -1,13 +1,12 @@
 -- `records::relation::relations` meets its contract.
 use Prim.Native.Nat.{ℕ}
-use mathlib.Core.Path.{_≡_, refl, _∙_}
+use mathlib.Core.Path.{refl}
 use native.Mathlib.Omega.{arith}
 use Rattle.definitions.specs.Pack.{relations}
 use Rattle.definitions.specs.Form.{says}
 use Rattle.definitions.specs.Table.{entryOf, table}
-use Rattle.pack.proofs.StepLaws.{walks, last-stop, by-left, by-inv, all-stop}
-use Rattle.records.proofs.KeptLaws.{noted-no, noted-all}
-use Rattle.records.proofs.DirectoryLaws.{Relating, relating, relating-on, count-read, noted-used}
+use Rattle.records.proofs.LoopLaws.{count-stop, turn-stop, noted-all}
+use Rattle.records.proofs.DirectoryLaws.{Relating, relating, its-turn, relating-on, count-read}
 use borrow.Author.Needs.{needs}
 use Rattle.records.proofs.relation.relations.Statement.{statement}
 use Rattle.records.proofs.relation.relations.Tie as tie
@@ -30,7 +29,7 @@ enum-told c = search needs
 
 returns : tie.Need-returns Inv-loop μ-loop
 unfolding relations
-returns c = noted-no _ _ _ _ _ _ (last-stop (λ a. 0) _ _ _ (search walks depth 16) _ (c .enum-told .given .1)) (c .enum-told .given .1)
+returns c = count-stop (c .before .before .field .ensures) (c .enum-told .given .1)
 
 loop-holds : tie.Need-loop-holds Inv-loop μ-loop
 loop-holds c =
@@ -63,11 +62,8 @@ returns-2 : tie.Need-returns-2 Inv-loop μ-loop
 unfolding relations says
 returns-2 c =
     let at-relation = c .before .before .before .before .before .before in let at-loop = at-relation .before .before .before .before in
-    let at-f = at-loop .before .before in let at-field = at-f .before .before in
-    let g = (at-loop .loop .inv) in noted-no _ _ _ _ _ _
-    (last-stop (λ a. 0) _ _ _ (by-left _ _ _ _ _ _ _ _ _ (at-field .field .ensures) (at-f .f .given .1) refl
-    (by-inv (g .work .walks) (all-stop _ _ _ _ _ _ (omega arith) _ (noted-used _ _ (g .names) (at-relation .relation .ensures) .answers) (c .enum-told2 .given .1)))) _
-    (c .enum-told2 .given .1)) (c .enum-told2 .given .1)
+    let at-f = at-loop .before .before in let g = at-loop .loop .inv in
+    turn-stop (at-f .before .before .field .ensures) (at-f .f .given .1) refl (g .work) (omega arith) (its-turn _ _ g (at-relation .relation .ensures)) (c .enum-told2 .given .1)
 
 add-i : tie.Need-add-i Inv-loop μ-loop
 add-i c =
@@ -94,7 +90,9 @@ same-length-4 c = omega (arith, (c .before .loop .inv) .stays)
 
 returns-3 : tie.Need-returns-3 Inv-loop μ-loop
 unfolding relations
-returns-3 c = noted-all _ _ _ _ _ _ _ _ _ _ _ _ (c .before .before .before .before .before .field .ensures) (c .before .before .before .f .given .1) ((c .before .loop .inv) .work) (omega arith)
+returns-3 c =
+    let at-loop = c .before in let at-f = at-loop .before .before in
+    noted-all (at-f .before .before .field .ensures) (at-f .f .given .1) (at-loop .loop .inv .work) (omega arith)
 
 pub relations-spec : {M : Type 1} → statement M
 relations-spec = tie.close (tie.spec Inv-loop μ-loop field-requires enum-known-f enum-told returns loop-holds relation-requires enum-known-g enum-told-2 same-length same-length-2 returns-2 add-i sub-left loop-less loop-again same-length-3 same-length-4 returns-3)
