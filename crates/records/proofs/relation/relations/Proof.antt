@@ -17,16 +17,6 @@ Inv-loop s t n dir₀ notes₀ count c₀ i₀ left₀ dir notes c i left = Rela
 abbrev μ-loop : tie.MeasureT-loop
 μ-loop s t n dir₀ notes₀ count c₀ i₀ left₀ dir notes c i left = left
 
-field-requires : tie.Need-field-requires Inv-loop μ-loop
-unfolding entryOf table
-field-requires c κs = refl
-
-enum-known-f : tie.Need-enum-known-f Inv-loop μ-loop
-enum-known-f c = search needs
-
-enum-told : tie.Need-enum-told Inv-loop μ-loop
-enum-told c = search needs
-
 returns : tie.Need-returns Inv-loop μ-loop
 unfolding relations
 returns c = count-stop (c .before .before .field .ensures) (c .enum-told .given .1)
@@ -41,12 +31,6 @@ relation-requires c κs =
     let at-loop = c .before .before .before in let on-the-way = at-loop .before .before .before .before .before .before in
     let start = on-the-way .before .before in
     let g = (at-loop .loop .inv) in let p = (start .pre) in (p .0, p .1, omega (arith, g .many, g .few), g .names .long)
-
-enum-known-g : tie.Need-enum-known-g Inv-loop μ-loop
-enum-known-g c = search needs
-
-enum-told-2 : tie.Need-enum-told-2 Inv-loop μ-loop
-enum-told-2 c = search needs
 
 same-length : tie.Need-same-length Inv-loop μ-loop
 same-length c =
@@ -70,12 +54,6 @@ add-i c =
     let on-the-way = c .before .before .before .before .before .before in let at-loop = on-the-way .before .before .before .before .before in
     let g = (at-loop .loop .inv) in omega (arith, g .many, g .few)
 
-sub-left : tie.Need-sub-left Inv-loop μ-loop
-sub-left c = search needs
-
-loop-less : tie.Need-loop-less Inv-loop μ-loop
-loop-less c = search needs
-
 loop-again : tie.Need-loop-again Inv-loop μ-loop
 loop-again c =
     let at-g = c .before in let at-relation = at-g .before .before .before .before .before .before in
@@ -95,4 +73,27 @@ returns-3 c =
     noted-all (at-f .before .before .field .ensures) (at-f .f .given .1) (at-loop .loop .inv .work) (omega arith)
 
 pub relations-spec : {M : Type 1} → statement M
-relations-spec = tie.close (tie.spec Inv-loop μ-loop field-requires enum-known-f enum-told returns loop-holds relation-requires enum-known-g enum-told-2 same-length same-length-2 returns-2 add-i sub-left loop-less loop-again same-length-3 same-length-4 returns-3)
+unfolding entryOf table
+relations-spec =
+    tie.close
+    (tie.spec
+    Inv-loop
+    μ-loop
+    (λ c κs. refl)
+    (λ c. search needs)
+    (λ c. search needs)
+    returns
+    loop-holds
+    relation-requires
+    (λ c. search needs)
+    (λ c. search needs)
+    same-length
+    same-length-2
+    returns-2
+    add-i
+    (λ c. search needs)
+    (λ c. search needs)
+    loop-again
+    same-length-3
+    same-length-4
+    returns-3)

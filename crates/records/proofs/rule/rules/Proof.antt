@@ -17,33 +17,14 @@ Inv-loop s t n notes₀ count c₀ left₀ notes c left = LeftOf (rule n) (noteR
 abbrev μ-loop : tie.MeasureT-loop
 μ-loop s t n notes₀ count c₀ left₀ notes c left = left
 
-field-requires : tie.Need-field-requires Inv-loop μ-loop
-unfolding entryOf table
-field-requires c κs = refl
-
-enum-known-f : tie.Need-enum-known-f Inv-loop μ-loop
-enum-known-f c = search needs
-
-enum-told : tie.Need-enum-told Inv-loop μ-loop
-enum-told c = search needs
-
 returns : tie.Need-returns Inv-loop μ-loop
 unfolding rules
 returns c = count-stop (c .before .before .field .ensures) (c .enum-told .given .1)
-
-loop-holds : tie.Need-loop-holds Inv-loop μ-loop
-loop-holds c = (left-all, refl)
 
 rule-requires : tie.Need-rule-requires Inv-loop μ-loop
 rule-requires c κs =
     let on-the-way = c .before .before .before .before .before .before in let start = on-the-way .before .before .before in
     (start .pre)
-
-enum-known-g : tie.Need-enum-known-g Inv-loop μ-loop
-enum-known-g c = search needs
-
-enum-told-2 : tie.Need-enum-told-2 Inv-loop μ-loop
-enum-told-2 c = search needs
 
 same-length : tie.Need-same-length Inv-loop μ-loop
 same-length c =
@@ -56,12 +37,6 @@ returns-2 c =
     let at-rule = c .before .before .before .before in let at-loop = at-rule .before .before .before in let at-f = at-loop .before .before in
     let left = at-loop .loop .inv .0 in
     turn-stop (at-f .before .before .field .ensures) (at-f .f .given .1) refl left (omega arith) (at-rule .rule .ensures (left .i)) (c .enum-told2 .given .1)
-
-sub-left : tie.Need-sub-left Inv-loop μ-loop
-sub-left c = search needs
-
-loop-less : tie.Need-loop-less Inv-loop μ-loop
-loop-less c = search needs
 
 loop-again : tie.Need-loop-again Inv-loop μ-loop
 loop-again c =
@@ -78,4 +53,24 @@ returns-3 c =
     noted-all (at-f .before .before .field .ensures) (at-f .f .given .1) (at-loop .loop .inv .0) (omega arith)
 
 pub rules-spec : {M : Type 1} → statement M
-rules-spec = tie.close (tie.spec Inv-loop μ-loop field-requires enum-known-f enum-told returns loop-holds rule-requires enum-known-g enum-told-2 same-length returns-2 sub-left loop-less loop-again same-length-2 returns-3)
+unfolding entryOf table
+rules-spec =
+    tie.close
+    (tie.spec
+    Inv-loop
+    μ-loop
+    (λ c κs. refl)
+    (λ c. search needs)
+    (λ c. search needs)
+    returns
+    (λ c. (left-all, refl))
+    rule-requires
+    (λ c. search needs)
+    (λ c. search needs)
+    same-length
+    returns-2
+    (λ c. search needs)
+    (λ c. search needs)
+    loop-again
+    same-length-2
+    returns-3)
