@@ -1,9 +1,9 @@
 -- Laws of the directory: what the readers of a relation keep of it, and what its words say of the names used before.
-use Prim.Native.Nat.{ℕ, suc, _+_, _-_, _*_, _/_, _%_, _≤_, _<_}
+use Prim.Native.Nat.{ℕ, _+_, _-_, _*_, _≤_, _<_}
 use native.Mathlib.Omega.{arith}
 use mathlib.Core.Path.{_≡_, refl, ap, sym, _∙_, subst}
 use mathlib.Core.List.{List, [], _∷_, _++_}
-use mathlib.Core.Bool.{Bool, true, false, _||_, not}
+use mathlib.Core.Bool.{Bool, true, false, _||_}
 use mathlib.Core.Option.{Option, none, some}
 use lib.ListN.{length, getD, set, drop, length-set, length-append}
 use lib.Seq.{getD-set-same, getD-set-other}
@@ -15,13 +15,13 @@ use Rattle.pack.specs.declared.cursor.Step.{Step}
 use Rattle.pack.specs.declared.cursor.Step.the-variants.{On, Refused}
 use Rattle.definitions.specs.Table.{pick, entryOf, table}
 use Rattle.definitions.specs.Table as tables
-use Rattle.definitions.specs.Form.{Read, got, refused, bind, allowedHere, among, readField, wordsAll, list, listOrNone, option, count, items, says, Form, field, Fine, wordsBy, readBy}
+use Rattle.definitions.specs.Form.{got, allowedHere, among, wordsAll, list, listOrNone, count, items, says, Form, field, Fine, wordsBy, readBy}
 use Rattle.records.specs.declared.directory.Laid.{Laid}
 use Rattle.records.specs.declared.directory.Laid.the-variants.{Yes, No}
 use Rattle.pack.proofs.FormLaws.{clash}
 use Rattle.definitions.specs.Records.{undated, Hop, Derivation, Relation}
 use Rattle.definitions.specs.Rows.{Records, Chain, Member, RelationTail, toDerivation}
-use Rattle.definitions.specs.Pack.{defaulted, relations, rules, blocks, records, nextUsed, hop, path, chain, member, nameList, derivation, optionalDerivation, newName, relationTail, relation}
+use Rattle.definitions.specs.Pack.{defaulted, relations, rules, blocks, records, nextUsed, hop, path, chain, nameList, derivation, optionalDerivation, newName, relationTail, relation}
 use Rattle.definitions.specs.Places.{hops, relationWords}
 use Rattle.pack.specs.Readers.{stepOf, skipOver, itself, nameOf, fieldStep}
 use Rattle.pack.proofs.StepLaws.{at-most, field-fine, step-no}

@@ -1,23 +1,22 @@
 -- Laws of the notes that readers of records leave: bodies, members, derivations and relations.
-use Prim.Native.Nat.{ℕ, suc, _+_, _-_, _*_, _≤_, _<_}
+use Prim.Native.Nat.{ℕ, _+_, _-_, _*_, _≤_}
 use native.Mathlib.Omega.{arith}
 use mathlib.Core.Path.{_≡_, refl, ap, sym, _∙_, subst}
-use mathlib.Core.List.{List, [], _∷_, _++_}
-use mathlib.Core.Option.{Option, none, some}
+use mathlib.Core.List.{List, [], _∷_}
+use mathlib.Core.Option.{some}
 use lib.ListN.{length, set}
 use Rattle.pack.specs.declared.cursor.Cursor.{Cursor}
 use Rattle.pack.specs.declared.cursor.Step.{Step}
-use Rattle.pack.specs.declared.cursor.Step.the-variants.{On, Refused}
-use Rattle.definitions.specs.Form.{list, count, items, wordsAll, Form, field, wordsBy}
-use Rattle.definitions.specs.Tree.{Tree, root}
-use Rattle.definitions.specs.Records.{Body, Derivation, Relation}
-use Rattle.definitions.specs.Rows.{Chain, Member, RelationTail, toBody, toDerivation, toRelation, toRule}
-use Rattle.definitions.specs.Pack.{body, bodies, rule, nameList, chain, member, derivation, optionalDerivation, relationTail, newName, relation}
+use Rattle.pack.specs.declared.cursor.Step.the-variants.{On}
+use Rattle.definitions.specs.Form.{list, count, items, wordsAll, field, wordsBy}
+use Rattle.definitions.specs.Tree.{root}
+use Rattle.definitions.specs.Rows.{Member, RelationTail, toBody, toDerivation, toRelation, toRule}
+use Rattle.definitions.specs.Pack.{body, bodies, rule, nameList, chain, member, derivation, optionalDerivation, relationTail, relation}
 use Rattle.definitions.specs.Places.{hops}
 use Rattle.pack.specs.Packed.{boundOf}
-use Rattle.pack.specs.Readers.{stepOf, skipOver, itself, nameOf, fieldStep}
+use Rattle.pack.specs.Readers.{stepOf, skipOver, itself, fieldStep}
 use Rattle.reading.specs.Noting.{ReadyFor, Context, noteTree, NotedStep}
-use Rattle.records.specs.Directory.{Noted, chainLead, entities, derivedNote, memberNote, noteIn, tailNote, noteRelation}
+use Rattle.records.specs.Directory.{Noted, chainLead, derivedNote, memberNote, noteIn, tailNote, noteRelation}
 use Rattle.records.specs.Notes.{opened, inside, noteBody, noteMember, noteDerivation, noteOptional, noteTail, notePredicate, Both, noteBoth, noteBodies, noteRule}
 use Rattle.records.proofs.KeptLaws.{there, within, noted-then, noted-via, noted-as, noted-last, tree-noted}
 use Rattle.records.proofs.DirectoryLaws.{chain-words, derived-note}

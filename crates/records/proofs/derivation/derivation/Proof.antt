@@ -1,5 +1,5 @@
 -- `records::derivation::derivation` meets its contract.
-use mathlib.Core.Path.{_≡_, refl}
+use mathlib.Core.Path.{refl}
 use native.Mathlib.Omega.{arith}
 use Rattle.definitions.specs.Pack.{derivation}
 use Rattle.pack.proofs.StepLaws.{by-via, by-then, then-stop, last-stop}

@@ -1,7 +1,7 @@
 -- `records::derivation::optional_derivation` meets its contract.
-use Prim.Native.Nat.{ℕ, _+_}
+use Prim.Native.Nat.{ℕ}
 use native.Mathlib.Omega.{arith}
-use mathlib.Core.Path.{_≡_, refl, sym, ap}
+use mathlib.Core.Path.{refl, sym, ap}
 use Rattle.definitions.specs.Pack.{optionalDerivation}
 use Rattle.definitions.specs.Table.{entryOf, table}
 use Rattle.pack.proofs.StepLaws.{walks, last-stop}

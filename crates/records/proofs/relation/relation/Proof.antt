@@ -1,11 +1,8 @@
 -- `records::relation::relation` meets its contract.
 use lib.ListN.{length-set}
-use mathlib.Core.Path.{refl}
 use native.Mathlib.Omega.{arith}
 use Rattle.definitions.specs.Pack.{relation}
 use Rattle.pack.proofs.StepLaws.{walks, by-via, by-then, last-stop}
-use Rattle.records.specs.Directory.{noteRelation}
-use Rattle.records.specs.Notes.{notePredicate, noteBoth}
 use Rattle.records.proofs.KeptLaws.{noted-no, noted-pair}
 use Rattle.records.proofs.DirectoryLaws.{name-read, note-fits}
 use Rattle.records.proofs.NotesLaws.{both-noted}

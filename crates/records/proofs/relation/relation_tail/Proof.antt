@@ -4,7 +4,7 @@ use native.Mathlib.Omega.{arith}
 use Rattle.definitions.specs.Pack.{relationTail}
 use Rattle.definitions.specs.Table.{entryOf, table}
 use Rattle.pack.proofs.StepLaws.{by-then, then-stop, last-stop}
-use Rattle.records.proofs.KeptLaws.{noted-no, there}
+use Rattle.records.proofs.KeptLaws.{noted-no}
 use Rattle.records.proofs.DirectoryLaws.{list-few}
 use Rattle.records.proofs.NotesLaws.{tail-noted, list-on, field-on}
 use borrow.Author.Needs.{needs}

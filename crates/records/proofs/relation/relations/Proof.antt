@@ -1,5 +1,4 @@
 -- `records::relation::relations` meets its contract.
-use Prim.Native.Nat.{ℕ}
 use mathlib.Core.Path.{refl}
 use native.Mathlib.Omega.{arith}
 use Rattle.definitions.specs.Pack.{relations}
@@ -26,22 +25,6 @@ loop-holds c =
     let at-f = c .before in let at-field = at-f .before .before in let start = at-field .before .before .before .before in
     let r = count-read _ _ _ (at-field .field .ensures) (at-f .f .given .1) in relating _ _ (start .pre .2) (r .few) (r .late)
 
-relation-requires : tie.Need-relation-requires Inv-loop μ-loop
-relation-requires c κs =
-    let at-loop = c .before .before .before in let on-the-way = at-loop .before .before .before .before .before .before in
-    let start = on-the-way .before .before in
-    let g = (at-loop .loop .inv) in let p = (start .pre) in (p .0, p .1, omega (arith, g .many, g .few), g .names .long)
-
-same-length : tie.Need-same-length Inv-loop μ-loop
-same-length c =
-    let on-the-way = c .before .before .before .before .before .before in let at-loop = on-the-way .before .before .before .before in
-    omega (arith, (at-loop .loop .inv) .kept)
-
-same-length-2 : tie.Need-same-length-2 Inv-loop μ-loop
-same-length-2 c =
-    let on-the-way = c .before .before .before .before .before .before in let at-loop = on-the-way .before .before .before .before in
-    omega (arith, (at-loop .loop .inv) .stays)
-
 returns-2 : tie.Need-returns-2 Inv-loop μ-loop
 unfolding relations says
 returns-2 c =
@@ -49,22 +32,11 @@ returns-2 c =
     let at-f = at-loop .before .before in let g = at-loop .loop .inv in
     turn-stop (at-f .before .before .field .ensures) (at-f .f .given .1) refl (g .work) (omega arith) (its-turn _ _ g (at-relation .relation .ensures)) (c .enum-told2 .given .1)
 
-add-i : tie.Need-add-i Inv-loop μ-loop
-add-i c =
-    let on-the-way = c .before .before .before .before .before .before in let at-loop = on-the-way .before .before .before .before .before in
-    let g = (at-loop .loop .inv) in omega (arith, g .many, g .few)
-
 loop-again : tie.Need-loop-again Inv-loop μ-loop
 loop-again c =
     let at-g = c .before in let at-relation = at-g .before .before .before .before .before .before in
     let at-loop = at-relation .before .before .before .before in
     relating-on _ _ (at-loop .loop .inv) (omega arith) (at-relation .relation .ensures) (at-g .g .given .1) (omega arith)
-
-same-length-3 : tie.Need-same-length-3 Inv-loop μ-loop
-same-length-3 c = omega (arith, (c .before .loop .inv) .kept)
-
-same-length-4 : tie.Need-same-length-4 Inv-loop μ-loop
-same-length-4 c = omega (arith, (c .before .loop .inv) .stays)
 
 returns-3 : tie.Need-returns-3 Inv-loop μ-loop
 unfolding relations
@@ -84,16 +56,16 @@ relations-spec =
     (λ c. search needs)
     returns
     loop-holds
-    relation-requires
+    (λ c κs. search needs)
     (λ c. search needs)
     (λ c. search needs)
-    same-length
-    same-length-2
+    (λ c. search needs)
+    (λ c. search needs)
     returns-2
-    add-i
+    (λ c. search needs)
     (λ c. search needs)
     (λ c. search needs)
     loop-again
-    same-length-3
-    same-length-4
+    (λ c. search needs)
+    (λ c. search needs)
     returns-3)

@@ -21,16 +21,6 @@ returns : tie.Need-returns Inv-loop μ-loop
 unfolding rules
 returns c = count-stop (c .before .before .field .ensures) (c .enum-told .given .1)
 
-rule-requires : tie.Need-rule-requires Inv-loop μ-loop
-rule-requires c κs =
-    let on-the-way = c .before .before .before .before .before .before in let start = on-the-way .before .before .before in
-    (start .pre)
-
-same-length : tie.Need-same-length Inv-loop μ-loop
-same-length c =
-    let on-the-way = c .before .before .before .before .before .before in let at-loop = on-the-way .before in
-    omega (arith, at-loop .loop .inv .1)
-
 returns-2 : tie.Need-returns-2 Inv-loop μ-loop
 unfolding rules says
 returns-2 c =
@@ -42,9 +32,6 @@ loop-again : tie.Need-loop-again Inv-loop μ-loop
 loop-again c =
     let at-g = c .before in let at-rule = at-g .before .before .before .before in let at-loop = at-rule .before .before .before in
     (left-turn (at-loop .loop .inv .0) (omega arith) (at-rule .rule .ensures (at-loop .loop .inv .0 .i)) (λ _. tt) (λ _. refl) (at-g .g .given .1), omega (arith, at-loop .loop .inv .1))
-
-same-length-2 : tie.Need-same-length-2 Inv-loop μ-loop
-same-length-2 c = omega (arith, c .before .loop .inv .1)
 
 returns-3 : tie.Need-returns-3 Inv-loop μ-loop
 unfolding rules
@@ -64,13 +51,13 @@ rules-spec =
     (λ c. search needs)
     returns
     (λ c. (left-all, refl))
-    rule-requires
+    (λ c κs. search needs)
     (λ c. search needs)
     (λ c. search needs)
-    same-length
+    (λ c. search needs)
     returns-2
     (λ c. search needs)
     (λ c. search needs)
     loop-again
-    same-length-2
+    (λ c. search needs)
     returns-3)
