@@ -249,7 +249,7 @@ module _ (n : ℕ) (ws : List ℕ) where
       let b = relation-below n (λ v. among v (g .used)) ws at (z .answers) o in
       record {
         used = v ∷ g .used;
-        work = left-turn (g .work) h (its-turn g k) (λ v. v ∷ g .used) (λ _. refl) o;
+        work = left-turn (g .work) h (its-turn g k) o (λ a e. ap (λ (x : ℕ). x ∷ g .used) e);
         names = subst (λ (x : ℕ). Used n (d′ .0) (x ∷ g .used)) (p .0 .kept) (used-more i at (p .0 .value) (omega (arith, g .many, g .few)) (g .late) (omega (arith, p .0 .kept)) (g .names) q);
         many = omega (arith, g .many);
         few = g .few;

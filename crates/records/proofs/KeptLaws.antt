@@ -28,7 +28,7 @@ pub record There {A : Type 0} (f : A → ℕ) (F : Form A) (ws : List ℕ) (at v
   pub on : k .at ≡ at + length (wordsBy F value)
   pub stood : drop at ws ≡ wordsBy F value ++ drop (k .at) ws
 
-step-map : {A B : Type 0} (g : B → ℕ) (h : A → B) (m : Read A) → stepBy g (mapRead h m) ≡ stepBy (λ a. g (h a)) m
+pub step-map : {A B : Type 0} (g : B → ℕ) (h : A → B) (m : Read A) → stepBy g (mapRead h m) ≡ stepBy (λ a. g (h a)) m
 step-map g h (got a at ws) = refl
 step-map g h (refused r) = refl
 

@@ -14,20 +14,13 @@ use Rattle.definitions.specs.Table.{wordOf, entryOf}
 use Rattle.definitions.specs.Form.{Read, got, readField, readAll, Holder, list, count, says, whole, Suits, Form, field, countedFrom, oneAndMore, wordsBy, readBy}
 use Rattle.pack.specs.Readers.{stepOf, itself, fieldStep, skipAll}
 use Rattle.pack.proofs.FormLaws.{map-got}
-use Rattle.pack.proofs.StepLaws.{went-same, last-stop, counted-stop, by-left, by-more, all-next, all-stop, all-done}
+use Rattle.pack.proofs.StepLaws.{went-same, last-stop, counted-stop, by-left, by-more, all-stop, all-done}
 use Rattle.records.specs.Directory.{Noted, notesAll}
-use Rattle.records.proofs.KeptLaws.{there, kept-last, noted-no, noted-there}
+use Rattle.records.proofs.KeptLaws.{There, step-map, there, kept-last, noted-no, noted-there}
 
 -- nothing is noted
 abbrev pub nothing : {A : Type 0} → ℕ → ℕ → A → Unit {0} → Unit {0}
 nothing i at a d = tt
-
-module _ {A : Type 0} {f : A → ℕ} {F : Form A} {ws : List ℕ} {at : ℕ} {y : Step} where
-  pub unnoted : y ≡ stepOf f F ws at → Noted {D = Unit {0}} f F (λ a d. tt) ws at tt y tt
-  unnoted e = record { answers = e; notes = λ a next rest r. refl }
-
-  pub plain : Noted {D = Unit {0}} f F (λ a d. tt) ws at tt y tt → y ≡ stepOf f F ws at
-  plain h = h .answers
 
 pred-of : (m : ℕ) → 0 < m → m ≡ suc (m - 1)
 pred-of m h = omega arith
@@ -56,26 +49,31 @@ module _ {S A D : Type 0} {step : S → A → S} {F : S → Form A} {W : A → L
   left-all = record { i = 0; many = omega arith; walks = refl; notes = λ L next rest h. (L, h, refl) }
 
   module _ {m₀ : ℕ} {s₀ : S} {at₀ : ℕ} {d₀ : D} {m : ℕ} {s : S} {at : ℕ} {d : D} (left : Left step F W same-words note ws m₀ s₀ at₀ d₀ m s at d) where
-    -- a turn: the next state is a function of the number that is kept
-    pub left-turn : 0 < m → {f : A → ℕ} {y : Step} {d′ : D} → Noted f (F s) (note (left .i) at) ws at d y d′ → (g : ℕ → S) → ((a : A) → step s a ≡ g (f a)) → {v : ℕ} {k : Cursor} → y ≡ On v k
-        → Left step F W same-words note ws m₀ s₀ at₀ d₀ (m - 1) (g v) (k .at) d′
-    unfolding notesAll
-    left-turn h {f} {y} {d′} n g q {v} {k} o =
+    -- a turn: the number that is kept tells the next state
+    pub left-turn : 0 < m → {f : A → ℕ} {y : Step} {d′ : D} → Noted f (F s) (note (left .i) at) ws at d y d′ → {v : ℕ} {k : Cursor} → y ≡ On v k → {s′ : S} → ((a : A) → f a ≡ v → step s a ≡ s′)
+        → Left step F W same-words note ws m₀ s₀ at₀ d₀ (m - 1) s′ (k .at) d′
+    unfolding notesAll skipAll
+    left-turn h {f} {y} {d′} n {v} {k} o {s′} q =
         record {
           i = left .i + 1;
           many = omega (arith, left .many);
-          walks = left .walks ∙ all-next step F s ws at m h f (n .answers) g q o;
+          walks = left .walks ∙ ap (λ (c : ℕ). skipAll step F c s ws at) (pred-of m h) ∙ past (noted-there n o .0);
           notes = λ L next rest e. (let b = left .notes L next rest e in go L (b .0) next rest (ap (λ (c : ℕ). reads step F ws c s at) (sym (pred-of m h)) ∙ b .1) (b .2));
         }
       where
+        past : (t : There f (F s) ws at v k) → skipAll step F (suc (m - 1)) s ws at ≡ skipAll step F (m - 1) s′ ws (k .at)
+        past t =
+            rw (t .found) (step-map (λ l. 0) (λ l. t .value ∷ l) (readAll step (λ u b vs. readBy (F u) b vs) (m - 1) (step s (t .value)) (k .at) (drop (k .at) ws)))
+            ∙ ap (λ (u : S). skipAll step F (m - 1) u ws (k .at)) (q (t .value) (t .kept))
+
         go : (L l : List A) (next : ℕ) (rest : List ℕ) → reads step F ws (suc (m - 1)) s at ≡ got l next rest → notesAll W note 0 at₀ L d₀ ≡ notesAll W note (left .i) at l d
-            → (l′ : List A) × (reads step F ws (m - 1) (g v) (k .at) ≡ got l′ next rest) × (notesAll W note 0 at₀ L d₀ ≡ notesAll W note (left .i + 1) (k .at) l′ d′)
+            → (l′ : List A) × (reads step F ws (m - 1) s′ (k .at) ≡ got l′ next rest) × (notesAll W note 0 at₀ L d₀ ≡ notesAll W note (left .i + 1) (k .at) l′ d′)
         go L l next rest r z =
             let p = noted-there n o in
             let t = p .0 in
             let u = map-got (λ (l : List A). t .value ∷ l) (readAll step (λ u b vs. readBy (F u) b vs) (m - 1) (step s (t .value)) (k .at) (drop (k .at) ws)) (rw (t .found) at r) in
             let a : k .at ≡ at + length (W (t .value)) = t .on ∙ ap (λ (w : List ℕ). at + length w) (same-words s (t .value)) in
-            let c : step s (t .value) ≡ g v = q (t .value) ∙ ap g (t .kept) in (
+            let c : step s (t .value) ≡ s′ = q (t .value) (t .kept) in (
               u .0,
               subst (λ (s : S). reads step F ws (m - 1) s (k .at) ≡ got (u .0) next rest) c (u .1),
               z
@@ -85,8 +83,8 @@ module _ {S A D : Type 0} {step : S → A → S} {F : S → Form A} {W : A → L
             )
 
     -- a refusal in a turn
-    left-stop : 0 < m → {f : A → ℕ} {y : Step} {d′ : D} → Noted f (F s) (note (left .i) at) ws at d y d′ → {r : Refusal} → y ≡ Refused r → y ≡ skipAll step F m₀ s₀ ws at₀
-    left-stop h {f} n o = all-stop step F s ws at m h f (n .answers) o ∙ sym (left .walks)
+    left-stop : 0 < m → (f : A → ℕ) {y : Step} → y ≡ stepOf f (F s) ws at → {r : Refusal} → y ≡ Refused r → y ≡ skipAll step F m₀ s₀ ws at₀
+    left-stop h f e o = all-stop step F s ws at m h f e o ∙ sym (left .walks)
 
     -- the end
     left-done : m ≤ 0 → On 0 (record { at = at }) ≡ skipAll step F m₀ s₀ ws at₀
@@ -101,31 +99,33 @@ module _ {S A D : Type 0} {step : S → A → S} {F : S → Form A} {W : A → L
         let y : [] ≡ b .0 = cc (n) in
         sym (b .2 ∙ rw (← y) refl)
 
--- ---- a count, and as many of them
+-- the turn of a loop that notes nothing, by what the element's reader answers
+pub read-turn : {S A : Type 0} {step : S → A → S} {F : S → Form A} {W : A → List ℕ} {same-words : (s : S) (a : A) → wordsBy (F s) a ≡ W a} {ws : List ℕ} {m₀ : ℕ} {s₀ : S} {at₀ m : ℕ} {s : S} {at : ℕ}
+    → Left step F W same-words nothing ws m₀ s₀ at₀ tt m s at tt → 0 < m → (f : A → ℕ) {y : Step} → y ≡ stepOf f (F s) ws at → {v : ℕ} {k : Cursor} → y ≡ On v k
+    → {s′ : S} → ((a : A) → f a ≡ v → step s a ≡ s′) → Left step F W same-words nothing ws m₀ s₀ at₀ tt (m - 1) s′ (k .at) tt
+read-turn left h f e o q = left-turn left h (record { answers = e; notes = λ a next rest r. refl }) o q
 
-module _ {S A C : Type 0} {H : Holder A C} {n kind : ℕ} {suits : Suits H (entryOf kind .values)} {step : S → A → S} {F : S → Form A} {s : S} {g : C → ℕ} {ws : List ℕ} {at : ℕ} {y : Step} where
+-- ---- a count, and as many of them: stated for `search`
+
+module _ {S A C : Type 0} (H : Holder A C) (n kind : ℕ) (suits : Suits H (entryOf kind .values)) (step : S → A → S) (F : S → Form A) (s : S) (g : C → ℕ) (ws : List ℕ) (at : ℕ) {y : Step} where
   -- the count refused
-  pub count-stop : y ≡ fieldStep n kind ws at → {r : Refusal} → y ≡ Refused r → {D : Type 0} {all : C → D → D} {d d′ : D} → Noted g (countedFrom H n kind suits step F s) all ws at d y d′
-  count-stop e o = noted-no (last-stop (λ c. 0) (countedFrom H n kind suits step F s) ws at (counted-stop H n kind suits step F s ws at e o) g o) o
+  pub count-refused : y ≡ fieldStep n kind ws at → {r : Refusal} → y ≡ Refused r → y ≡ stepOf g (countedFrom H n kind suits step F s) ws at
+  count-refused e o = last-stop (λ c. 0) (countedFrom H n kind suits step F s) ws at (counted-stop H n kind suits step F s ws at e o) g o
 
-  module _ {D : Type 0} {W : A → List ℕ} {same-words : (s : S) (a : A) → wordsBy (F s) a ≡ W a} {note : ℕ → ℕ → A → D → D} {v : ℕ} {k : Cursor} {m₀ m : ℕ} {u : S} {j : Cursor} {d₀ d : D} where
+  module _ {D : Type 0} {W : A → List ℕ} {same-words : (s : S) (a : A) → wordsBy (F s) a ≡ W a} {note : ℕ → ℕ → A → D → D} {v : ℕ} {k : Cursor} {m₀ m : ℕ} {u : S} {j : Cursor} {d₀ d : D} (left : Left step F W same-words note ws m₀ s (k .at) d₀ m u (j .at) d) (e : y ≡ fieldStep n kind ws at) (o : y ≡ On v k) (q : m₀ ≡ says H v) where
     -- an element refused
-    pub turn-stop : y ≡ fieldStep n kind ws at → y ≡ On v k → m₀ ≡ says H v → (left : Left step F W same-words note ws m₀ s (k .at) d₀ m u (j .at) d) → 0 < m
-        → {f : A → ℕ} {x : Step} {e : D} → Noted f (F u) (note (left .i) (j .at)) ws (j .at) d x e → {r : Refusal} → x ≡ Refused r
-        → {E : Type 0} {all : C → E → E} {b c : E} → Noted g (countedFrom H n kind suits step F s) all ws at b x c
-    turn-stop e o q left h i p = noted-no (last-stop (λ c. 0) (countedFrom H n kind suits step F s) ws at (by-left H n kind suits step F s ws at e o q (left-stop left h i p)) g p) p
+    pub turn-refused : 0 < m → (f : A → ℕ) {x : Step} → x ≡ stepOf f (F u) ws (j .at) → {r : Refusal} → x ≡ Refused r → x ≡ stepOf g (countedFrom H n kind suits step F s) ws at
+    turn-refused h f i p = last-stop (λ c. 0) (countedFrom H n kind suits step F s) ws at (by-left H n kind suits step F s ws at e o q (left-stop left h f i p)) g p
 
     -- all read: what is kept goes by the count
-    pub counted-on : y ≡ fieldStep n kind ws at → y ≡ On v k → m₀ ≡ says H v → Left step F W same-words note ws m₀ s (k .at) d₀ m u (j .at) d → m ≤ 0
-        → {w : ℕ} → ((c : C) → count H c ≡ v → g c ≡ w) → Noted {D = Unit {0}} g (countedFrom H n kind suits step F s) (λ c d. tt) ws at tt (On w j) tt
+    pub all-read : m ≤ 0 → {w : ℕ} → ((c : C) → count H c ≡ v → g c ≡ w) → On w j ≡ stepOf g (countedFrom H n kind suits step F s) ws at
     unfolding wordsBy
-    counted-on e o q left h z =
-        unnoted
-        (kept-last (λ c. 0) (countedFrom H n kind suits step F s) ws at (by-left H n kind suits step F s ws at e o q (left-done left h)) refl g
+    all-read h z =
+        kept-last (λ c. 0) (countedFrom H n kind suits step F s) ws at (by-left H n kind suits step F s ws at e o q (left-done left h)) refl g
         (λ t.
         let b = there itself (field n kind) ws at e o in
         let x : wordOf kind (count H (t .value)) ≡ wordOf kind (b .value) = cc (t .stood, b .stood) in
-        z (t .value) (omega (arith, x, b .kept))))
+        z (t .value) (omega (arith, x, b .kept)))
 
 -- the same of a list that is noted
 module _ {S A D : Type 0} {n kind : ℕ} {suits : Suits {A = A} list (entryOf kind .values)} {step : S → A → S} {F : S → Form A} {W : A → List ℕ} {same-words : (s : S) (a : A) → wordsBy (F s) a ≡ W a} {note : ℕ → ℕ → A → D → D} {s : S} {ws : List ℕ} {at : ℕ} {d : D} where
@@ -134,7 +134,7 @@ module _ {S A D : Type 0} {n kind : ℕ} {suits : Suits {A = A} list (entryOf ki
   unfolding readBy says whole wordsBy
   noted-all e {v} {k} o l h =
       record {
-        answers = plain (counted-on e o refl l h (λ c z. z));
+        answers = all-read list n kind suits step F s (count list) ws at l e o refl h (λ c z. z);
         notes = λ L next rest r.
             (let c : readField n kind at (drop at ws) ≡ got v (k .at) (drop (k .at) ws) = went-same (field n kind) ws at e o .0 in
             let w = map-got (λ (l : List A). l) (reads step F ws v s (k .at)) (rw c at r) in
@@ -146,10 +146,10 @@ module _ {S A D : Type 0} {n kind : ℕ} {suits : Suits {A = A} list (entryOf ki
 
 module _ {A B D : Type 0} {n kind most : ℕ} {rule : entryOf kind .values ≡ FromOne most} {F : Form A} {G : Form B} {note : ℕ → ℕ → B → D → D} {ws : List ℕ} {at : ℕ} {y : Step} {v : ℕ} {k : Cursor} {d : D} {x : Step} {d₁ : D} {u : ℕ} {j : Cursor} {m : ℕ} {c : Cursor} {d′ : D} where
   -- a later one refused
-  pub more-turn-stop : y ≡ fieldStep n kind ws at → y ≡ On v k → {f₁ : A → ℕ} {first : A → D → D} → Noted f₁ F first ws (k .at) d x d₁ → x ≡ On u j → (left : LeftOf G note ws (v - 1) (j .at) d₁ m (c .at) d′) → 0 < m
-      → {f : B → ℕ} {z : Step} {e : D} → Noted f G (note (left .i) (c .at)) ws (c .at) d′ z e → {r : Refusal} → z ≡ Refused r
+  pub more-refused : y ≡ fieldStep n kind ws at → y ≡ On v k → {f₁ : A → ℕ} {first : A → D → D} → Noted f₁ F first ws (k .at) d x d₁ → x ≡ On u j → LeftOf G note ws (v - 1) (j .at) d₁ m (c .at) d′ → 0 < m
+      → {f : B → ℕ} {here : B → D → D} {z : Step} {e : D} → Noted f G here ws (c .at) d′ z e → {r : Refusal} → z ≡ Refused r
       → {E : Type 0} {all : A × List B → E → E} {a b : E} → Noted (λ t. 0) (oneAndMore n kind most rule F G) all ws at a z b
-  more-turn-stop e o {f₁} h p left l i q = noted-no (by-more n kind most rule F G ws at e o f₁ (h .answers) p (left-stop left l i q)) q
+  more-refused e o {f₁} h p left l {f} i q = noted-no (by-more n kind most rule F G ws at e o f₁ (h .answers) p (left-stop left l f (i .answers) q)) q
 
   -- all read
   pub noted-more : (first : ℕ → A → D → D) → y ≡ fieldStep n kind ws at → y ≡ On v k → Noted (λ a. 0) F (first (k .at)) ws (k .at) d x d₁ → x ≡ On u j → LeftOf G note ws (v - 1) (j .at) d₁ m (c .at) d′ → m ≤ 0

@@ -4,7 +4,8 @@ use native.Mathlib.Omega.{arith}
 use Rattle.definitions.specs.Pack.{relations}
 use Rattle.definitions.specs.Form.{says}
 use Rattle.definitions.specs.Table.{entryOf, table}
-use Rattle.records.proofs.LoopLaws.{count-stop, turn-stop, noted-all}
+use Rattle.records.proofs.KeptLaws.{noted-no}
+use Rattle.records.proofs.LoopLaws.{count-refused, turn-refused, noted-all}
 use Rattle.records.proofs.DirectoryLaws.{Relating, relating, its-turn, relating-on, count-read}
 use borrow.Author.Needs.{needs}
 use Rattle.records.proofs.relation.relations.Statement.{statement}
@@ -18,7 +19,7 @@ abbrev μ-loop : tie.MeasureT-loop
 
 returns : tie.Need-returns Inv-loop μ-loop
 unfolding relations
-returns c = count-stop (c .before .before .field .ensures) (c .enum-told .given .1)
+returns c = search (noted-no, count-refused)
 
 loop-holds : tie.Need-loop-holds Inv-loop μ-loop
 loop-holds c =
@@ -28,9 +29,8 @@ loop-holds c =
 returns-2 : tie.Need-returns-2 Inv-loop μ-loop
 unfolding relations says
 returns-2 c =
-    let at-relation = c .before .before .before .before .before .before in let at-loop = at-relation .before .before .before .before in
-    let at-f = at-loop .before .before in let g = at-loop .loop .inv in
-    turn-stop (at-f .before .before .field .ensures) (at-f .f .given .1) refl (g .work) (omega arith) (its-turn _ _ g (at-relation .relation .ensures)) (c .enum-told2 .given .1)
+    let at-relation = c .before .before .before .before .before .before in let g = at-relation .before .before .before .before .loop .inv in
+    let answers = its-turn _ _ g (at-relation .relation .ensures) .answers in search (noted-no, turn-refused, answers, arith)
 
 loop-again : tie.Need-loop-again Inv-loop μ-loop
 loop-again c =

@@ -6,7 +6,8 @@ use Rattle.definitions.specs.Pack.{rules, rule}
 use Rattle.definitions.specs.Form.{says}
 use Rattle.definitions.specs.Table.{entryOf, table}
 use Rattle.records.specs.Notes.{noteRule}
-use Rattle.records.proofs.LoopLaws.{LeftOf, count-stop, left-all, turn-stop, left-turn, noted-all}
+use Rattle.records.proofs.KeptLaws.{noted-no}
+use Rattle.records.proofs.LoopLaws.{LeftOf, left-all, count-refused, turn-refused, left-turn, noted-all}
 use borrow.Author.Needs.{needs}
 use Rattle.records.proofs.rule.rules.Statement.{statement}
 use Rattle.records.proofs.rule.rules.Tie as tie
@@ -19,19 +20,17 @@ abbrev μ-loop : tie.MeasureT-loop
 
 returns : tie.Need-returns Inv-loop μ-loop
 unfolding rules
-returns c = count-stop (c .before .before .field .ensures) (c .enum-told .given .1)
+returns c = search (noted-no, count-refused)
 
 returns-2 : tie.Need-returns-2 Inv-loop μ-loop
 unfolding rules says
 returns-2 c =
-    let at-rule = c .before .before .before .before in let at-loop = at-rule .before .before .before in let at-f = at-loop .before .before in
-    let left = at-loop .loop .inv .0 in
-    turn-stop (at-f .before .before .field .ensures) (at-f .f .given .1) refl left (omega arith) (at-rule .rule .ensures (left .i)) (c .enum-told2 .given .1)
+    let answers = c .before .before .before .before .rule .ensures 0 .answers in search (noted-no, turn-refused, answers, arith)
 
 loop-again : tie.Need-loop-again Inv-loop μ-loop
 loop-again c =
     let at-g = c .before in let at-rule = at-g .before .before .before .before in let at-loop = at-rule .before .before .before in
-    (left-turn (at-loop .loop .inv .0) (omega arith) (at-rule .rule .ensures (at-loop .loop .inv .0 .i)) (λ _. tt) (λ _. refl) (at-g .g .given .1), omega (arith, at-loop .loop .inv .1))
+    (left-turn (at-loop .loop .inv .0) (omega arith) (at-rule .rule .ensures (at-loop .loop .inv .0 .i)) (at-g .g .given .1) (λ _ _. refl), omega (arith, at-loop .loop .inv .1))
 
 returns-3 : tie.Need-returns-3 Inv-loop μ-loop
 unfolding rules
