@@ -17,10 +17,6 @@ Inv-loop s t n dir₀ notes₀ count c₀ i₀ left₀ dir notes c i left = Rela
 abbrev μ-loop : tie.MeasureT-loop
 μ-loop s t n dir₀ notes₀ count c₀ i₀ left₀ dir notes c i left = left
 
-returns : tie.Need-returns Inv-loop μ-loop
-unfolding relations
-returns c = search (noted-no, count-refused)
-
 loop-holds : tie.Need-loop-holds Inv-loop μ-loop
 loop-holds c =
     let at-f = c .before in let at-field = at-f .before .before in let start = at-field .before .before .before .before in
@@ -45,7 +41,7 @@ returns-3 c =
     noted-all (at-f .before .before .field .ensures) (at-f .f .given .1) (at-loop .loop .inv .work) (omega arith)
 
 pub relations-spec : {M : Type 1} → statement M
-unfolding entryOf table
+unfolding relations entryOf table
 relations-spec =
     tie.close
     (tie.spec
@@ -54,7 +50,7 @@ relations-spec =
     (λ c κs. refl)
     (λ c. search needs)
     (λ c. search needs)
-    returns
+    (λ c. search (noted-no, count-refused))
     loop-holds
     (λ c κs. search needs)
     (λ c. search needs)

@@ -18,10 +18,6 @@ Inv-loop s t n notes₀ count c₀ left₀ notes c left = LeftOf (rule n) (noteR
 abbrev μ-loop : tie.MeasureT-loop
 μ-loop s t n notes₀ count c₀ left₀ notes c left = left
 
-returns : tie.Need-returns Inv-loop μ-loop
-unfolding rules
-returns c = search (noted-no, count-refused)
-
 returns-2 : tie.Need-returns-2 Inv-loop μ-loop
 unfolding rules says
 returns-2 c =
@@ -30,7 +26,8 @@ returns-2 c =
 loop-again : tie.Need-loop-again Inv-loop μ-loop
 loop-again c =
     let at-g = c .before in let at-rule = at-g .before .before .before .before in let at-loop = at-rule .before .before .before in
-    (left-turn (at-loop .loop .inv .0) (omega arith) (at-rule .rule .ensures (at-loop .loop .inv .0 .i)) (at-g .g .given .1) (λ _ _. refl), omega (arith, at-loop .loop .inv .1))
+    let left = at-loop .loop .inv .0 in
+    (left-turn left (omega arith) (at-rule .rule .ensures (left .i)) (at-g .g .given .1) (λ _ _. refl), omega (arith, at-loop .loop .inv .1))
 
 returns-3 : tie.Need-returns-3 Inv-loop μ-loop
 unfolding rules
@@ -39,7 +36,7 @@ returns-3 c =
     noted-all (at-f .before .before .field .ensures) (at-f .f .given .1) (at-loop .loop .inv .0) (omega arith)
 
 pub rules-spec : {M : Type 1} → statement M
-unfolding entryOf table
+unfolding rules entryOf table
 rules-spec =
     tie.close
     (tie.spec
@@ -48,7 +45,7 @@ rules-spec =
     (λ c κs. refl)
     (λ c. search needs)
     (λ c. search needs)
-    returns
+    (λ c. search (noted-no, count-refused))
     (λ c. (left-all, refl))
     (λ c κs. search needs)
     (λ c. search needs)
