@@ -1,9 +1,9 @@
 -- Laws of the directory: what the readers of a relation keep of it, and what its words say of the names used before.
-use Prim.Native.Nat.{ℕ, suc, _+_, _-_, _*_, _/_, _%_, _≤_, _<_}
+use Prim.Native.Nat.{ℕ, _+_, _-_, _*_, _≤_, _<_}
 use native.Mathlib.Omega.{arith}
 use mathlib.Core.Path.{_≡_, refl, ap, sym, _∙_, subst}
 use mathlib.Core.List.{List, [], _∷_, _++_}
-use mathlib.Core.Bool.{Bool, true, false, _||_, not}
+use mathlib.Core.Bool.{Bool, true, false, _||_}
 use mathlib.Core.Option.{Option, none, some}
 use lib.ListN.{length, getD, set, drop, length-set, length-append}
 use lib.Seq.{getD-set-same, getD-set-other}
@@ -15,19 +15,20 @@ use Rattle.pack.specs.declared.cursor.Step.{Step}
 use Rattle.pack.specs.declared.cursor.Step.the-variants.{On, Refused}
 use Rattle.definitions.specs.Table.{pick, entryOf, table}
 use Rattle.definitions.specs.Table as tables
-use Rattle.definitions.specs.Form.{Read, got, refused, bind, allowedHere, among, readField, wordsAll, list, listOrNone, option, count, items, says, Form, field, Fine, wordsBy, readBy}
+use Rattle.definitions.specs.Form.{got, allowedHere, among, wordsAll, list, listOrNone, count, items, says, Form, field, Fine, wordsBy, readBy}
 use Rattle.records.specs.declared.directory.Laid.{Laid}
 use Rattle.records.specs.declared.directory.Laid.the-variants.{Yes, No}
 use Rattle.pack.proofs.FormLaws.{clash}
 use Rattle.definitions.specs.Records.{undated, Hop, Derivation, Relation}
 use Rattle.definitions.specs.Rows.{Records, Chain, Member, RelationTail, toDerivation}
-use Rattle.definitions.specs.Pack.{defaulted, relations, rules, blocks, records, nextUsed, hop, path, chain, member, nameList, derivation, optionalDerivation, newName, relationTail, relation}
+use Rattle.definitions.specs.Pack.{defaulted, relations, rules, blocks, records, nextUsed, hop, path, chain, nameList, derivation, optionalDerivation, newName, relationTail, relation}
 use Rattle.definitions.specs.Places.{hops, relationWords}
 use Rattle.pack.specs.Readers.{stepOf, skipOver, itself, nameOf, fieldStep}
 use Rattle.pack.proofs.StepLaws.{at-most, field-fine, step-no}
 use Rattle.records.specs.Directory.{Noted, leadOf, leadIn, chainLead, entities, derivedNote, noteIn, tailNote, entered, entry, noteRelation, Clear, noteRelations, notesAll, relationsAt, rulesAt, blocksAt, layoutOf, directoryOf, stepIn, refusedLayout}
 use Rattle.records.specs.Notes.{noteRules, notePredicate, notePredicates, Both, noteBoth, noteAll, relationsLeft, notesLeft, LaidOut}
-use Rattle.records.proofs.KeptLaws.{there, within, noted-there, Left, left-all, left-turn}
+use Rattle.records.proofs.KeptLaws.{there, within, noted-there}
+use Rattle.records.proofs.LoopLaws.{Left, left-all, left-turn}
 use Rattle.records.proofs.RecordLaws.{name-alike, relation-below}
 
 -- ---- what the readers of a derivation keep
@@ -219,7 +220,7 @@ module _ (n : ℕ) (ws : List ℕ) where
   -- relations are left to read and to note, of which none has a name used before
   pub record Relating (d₀ : Both) (at₀ m₀ : ℕ) (d : Both) (at i m : ℕ) : Type 0 where
     pub used : List ℕ
-    pub work : Left nextUsed fresh (relationWords n) words-alike noteBoth ws m₀ [] at₀ d₀ m i used at d
+    pub work : Left nextUsed fresh (relationWords n) words-alike noteBoth ws m₀ [] at₀ d₀ m used at d
     pub names : Used n (d .0) used
     pub many : i + m ≡ m₀
     pub few : m₀ ≤ 512
@@ -229,19 +230,26 @@ module _ (n : ℕ) (ws : List ℕ) where
 
   pub relating : {d : Both} {at m : ℕ} → Clear n (d .0) → m ≤ 512 → 0 < at → Relating d at m d at 0 m
   relating {d} {at} {m} c h l =
-      record { used = []; work = left-all nextUsed fresh (relationWords n) words-alike noteBoth ws m [] at d; names = used-none c; many = omega arith; few = h; late = l; kept = refl; stays = refl }
+      record { used = []; work = left-all; names = used-none c; many = omega arith; few = h; late = l; kept = refl; stays = refl }
+
+  -- the relation of a turn, by the names used before
+  pub its-turn : {d₀ d : Both} {at₀ m₀ at i m : ℕ} (g : Relating d₀ at₀ m₀ d at i m) {y : Step} {d′ : Both} → Noted nameOf (relation n (entered (d .0))) (noteBoth i at) ws at d y d′
+      → Noted nameOf (fresh (g .used)) (noteBoth (g .work .i) at) ws at d y d′
+  its-turn {d = d} {at = at} {i = i} g {y} {d′} k =
+      let same-turn : i ≡ g .work .i = omega (arith, g .many, g .work .many) in
+      subst (λ (x : ℕ). Noted nameOf (fresh (g .used)) (noteBoth x at) ws at d y d′) same-turn (noted-used n i (g .names) k)
 
   pub relating-on : {d₀ d : Both} {at₀ m₀ at i m : ℕ} → Relating d₀ at₀ m₀ d at i m → 0 < m → {y : Step} {d′ : Both} → Noted nameOf (relation n (entered (d .0))) (noteBoth i at) ws at d y d′
       → {v : ℕ} {k : Cursor} → y ≡ On v k → length (d′ .1) ≡ length (d .1) → Relating d₀ at₀ m₀ d′ (k .at) (i + 1) (m - 1)
   unfolding noteBoth
   relating-on {d = d} {at = at} {i = i} {m = m} g h {d′ = d′} k {v} o s =
       let z = noted-used n i (g .names) k in
-      let p = noted-there nameOf (fresh (g .used)) (noteBoth i at) ws at d z o in
+      let p = noted-there z o in
       let q : d′ .0 ≡ noteRelation i at (p .0 .value) (d .0) = ap (λ (x : Both). x .0) (p .1) in
       let b = relation-below n (λ v. among v (g .used)) ws at (z .answers) o in
       record {
         used = v ∷ g .used;
-        work = left-turn nextUsed fresh (relationWords n) words-alike noteBoth ws (g .work) h nameOf z (λ v. v ∷ g .used) (λ _. refl) o;
+        work = left-turn (g .work) h (its-turn g k) o (λ a e. ap (λ (x : ℕ). x ∷ g .used) e);
         names = subst (λ (x : ℕ). Used n (d′ .0) (x ∷ g .used)) (p .0 .kept) (used-more i at (p .0 .value) (omega (arith, g .many, g .few)) (g .late) (omega (arith, p .0 .kept)) (g .names) q);
         many = omega (arith, g .many);
         few = g .few;
@@ -294,9 +302,9 @@ module _ (n : ℕ) (ws : List ℕ) (at : ℕ) (d e : List ℕ) {d′ e′ : List
     unfolding records readBy stepOf layoutOf directoryOf relationsAt rulesAt blocksAt relationsLeft notesLeft count
     laid-yes x₁ o₁ n₂ o₂ n₃ o₃ x₄ o₄ c₁ c₂ =
         let a = there (λ a. 0) (defaulted n) ws at x₁ o₁ in
-        let p = noted-there (count list) (relations n) (noteAll n (k₁ .at)) ws (k₁ .at) (d, e) n₂ o₂ in
+        let p = noted-there n₂ o₂ in
         let b = p .0 in
-        let s = noted-there (count list) (rules n) (noteRules n (k₂ .at)) ws (k₂ .at) e₁ n₃ o₃ in
+        let s = noted-there n₃ o₃ in
         let c = s .0 in
         let f = there (λ a. 0) (blocks n) ws (k₃ .at) x₄ o₄ in
         let t : Records = (a .value, (b .value, (c .value, f .value))) in

@@ -1,23 +1,22 @@
 -- Laws of the notes that readers of records leave: bodies, members, derivations and relations.
-use Prim.Native.Nat.{ℕ, suc, _+_, _-_, _*_, _≤_, _<_}
+use Prim.Native.Nat.{ℕ, _+_, _-_, _*_, _≤_}
 use native.Mathlib.Omega.{arith}
 use mathlib.Core.Path.{_≡_, refl, ap, sym, _∙_, subst}
-use mathlib.Core.List.{List, [], _∷_, _++_}
-use mathlib.Core.Option.{Option, none, some}
+use mathlib.Core.List.{List, [], _∷_}
+use mathlib.Core.Option.{some}
 use lib.ListN.{length, set}
 use Rattle.pack.specs.declared.cursor.Cursor.{Cursor}
 use Rattle.pack.specs.declared.cursor.Step.{Step}
-use Rattle.pack.specs.declared.cursor.Step.the-variants.{On, Refused}
-use Rattle.definitions.specs.Form.{list, count, items, wordsAll, Form, field, wordsBy}
-use Rattle.definitions.specs.Tree.{Tree, root}
-use Rattle.definitions.specs.Records.{Body, Derivation, Relation}
-use Rattle.definitions.specs.Rows.{Chain, Member, RelationTail, toBody, toDerivation, toRelation, toRule}
-use Rattle.definitions.specs.Pack.{body, bodies, rule, nameList, chain, member, derivation, optionalDerivation, relationTail, newName, relation}
+use Rattle.pack.specs.declared.cursor.Step.the-variants.{On}
+use Rattle.definitions.specs.Form.{list, count, items, wordsAll, field, wordsBy}
+use Rattle.definitions.specs.Tree.{root}
+use Rattle.definitions.specs.Rows.{Member, RelationTail, toBody, toDerivation, toRelation, toRule}
+use Rattle.definitions.specs.Pack.{body, bodies, rule, nameList, chain, member, derivation, optionalDerivation, relationTail, relation}
 use Rattle.definitions.specs.Places.{hops}
 use Rattle.pack.specs.Packed.{boundOf}
-use Rattle.pack.specs.Readers.{stepOf, skipOver, itself, nameOf, fieldStep}
+use Rattle.pack.specs.Readers.{stepOf, skipOver, itself, fieldStep}
 use Rattle.reading.specs.Noting.{ReadyFor, Context, noteTree, NotedStep}
-use Rattle.records.specs.Directory.{Noted, chainLead, entities, derivedNote, memberNote, noteIn, tailNote, noteRelation}
+use Rattle.records.specs.Directory.{Noted, chainLead, derivedNote, memberNote, noteIn, tailNote, noteRelation}
 use Rattle.records.specs.Notes.{opened, inside, noteBody, noteMember, noteDerivation, noteOptional, noteTail, notePredicate, Both, noteBoth, noteBodies, noteRule}
 use Rattle.records.proofs.KeptLaws.{there, within, noted-then, noted-via, noted-as, noted-last, tree-noted}
 use Rattle.records.proofs.DirectoryLaws.{chain-words, derived-note}
@@ -36,7 +35,7 @@ body-noted n context ws at d {k = k} q o {x} {e} h =
     noted-via _ _ _ _ (λ b. 0) _ (noteBody context at) ws at d
     (noted-then itself (field n 27) ws at q o (λ sort. root n sort) (λ t. 0) (λ t. noteBody context at (toBody t)) d
     (λ t. subst (λ (s : ℕ). Noted (λ b. 0) (root n s) (λ b d. noteTree context b (at + 1, d) .1) ws (k .at) d x e) (sym (t .kept))
-    (noted-as _ _ _ _ _ _ _ _ h (λ u. ap (λ (i : ℕ). noteTree context u (i, d) .1) (t .on)))))
+    (noted-as h (λ u. ap (λ (i : ℕ). noteTree context u (i, d) .1) (t .on)))))
 
 names-words : (n : ℕ) (l : List ℕ) → length (wordsAll {S = Unit {0}} (λ s a. s) (λ s a. wordsBy (field n 10) a) tt l) ≡ length l
 unfolding wordsBy
@@ -60,7 +59,7 @@ module _ (n context : ℕ) (ws : List ℕ) (at : ℕ) (d : List ℕ) {y₁ y₂ 
       (λ b. noted-then (count list) (nameList n 21) ws (k₂ .at) q₃ o₃ _ _ (λ t. noteMember context at (a .value, (b .value, t))) d
       (λ l. let w = list-words n 21 (l .value) in
       let p : k₃ .at ≡ at + 3 + length (l .value) = omega (arith, a .on, b .on, l .on, w) in
-      noted-as _ _ _ _ _ _ _ _ (noted-last _ _ _ _ _ _ h o (λ u. derivedNote kinds slots (length (l .value)) lead) (λ t. ap (λ (i : ℕ). derivedNote kinds slots i lead) (l .kept) ∙ sym m)) (λ u. ap (λ (i : ℕ). noteTree context u (i, d) .1) p))))
+      noted-as (noted-last h o (λ u. derivedNote kinds slots (length (l .value)) lead) (λ t. ap (λ (i : ℕ). derivedNote kinds slots i lead) (l .kept) ∙ sym m)) (λ u. ap (λ (i : ℕ). noteTree context u (i, d) .1) p))))
 
 -- a derivation, of a relation that starts at a place
 module _ (n kinds start : ℕ) (ws : List ℕ) (at : ℕ) (d : List ℕ) {y : Step} {lead : ℕ} {k : Cursor} where
@@ -76,7 +75,7 @@ module _ (n kinds start : ℕ) (ws : List ℕ) (at : ℕ) (d : List ℕ) {y : St
       let at₁ : (x : ℕ) → k .at + 3 + x ≡ at + 4 + 3 * hops (a .value .1 .0) + 3 + x = λ x. omega (arith, a .on, long) in
       let same-note : (b : Member) → memberNote kinds slots lead b ≡ noteIn kinds (some (toDerivation (a .value, b)))
       = λ b. sym (derived-note n kinds (a .value) b (omega (arith, a .on, z)) (a .kept) refl refl) in
-      noted-as _ _ _ _ _ _ _ _ (subst (λ (f : Member → ℕ). Noted f (member n) (noteMember context (k .at)) ws (k .at) d₁ x e) (λ i. λ b. same-note b i) h)
+      noted-as (subst (λ (f : Member → ℕ). Noted f (member n) (noteMember context (k .at)) ws (k .at) d₁ x e) (λ i. λ b. same-note b i) h)
       (λ b. λ i. noteTree (c i) (b .1 .1 .1) (at₁ (length (b .1 .1 .0)) i, p i) .1)))
 
 -- what follows the name of a relation
@@ -92,7 +91,7 @@ module _ (n start : ℕ) (ws : List ℕ) (at : ℕ) (d : List ℕ) {y₁ y₂ y�
       (λ l. let w = list-words n 9 (l .value) in
       let p : k₃ .at ≡ at + 3 + length (l .value) = omega (arith, a .on, b .on, l .on, w) in
       subst (λ (m : ℕ). Noted (noteIn m) (optionalDerivation n) (noteOptional start (at + 3 + length (l .value))) ws (k₃ .at) d x e) (sym (l .kept))
-      (noted-as _ _ _ _ _ _ _ _ h (λ u. ap (λ (i : ℕ). noteOptional start i u d) p)))))
+      (noted-as h (λ u. ap (λ (i : ℕ). noteOptional start i u d) p)))))
 
 -- ---- where words stand that were read
 
@@ -130,7 +129,7 @@ module _ (n i : ℕ) (ws : List ℕ) (at : ℕ) (d : List ℕ) {y₁ y₂ y₃ :
       (noted-then (λ a. 0) (field n 23) ws at q₁ o₁ _ _ (λ t. noteRule n i at (toRule t)) d
       (λ a. noted-then (λ a. 0) (field n 24) ws (k₁ .at) q₂ o₂ _ _ (λ t. noteRule n i at (toRule (a .value, t))) d
       (λ b. noted-then (λ a. 0) (field n 25) ws (k₂ .at) q₃ o₃ _ _ (λ t. noteRule n i at (toRule (a .value, (b .value, t)))) d
-      (λ f. noted-as _ _ _ _ _ _ _ _ h (λ t. λ j. noteBodies n (c j) (at₁ j) t (p j))))))
+      (λ f. noted-as h (λ t. λ j. noteBodies n (c j) (at₁ j) t (p j))))))
 
 pub both-noted : (i at k : ℕ) (d e : List ℕ) → k ≡ at + 1 → {x v w : ℕ} (s : RelationTail) → x ≡ v → tailNote s ≡ w → {e′ : List ℕ} → e′ ≡ noteTail at k s e
     → _≡_ {A = Both} (set (set d i v) (512 + v) (at + 8192 * w), e′) (noteBoth i at (toRelation (x, s)) (d, e))

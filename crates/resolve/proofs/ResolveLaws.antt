@@ -28,15 +28,15 @@ use Rattle.records.specs.declared.directory.Laid.{Laid}
 use Rattle.records.specs.declared.directory.Laid.the-variants.{Yes}
 use Rattle.records.specs.Directory.{Clear}
 use Rattle.checking.specs.Checked.{namesSaid, CheckedNotes}
-use Rattle.checking.proofs.CheckLaws.{without-notes, clear-zeros}
+use Rattle.checking.proofs.CheckLaws.{without-notes}
 use Rattle.chains.specs.PackDirectory.{ClearTable, IsPack, IsDirectory}
 use Rattle.filtered.specs.Taking.{Filled}
 use Rattle.chains.proofs.CheckedLaws.{said-names, same-pack, short-checked}
-use Rattle.chains.proofs.EntryLaws.{directed, reaches-one}
+use Rattle.chains.proofs.EntryLaws.{directed, reaches-one, room-for}
 use Rattle.chains.proofs.DeclarationLaws.{a-record}
 use Rattle.turning.proofs.LeftLaws.{noted-there}
 use Rattle.inputs.proofs.BlocksStand.{reads-inputs}
-use Rattle.chains.proofs.PackParts.{parts, zero-at, find-name, find-kept}
+use Rattle.chains.proofs.PackParts.{parts, find-name, find-kept}
 use Rattle.definitions.specs.Tables.{Tables, derivedAt, tables}
 use Rattle.definitions.specs.Resolving.{equalKinds, defaultedEqual, equalRefusal, resolveRules, resolveRelations, stamp, firstRule, resolveRecords, resolved}
 use Rattle.definitions.specs.Operations.{givenOut, writtenOut, resolveAnswer, resolveBuffer}
@@ -546,12 +546,5 @@ module _ {ws dir acts taken asked notes : List ℕ} {f : Figures} {work : List �
 -- cleared tables for so many names
 pub tables-for : (ws : List ℕ) (most : ℕ) → most ≤ 4096 → namesSaid ws ≤ most → TablesFor ws (replicate (512 + most) 0) (replicate most 0) (replicate most 0) (replicate most 0)
 tables-for ws most few h =
-    let long = length-replicate {A = ℕ} most 0 in
-    let lent : ClearTable (namesSaid ws) (replicate most 0) = record { long = omega arith; short = omega arith; clear = zero-at most } in
-    record {
-      clear = clear-zeros (namesSaid ws) (512 + most) (omega arith);
-      reaches = record { most = omega arith; long = omega (arith, length-replicate {A = ℕ} (512 + most) 0) };
-      acts-lent = lent;
-      taken-lent = lent;
-      asked-lent = lent;
-    }
+    let r = room-for {ws = ws} {n = namesSaid ws} most refl h few in
+    record { clear = r .clear; reaches = r .reaches; acts-lent = r .lent; taken-lent = r .lent; asked-lent = r .lent }

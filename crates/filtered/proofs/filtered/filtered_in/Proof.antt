@@ -77,7 +77,13 @@ same-length-6 : tie.Need-same-length-6
 same-length-6 c = search needs
 
 returns-3 : tie.Need-returns-3
-returns-3 c = let d = directed (c .before .before .before .before .before .before .before .before .before .before .before .before .before .before .before .before .before .before .before .before .before .before .before .before .before .before .pre .0 .clear) (c .before .before .before .before .before .before .before .before .before .before .before .before .before .before .before .before .before .before .before .check-directory .ensures) (c .before .before .before .before .before .before .before .before .before .before .before .before .before .before .before .r .given .1) in filter-done _ _ _ (d .checked) (d .named) (omega arith) (c .before .before .before .before .before .before .before .before .fill .ensures)
+returns-3 c =
+    let on-the-way = c .before .before .before .before in let at-fill = on-the-way .before .before .before .before in
+    let at-if1 = at-fill .before .before .before .before .before in let at-r = at-if1 .before .before in
+    let at-check-directory = at-r .before .before .before .before in
+    let on-the-way-2 = at-check-directory .before .before .before .before .before .before in let start = on-the-way-2 .before in
+    let d = directed (start .pre .0 .clear) (at-check-directory .check-directory .ensures) (at-r .r .given .1) in
+    filter-done _ _ _ (d .checked) (d .named) (at-if1 .if1 .left) (at-fill .fill .ensures)
 
 pub filtered-in-spec : {M : Type 1} → statement M
 filtered-in-spec =

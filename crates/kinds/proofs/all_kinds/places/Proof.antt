@@ -1,5 +1,5 @@
 -- `kinds::all_kinds::places` meets its contract.
-use Prim.Native.Nat.{_-_, _<_}
+use Prim.Native.Nat.{_-_}
 use native.Mathlib.Omega.{arith}
 use mathlib.Core.Path.{refl}
 use lib.ListN.{length}

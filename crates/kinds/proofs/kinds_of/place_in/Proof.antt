@@ -61,7 +61,11 @@ same-length-4 : tie.Need-same-length-4
 same-length-4 c = search needs
 
 returns-3 : tie.Need-returns-3
-returns-3 c = let d = directed (c .before .before .before .before .before .before .before .before .before .before .before .before .before .before .before .before .before .before .before .pre .clear) (c .before .before .before .before .before .before .before .before .before .before .before .before .before .before .check-directory .ensures) (c .before .before .before .before .before .before .before .before .before .before .r .given .1) in name-place _ _ (d .checked) (d .named) (omega arith) (own-place d (lent-said d (c .before .before .before .before .before .before .before .before .before .before .before .before .before .before .before .before .before .before .before .pre .lent)) (c .before .before .walk .ensures))
+returns-3 c =
+    let at-walk = c .before .before in let at-if1 = at-walk .before .before .before .before .before in let at-r = at-if1 .before .before .before in
+    let at-check-directory = at-r .before .before .before .before in let start = at-check-directory .before .before .before .before .before in
+    let d = directed (start .pre .clear) (at-check-directory .check-directory .ensures) (at-r .r .given .1) in
+    name-place _ _ (d .checked) (d .named) (at-if1 .if1 .left) (own-place d (lent-said d (start .pre .lent)) (at-walk .walk .ensures))
 
 pub place-in-spec : {M : Type 1} → statement M
 place-in-spec =

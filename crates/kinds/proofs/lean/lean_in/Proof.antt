@@ -65,13 +65,25 @@ same-length-4 : tie.Need-same-length-4
 same-length-4 c = search needs
 
 returns-4 : tie.Need-returns-4
-returns-4 c = let d = directed (c .before .before .before .before .before .before .before .before .before .before .before .before .before .before .before .before .before .pre) (c .before .before .before .before .before .before .before .before .before .before .before .before .before .check-directory .ensures) (c .before .before .before .before .before .before .before .before .before .r .given .1) in rw (c .if3 .taken) at (leans-or-not _ _ _ (d .checked) (d .named) (omega arith) (omega arith) (its-leaning (d .checked) (d .noted) (d .counted) (c .before .leads .ensures)))
+returns-4 c =
+    let at-leads = c .before in let at-if2 = at-leads .before .before .before in let at-if1 = at-if2 .before .before in
+    let at-r = at-if1 .before .before .before in let at-check-directory = at-r .before .before .before .before in
+    let start = at-check-directory .before .before .before .before in
+    let d = directed (start .pre) (at-check-directory .check-directory .ensures) (at-r .r .given .1) in
+    rw (c .if3 .taken) at
+    (leans-or-not _ _ _ (d .checked) (d .named) (at-if1 .if1 .left) (at-if2 .if2 .left) (its-leaning (d .checked) (d .noted) (d .counted) (at-leads .leads .ensures)))
 
 same-length-5 : tie.Need-same-length-5
 same-length-5 c = search needs
 
 returns-5 : tie.Need-returns-5
-returns-5 c = let d = directed (c .before .before .before .before .before .before .before .before .before .before .before .before .before .before .before .before .before .pre) (c .before .before .before .before .before .before .before .before .before .before .before .before .before .check-directory .ensures) (c .before .before .before .before .before .before .before .before .before .r .given .1) in rw (c .if3 .left) at (leans-or-not _ _ _ (d .checked) (d .named) (omega arith) (omega arith) (its-leaning (d .checked) (d .noted) (d .counted) (c .before .leads .ensures)))
+returns-5 c =
+    let at-leads = c .before in let at-if2 = at-leads .before .before .before in let at-if1 = at-if2 .before .before in
+    let at-r = at-if1 .before .before .before in let at-check-directory = at-r .before .before .before .before in
+    let start = at-check-directory .before .before .before .before in
+    let d = directed (start .pre) (at-check-directory .check-directory .ensures) (at-r .r .given .1) in
+    rw (c .if3 .left) at
+    (leans-or-not _ _ _ (d .checked) (d .named) (at-if1 .if1 .left) (at-if2 .if2 .left) (its-leaning (d .checked) (d .noted) (d .counted) (at-leads .leads .ensures)))
 
 pub lean-in-spec : {M : Type 1} → statement M
 lean-in-spec =

@@ -1,5 +1,5 @@
 -- `records::derivation::derivation` meets its contract.
-use mathlib.Core.Path.{_≡_, refl}
+use mathlib.Core.Path.{refl}
 use native.Mathlib.Omega.{arith}
 use Rattle.definitions.specs.Pack.{derivation}
 use Rattle.pack.proofs.StepLaws.{by-via, by-then, then-stop, last-stop}
@@ -21,7 +21,7 @@ enum-told c = search needs
 
 returns : tie.Need-returns
 unfolding derivation
-returns c = noted-no _ _ _ _ _ _ (by-via _ _ _ _ _ _ _ _ (search (by-then, then-stop, last-stop) depth 14)) (c .enum-told .given .1)
+returns c = noted-no (by-via _ _ _ _ _ _ _ _ (search (by-then, then-stop, last-stop) depth 14)) (c .enum-told .given .1)
 
 open-requires : tie.Need-open-requires
 open-requires c κs =

@@ -1,6 +1,5 @@
 -- `records::derivation::derived` meets its contract.
-use mathlib.Core.Path.{sym, ap}
-use Prim.Native.Nat.{ℕ, _*_}
+use mathlib.Core.Path.{sym}
 use native.Mathlib.Omega.{arith}
 use borrow.Author.Tests.{eq-eqb, ne-eqb}
 use borrow.Author.Needs.{needs}

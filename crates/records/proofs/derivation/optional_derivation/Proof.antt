@@ -1,7 +1,7 @@
 -- `records::derivation::optional_derivation` meets its contract.
-use Prim.Native.Nat.{ℕ, _+_}
+use Prim.Native.Nat.{ℕ}
 use native.Mathlib.Omega.{arith}
-use mathlib.Core.Path.{_≡_, refl, sym, ap}
+use mathlib.Core.Path.{refl, sym, ap}
 use Rattle.definitions.specs.Pack.{optionalDerivation}
 use Rattle.definitions.specs.Table.{entryOf, table}
 use Rattle.pack.proofs.StepLaws.{walks, last-stop}
@@ -25,7 +25,7 @@ enum-told c = search needs
 
 returns : tie.Need-returns
 unfolding optionalDerivation
-returns c = noted-no _ _ _ _ _ _ (last-stop (λ a. 0) _ _ _ (search walks depth 12) _ (c .enum-told .given .1)) (c .enum-told .given .1)
+returns c = noted-no (last-stop (λ a. 0) _ _ _ (search walks depth 12) _ (c .enum-told .given .1)) (c .enum-told .given .1)
 
 plain-requires : tie.Need-plain-requires
 plain-requires c κs = search needs
@@ -48,7 +48,7 @@ returns-3 c =
     let at-derivation = c .before .before in let at-if1 = at-derivation .before .before in let at-f = at-if1 .before .before in
     let at-field = at-f .before .before in let start-2 = at-field .before .before .before in
     noted-some _ _ _ _ _ _ (at-field .field .ensures) (at-f .f .given .1) _ _ _ (at-if1 .if1 .left)
-    (noted-as _ _ _ _ _ _ _ _ (at-derivation .derivation .ensures)
+    (noted-as (at-derivation .derivation .ensures)
     (λ d. ap (λ (i : ℕ). noteDerivation (start-2 .args .start) i d (start-2 .args .notes .now)) (flag-on _ _ _ (at-field .field .ensures) (at-f .f .given .1))))
 
 pub optional-derivation-spec : {M : Type 1} → statement M

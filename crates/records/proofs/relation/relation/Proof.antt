@@ -1,11 +1,8 @@
 -- `records::relation::relation` meets its contract.
 use lib.ListN.{length-set}
-use mathlib.Core.Path.{refl}
 use native.Mathlib.Omega.{arith}
 use Rattle.definitions.specs.Pack.{relation}
 use Rattle.pack.proofs.StepLaws.{walks, by-via, by-then, last-stop}
-use Rattle.records.specs.Directory.{noteRelation}
-use Rattle.records.specs.Notes.{notePredicate, noteBoth}
 use Rattle.records.proofs.KeptLaws.{noted-no, noted-pair}
 use Rattle.records.proofs.DirectoryLaws.{name-read, note-fits}
 use Rattle.records.proofs.NotesLaws.{both-noted}
@@ -27,7 +24,7 @@ same-length c = search needs
 
 returns : tie.Need-returns
 unfolding relation
-returns c = noted-no _ _ _ _ _ _ (search walks depth 16) (c .enum-told .given .1)
+returns c = noted-no (search walks depth 16) (c .enum-told .given .1)
 
 relation-tail-requires : tie.Need-relation-tail-requires
 relation-tail-requires c κs =
@@ -51,7 +48,7 @@ unfolding relation
 returns-2 c =
     let at-relation-tail = c .before .before .before .before in let at-f1 = at-relation-tail .before .before .before in
     let at-new-name = at-f1 .before .before in
-    noted-no _ _ _ _ _ _ (by-via _ _ _ _ _ _ _ _ (by-then _ _ _ _ (at-new-name .new-name .ensures) _ _ (at-f1 .f1 .given .1)
+    noted-no (by-via _ _ _ _ _ _ _ _ (by-then _ _ _ _ (at-new-name .new-name .ensures) _ _ (at-f1 .f1 .given .1)
     (λ _. last-stop _ _ _ _ (at-relation-tail .relation-tail .ensures .answers) _ (c .enum-told2 .given .1)))) (c .enum-told2 .given .1)
 
 mul-dir : tie.Need-mul-dir

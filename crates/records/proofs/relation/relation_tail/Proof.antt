@@ -4,7 +4,7 @@ use native.Mathlib.Omega.{arith}
 use Rattle.definitions.specs.Pack.{relationTail}
 use Rattle.definitions.specs.Table.{entryOf, table}
 use Rattle.pack.proofs.StepLaws.{by-then, then-stop, last-stop}
-use Rattle.records.proofs.KeptLaws.{noted-no, there}
+use Rattle.records.proofs.KeptLaws.{noted-no}
 use Rattle.records.proofs.DirectoryLaws.{list-few}
 use Rattle.records.proofs.NotesLaws.{tail-noted, list-on, field-on}
 use borrow.Author.Needs.{needs}
@@ -23,7 +23,7 @@ enum-told c = search needs
 
 returns : tie.Need-returns
 unfolding relationTail
-returns c = noted-no _ _ _ _ _ _ (last-stop (λ a. 0) _ _ _ (search (by-then, then-stop) depth 16) _ (c .enum-told .given .1)) (c .enum-told .given .1)
+returns c = noted-no (last-stop (λ a. 0) _ _ _ (search (by-then, then-stop) depth 16) _ (c .enum-told .given .1)) (c .enum-told .given .1)
 
 skip-requires-2 : tie.Need-skip-requires-2
 unfolding entryOf table
@@ -37,7 +37,7 @@ enum-told-2 c = search needs
 
 returns-2 : tie.Need-returns-2
 unfolding relationTail
-returns-2 c = noted-no _ _ _ _ _ _ (last-stop (λ a. 0) _ _ _ (search (by-then, then-stop) depth 16) _ (c .enum-told2 .given .1)) (c .enum-told2 .given .1)
+returns-2 c = noted-no (last-stop (λ a. 0) _ _ _ (search (by-then, then-stop) depth 16) _ (c .enum-told2 .given .1)) (c .enum-told2 .given .1)
 
 name-list-requires : tie.Need-name-list-requires
 unfolding entryOf table
@@ -51,7 +51,7 @@ enum-told-3 c = search needs
 
 returns-3 : tie.Need-returns-3
 unfolding relationTail
-returns-3 c = noted-no _ _ _ _ _ _ (last-stop (λ a. 0) _ _ _ (search (by-then, then-stop) depth 16) _ (c .enum-told3 .given .1)) (c .enum-told3 .given .1)
+returns-3 c = noted-no (last-stop (λ a. 0) _ _ _ (search (by-then, then-stop) depth 16) _ (c .enum-told3 .given .1)) (c .enum-told3 .given .1)
 
 optional-derivation-requires : tie.Need-optional-derivation-requires
 optional-derivation-requires c κs =

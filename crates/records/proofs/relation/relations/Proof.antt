@@ -1,13 +1,12 @@
 -- `records::relation::relations` meets its contract.
-use Prim.Native.Nat.{ℕ}
-use mathlib.Core.Path.{_≡_, refl, _∙_}
+use mathlib.Core.Path.{refl}
 use native.Mathlib.Omega.{arith}
 use Rattle.definitions.specs.Pack.{relations}
 use Rattle.definitions.specs.Form.{says}
 use Rattle.definitions.specs.Table.{entryOf, table}
-use Rattle.pack.proofs.StepLaws.{walks, last-stop, by-left, by-inv, all-stop}
-use Rattle.records.proofs.KeptLaws.{noted-no, noted-all}
-use Rattle.records.proofs.DirectoryLaws.{Relating, relating, relating-on, count-read, noted-used}
+use Rattle.records.proofs.KeptLaws.{noted-no}
+use Rattle.records.proofs.LoopLaws.{count-refused, turn-refused, noted-all}
+use Rattle.records.proofs.DirectoryLaws.{Relating, relating, its-turn, relating-on, count-read}
 use borrow.Author.Needs.{needs}
 use Rattle.records.proofs.relation.relations.Statement.{statement}
 use Rattle.records.proofs.relation.relations.Tie as tie
@@ -18,67 +17,16 @@ Inv-loop s t n dir₀ notes₀ count c₀ i₀ left₀ dir notes c i left = Rela
 abbrev μ-loop : tie.MeasureT-loop
 μ-loop s t n dir₀ notes₀ count c₀ i₀ left₀ dir notes c i left = left
 
-field-requires : tie.Need-field-requires Inv-loop μ-loop
-unfolding entryOf table
-field-requires c κs = refl
-
-enum-known-f : tie.Need-enum-known-f Inv-loop μ-loop
-enum-known-f c = search needs
-
-enum-told : tie.Need-enum-told Inv-loop μ-loop
-enum-told c = search needs
-
-returns : tie.Need-returns Inv-loop μ-loop
-unfolding relations
-returns c = noted-no _ _ _ _ _ _ (last-stop (λ a. 0) _ _ _ (search walks depth 16) _ (c .enum-told .given .1)) (c .enum-told .given .1)
-
 loop-holds : tie.Need-loop-holds Inv-loop μ-loop
 loop-holds c =
     let at-f = c .before in let at-field = at-f .before .before in let start = at-field .before .before .before .before in
     let r = count-read _ _ _ (at-field .field .ensures) (at-f .f .given .1) in relating _ _ (start .pre .2) (r .few) (r .late)
 
-relation-requires : tie.Need-relation-requires Inv-loop μ-loop
-relation-requires c κs =
-    let at-loop = c .before .before .before in let on-the-way = at-loop .before .before .before .before .before .before in
-    let start = on-the-way .before .before in
-    let g = (at-loop .loop .inv) in let p = (start .pre) in (p .0, p .1, omega (arith, g .many, g .few), g .names .long)
-
-enum-known-g : tie.Need-enum-known-g Inv-loop μ-loop
-enum-known-g c = search needs
-
-enum-told-2 : tie.Need-enum-told-2 Inv-loop μ-loop
-enum-told-2 c = search needs
-
-same-length : tie.Need-same-length Inv-loop μ-loop
-same-length c =
-    let on-the-way = c .before .before .before .before .before .before in let at-loop = on-the-way .before .before .before .before in
-    omega (arith, (at-loop .loop .inv) .kept)
-
-same-length-2 : tie.Need-same-length-2 Inv-loop μ-loop
-same-length-2 c =
-    let on-the-way = c .before .before .before .before .before .before in let at-loop = on-the-way .before .before .before .before in
-    omega (arith, (at-loop .loop .inv) .stays)
-
 returns-2 : tie.Need-returns-2 Inv-loop μ-loop
 unfolding relations says
 returns-2 c =
-    let at-relation = c .before .before .before .before .before .before in let at-loop = at-relation .before .before .before .before in
-    let at-f = at-loop .before .before in let at-field = at-f .before .before in
-    let g = (at-loop .loop .inv) in noted-no _ _ _ _ _ _
-    (last-stop (λ a. 0) _ _ _ (by-left _ _ _ _ _ _ _ _ _ (at-field .field .ensures) (at-f .f .given .1) refl
-    (by-inv (g .work .walks) (all-stop _ _ _ _ _ _ (omega arith) _ (noted-used _ _ (g .names) (at-relation .relation .ensures) .answers) (c .enum-told2 .given .1)))) _
-    (c .enum-told2 .given .1)) (c .enum-told2 .given .1)
-
-add-i : tie.Need-add-i Inv-loop μ-loop
-add-i c =
-    let on-the-way = c .before .before .before .before .before .before in let at-loop = on-the-way .before .before .before .before .before in
-    let g = (at-loop .loop .inv) in omega (arith, g .many, g .few)
-
-sub-left : tie.Need-sub-left Inv-loop μ-loop
-sub-left c = search needs
-
-loop-less : tie.Need-loop-less Inv-loop μ-loop
-loop-less c = search needs
+    let at-relation = c .before .before .before .before .before .before in let g = at-relation .before .before .before .before .loop .inv in
+    let answers = its-turn _ _ g (at-relation .relation .ensures) .answers in search (noted-no, turn-refused, answers, arith)
 
 loop-again : tie.Need-loop-again Inv-loop μ-loop
 loop-again c =
@@ -86,15 +34,34 @@ loop-again c =
     let at-loop = at-relation .before .before .before .before in
     relating-on _ _ (at-loop .loop .inv) (omega arith) (at-relation .relation .ensures) (at-g .g .given .1) (omega arith)
 
-same-length-3 : tie.Need-same-length-3 Inv-loop μ-loop
-same-length-3 c = omega (arith, (c .before .loop .inv) .kept)
-
-same-length-4 : tie.Need-same-length-4 Inv-loop μ-loop
-same-length-4 c = omega (arith, (c .before .loop .inv) .stays)
-
 returns-3 : tie.Need-returns-3 Inv-loop μ-loop
 unfolding relations
-returns-3 c = noted-all _ _ _ _ _ _ _ _ _ _ _ _ (c .before .before .before .before .before .field .ensures) (c .before .before .before .f .given .1) ((c .before .loop .inv) .work) (omega arith)
+returns-3 c =
+    let at-loop = c .before in let at-f = at-loop .before .before in
+    noted-all (at-f .before .before .field .ensures) (at-f .f .given .1) (at-loop .loop .inv .work) (omega arith)
 
 pub relations-spec : {M : Type 1} → statement M
-relations-spec = tie.close (tie.spec Inv-loop μ-loop field-requires enum-known-f enum-told returns loop-holds relation-requires enum-known-g enum-told-2 same-length same-length-2 returns-2 add-i sub-left loop-less loop-again same-length-3 same-length-4 returns-3)
+unfolding relations entryOf table
+relations-spec =
+    tie.close
+    (tie.spec
+    Inv-loop
+    μ-loop
+    (λ c κs. refl)
+    (λ c. search needs)
+    (λ c. search needs)
+    (λ c. search (noted-no, count-refused))
+    loop-holds
+    (λ c κs. search needs)
+    (λ c. search needs)
+    (λ c. search needs)
+    (λ c. search needs)
+    (λ c. search needs)
+    returns-2
+    (λ c. search needs)
+    (λ c. search needs)
+    (λ c. search needs)
+    loop-again
+    (λ c. search needs)
+    (λ c. search needs)
+    returns-3)

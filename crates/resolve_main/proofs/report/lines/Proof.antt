@@ -60,12 +60,12 @@ loop-less c = omega arith
 
 loop-again : tie.Need-loop-again Inv-loop μ-loop
 loop-again c =
-    let l = c .before .before .before .before .before .before .before .before .before .loop in
-    let start = c .before .before .before .before .before .before .before .before .before .before .before .before in
+    let at-line = c .before .before in let on-the-way = at-line .before .before .before .before in let at-loop = on-the-way .before .before .before in
+    let l = at-loop .loop in let start = at-loop .before .before .before in
     record {
       within = omega arith;
-      long = c .before .before .line .kept .1 .1 .1 .1 .0 ∙ l .inv .long;
-      adds = lines-turn (start .args .out .now) (start .args .text .now) (l .i) (start .args .from) (omega arith) (omega arith) (l .inv .adds) (c .before .before .line .ensures);
+      long = at-line .line .kept .1 .1 .1 .1 .0 ∙ l .inv .long;
+      adds = lines-turn (start .args .out .now) (start .args .text .now) (l .i) (start .args .from) (omega arith) (omega arith) (l .inv .adds) (at-line .line .ensures);
     }
 
 same-length : tie.Need-same-length Inv-loop μ-loop

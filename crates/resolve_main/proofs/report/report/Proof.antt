@@ -47,8 +47,9 @@ same-length-2 c = search needs
 
 returns-2 : tie.Need-returns-2
 returns-2 c =
-    let start = c .before .before .before .before .before .before .before .before .before .before in
-    prints (c .before .before .refused-line .ensures) (refused-text (wordsOf (start .args .out .now)) (c .before .before .before .before .before .before .before .decode .ensures) (c .before .before .before .before .before .r .given .1))
+    let at-refused-line = c .before .before in let at-r = at-refused-line .before .before .before in let at-decode = at-r .before .before in
+    let start = at-decode .before .before .before in
+    prints (at-refused-line .refused-line .ensures) (refused-text (wordsOf (start .args .out .now)) (at-decode .decode .ensures) (at-r .r .given .1))
 
 pub report-spec : {M : Type 1} → statement M
 report-spec =
