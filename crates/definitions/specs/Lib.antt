@@ -18,4 +18,5 @@ pub mod ResolvingTrees
 pub mod Resolving
 pub mod Operations
 pub mod Bytes
+pub mod Text
 pub mod Dealt

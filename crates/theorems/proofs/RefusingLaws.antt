@@ -27,12 +27,11 @@ use Rattle.definitions.specs.Filtered.{filterWords}
 use Rattle.filtered.proofs.FilterLaws.{filter-numbers}
 use Rattle.definitions.specs.Resolving.{resolved}
 use Rattle.theorems.proofs.ResolveNumbers.{ResolveRefuses, checks, equal-kinds, open-direction, no-room, resolve-numbers}
-use Rattle.definitions.specs.Bytes.{wordsOf, encode, areWords, notWords, overBytes, outAfter, inRoom}
+use Rattle.definitions.specs.Bytes.{wordsOf, encode, numberField, areWords, notWords, overBytes, outAfter, inRoom}
 use Rattle.definitions.specs.declared.operation.Question.{Question}
 use Rattle.definitions.specs.declared.operation.Question.the-variants.{Check, KindsOf, Lean}
 use Rattle.definitions.specs.declared.operation.Writing.{Writing}
 use Rattle.definitions.specs.declared.operation.Writing.the-variants.{Rewrite, AllKinds, Filtered, Resolve}
-use Rattle.wire.specs.Decoding.{numberField}
 use Rattle.theorems.specs.Refusing.{checkNumbers, numbersTo, numbersOf, Among, NoneOrAmong, QuestionRefuses, WritingRefuses}
 
 -- ---- numbers among numbers
