@@ -28,8 +28,7 @@ use Rattle.chains.specs.Record.{Recorded}
 use Rattle.stamping.specs.Stamping.{listsFor, addedBy, Listed}
 use Rattle.resolve.specs.Writing.{sums, lengths, beginnings, otherPieces, piecesOf, Stamped, WriteAsked, WriteCame}
 use Rattle.directions.specs.RecordRuns.{placesFrom, runWords, runBy, RelationKeeps, withRecords, treesResolved, placesIn, TablesFilled}
-use Rattle.definitions.specs.Operations.{givenOut, writtenOut}
-use Rattle.resolve.specs.Finish.{stampAll, AskedOf, ClearFor, FinishAsked, FinishCame}
+use Rattle.resolve.specs.Finish.{stampAll, AskedOf, ClearFor, FinishAsked, givenOut, writtenOut, FinishCame}
 use Rattle.directions.proofs.KeepsForm.{Good}
 use Rattle.directions.proofs.ResolvedFine.{RulesFine, rules-good}
 use Rattle.resolve.proofs.ResolvedPack.{least-words, rules-fine}

@@ -39,13 +39,13 @@ use Rattle.inputs.proofs.BlocksStand.{reads-inputs}
 use Rattle.chains.proofs.PackParts.{parts, zero-at, find-name, find-kept}
 use Rattle.definitions.specs.Tables.{Tables, derivedAt, tables}
 use Rattle.definitions.specs.Resolving.{equalKinds, defaultedEqual, equalRefusal, resolveRules, resolveRelations, stamp, firstRule, resolveRecords, resolved}
-use Rattle.definitions.specs.Operations.{givenOut, writtenOut, resolveAnswer, resolveBuffer}
+use Rattle.definitions.specs.Operations.{resolveAnswer, resolveBuffer}
 use Rattle.directions.specs.Words.{derivedIn, tablesIn, firstEqual}
 use Rattle.chains.specs.Record.{valueAt}
 use Rattle.directions.specs.RecordRuns.{withRecords, treesResolved, TablesFilled}
 use Rattle.resolve.specs.declared.finish.Figures.{Figures}
-use Rattle.resolve.specs.Writing.{beginnings, piecesOf}
-use Rattle.resolve.specs.Finish.{stampAll, resolvedTrees, AskedOf, TreesAsked, TreesCame, ResolveAsked, PlacedAsked, TablesFor, CheckedAsked, RoomFor, frontOf, Into, FinishAsked, FinishCame}
+use Rattle.resolve.specs.Pieces.{beginnings, piecesOf}
+use Rattle.resolve.specs.Finish.{stampAll, resolvedTrees, AskedOf, TreesAsked, TreesCame, ResolveAsked, PlacedAsked, TablesFor, CheckedAsked, RoomFor, frontOf, Into, FinishAsked, FinishCame, givenOut, writtenOut}
 use Rattle.turning.specs.declared.turns.Ended.{Ended}
 use Rattle.turning.specs.declared.turns.Ended.the-variants as ended
 use Rattle.turning.specs.declared.turns.Counts.{Counts}

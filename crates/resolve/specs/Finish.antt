@@ -17,14 +17,14 @@ use Rattle.records.specs.declared.directory.Layout.{Layout}
 use Rattle.records.specs.Directory.{Clear}
 use Rattle.checking.specs.Checked.{namesSaid}
 use Rattle.chains.specs.PackDirectory.{ClearTable, IsDirectory}
-use Rattle.definitions.specs.Answers.{tableFrom, Outcome, done, refused}
+use Rattle.definitions.specs.Answers.{tableFrom, Outcome, done, refused, mapDone, given, written}
 use Rattle.chains.specs.Record.{valueAt}
 use Rattle.chains.specs.Entry.{Reaches, startsIn, namesIn}
 use Rattle.filtered.specs.Taking.{NamesLow, Filled}
 use Rattle.definitions.specs.Tables.{tables}
 use Rattle.definitions.specs.Resolving.{defaultedEqual, equalRefusal, stamp, atomNames, inDerivation, roleJudgment}
-use Rattle.definitions.specs.Operations.{givenOut, writtenOut, resolveAnswer, resolveBuffer}
-use Rattle.resolve.specs.Writing.{beginnings, piecesOf, withRelations}
+use Rattle.definitions.specs.Operations.{wholePack, resolveAnswer, resolveBuffer}
+use Rattle.resolve.specs.Pieces.{beginnings, piecesOf, withRelations}
 use Rattle.directions.specs.RecordRuns.{treesResolved, TablesFilled}
 use Rattle.turning.specs.declared.turns.Ended.{Ended}
 use Rattle.turning.specs.declared.turns.Counts.{Counts}
@@ -114,6 +114,13 @@ pub record ClearFor (places t : List ℕ) : Type 0 where
   pub most : ℕ
   pub zeros : t ≡ replicate most 0
   pub room : length places ≤ most
+
+-- Resolve's answer in a slice of so many words, and what it leaves there, by what resolving comes to
+abbrev pub givenOut : ℕ → ℕ → Outcome Pack → Answer
+givenOut steps room o = given steps room (mapDone wholePack o)
+
+abbrev pub writtenOut : List ℕ → Outcome Pack → List ℕ
+writtenOut lent o = written lent (mapDone wholePack o)
 
 -- what is answered and left of them
 pub record FinishCame (ws lent : List ℕ) (answer : Answer) (left : List ℕ) : Type 0 where

@@ -30,7 +30,8 @@ use Rattle.definitions.specs.Filtered.{kindAt, listed, entityIs, takes, takenFr
 use Rattle.definitions.specs.Tables.{Derived, Tables, derivedBy, derivedAt, pair, typedBy, typedAt, tables}
 use Rattle.definitions.specs.Resolving.{sameKind, equalKinds, defaultedEqual, equalRefusal, resolveRules, predicateBy, resolvePredicate, resolveDerivation, resolveRelation, withPredicate, resolveRelations, empty, unlike, passedOver, orKinds, stampedWith, stampBy, stampDerived, stamp, firstRule, resolveRecords, resolved}
 use Rattle.directions.proofs.Numbers.{Numbered, rules-numbered, relations-numbered}
-use Rattle.definitions.specs.Operations.{givenOut, resolveAnswer}
+use Rattle.definitions.specs.Operations.{resolveAnswer}
+use Rattle.resolve.specs.Finish.{givenOut}
 use Rattle.theorems.specs.Demand3.{relationOut, DerivedRelation, TakesOne, EqualKinds, ListsLeft, as-they-stood, stamped, KindsUsed}
 use Rattle.resolve.proofs.ResolveLaws.{equal-named}
 

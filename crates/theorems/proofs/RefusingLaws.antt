@@ -21,7 +21,8 @@ use Rattle.pack.proofs.Refusals.{CheckRefuses, check-numbers, rewrite-numbers}
 use Rattle.definitions.specs.Kinds.{allKinds}
 use Rattle.definitions.specs.Places.{allKindsWords}
 use Rattle.chains.proofs.RefusalNumbers.{no-given, NoRoom}
-use Rattle.definitions.specs.Operations.{allKindsAnswer, allKindsBuffer, filterAnswer, filterBuffer, givenOut, writtenOut, resolveAnswer, resolveBuffer, answerTo, answerOf, bufferOf}
+use Rattle.definitions.specs.Operations.{allKindsAnswer, allKindsBuffer, filterAnswer, filterBuffer, resolveAnswer, resolveBuffer, answerTo, answerOf, bufferOf}
+use Rattle.resolve.specs.Finish.{givenOut, writtenOut}
 use Rattle.theorems.proofs.KindsNumbers.{all-kinds-numbers, kinds-of-numbers, lean-numbers}
 use Rattle.definitions.specs.Filtered.{filterWords}
 use Rattle.filtered.proofs.FilterLaws.{filter-numbers}

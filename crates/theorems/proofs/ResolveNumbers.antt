@@ -18,7 +18,8 @@ use Rattle.pack.proofs.Refusals.{CheckRefuses, read-numbers}
 use Rattle.definitions.specs.Kinds.{allKinds}
 use Rattle.definitions.specs.ResolvingTrees.{InRange}
 use Rattle.definitions.specs.Resolving.{resolved}
-use Rattle.definitions.specs.Operations.{givenOut, resolveAnswer}
+use Rattle.definitions.specs.Operations.{resolveAnswer}
+use Rattle.resolve.specs.Finish.{givenOut}
 use Rattle.directions.proofs.Numbers.{refused-number}
 use Rattle.resolve.proofs.RefusalNames.{Told, resolved-told}
 
