@@ -43,7 +43,7 @@ pub fn judge(e: Entry, pack: &[u32], length: usize, words: &[u32], out: &mut [u3
     let expected = e.expected;
     let a = compare::fields(answer_of(e, &pack[0..length], &mut out[0..room]));
     if !compare::same(expected, a) {
-        return Found::Answer(expected, a);
+        return Found::OtherAnswer(expected, a);
     }
     compare::unlike(out, words)
 }

@@ -21,7 +21,7 @@ use Rattle.chains.specs.Entry.{declarationsIn, namesIn}
 use Rattle.chains.specs.Settle.{Leading, Marked, OnPath, Settleable, SettledAll, Placeable}
 use Rattle.records.specs.declared.directory.Layout.{Layout}
 use Rattle.checking.specs.Checked.{namesSaid}
-use Rattle.chains.specs.PackDirectory.{IsPack, Counted, Named, IsDirectory, KindsMarked, ClearTable}
+use Rattle.chains.specs.PackDirectory.{IsPack, RelationsCounted, Named, IsDirectory, KindsMarked, ClearTable}
 use Rattle.chains.proofs.RelationForm.{RelationsFine, kept}
 use Rattle.chains.proofs.PackParts.{parts, split, opening, opening-length, relationsPart}
 use Rattle.chains.proofs.Names.{or-left, or-right}

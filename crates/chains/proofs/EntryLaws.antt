@@ -14,7 +14,7 @@ use Rattle.definitions.specs.Table.{pick}
 use Rattle.definitions.specs.Table as tables
 use Rattle.definitions.specs.Form.{among, wordsBy, count, items}
 use Rattle.definitions.specs.Records.{Hop, Derivation, Relation, Pack}
-use Rattle.definitions.specs.Rows.{toRow}
+use Rattle.definitions.specs.FieldRows.{toRow}
 use Rattle.definitions.specs.Pack.{WellFormed, yes, read, newName, relation, relations, defaulted}
 use Rattle.records.specs.declared.directory.Layout.{Layout}
 use Rattle.records.specs.declared.directory.Laid.{Laid}

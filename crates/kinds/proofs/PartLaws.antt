@@ -13,7 +13,7 @@ use Rattle.definitions.specs.Answers.{tableFrom}
 use Rattle.chains.specs.Entry.{declarationsIn, namesIn}
 use Rattle.chains.specs.Settle.{Walkable, WalkedHere, Placeable}
 use Rattle.chains.specs.PackDirectory.{IsDirectory, KindsMarked, ClearTable}
-use Rattle.kinds.specs.Parts.{placeAt, OwnPlace, KindsLeft}
+use Rattle.kinds.specs.KindsPromises.{placeAt, OwnPlace, KindsLeft}
 use Rattle.chains.proofs.KindLaws.{in-row, words-own}
 use Rattle.chains.proofs.EntryLaws.{name-here, names-long}
 use Rattle.chains.proofs.AllKindsLaws.{own-found}

@@ -14,7 +14,7 @@ use Rattle.definitions.specs.declared.answer.Answer.the-variants.{Given}
 use Rattle.definitions.specs.Table.{pick, wordOf}
 use Rattle.definitions.specs.Form.{count, items, says, wordsBy, Fine}
 use Rattle.definitions.specs.Records.{Relation, Rule, Pack}
-use Rattle.definitions.specs.Rows.{toRow}
+use Rattle.definitions.specs.FieldRows.{toRow}
 use Rattle.definitions.specs.Pack.{WellFormed, yes, read, words, total, relations, rules, blocks, records, inner, rule}
 use Rattle.definitions.specs.Answers.{noRoom, Outcome, done, refused, andThen, mapDone}
 use Rattle.pack.proofs.PackLaws.{words-read, words-length}
@@ -26,7 +26,7 @@ use Rattle.chains.proofs.CheckedLaws.{same-pack}
 use Rattle.definitions.specs.Resolving.{stamp, ruleWords, resolveRule, resolveRules, resolveRelation, resolveRelations, firstRule}
 use Rattle.chains.specs.Record.{Recorded}
 use Rattle.stamping.specs.Stamping.{listsFor, addedBy, Listed}
-use Rattle.resolve.specs.Writing.{sums, lengths, beginnings, otherPieces, piecesOf, Stamped, WriteAsked, WriteCame}
+use Rattle.resolve.specs.Pieces.{sums, lengths, beginnings, otherPieces, piecesOf, Stamped, WriteAsked, WriteCame}
 use Rattle.directions.specs.RecordRuns.{placesFrom, runWords, runBy, RelationKeeps, withRecords, treesResolved, placesIn, TablesFilled}
 use Rattle.resolve.specs.Finish.{stampAll, AskedOf, ClearFor, FinishAsked, givenOut, writtenOut, FinishCame}
 use Rattle.directions.proofs.KeepsForm.{Good}

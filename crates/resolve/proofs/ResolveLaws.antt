@@ -50,7 +50,7 @@ use Rattle.turning.specs.declared.turns.Ended.{Ended}
 use Rattle.turning.specs.declared.turns.Ended.the-variants as ended
 use Rattle.turning.specs.declared.turns.Counts.{Counts}
 use Rattle.turning.specs.Notes.{notesOfPack}
-use Rattle.turning.specs.Steps.{knownIn, TurnedAs, PackAsked, PackTurned}
+use Rattle.turning.specs.TurnPromises.{knownIn, TurnedAs, PackAsked, PackTurned}
 use Rattle.turning.specs.Asked.{markNotes, InWords, MarksAsked, NotesMarked}
 use Rattle.turning.proofs.KnownLaws.{notes-inside, known-is}
 use Rattle.turning.proofs.MarkedLaws.{marks-are}

@@ -30,7 +30,7 @@ use Rattle.turning.specs.declared.turns.Ended.{Ended}
 use Rattle.turning.specs.declared.turns.Counts.{Counts}
 use Rattle.turning.specs.Notes.{Note, Held, NotesIn}
 use Rattle.turning.specs.Asked.{InWords}
-use Rattle.turning.specs.Steps.{TurnedAs, PackAsked}
+use Rattle.turning.specs.TurnPromises.{TurnedAs, PackAsked}
 use Rattle.turning.specs.Asked.{NotesMarked}
 use Rattle.directions.specs.Words.{firstEqual}
 use Rattle.definitions.specs.Table as table

@@ -24,7 +24,7 @@ use Rattle.directions.proofs.Numbers.{OfInput, input-numbered}
 use Rattle.directions.proofs.CheckedTables.{tables-are}
 use Rattle.turning.specs.Notes.{Note, notesOfPack}
 use Rattle.turning.specs.Turns.{KnownTables, knownOf}
-use Rattle.turning.specs.Steps.{orNot, knownIn, Stands, Placed}
+use Rattle.turning.specs.TurnPromises.{orNot, knownIn, Stands, Placed}
 use Rattle.turning.specs.Asked.{InWords}
 use Rattle.turning.proofs.PlacedLaws.{all-placed}
 

@@ -11,7 +11,7 @@ use Rattle.definitions.specs.Table.{judgment}
 use Rattle.definitions.specs.Form.{Fine, wordsBy}
 use Rattle.definitions.specs.Tree.{Tree, root, tree}
 use Rattle.definitions.specs.Records.{Derivation, Relation, Body, Rule, Pack}
-use Rattle.definitions.specs.Rows.{toRow}
+use Rattle.definitions.specs.FieldRows.{toRow}
 use Rattle.definitions.specs.Pack.{WellFormed, yes, read, total, body, rule}
 use Rattle.pack.proofs.PackLaws.{words-read, words-length}
 use Rattle.reading.specs.Noting.{push, nextNote, noteTree, pushAll}

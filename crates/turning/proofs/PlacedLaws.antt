@@ -34,7 +34,7 @@ use Rattle.directions.proofs.RelationLaws.{lead, lead-words, lead-long, predica
 use Rattle.directions.proofs.TurnedPack.{front, pack-words, front-long, front22, pack-words-22, front22-long, rules-keep, relations-keep}
 use Rattle.turning.specs.Notes.{Note, note, lookBy, lookOf, noted, within, notesOf, notesIn, notesRun, bodyNotes, ruleNotes, derivedNotes, relationNotes, relationsNoted, rulesNoted, notesOfPack}
 use Rattle.turning.specs.Turns.{valueIn, kindHere}
-use Rattle.turning.specs.Steps.{NodeStands, RootStands, Stands, Placed}
+use Rattle.turning.specs.TurnPromises.{NodeStands, RootStands, Stands, Placed}
 use Rattle.turning.proofs.FlatLaws.{kind-there, value-there}
 use Rattle.turning.proofs.RecordFlat.{value-is, kind-is, its-derivation, name-below}
 

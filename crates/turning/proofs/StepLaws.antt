@@ -26,7 +26,7 @@ use Rattle.turning.specs.declared.step.Out.{Out}
 use Rattle.turning.specs.declared.step.Out.the-variants.{Opens, Passes, Stops}
 use Rattle.turning.specs.Notes.{Note, lookBy, lookOf, noteCode}
 use Rattle.turning.specs.Turns.{lostOf, valueIn, kindHere, held, fieldsAt, stepAt}
-use Rattle.turning.specs.Steps.{orNot, NodeStands, turnAt, outBy, outAt, wentBy, testedBy, allowedBy, onlyBy, OutFits, StepTaken}
+use Rattle.turning.specs.TurnPromises.{orNot, NodeStands, turnAt, outBy, outAt, wentBy, testedBy, allowedBy, onlyBy, OutFits, StepTaken}
 use Rattle.turning.proofs.CodeLaws.{code-parts}
 
 -- ---- fields read from the words

@@ -3,7 +3,7 @@ use native.Mathlib.Omega.{arith}
 use Prim.Native.Nat.{ℕ, _-_}
 use mathlib.Core.Path.{_≡_, refl, sym, _∙_}
 use lib.ListN.{length, length-set}
-use Rattle.resolve.specs.Writing.{joined, WriteAsked}
+use Rattle.resolve.specs.Pieces.{joined, WriteAsked}
 use Rattle.resolve.proofs.WriteLaws.{Writing, part-within, part-asked, part-put, all-put}
 use Rattle.resolve.proofs.WrittenPack.{come, come-long, come-few, writing-begin, not-empty, writing-end}
 use borrow.Author.Needs.{needs}
