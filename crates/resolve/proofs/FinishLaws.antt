@@ -163,7 +163,7 @@ module _ (p : Pack) (w : WellFormed p) (rels : List Relation) (rls : List Rule) 
 
       its-words : {left : List ℕ} → WriteCame ws table found work room left → left ≡ words (stampAll p q)
       unfolding its-asked
-      its-words c = c .each its-asked
+      its-words c = c its-asked
 
 -- ---- for the code
 

@@ -290,7 +290,7 @@ module _ {ws dir notes : List ℕ} {f : Figures} {room : ℕ} (o : OrderAsked ws
 
         pub rules-in : Filled places ((((0 ∷ []) ++ orderIn dir (f .relations)) ++ (f .rules ∷ [])) ++ rootsOf (rulesNoted p)) four last
         unfolding rules-asked
-        rules-in = fill-part places rule-count-in (omega (arith, roots-many p, rules-many)) (omega (arith, table-long)) (t .each rules-asked)
+        rules-in = fill-part places rule-count-in (omega (arith, roots-many p, rules-many)) (omega (arith, table-long)) (t rules-asked)
 
         abbrev five : List ℕ
         five = set four last (f .notes .blocks .at - 1)

@@ -284,7 +284,7 @@ module _ {ws dir acts taken asked₀ notes : List ℕ} {f : Figures} {work : Lis
           says = λ r e.
               let low = its-low r e in
               let long : r .name < length asked₀ = omega (arith, a .lent .long, a .directory .named its checked) in
-              ap (λ (t : List ℕ). getD t (r .name) 0) (m .each (notesOfPack its) (a .noted .held) (a .noted .many) there ∙ ap (λ (x : List ℕ). markNotes x (notesOfPack its) 4096 asked₀) same-words)
+              ap (λ (t : List ℕ). getD t (r .name) 0) (m (notesOfPack its) (a .noted .held) (a .noted .many) there ∙ ap (λ (x : List ℕ). markNotes x (notesOfPack its) 4096 asked₀) same-words)
               ∙ marks-are its fine r e (omega (arith, parts its fine .most)) asked₀ long (a .lent .clear (r .name));
         }
 

@@ -79,8 +79,8 @@ pub record RulesAsked (notes : List ℕ) (from all room : ℕ) : Type 0 where
   pub size : room ≡ length (rootsOf ns)
   pub few : room ≤ 8192
 
-pub record RulesCame (notes : List ℕ) (from all room : ℕ) (left : List ℕ) : Type 0 where
-  pub each : (a : RulesAsked notes from all room) → left ≡ rootsOf (a .ns)
+abbrev pub RulesCame : List ℕ → ℕ → ℕ → ℕ → List ℕ → Type 0
+RulesCame notes from all room left = (a : RulesAsked notes from all room) → left ≡ rootsOf (a .ns)
 
 -- where so many blocks start, one after the other from a place on
 unfoldable pub blockPlaces : List ℕ → ℕ → ℕ → List ℕ
@@ -159,8 +159,8 @@ pub record OrderAsked (ws dir notes : List ℕ) (f : Figures) (room : ℕ) : Typ
   pub asked : ResolveAsked ws dir acts taken marks notes f work
   pub size : room ≡ length (piecesOf (asked .directory .checked .pack))
 
-pub record OrderCame (ws dir notes : List ℕ) (f : Figures) (room : ℕ) (left : List ℕ) : Type 0 where
-  pub each : (a : OrderAsked ws dir notes f room) → left ≡ beginnings 0 (piecesOf (a .asked .directory .checked .pack))
+abbrev pub OrderCame : List ℕ → List ℕ → List ℕ → Figures → ℕ → List ℕ → Type 0
+OrderCame ws dir notes f room left = (a : OrderAsked ws dir notes f room) → left ≡ beginnings 0 (piecesOf (a .asked .directory .checked .pack))
 
 -- tables with a word for each name that the words say, all 0, and a directory that has one for each of them
 pub record TablesFor (ws dir acts taken asked : List ℕ) : Type 0 where

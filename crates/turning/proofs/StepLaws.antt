@@ -198,7 +198,7 @@ module _ {ws acts taken : List ℕ} {blocks count origin entity at : ℕ} {m : M
   test-taken e {d} t {o} q =
       record {
         each = λ root same. q ∙ rw (e, two-fields ws at 0 (three-words s (slots-of e test-slots)))
-            (ap testedBy (t .each taken) ∙ test-out (fieldAt ws (at + 1)) (fieldAt ws (at + 2)) [] entity m (direction.memberDirection (tablesIn ws acts taken) (valueIn ws at) m (valueIn ws (at + 1)) (valueIn ws (at + 2))));
+            (ap testedBy (t taken) ∙ test-out (fieldAt ws (at + 1)) (fieldAt ws (at + 2)) [] entity m (direction.memberDirection (tablesIn ws acts taken) (valueIn ws at) m (valueIn ws (at + 1)) (valueIn ws (at + 2))));
         fits = rw q (test-fits d (member-fits-code ws acts (valueIn ws at) m (valueIn ws (at + 1)) (valueIn ws (at + 2)) (omega arith) (omega arith) t));
       }
 

@@ -95,7 +95,7 @@ same-length c =
     length-set (at-loop .loop .out) 0 _ ∙ (at-loop .loop) .inv _ refl (start-2 .pre) .size ∙ come-long (start-2 .pre)
 
 returns : tie.Need-returns Inv-loop μ-loop
-returns c = record { each = λ a. writing-end a (all-put _ _ _ _ _ ((c .before .loop) .inv _ refl a) ((c .loop-test) .left)) }
+returns c a = writing-end a (all-put _ _ _ _ _ ((c .before .loop) .inv _ refl a) ((c .loop-test) .left))
 
 pub write-spec : {M : Type 1} → statement M
 write-spec =
