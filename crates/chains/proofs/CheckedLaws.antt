@@ -17,10 +17,10 @@ use Rattle.definitions.specs.Pack.{WellFormed, yes, read, words}
 use Rattle.pack.proofs.PackLaws.{words-read, words-length}
 use Rattle.definitions.specs.Kinds.{declared, allKinds, ownAnswer}
 use Rattle.definitions.specs.Places.{placeOf}
-use Rattle.chains.specs.Entry.{declarationsIn, namesIn}
+use Rattle.chains.specs.DirectoryWord.{declarationsIn, namesIn}
 use Rattle.chains.specs.Settle.{Leading, Marked, OnPath, Settleable, SettledAll, Placeable}
 use Rattle.records.specs.declared.directory.Layout.{Layout}
-use Rattle.checking.specs.Checked.{namesSaid}
+use Rattle.checking.specs.CheckPromises.{namesSaid}
 use Rattle.chains.specs.PackDirectory.{IsPack, RelationsCounted, Named, IsDirectory, KindsMarked, ClearTable}
 use Rattle.chains.proofs.RelationForm.{RelationsFine, kept}
 use Rattle.chains.proofs.PackParts.{parts, split, opening, opening-length, relationsPart}

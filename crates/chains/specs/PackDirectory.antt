@@ -11,12 +11,12 @@ use Rattle.definitions.specs.FieldRows.{toRow}
 use Rattle.definitions.specs.Pack.{yes, read}
 use Rattle.records.specs.declared.directory.Layout.{Layout}
 use Rattle.records.specs.Directory.{blocksAt, Clear}
-use Rattle.checking.specs.Checked.{namesSaid}
+use Rattle.checking.specs.CheckPromises.{namesSaid}
 use Rattle.definitions.specs.Chain.{mapped}
 use Rattle.definitions.specs.Kinds.{find, declared, kindStep, allKinds, ownAnswer}
 use Rattle.definitions.specs.Places.{startOf, firstRelation, relationsEnd, hops, placeOf}
 use Rattle.chains.specs.Declaration.{codedLink}
-use Rattle.chains.specs.Entry.{Reaches, startsIn, slotsIn, declarationsIn, namesIn}
+use Rattle.chains.specs.DirectoryWord.{Reaches, startsIn, slotsIn, declarationsIn, namesIn}
 
 -- the words are those of a pack
 pub record IsPack (ws : List ℕ) : Type 0 where

@@ -29,7 +29,7 @@ use Rattle.records.specs.declared.directory.Laid.the-variants.{No as Out}
 use Rattle.records.specs.Directory.{Clear, stepIn, refusedLayout, layoutOf, directoryOf}
 use Rattle.records.specs.Notes.{relationsLeft, notesLeft, LaidOut}
 use Rattle.records.proofs.KeptLaws.{There, there, within}
-use Rattle.checking.specs.Checked.{namesSaid, LaidWhole, answerIn, CheckedNotes, DirectoryChecked}
+use Rattle.checking.specs.CheckPromises.{namesSaid, LaidWhole, answerIn, CheckedNotes, DirectoryChecked}
 use Rattle.pack.proofs.StepLaws.{went, went-same, by-then, by-value, step-no, field-fine, from-one}
 
 -- reading that starts at word 0

@@ -16,7 +16,7 @@ use Rattle.definitions.specs.Form.{among}
 use Rattle.definitions.specs.Chain.{end, next, mapped, Settled, nothing, AllWalked, walkAll, own, same}
 use Rattle.definitions.specs.Filtered.{innerAt, upTo, innerStep}
 use Rattle.definitions.specs.Answers.{tableFrom}
-use Rattle.chains.specs.Entry.{wordIn, declaredBy, declaredIn, declarationsIn}
+use Rattle.chains.specs.DirectoryWord.{wordIn, declaredBy, declaredIn, declarationsIn}
 use Rattle.chains.specs.Settle.{linkAt, Leading, settledIn, walksIn, Walkable, WalkedHere, SettledAll}
 use Rattle.chains.specs.PackDirectory.{ClearTable}
 use Rattle.filtered.specs.Said.{directOf, innerEntry, plainly, unseen, directIn, InnerAsked, InnerWords, InnerSettleable, InnerSettled, answered, InnerMarked}

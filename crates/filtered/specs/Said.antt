@@ -14,7 +14,7 @@ use Rattle.definitions.specs.declared.operation.Filter.the-variants.{Direct, In
 use Rattle.definitions.specs.Chain.{own, same}
 use Rattle.definitions.specs.Filtered.{upTo, innerStep, filterWords}
 use Rattle.definitions.specs.Answers.{tableFrom}
-use Rattle.chains.specs.Entry.{Reaches, wordIn, declaredBy, declarationsIn}
+use Rattle.chains.specs.DirectoryWord.{Reaches, wordIn, declaredBy, declarationsIn}
 use Rattle.chains.specs.Settle.{Settleable, SettledAll}
 use Rattle.filtered.specs.Taking.{several}
 

@@ -10,7 +10,7 @@ use Rattle.definitions.specs.Kinds.{declared, ownAnswer}
 use Rattle.definitions.specs.Places.{placeOf, allKindsWords}
 use Rattle.records.specs.declared.directory.Layout.{Layout}
 use Rattle.definitions.specs.Answers.{tableFrom}
-use Rattle.chains.specs.Entry.{declarationsIn, namesIn}
+use Rattle.chains.specs.DirectoryWord.{declarationsIn, namesIn}
 use Rattle.chains.specs.Settle.{Walkable, WalkedHere, Placeable}
 use Rattle.chains.specs.PackDirectory.{IsDirectory, KindsMarked, ClearTable}
 use Rattle.kinds.specs.KindsPromises.{placeAt, OwnPlace, KindsLeft}

@@ -15,7 +15,7 @@ use Rattle.definitions.specs.Pack.{WellFormed, words}
 use Rattle.definitions.specs.Kinds.{find}
 use Rattle.definitions.specs.Lean.{leadsWithin, sourceOf, sourceAt, sources, leans}
 use Rattle.records.specs.declared.directory.Layout.{Layout}
-use Rattle.chains.specs.Entry.{Reaches, startsIn}
+use Rattle.chains.specs.DirectoryWord.{Reaches, startsIn}
 use Rattle.chains.specs.PackDirectory.{IsPack, RelationsCounted, recordOf, RelationsNoted, IsDirectory}
 use Rattle.kinds.specs.KindsPromises.{Leaning}
 use Rattle.chains.specs.Record.{valueAt, kindCount, flagAt}

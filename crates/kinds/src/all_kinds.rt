@@ -15,7 +15,7 @@ ghost use mathlib.Core.Path.{_≡_};
 ghost use Prim.Native.Nat.{_≤_};
 ghost use lib.ListN.{length};
 ghost use Rattle.definitions.specs.Answers.{tableFrom, Answered};
-ghost use Rattle.chains.specs.Entry.{namesIn};
+ghost use Rattle.chains.specs.DirectoryWord.{namesIn};
 ghost use Rattle.chains.specs.Settle.{Placeable};
 ghost use Rattle.chains.specs.PackDirectory.{DirectoryRoom};
 ghost use Rattle.kinds.specs.KindsPromises.{placeAt};

@@ -16,7 +16,7 @@ use Rattle.pack.proofs.PackLaws.{words-read}
 use Rattle.definitions.specs.Kinds.{declared}
 use Rattle.definitions.specs.Places.{relationWords, startOf, firstRelation, relationsEnd}
 use Rattle.chains.specs.PackDirectory.{RulesAt, BlocksAt}
-use Rattle.chains.specs.Entry.{Reaches, startsIn, namesIn}
+use Rattle.chains.specs.DirectoryWord.{Reaches, startsIn, namesIn}
 use Rattle.chains.specs.Record.{valueAt}
 use Rattle.chains.proofs.RelationForm.{RelationsFine, kept}
 use Rattle.chains.proofs.PackParts.{EachFound, all-found, parts}

@@ -13,7 +13,7 @@ use Rattle.definitions.specs.Pack.{WellFormed, yes, read, words}
 use Rattle.definitions.specs.Table.{wordOf}
 use Rattle.pack.proofs.PackLaws.{words-read, words-length}
 use Rattle.definitions.specs.Places.{relationWords}
-use Rattle.chains.specs.Entry.{startsIn, namesIn}
+use Rattle.chains.specs.DirectoryWord.{startsIn, namesIn}
 use Rattle.chains.specs.Record.{valueAt}
 use Rattle.chains.proofs.FillLaws.{table-length}
 use Rattle.chains.proofs.PackParts.{parts}

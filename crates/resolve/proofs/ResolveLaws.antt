@@ -22,12 +22,12 @@ use Rattle.checking.proofs.OperationLaws.{turned-away}
 use Rattle.pack.proofs.PackLaws.{words-read, words-length}
 use Rattle.definitions.specs.Kinds.{find, kindsOf, allKinds}
 use Rattle.definitions.specs.Places.{firstRelation, startOf}
-use Rattle.chains.specs.Entry.{Reaches, startsIn, namesIn}
+use Rattle.chains.specs.DirectoryWord.{Reaches, startsIn, namesIn}
 use Rattle.records.specs.declared.directory.Layout.{Layout}
 use Rattle.records.specs.declared.directory.Laid.{Laid}
 use Rattle.records.specs.declared.directory.Laid.the-variants.{Yes}
 use Rattle.records.specs.Directory.{Clear}
-use Rattle.checking.specs.Checked.{namesSaid, CheckedNotes}
+use Rattle.checking.specs.CheckPromises.{namesSaid, CheckedNotes}
 use Rattle.checking.proofs.CheckLaws.{without-notes, clear-zeros}
 use Rattle.chains.specs.PackDirectory.{ClearTable, IsPack, IsDirectory}
 use Rattle.filtered.specs.Taking.{Filled}

@@ -15,11 +15,11 @@ use Rattle.definitions.specs.Pack.{yes, read, words}
 use Rattle.definitions.specs.Kinds.{find, allKinds}
 use Rattle.records.specs.declared.directory.Layout.{Layout}
 use Rattle.records.specs.Directory.{Clear}
-use Rattle.checking.specs.Checked.{namesSaid}
+use Rattle.checking.specs.CheckPromises.{namesSaid}
 use Rattle.chains.specs.PackDirectory.{ClearTable, IsDirectory}
 use Rattle.definitions.specs.Answers.{tableFrom, Outcome, done, refused, mapDone, given, written}
 use Rattle.chains.specs.Record.{valueAt}
-use Rattle.chains.specs.Entry.{Reaches, startsIn, namesIn}
+use Rattle.chains.specs.DirectoryWord.{Reaches, startsIn, namesIn}
 use Rattle.filtered.specs.Taking.{NamesLow, Filled}
 use Rattle.definitions.specs.Tables.{tables}
 use Rattle.definitions.specs.Resolving.{defaultedEqual, equalRefusal, stamp, atomNames, inDerivation, roleJudgment}

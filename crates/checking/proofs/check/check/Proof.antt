@@ -1,5 +1,5 @@
 -- `checking::check::check` meets its contract.
-use Rattle.checking.specs.Checked.{namesSaid}
+use Rattle.checking.specs.CheckPromises.{namesSaid}
 use mathlib.Core.Path.{_∙_}
 use native.Mathlib.Omega.{arith}
 use Rattle.checking.proofs.CheckLaws.{clear-zeros, said-most}
