@@ -1,7 +1,7 @@
 // A call of an operation, held to its entry.
 use crate::compare;
 use crate::compare::Found;
-use crate::list::Entry;
+use crate::list::ListEntry;
 use crate::operation;
 use checking::check::check;
 use checking::rewrite::rewrite;
@@ -13,7 +13,7 @@ use kinds::kinds_of::kinds_of;
 use kinds::lean::lean;
 use resolve::resolve::resolve;
 
-fn answer_of(e: Entry, pack: &[u32], out: &mut [u32]) -> Answer {
+fn answer_of(e: ListEntry, pack: &[u32], out: &mut [u32]) -> Answer {
     let operation = e.operation;
     match operation {
         operation::CHECK => check(pack),
@@ -31,7 +31,7 @@ fn answer_of(e: Entry, pack: &[u32], out: &mut [u32]) -> Answer {
 
 // A call on the first `length` words of `pack` has to answer as its entry says, and to leave these words in `out` and then what it
 // held before. It is lent the first words of `out`, as many as the entry says.
-pub fn judge(e: Entry, pack: &[u32], length: usize, words: &[u32], out: &mut [u32]) -> Found {
+pub fn judge(e: ListEntry, pack: &[u32], length: usize, words: &[u32], out: &mut [u32]) -> Found {
     let room = e.room as usize;
     if pack.len() < length {
         return Found::IllFormed;
@@ -43,7 +43,7 @@ pub fn judge(e: Entry, pack: &[u32], length: usize, words: &[u32], out: &mut [u3
     let expected = e.expected;
     let a = compare::fields(answer_of(e, &pack[0..length], &mut out[0..room]));
     if !compare::same(expected, a) {
-        return Found::Answer(expected, a);
+        return Found::OtherAnswer(expected, a);
     }
     compare::unlike(out, words)
 }

@@ -8,8 +8,8 @@ pub const MARK: u32 = 0xDEAD0000;
 // What came of a call: an answer or a word of the buffer may be another than the one expected, which stands before it.
 pub enum Found {
     Same,
-    Answer(Refusal, Refusal),
-    Word(usize, u32, u32),
+    OtherAnswer(Refusal, Refusal),
+    OtherWord(usize, u32, u32),
     IllFormed,
 }
 
@@ -48,7 +48,7 @@ pub fn unlike(out: &[u32], words: &[u32]) -> Found {
     while i < out.len() {
         let expected = if i < words.len() { words[i] } else { before };
         if out[i] != expected {
-            return Found::Word(i, expected, out[i]);
+            return Found::OtherWord(i, expected, out[i]);
         }
         before = std::num::wrapping_add_u32(before, 1);
         i += 1;

@@ -5,7 +5,7 @@ use definitions::answer::Refusal;
 // The words of all entries stand in one row: an entry leaves the first `kept`, puts `count` that follow it after these, and after
 // those `word`, `times` over. Of an answer that is given the number and the place are 0, the name is the value and the other the
 // steps.
-pub struct Entry {
+pub struct ListEntry {
     pub operation: u32,
     pub room: u32,
     pub first: u32,
@@ -26,8 +26,8 @@ fn answer(number: u32, place: u32, name: u32, other: u32) -> Refusal {
     }
 }
 
-fn entry_of(h: &[u32; 12]) -> Entry {
-    Entry {
+fn entry_of(h: &[u32; 12]) -> ListEntry {
+    ListEntry {
         operation: h[0],
         room: h[1],
         first: h[2],
@@ -64,7 +64,7 @@ pub fn read_words(bytes: &mut [u8], words: &mut [u32]) -> bool {
 }
 
 // The next entry; where the input ends, one whose operation there is not.
-pub fn read_entry(bytes: &mut [u8]) -> Entry {
+pub fn read_entry(bytes: &mut [u8]) -> ListEntry {
     let mut header = [0u32; 12];
     if !read_words(bytes, &mut header) {
         header[0] = u32::MAX;
@@ -73,7 +73,7 @@ pub fn read_entry(bytes: &mut [u8]) -> Entry {
 }
 
 // Puts the words of an entry in the row: how many it has, or more than the row has where it has no room or the input ends.
-pub fn bring(bytes: &mut [u8], row: &mut [u32], e: Entry) -> usize {
+pub fn bring(bytes: &mut [u8], row: &mut [u32], e: ListEntry) -> usize {
     let kept = e.kept as usize;
     let to = kept + e.count as usize;
     let end = to + e.times as usize;

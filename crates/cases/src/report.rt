@@ -34,13 +34,13 @@ pub fn differs(case: u64, call: u64, f: Found) {
     number(b"case ", case);
     number(b", call ", call);
     match f {
-        Found::Answer(expected, came) => {
+        Found::OtherAnswer(expected, came) => {
             text(b": expected ");
             answer(expected);
             text(b", came ");
             answer(came);
         }
-        Found::Word(place, expected, came) => {
+        Found::OtherWord(place, expected, came) => {
             number(b": word ", place as u64);
             word(b": expected ", expected);
             word(b", came ", came);

@@ -3,7 +3,7 @@ use crate::call::judge;
 use crate::compare;
 use crate::compare::Found;
 use crate::list;
-use crate::list::Entry;
+use crate::list::ListEntry;
 use crate::operation;
 use crate::report;
 
@@ -71,7 +71,7 @@ impl Totals {
         self
     }
 
-    fn entry(self, e: Entry, words: &[u32], pack: &mut [u32], out: &mut [u32]) -> Self {
+    fn entry(self, e: ListEntry, words: &[u32], pack: &mut [u32], out: &mut [u32]) -> Self {
         let operation = e.operation;
         match operation {
             operation::PART => self,

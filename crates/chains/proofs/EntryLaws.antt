@@ -14,13 +14,13 @@ use Rattle.definitions.specs.Table.{pick}
 use Rattle.definitions.specs.Table as tables
 use Rattle.definitions.specs.Form.{among, wordsBy, count, items}
 use Rattle.definitions.specs.Records.{Hop, Derivation, Relation, Pack}
-use Rattle.definitions.specs.Rows.{toRow}
+use Rattle.definitions.specs.FieldRows.{toRow}
 use Rattle.definitions.specs.Pack.{WellFormed, yes, read, newName, relation, relations, defaulted}
 use Rattle.records.specs.declared.directory.Layout.{Layout}
 use Rattle.records.specs.declared.directory.Laid.{Laid}
 use Rattle.records.specs.declared.directory.Laid.the-variants.{Yes, No}
 use Rattle.records.specs.Directory.{notesAll, noteRelation, noteRelations, directoryOf, layoutOf, relationsAt, rulesAt, blocksAt, entry, derivedNote, noteIn, leadOf, Clear}
-use Rattle.checking.specs.Checked.{namesSaid, DirectoryChecked, answerIn}
+use Rattle.checking.specs.CheckPromises.{namesSaid, DirectoryChecked, answerIn}
 use Rattle.definitions.specs.Chain.{mapped, end, next}
 use Rattle.definitions.specs.Kinds.{list21, inherits, plain, derived, declares, declared, find, readAt, kindStep}
 use Rattle.definitions.specs.Places.{startOf, firstRelation, relationsEnd, countPlace, placeOf, relationWords, hops}
@@ -28,7 +28,7 @@ use Rattle.definitions.specs.Places as places
 use Rattle.chains.specs.Declaration.{codedLink, placed, declarationAt}
 use Rattle.definitions.specs.Answers.{tableFrom}
 use Rattle.chains.specs.Settle.{ReadOne}
-use Rattle.chains.specs.Entry.{Reaches, wordIn, startBy, slotsBy, declaredBy, startIn, slotIn, declaredIn, startsIn, slotsIn, declarationsIn, namesIn}
+use Rattle.chains.specs.DirectoryWord.{Reaches, wordIn, startBy, slotsBy, declaredBy, startIn, slotIn, declaredIn, startsIn, slotsIn, declarationsIn, namesIn}
 use Rattle.chains.specs.PackDirectory.{placeIn, recordOf, slotsFor, slotsOf, IsPack, ClearTable, DirectoryRoom, IsDirectory}
 use Rattle.pack.proofs.PackLaws.{words-read}
 use Rattle.checking.proofs.CheckLaws.{clear-zeros, said-most}

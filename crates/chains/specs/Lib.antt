@@ -1,4 +1,4 @@
-pub mod Entry
+pub mod DirectoryWord
 pub mod Record
 pub mod Declaration
 pub mod Settle

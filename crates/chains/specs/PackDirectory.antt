@@ -7,16 +7,16 @@ use mathlib.Core.Option.{Option, none, some}
 use lib.ListN.{length, getD}
 use Rattle.definitions.specs.Form.{among}
 use Rattle.definitions.specs.Records.{Relation, Pack}
-use Rattle.definitions.specs.Rows.{toRow}
+use Rattle.definitions.specs.FieldRows.{toRow}
 use Rattle.definitions.specs.Pack.{yes, read}
 use Rattle.records.specs.declared.directory.Layout.{Layout}
 use Rattle.records.specs.Directory.{blocksAt, Clear}
-use Rattle.checking.specs.Checked.{namesSaid}
+use Rattle.checking.specs.CheckPromises.{namesSaid}
 use Rattle.definitions.specs.Chain.{mapped}
 use Rattle.definitions.specs.Kinds.{find, declared, kindStep, allKinds, ownAnswer}
 use Rattle.definitions.specs.Places.{startOf, firstRelation, relationsEnd, hops, placeOf}
 use Rattle.chains.specs.Declaration.{codedLink}
-use Rattle.chains.specs.Entry.{Reaches, startsIn, slotsIn, declarationsIn, namesIn}
+use Rattle.chains.specs.DirectoryWord.{Reaches, startsIn, slotsIn, declarationsIn, namesIn}
 
 -- the words are those of a pack
 pub record IsPack (ws : List ℕ) : Type 0 where
@@ -28,8 +28,8 @@ abbrev pub OfPack : List ℕ → (Pack → Type 0) → Type 0
 OfPack ws P = (p : Pack) → read ws ≡ yes p → P p
 
 -- the number of relations
-abbrev pub Counted : List ℕ → ℕ → Type 0
-Counted ws count = OfPack ws (λ p. count ≡ length (p .relations))
+abbrev pub RelationsCounted : List ℕ → ℕ → Type 0
+RelationsCounted ws count = OfPack ws (λ p. count ≡ length (p .relations))
 
 -- the number of names
 abbrev pub Named : List ℕ → ℕ → Type 0
@@ -81,7 +81,7 @@ pub record IsDirectory (ws : List ℕ) (l : Layout) (dir : List ℕ) : Type 0 wh
   pub checked : IsPack ws
   pub named : Named ws (l .names)
   pub reaches : Reaches dir (l .names)
-  pub counted : Counted ws (l .relations)
+  pub counted : RelationsCounted ws (l .relations)
   pub ruled : RulesAt ws (l .rules)
   pub blocked : BlocksAt ws (l .blocks)
   pub noted : RelationsNoted ws (namesIn dir (l .relations)) (startsIn dir)

@@ -3,7 +3,7 @@ use records::directory::Directory;
 ghost use mathlib.Core.Path.{_≡_};
 ghost use Prim.Native.Nat.{_+_, _/_, _<_};
 ghost use lib.ListN.{length, getD};
-ghost use Rattle.chains.specs.Entry.{Reaches, startsIn, slotsIn, declaredIn};
+ghost use Rattle.chains.specs.DirectoryWord.{Reaches, startsIn, slotsIn, declaredIn};
 
 // A declaration in one number: the place of the count word of the list that settles it, 0 for no kinds, or LEADS and the name that it leads on to.
 pub struct Declaration {}

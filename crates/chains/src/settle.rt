@@ -6,7 +6,7 @@ use crate::entry::name_at;
 ghost use mathlib.Core.Path.{_≡_};
 ghost use Prim.Native.Nat.{_+_, _-_, _<_, _≤_};
 ghost use lib.ListN.{length};
-ghost use Rattle.chains.specs.Entry.{Reaches, declarationsIn, namesIn};
+ghost use Rattle.chains.specs.DirectoryWord.{Reaches, declarationsIn, namesIn};
 ghost use Rattle.chains.specs.Settle.{Leading, ReadOne, markedPath, Walkable, WentAhead, WalkedHere, Settleable, SettledAll};
 
 pub struct Mark {}

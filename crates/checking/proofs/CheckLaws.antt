@@ -16,7 +16,7 @@ use Rattle.pack.specs.declared.cursor.Step.the-variants.{On, Refused}
 use Rattle.definitions.specs.Table.{pick, valueOf, wordOf, entryOf, table}
 use Rattle.definitions.specs.Form.{Form, Read, mapRead, field, got, readBy, wordsBy}
 use Rattle.definitions.specs.Records.{undated, Pack}
-use Rattle.definitions.specs.Rows.{Records, ofRow, toRow}
+use Rattle.definitions.specs.FieldRows.{RecordsRow, ofRow, toRow}
 use Rattle.definitions.specs.Pack.{Reading, yes, layout, inner, records, complete, read}
 use Rattle.pack.specs.Readers.{stepOf, skipOver, itself, fieldStep}
 use Rattle.definitions.specs.Answers.{answer}
@@ -29,7 +29,7 @@ use Rattle.records.specs.declared.directory.Laid.the-variants.{No as Out}
 use Rattle.records.specs.Directory.{Clear, stepIn, refusedLayout, layoutOf, directoryOf}
 use Rattle.records.specs.Notes.{relationsLeft, notesLeft, LaidOut}
 use Rattle.records.proofs.KeptLaws.{There, there, within}
-use Rattle.checking.specs.Checked.{namesSaid, LaidWhole, answerIn, CheckedNotes, DirectoryChecked}
+use Rattle.checking.specs.CheckPromises.{namesSaid, LaidWhole, answerIn, CheckedNotes, DirectoryChecked}
 use Rattle.pack.proofs.StepLaws.{went, went-same, by-then, by-value, step-no, field-fine, from-one}
 
 -- reading that starts at word 0
@@ -72,7 +72,7 @@ module _ (ws : List ℕ) where
 
 -- ---- with a directory
 
-whole-long : (len : ℕ) (a : ℕ × (ℕ × Records)) → 0 < length (wordsBy (layout undated len) a)
+whole-long : (len : ℕ) (a : ℕ × (ℕ × RecordsRow)) → 0 < length (wordsBy (layout undated len) a)
 unfolding layout wordsBy
 whole-long len a = omega arith
 
@@ -180,12 +180,12 @@ module _ (len : ℕ) (ws d e : List ℕ) {d′ e′ : List ℕ} where
       m : j .at ≡ 2
       m = omega (arith, a .on, b .on)
 
-      apart : (t : ℕ × (ℕ × Records)) (next : ℕ) (rest : List ℕ) → readBy (layout undated len) 0 ws ≡ got t next rest
-          → (c : Records) × (readBy (records undated n) (j .at) (drop (j .at) ws) ≡ got c next rest) × (_≡_ {A = ℕ × (ℕ × Records)} (a .value, (n, c)) t)
+      apart : (t : ℕ × (ℕ × RecordsRow)) (next : ℕ) (rest : List ℕ) → readBy (layout undated len) 0 ws ≡ got t next rest
+          → (c : RecordsRow) × (readBy (records undated n) (j .at) (drop (j .at) ws) ≡ got c next rest) × (_≡_ {A = ℕ × (ℕ × RecordsRow)} (a .value, (n, c)) t)
       apart t next rest h =
           let f : readBy (field 0 2) (k .at) (drop (k .at) ws) ≡ got n (j .at) (drop (j .at) ws) = went-same (field 0 2) ws (k .at) e₂ o₂ .0 in
-          let R : Read Records = readBy (records undated n) (j .at) (drop (j .at) ws) in
-          let g : mapRead (λ (c : ℕ × Records). (a .value, c)) (mapRead (λ (c : Records). (n, c)) R) ≡ got t next rest = rw f at (rw (a .found) at h) in
-          let u = map-got (λ (c : ℕ × Records). (a .value, c)) (mapRead (λ (c : Records). (n, c)) R) g in
-          let w = map-got (λ (c : Records). (n, c)) R (u .1) in
-          (w .0, w .1, ap (λ (c : ℕ × Records). (a .value, c)) (w .2) ∙ u .2)
+          let R : Read RecordsRow = readBy (records undated n) (j .at) (drop (j .at) ws) in
+          let g : mapRead (λ (c : ℕ × RecordsRow). (a .value, c)) (mapRead (λ (c : RecordsRow). (n, c)) R) ≡ got t next rest = rw f at (rw (a .found) at h) in
+          let u = map-got (λ (c : ℕ × RecordsRow). (a .value, c)) (mapRead (λ (c : RecordsRow). (n, c)) R) g in
+          let w = map-got (λ (c : RecordsRow). (n, c)) R (u .1) in
+          (w .0, w .1, ap (λ (c : ℕ × RecordsRow). (a .value, c)) (w .2) ∙ u .2)

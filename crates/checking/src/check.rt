@@ -14,7 +14,7 @@ ghost use mathlib.Core.Path.{_≡_};
 ghost use Prim.Native.Nat.{_≤_};
 ghost use lib.ListN.{length};
 ghost use Rattle.records.specs.Directory.{Clear};
-ghost use Rattle.checking.specs.Checked.{namesSaid, LaidWhole, answerIn, CheckedNotes, DirectoryChecked};
+ghost use Rattle.checking.specs.CheckPromises.{namesSaid, LaidWhole, answerIn, CheckedNotes, DirectoryChecked};
 ghost use Rattle.definitions.specs.Checking.{checkAnswer};
 
 pub fn refuse(number: u32, place: usize) -> Answer

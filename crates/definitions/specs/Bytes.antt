@@ -35,6 +35,25 @@ abbrev pub encode : Answer → ℕ
 encode (Given value steps) = inBits 0 0 value steps
 encode (Refused r) = inBits (r .number) (r .place) (r .name) (r .other)
 
+-- and the answer from its number: its fields, and what they say, as no refusal has the number 0
+abbrev pub numberField : ℕ → ℕ
+numberField r = r % 2 ^ 6
+
+abbrev pub placeField : ℕ → ℕ
+placeField r = r / 2 ^ 6 % 2 ^ 14
+
+abbrev pub nameField : ℕ → ℕ
+nameField r = r / 2 ^ 20 % 2 ^ 32
+
+abbrev pub otherField : ℕ → ℕ
+otherField r = r / 2 ^ 52 % 2 ^ 12
+
+unfoldable pub decode : ℕ → Answer
+decode r =
+    pick (eqb (numberField r) 0)
+    (Given (nameField r) (otherField r))
+    (Refused (record { number = numberField r; place = placeField r; name = nameField r; other = otherField r }))
+
 -- "byte counts not divisible by four, or above 32,768, give that": refused 1 0 0 0
 abbrev pub areWords : ℕ → Bool
 areWords count = eqb (count % 4) 0 && leb count 32768

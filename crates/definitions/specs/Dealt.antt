@@ -28,8 +28,8 @@ InAnyOrder = Shuffled (λ a b. a ≡ b)
 
 -- "with equal .. count word and the same items, each as often, in any order": both have no sequence, or both have one, of the same items
 pub data SameItems : Option (List Item) → Option (List Item) → Type 0 where
-  noSequence : SameItems none none
-  sequence : {l m : List Item} → InAnyOrder l m → SameItems (some l) (some m)
+  bothNone : SameItems none none
+  bothSome : {l m : List Item} → InAnyOrder l m → SameItems (some l) (some m)
 
 -- "blocks count as the same here with equal origin and count word and the same items, each as often, in any order."
 pub record SameBlock (a b : Block) : Type 0 where

@@ -2,7 +2,7 @@ pub mod Table
 pub mod Form
 pub mod Tree
 pub mod Records
-pub mod Rows
+pub mod FieldRows
 pub mod Pack
 pub mod Answers
 pub mod Checking
@@ -18,4 +18,5 @@ pub mod ResolvingTrees
 pub mod Resolving
 pub mod Operations
 pub mod Bytes
+pub mod Text
 pub mod Dealt

@@ -11,7 +11,7 @@ use Rattle.definitions.specs.declared.operation.Writing.the-variants.{Re
 use Rattle.definitions.specs.Table.{pick}
 use Rattle.definitions.specs.Records.{Pack}
 use Rattle.definitions.specs.Pack.{total, words, read}
-use Rattle.definitions.specs.Answers.{answer, placeFound, unknown, yesOrNo, Outcome, done, mapDone, Output, allOf, given, written, Operation, answerBy, bufferBy}
+use Rattle.definitions.specs.Answers.{answer, placeFound, unknown, yesOrNo, done, mapDone, Output, allOf, Operation, answerBy, bufferBy}
 use Rattle.definitions.specs.Checking.{checkAnswer, rewriteAnswer, rewriteBuffer}
 use Rattle.definitions.specs.Kinds.{allKinds, ownAnswer}
 use Rattle.definitions.specs.Places.{placeOf, allKindsWords}
@@ -64,13 +64,6 @@ resolveAnswer ws room = answerBy resolving ws room
 
 unfoldable pub resolveBuffer : List ℕ → List ℕ → List ℕ
 resolveBuffer ws lent = bufferBy resolving ws lent
-
--- the same by what resolving comes to
-abbrev pub givenOut : ℕ → ℕ → Outcome Pack → Answer
-givenOut steps room o = given steps room (mapDone wholePack o)
-
-abbrev pub writtenOut : List ℕ → Outcome Pack → List ℕ
-writtenOut lent o = written lent (mapDone wholePack o)
 
 -- ---- all of them
 

@@ -11,7 +11,7 @@ use Rattle.definitions.specs.Table.{pick, judgment, table, entryOf}
 use Rattle.definitions.specs.Form.{Read, got, refused, Form, field, guarded, _▹_, via, list, listOrNone, option, countedFrom, counted, oneAndMore, among, readBy, wordsBy, Fine}
 use Rattle.definitions.specs.Tree.{Tree, root}
 use Rattle.definitions.specs.Records.{Hop, Derivation, Relation, Body, Rule, Item, Block, Edition, undated, Pack}
-use Rattle.definitions.specs.Rows.{toHop, ofHop, Chain, Member, toDerivation, ofDerivation, RelationTail, toRelation, ofRelation, toBody, ofBody, toRule, ofRule, toItem, ofItem, toBlock, ofBlock, Records, ofRow, toRow}
+use Rattle.definitions.specs.FieldRows.{toHop, ofHop, ChainRow, MemberRow, toDerivation, ofDerivation, RelationTail, toRelation, ofRelation, toBody, ofBody, toRule, ofRule, toItem, ofItem, toBlock, ofBlock, RecordsRow, ofRow, toRow}
 
 -- the layouts, one for each kind of first word
 abbrev pub firstKind : Edition → ℕ
@@ -43,11 +43,11 @@ unfoldable pub path : ℕ → Form (Option (List Hop))
 path n = counted listOrNone n 13 tt (hop n)
 
 -- "12 source°; 13 path ..; 17 current slot; 18 related slot"
-unfoldable pub chain : ℕ → Form Chain
+unfoldable pub chain : ℕ → Form ChainRow
 chain n = field n 12 ▹ λ _. path n ▹ λ _. field n 17 ▹ λ _. field n 18
 
 -- "19 entity°; 20 member relation°; 21 count to 8, each a 10; a judgment tree"
-unfoldable pub member : ℕ → Form Member
+unfoldable pub member : ℕ → Form MemberRow
 member n = field n 19 ▹ λ _. field n 20 ▹ λ _. nameList n 21 ▹ λ _. root n judgment
 
 unfoldable pub derivation : ℕ → Form Derivation
@@ -110,15 +110,15 @@ block n = via toBlock ofBlock (λ _. refl) (λ _. refl) (field n 29 ▹ λ _. bl
 unfoldable pub blocks : ℕ → Form (List Block)
 blocks n = counted list n 28 tt (block n)
 
-unfoldable pub records : Edition → ℕ → Form Records
+unfoldable pub records : Edition → ℕ → Form RecordsRow
 records e n = defaulted n ▹ λ _. relations n ▹ λ _. rules n ▹ λ _. blocks n
 
 -- "2 N, 1 to 4,096"; names are held to it from there on
-unfoldable pub inner : Edition → Form (ℕ × Records)
+unfoldable pub inner : Edition → Form (ℕ × RecordsRow)
 inner e = field 0 2 ▹ λ n. records e n
 
 -- "1 total words (= slice length, else 4)"
-unfoldable pub layout : Edition → ℕ → Form (ℕ × (ℕ × Records))
+unfoldable pub layout : Edition → ℕ → Form (ℕ × (ℕ × RecordsRow))
 layout e len = field len (firstKind e) ▹ λ _. inner e
 
 -- what reading a whole slice finds
@@ -127,7 +127,7 @@ pub data Reading : Type 0 where
   refuse : Refusal → Reading
 
 -- "After the last block: 8 words left over (place the first)."
-abbrev pub complete : Edition → Read (ℕ × (ℕ × Records)) → Reading
+abbrev pub complete : Edition → Read (ℕ × (ℕ × RecordsRow)) → Reading
 complete e (got t at []) = yes (ofRow e (t .1))
 complete e (got t at (w ∷ ws)) = refuse (record { number = 8; place = at; name = 0; other = 0 })
 complete e (refused r) = refuse r

@@ -135,13 +135,13 @@ inRule is r = holds is (r .semantics .tree) || any (λ (b : Body). holds is (b .
 unfoldable pub atomNames : Pack → ℕ → Bool
 atomNames p n = any (inRule (atomOf n)) (p .rules) || any (λ (r : Relation). inDerivation (atomOf n) (r .derivation)) (p .relations)
 
-abbrev pub empty : List ℕ → Bool
-empty [] = true
-empty (k ∷ ks) = false
+abbrev pub isEmpty : List ℕ → Bool
+isEmpty [] = true
+isEmpty (k ∷ ks) = false
 
 -- "pass over a relation with both lists empty that some atom or Exists names, or whose predicate holds kinds 102 to 104"
 abbrev pub passedOver : Pack → Relation → Derivation → Bool
-passedOver p r d = (empty (r .slotKinds) && empty (d .slotEntities)) && (atomNames p (r .name) || holds roleJudgment (d .predicate))
+passedOver p r d = (isEmpty (r .slotKinds) && isEmpty (d .slotEntities)) && (atomNames p (r .name) || holds roleJudgment (d .predicate))
 
 -- "current slot in range and its kind unlike the related one (out of range counts as unlike)"
 abbrev pub unlike : Option ℕ → Option ℕ → Bool
@@ -165,7 +165,7 @@ stampedWith r d ks =
 -- "Otherwise, with list 21 empty, kinds known"
 abbrev pub stampBy : Option (List ℕ) → Relation → Derivation → Relation
 stampBy none r d = r
-stampBy (some ks) r d = pick (empty (d .slotEntities) && unlike (kindAt (some ks) (d .current)) (kindAt (some ks) (d .related))) (stampedWith r d ks) r
+stampBy (some ks) r d = pick (isEmpty (d .slotEntities) && unlike (kindAt (some ks) (d .current)) (kindAt (some ks) (d .related))) (stampedWith r d ks) r
 
 abbrev pub stampDerived : Pack → Relation → Option Derivation → Relation
 stampDerived p r none = r

@@ -10,6 +10,7 @@ pub mod ResolvedFine
 pub mod Numbers
 pub mod SmallKinds
 pub mod RefusalBounds
+pub mod CitingNames
 pub mod SlotLaws
 pub mod RunLaws
 pub mod RuleLaws

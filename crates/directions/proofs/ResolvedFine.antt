@@ -18,7 +18,7 @@ use Rattle.chains.proofs.RelationForm.{RelationsFine}
 use Rattle.chains.proofs.PackParts.{parts, find-kept}
 use Rattle.definitions.specs.Tables.{Derived, derivedBy, derivedAt, pair, typedBy, typedAt, tables}
 use Rattle.definitions.specs.ResolvingTrees.{Citing, resolveTree}
-use Rattle.definitions.specs.Resolving.{cites, resolveBody, resolveBodies, bodySize, ruleBy, resolveRule, ruleWords, resolveRules, predicatePlace, withPredicate, predicateBy, resolvePredicate, resolveDerivation, resolveRelation, resolveRelations, empty, passedOver, unlike, orKinds, withEntities, stampedWith, stampBy, stampDerived, stamp}
+use Rattle.definitions.specs.Resolving.{cites, resolveBody, resolveBodies, bodySize, ruleBy, resolveRule, ruleWords, resolveRules, predicatePlace, withPredicate, predicateBy, resolvePredicate, resolveDerivation, resolveRelation, resolveRelations, isEmpty, passedOver, unlike, orKinds, withEntities, stampedWith, stampBy, stampDerived, stamp}
 use Rattle.directions.proofs.KeepsForm.{Good, good-imp, map-good, then-good, TablesFit, tree-good}
 use Rattle.definitions.specs.Kinds as kinds
 
@@ -187,7 +187,7 @@ module _ (p : Pack) (w : WellFormed p) where
 
   stamp-by : (r : Relation) (d : Derivation) (o : Option (List ℕ)) → kindsOf rs (r .name) ≡ o → TailFine r → Fine (optionalDerivation n) (some d) → Same r (stampBy o r d)
   stamp-by r d none q h e = (refl, h)
-  stamp-by r d (some ks) q h e = go (empty (d .slotEntities) && unlike (kindAt (some ks) (d .current)) (kindAt (some ks) (d .related)))
+  stamp-by r d (some ks) q h e = go (isEmpty (d .slotEntities) && unlike (kindAt (some ks) (d .current)) (kindAt (some ks) (d .related)))
     where
       go : (b : Bool) → Same r (pick b (stampedWith r d ks) r)
       go true = (refl, stamped-fine r d ks h e (kinds-fine (r .name) ks q))

@@ -58,4 +58,4 @@ member-fits-in ws acts taken n m c r hc hr =
     slots-fit-in (direction.memberDirection (tablesIn ws acts taken) n m c r) (member-fits (tablesIn ws acts taken) (tables-fit-in ws acts taken) n m c r hc hr)
 
 pub member-fits-code : (ws acts : List ℕ) (n : ℕ) (m : Membership) (c r : ℕ) → c < 16777216 → r < 16777216 → {d : Direction} → MemberTurned ws acts n m c r d → SlotsFit d
-member-fits-code ws acts n m c r hc hr t = rw (t .each []) (member-fits-in ws acts [] n m c r hc hr)
+member-fits-code ws acts n m c r hc hr t = rw (t []) (member-fits-in ws acts [] n m c r hc hr)

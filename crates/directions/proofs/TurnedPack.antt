@@ -10,7 +10,7 @@ use borrow.Author.Tests.{eq-eqb}
 use Rattle.definitions.specs.Table.{wordOf}
 use Rattle.definitions.specs.Form.{among, wordsAll, FineAll, count, items, wordsBy, Fine}
 use Rattle.definitions.specs.Records.{Relation, Rule, Pack}
-use Rattle.definitions.specs.Rows.{toRow}
+use Rattle.definitions.specs.FieldRows.{toRow}
 use Rattle.definitions.specs.Pack.{WellFormed, newName, relation, relations, rule, rules, blocks, defaulted, defaultedName, above, records, inner, layout, total, words}
 use Rattle.definitions.specs.Kinds.{declared}
 use Rattle.definitions.specs.Places.{relationWords, firstRelation, relationsEnd}

@@ -206,22 +206,13 @@ member-derived T n m x y d h = rw (h, memberDirection) refl
 
 module _ (ws acts : List ℕ) (relation : ℕ) (m : Membership) (y z : ℕ) {x part : ℕ} (is : x ≡ getD acts relation 0) (p : part ≡ actPart x) where
   pub member-neither : part ≡ 0 → MemberTurned ws acts relation m y z (Directed y z 0)
-  member-neither h =
-      record {
-        each = λ taken.
-            sym (member-plain (tablesIn ws acts taken) relation m y z (plain-here ws acts relation is p (omega arith) taken) ∙ ap (λ o. tested o m y z) (neither-here ws acts relation is p h taken));
-      }
+  member-neither h taken =
+      sym (member-plain (tablesIn ws acts taken) relation m y z (plain-here ws acts relation is p (omega arith) taken) ∙ ap (λ o. tested o m y z) (neither-here ws acts relation is p h taken))
 
   pub member-typed : part ≡ 1 → {d : Direction} → d ≡ tested (typedIn ws x) m y z → MemberTurned ws acts relation m y z d
-  member-typed h q =
-      record {
-        each = λ taken.
-            q ∙ sym (member-plain (tablesIn ws acts taken) relation m y z (plain-here ws acts relation is p (omega arith) taken) ∙ ap (λ o. tested o m y z) (typed-here ws acts relation is p taken));
-      }
+  member-typed h q taken =
+      q ∙ sym (member-plain (tablesIn ws acts taken) relation m y z (plain-here ws acts relation is p (omega arith) taken) ∙ ap (λ o. tested o m y z) (typed-here ws acts relation is p taken))
 
   pub member-slots : (part ≡ 0 → ⊥) → (part ≡ 1 → ⊥) → {u v : ℕ} → u ≡ valueAt ws part → v ≡ valueAt ws (part + 1) → MemberTurned ws acts relation m y z (Directed u v 0)
-  member-slots f g {u} {v} s t =
-      record {
-        each = λ taken.
-            sym (member-derived (tablesIn ws acts taken) relation m y z (record { current = u; related = v; kinds = namesAt ws (actList x) }) (derived-here ws acts relation is p (omega arith) s t refl taken));
-      }
+  member-slots f g {u} {v} s t taken =
+      sym (member-derived (tablesIn ws acts taken) relation m y z (record { current = u; related = v; kinds = namesAt ws (actList x) }) (derived-here ws acts relation is p (omega arith) s t refl taken))

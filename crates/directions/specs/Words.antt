@@ -51,8 +51,8 @@ SlotsFit (Directed c r kind) = (c < 16777216) × (r < 16777216)
 SlotsFit (Open other) = Unit {0}
 
 -- a test of membership comes out as the tables say, whatever they say of entities
-pub record MemberTurned (ws acts : List ℕ) (relation : ℕ) (m : Membership) (current related : ℕ) (d : Direction) : Type 0 where
-  pub each : (taken : List ℕ) → d ≡ memberDirection (tablesIn ws acts taken) relation m current related
+abbrev pub MemberTurned : List ℕ → List ℕ → ℕ → Membership → ℕ → ℕ → Direction → Type 0
+MemberTurned ws acts relation m current related d = (taken : List ℕ) → d ≡ memberDirection (tablesIn ws acts taken) relation m current related
 
 -- whether a name is that of a derived relation with equal kinds in its slots
 unfoldable pub equalIn : List ℕ → List ℕ → ℕ → Bool

@@ -16,7 +16,7 @@ use Rattle.definitions.specs.Form.{among}
 use Rattle.definitions.specs.Chain.{end, next, mapped, Settled, nothing, AllWalked, walkAll, own, same}
 use Rattle.definitions.specs.Filtered.{innerAt, upTo, innerStep}
 use Rattle.definitions.specs.Answers.{tableFrom}
-use Rattle.chains.specs.Entry.{wordIn, declaredBy, declaredIn, declarationsIn}
+use Rattle.chains.specs.DirectoryWord.{wordIn, declaredBy, declaredIn, declarationsIn}
 use Rattle.chains.specs.Settle.{linkAt, Leading, settledIn, walksIn, Walkable, WalkedHere, SettledAll}
 use Rattle.chains.specs.PackDirectory.{ClearTable}
 use Rattle.filtered.specs.Said.{directOf, innerEntry, plainly, unseen, directIn, InnerAsked, InnerWords, InnerSettleable, InnerSettled, answered, InnerMarked}
@@ -132,17 +132,14 @@ module _ (taken : List ℕ) (n : ℕ) (asked : InnerAsked taken n) (dir : List �
   over-index = answers-mapped answered none 0 refl same same (λ r. refl) (innerStep n (directIn taken)) (linkAt index) steps-are (upTo n) names
 
   inner-marked : {marks₀ marks : List ℕ} {steps : ℕ} → ClearTable n marks₀ → SettledAll index marks₀ names 0 (n + 1) marks steps → InnerMarked taken n marks
-  inner-marked {marks₀} {marks} lent s =
+  inner-marked {marks₀} {marks} lent s e h =
       let f : n + 1 ≡ suc (length (upTo n)) = add-one n ∙ ap suc (sym (up-to-length n)) in
       let over : walksIn index (n + 1) names (settledIn marks₀) 0 ≡ walkAll 0 same (linkAt index) (upTo n) names nothing 0 =
       ap (λ (k : ℕ). walksIn index k names (settledIn marks₀) 0) f ∙ ap (λ (t : Settled ℕ). walkAll 0 same (linkAt index) (upTo n) names t 0) (clear-nothing marks₀ (lent .clear)) in
-      record {
-        marked = λ e h.
-            let o : 0 + e ≡ e = omega arith in
-            let i : among e names ≡ true = ap (λ (m : ℕ). among m names) (sym o) ∙ among-counted 0 n e h in
-            settled-mark marks e (answered (own none same (innerStep n (directIn taken)) (upTo n) e))
-            (ap (λ (t : Settled ℕ). t e) (s .settles ∙ ap (λ (a : AllWalked ℕ). a .settled) over) ∙ over-index .settled e ∙ ap (Option·map answered) (inner-own (directIn taken) n names .each e i));
-      }
+      let o : 0 + e ≡ e = omega arith in
+      let i : among e names ≡ true = ap (λ (m : ℕ). among m names) (sym o) ∙ among-counted 0 n e h in
+      settled-mark marks e (answered (own none same (innerStep n (directIn taken)) (upTo n) e))
+      (ap (λ (t : Settled ℕ). t e) (s .settles ∙ ap (λ (a : AllWalked ℕ). a .settled) over) ∙ over-index .settled e ∙ ap (Option·map answered) (inner-own (directIn taken) n names .each e i))
 
   -- the same of the code's values
   module _ {marks : List ℕ} (cleared : marks ≡ tableFrom unseen 0 n) where

@@ -162,7 +162,7 @@ module _ {ws t : List ℕ} (p : Pack) (h : read ws ≡ yes p) (k : KnowsEntities
       walked = own none same (innerStep (p .names) (direct rs)) (upTo (p .names)) e
 
       mark : getD marks e 0 ≡ 2 + answered walked
-      mark = m .marked e i ∙ ap (λ (s : ℕ → Link (Option ℕ)). 2 + answered (own none same s (upTo (p .names)) e)) inner-steps
+      mark = m e i ∙ ap (λ (s : ℕ → Link (Option ℕ)). 2 + answered (own none same s (upTo (p .names)) e)) inner-steps
 
       answer : (o : Option ℕ) → pick (leb (2 + answered o) 2) table.none (2 + answered o - 3) ≡ orNone o
       answer none = refl

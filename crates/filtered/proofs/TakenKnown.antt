@@ -21,7 +21,7 @@ use Rattle.definitions.specs.Filtered.{kindAt, listed, entityIs, takenFrom, tak
 use Rattle.definitions.specs.Places.{startOf, firstRelation, hops, placeOf, namesAt}
 use Rattle.chains.specs.Record.{valueAt, slotsPlace}
 use Rattle.records.specs.declared.directory.Layout.{Layout}
-use Rattle.chains.specs.Entry.{startsIn, slotsIn, namesIn}
+use Rattle.chains.specs.DirectoryWord.{startsIn, slotsIn, namesIn}
 use Rattle.chains.specs.PackDirectory.{slotsOf, RelationsNoted, ClearTable, IsDirectory, KindsMarked}
 use Rattle.chains.specs.Settle.{Marked}
 use Rattle.filtered.specs.Acts.{actPart, actList, actsFrom}

@@ -16,7 +16,7 @@ use Rattle.filtered.specs.declared.taking.Kind.the-variants.{Is, Unknown
 use Rattle.definitions.specs.Filtered.{kindAt}
 use Rattle.definitions.specs.Places.{namesAt}
 use Rattle.chains.specs.Record.{valueAt, kindCount}
-use Rattle.chains.specs.Entry.{namesIn}
+use Rattle.chains.specs.DirectoryWord.{namesIn}
 use Rattle.chains.proofs.EntryLaws.{name-here}
 use Rattle.filtered.specs.Acts.{actList, partFor, actFor, actsFrom}
 use Rattle.filtered.specs.Taking.{kindIn, Small, KindFound, several, namedAfter, takenAfter, takeAt, takenBy, kindMarked, takenIn, RelationRead, RelationsRead, NamesLow}

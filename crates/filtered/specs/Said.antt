@@ -14,7 +14,7 @@ use Rattle.definitions.specs.declared.operation.Filter.the-variants.{Direct, In
 use Rattle.definitions.specs.Chain.{own, same}
 use Rattle.definitions.specs.Filtered.{upTo, innerStep, filterWords}
 use Rattle.definitions.specs.Answers.{tableFrom}
-use Rattle.chains.specs.Entry.{Reaches, wordIn, declaredBy, declarationsIn}
+use Rattle.chains.specs.DirectoryWord.{Reaches, wordIn, declaredBy, declarationsIn}
 use Rattle.chains.specs.Settle.{Settleable, SettledAll}
 use Rattle.filtered.specs.Taking.{several}
 
@@ -87,8 +87,8 @@ answered none = 0
 answered (some n) = n + 1
 
 -- after the walks along the direct kinds of n names each has the mark of its own walk
-pub record InnerMarked (taken : List ℕ) (n : ℕ) (marks : List ℕ) : Type 0 where
-  pub marked : (e : ℕ) → e < n → getD marks e 0 ≡ 2 + answered (own none same (innerStep n (directIn taken)) (upTo n) e)
+abbrev pub InnerMarked : List ℕ → ℕ → List ℕ → Type 0
+InnerMarked taken n marks = (e : ℕ) → e < n → getD marks e 0 ≡ 2 + answered (own none same (innerStep n (directIn taken)) (upTo n) e)
 
 -- only the innermost kinds need the walks
 abbrev pub InnerFor : Filter → List ℕ → ℕ → List ℕ → Type 0

@@ -18,9 +18,9 @@ ghost use mathlib.Core.Path.{_≡_};
 ghost use Prim.Native.Nat.{_+_, _<_, _≤_};
 ghost use lib.ListN.{length};
 ghost use Rattle.definitions.specs.Answers.{tableFrom, Answered};
-ghost use Rattle.chains.specs.Entry.{Reaches, declaredBy};
+ghost use Rattle.chains.specs.DirectoryWord.{Reaches, declaredBy};
 ghost use Rattle.chains.specs.PackDirectory.{ClearTable, DirectoryRoom, IsDirectory};
-ghost use Rattle.checking.specs.Checked.{namesSaid};
+ghost use Rattle.checking.specs.CheckPromises.{namesSaid};
 ghost use Rattle.definitions.specs.Operations.{filterAnswer, filterBuffer};
 ghost use Rattle.filtered.specs.Said.{directOf, aliasOf, unresolvedOf, innerEntry, innerOf, said, saidIn, unseen, InnerAsked, InnerWords, InnerMarked, InnerFor, FilterLeft, KnownName};
 

@@ -15,7 +15,7 @@ ghost use lib.ListN.{length};
 ghost use lib.Dec.{eqb};
 ghost use Rattle.definitions.specs.Table.{pick};
 ghost use Rattle.chains.specs.Record.{kindCount};
-ghost use Rattle.chains.specs.Entry.{Reaches, startsIn, slotsIn, namesIn};
+ghost use Rattle.chains.specs.DirectoryWord.{Reaches, startsIn, slotsIn, namesIn};
 ghost use Rattle.chains.specs.PackDirectory.{ClearTable, IsDirectory};
 ghost use Rattle.filtered.specs.Taking.{kindIn, Small, KindFound, namedAfter, takenAfter, takeAt, RelationRead, RelationsRead, NamesLow, KnowsEntities, Filled};
 

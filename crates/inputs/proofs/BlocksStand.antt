@@ -11,7 +11,7 @@ use borrow.Author.Tests.{leb-true, eqb-true, eqb-false}
 use Rattle.definitions.specs.Table.{pick, kindOf, wordOf, table, entryOf}
 use Rattle.definitions.specs.Form.{allowedHere, wordsAll, FineAll, says, count, items, listOrNone, wordsBy, Fine}
 use Rattle.definitions.specs.Records.{Item, Block, Pack, Edition, undated}
-use Rattle.definitions.specs.Rows.{toRow}
+use Rattle.definitions.specs.FieldRows.{toRow}
 use Rattle.definitions.specs.Pack.{WellFormed, yes, read, item, blockItems, block, blocks, defaulted, relations, rules, records, inner, layout, total, words, firstKind}
 use Rattle.pack.proofs.PackLaws.{words-read}
 use Rattle.records.specs.Directory.{relationsAt, rulesAt, blocksAt}

@@ -18,9 +18,9 @@ use Rattle.checking.proofs.OperationLaws.{turned-away}
 use Rattle.definitions.specs.Kinds.{allKinds, ownAnswer}
 use Rattle.definitions.specs.Lean.{leans}
 use Rattle.definitions.specs.Places.{placeOf, allKindsWords}
-use Rattle.chains.specs.PackDirectory.{IsPack, Counted, Named}
+use Rattle.chains.specs.PackDirectory.{IsPack, RelationsCounted, Named}
 use Rattle.definitions.specs.Operations.{kindsOfAnswer, leanAnswer, allKindsAnswer, allKindsBuffer}
-use Rattle.kinds.specs.Parts.{OwnPlace, Leaning, KindsLeft}
+use Rattle.kinds.specs.KindsPromises.{OwnPlace, Leaning, KindsLeft}
 use Rattle.chains.proofs.KindLaws.{words-count}
 use Rattle.chains.proofs.AnswerLaws.{made-refused, made-room, made-done}
 
@@ -33,7 +33,7 @@ pub kinds-refused : (ws lent : List ℕ) {a : Answer} {r : Refusal} → a ≡ ch
 unfolding allKindsAnswer allKindsBuffer
 kinds-refused ws lent e o = made-refused allKindsWords kindSteps ws lent e o
 
-module _ (ws lent : List ℕ) (c : IsPack ws) {count : ℕ} (k : Counted ws count) where
+module _ (ws lent : List ℕ) (c : IsPack ws) {count : ℕ} (k : RelationsCounted ws count) where
   one-each : length (allKindsWords (c .pack)) ≡ count
   one-each = words-count (c .pack) ∙ sym (k (c .pack) (c .reads))
 

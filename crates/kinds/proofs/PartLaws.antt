@@ -10,10 +10,10 @@ use Rattle.definitions.specs.Kinds.{declared, ownAnswer}
 use Rattle.definitions.specs.Places.{placeOf, allKindsWords}
 use Rattle.records.specs.declared.directory.Layout.{Layout}
 use Rattle.definitions.specs.Answers.{tableFrom}
-use Rattle.chains.specs.Entry.{declarationsIn, namesIn}
+use Rattle.chains.specs.DirectoryWord.{declarationsIn, namesIn}
 use Rattle.chains.specs.Settle.{Walkable, WalkedHere, Placeable}
 use Rattle.chains.specs.PackDirectory.{IsDirectory, KindsMarked, ClearTable}
-use Rattle.kinds.specs.Parts.{placeAt, OwnPlace, KindsLeft}
+use Rattle.kinds.specs.KindsPromises.{placeAt, OwnPlace, KindsLeft}
 use Rattle.chains.proofs.KindLaws.{in-row, words-own}
 use Rattle.chains.proofs.EntryLaws.{name-here, names-long}
 use Rattle.chains.proofs.AllKindsLaws.{own-found}

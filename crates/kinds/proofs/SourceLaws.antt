@@ -15,9 +15,9 @@ use Rattle.definitions.specs.Pack.{WellFormed, words}
 use Rattle.definitions.specs.Kinds.{find}
 use Rattle.definitions.specs.Lean.{leadsWithin, sourceOf, sourceAt, sources, leans}
 use Rattle.records.specs.declared.directory.Layout.{Layout}
-use Rattle.chains.specs.Entry.{Reaches, startsIn}
-use Rattle.chains.specs.PackDirectory.{IsPack, Counted, recordOf, RelationsNoted, IsDirectory}
-use Rattle.kinds.specs.Parts.{Leaning}
+use Rattle.chains.specs.DirectoryWord.{Reaches, startsIn}
+use Rattle.chains.specs.PackDirectory.{IsPack, RelationsCounted, recordOf, RelationsNoted, IsDirectory}
+use Rattle.kinds.specs.KindsPromises.{Leaning}
 use Rattle.chains.specs.Record.{valueAt, kindCount, flagAt}
 use Rattle.kinds.specs.Sources.{sourceIn, sourcesIn, Sourced}
 use Rattle.chains.proofs.Names.{or-false}
@@ -192,7 +192,7 @@ its-sourced {ws} {dir} {l} d {a} h =
     }
 
 module _ {ws names records : List ℕ} (c : IsPack ws) (noted : RelationsNoted ws names records) where
-  pub its-leaning : {count a b : ℕ} {r : Bool} → Counted ws count → r ≡ leadsWithin (sourcesIn ws records) count a b → Leaning ws a b r
+  pub its-leaning : {count a b : ℕ} {r : Bool} → RelationsCounted ws count → r ≡ leadsWithin (sourcesIn ws records) count a b → Leaning ws a b r
   unfolding leans
   its-leaning {count} {a} {b} k e =
       record {

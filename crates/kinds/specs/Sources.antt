@@ -6,7 +6,7 @@ use lib.Dec.{eqb}
 use Rattle.definitions.specs.Table.{pick}
 use Rattle.definitions.specs.Table as table
 use Rattle.chains.specs.Record.{valueAt, kindCount, flagAt}
-use Rattle.chains.specs.Entry.{Reaches, startsIn}
+use Rattle.chains.specs.DirectoryWord.{Reaches, startsIn}
 
 -- of the relation whose record starts at a place: the name and one, 0 for none; at 0 there is none
 unfoldable pub sourceIn : List ℕ → ℕ → ℕ

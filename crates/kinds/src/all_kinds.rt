@@ -15,10 +15,10 @@ ghost use mathlib.Core.Path.{_≡_};
 ghost use Prim.Native.Nat.{_≤_};
 ghost use lib.ListN.{length};
 ghost use Rattle.definitions.specs.Answers.{tableFrom, Answered};
-ghost use Rattle.chains.specs.Entry.{namesIn};
+ghost use Rattle.chains.specs.DirectoryWord.{namesIn};
 ghost use Rattle.chains.specs.Settle.{Placeable};
 ghost use Rattle.chains.specs.PackDirectory.{DirectoryRoom};
-ghost use Rattle.kinds.specs.Parts.{placeAt};
+ghost use Rattle.kinds.specs.KindsPromises.{placeAt};
 ghost use Rattle.definitions.specs.Operations.{allKindsAnswer, allKindsBuffer};
 
 // The place of each relation's list in record order, for as many as there is room.

@@ -9,7 +9,7 @@ use records::directory::Directory;
 use records::directory::Laid;
 ghost use mathlib.Core.Path.{_≡_};
 ghost use Rattle.records.specs.Directory.{Clear};
-ghost use Rattle.checking.specs.Checked.{namesSaid};
+ghost use Rattle.checking.specs.CheckPromises.{namesSaid};
 ghost use Rattle.definitions.specs.Operations.{leanAnswer};
 
 // Whether a name leans on another, by a directory that is lent.

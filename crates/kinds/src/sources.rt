@@ -6,7 +6,7 @@ use chains::record::value_at;
 use pack::kinds::Pack;
 ghost use mathlib.Core.Path.{_≡_};
 ghost use Prim.Native.Nat.{_≤_};
-ghost use Rattle.chains.specs.Entry.{startsIn};
+ghost use Rattle.chains.specs.DirectoryWord.{startsIn};
 ghost use Rattle.kinds.specs.Sources.{sourceIn, sourcesIn, Sourced};
 ghost use Rattle.definitions.specs.Lean.{leadsWithin};
 

@@ -13,7 +13,7 @@ use Rattle.resolve.proofs.ResolveLaws.{answer-within}
 use Rattle.definitions.specs.Bytes.{wordsOf, bytesOf, encode, outAfter}
 use Rattle.wire.specs.Loading.{loadedOf, Loaded, Tried, FitsOutput}
 use Rattle.wire.proofs.ByteLaws.{words-length}
-use Rattle.over_bytes.specs.Operations.{RoomIn}
+use Rattle.over_bytes.specs.BytesPromises.{RoomIn}
 use Rattle.definitions.specs.declared.operation.Writing.the-variants.{Resolve}
 use Rattle.over_bytes.proofs.Writes.{writes}
 

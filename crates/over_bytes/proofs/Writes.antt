@@ -17,12 +17,13 @@ use Rattle.definitions.specs.Checking.{checkAnswer, rewriteAnswer, rewriteBuffe
 use Rattle.pack.proofs.PackLaws.{words-length, words-read}
 use Rattle.definitions.specs.Kinds.{allKinds}
 use Rattle.definitions.specs.Places.{allKindsWords}
-use Rattle.definitions.specs.Operations.{allKindsAnswer, allKindsBuffer, kindsOfAnswer, leanAnswer, filterAnswer, filterBuffer, givenOut, writtenOut, resolveAnswer, resolveBuffer, answerTo, answerOf, bufferOf}
+use Rattle.definitions.specs.Operations.{allKindsAnswer, allKindsBuffer, kindsOfAnswer, leanAnswer, filterAnswer, filterBuffer, resolveAnswer, resolveBuffer, answerTo, answerOf, bufferOf}
 use Rattle.definitions.specs.Filtered.{filterSays, filterWords}
 use Rattle.definitions.specs.declared.operation.Filter.{Filter}
 use Rattle.chains.proofs.PackParts.{parts}
 use Rattle.chains.proofs.FillLaws.{table-length}
 use Rattle.definitions.specs.Resolving.{resolved}
+use Rattle.resolve.specs.Finish.{givenOut, writtenOut}
 use Rattle.resolve.proofs.ResolveLaws.{given-enough}
 use Rattle.definitions.specs.Bytes.{notWords, outAfter}
 use Rattle.wire.proofs.Room.{Within, Writes, leb-min, leb-more, tested-more, tested-own, after-refusal}

@@ -23,7 +23,7 @@ ghost use Rattle.definitions.specs.Bytes.{encode, overBytes, Gives};
 ghost use Rattle.wire.specs.Loading.{Holds, Tried};
 ghost use Rattle.definitions.specs.Operations.{resolveAnswer, resolveBuffer, answerTo, answerOf, bufferOf};
 ghost use Rattle.definitions.specs.Answers.{Answered};
-ghost use Rattle.over_bytes.specs.Operations.{asWriting, RoomIn};
+ghost use Rattle.over_bytes.specs.BytesPromises.{asWriting, RoomIn};
 
 // Those of them that leave their slice alone where they refuse.
 pub enum Plain {

@@ -11,7 +11,7 @@ use Rattle.definitions.specs.declared.answer.Refusal.{Refusal}
 use Rattle.definitions.specs.Table.{pick, wordOf, table, entryOf}
 use Rattle.definitions.specs.Form.{Read, got, refused, allowedHere, readBy, wordsBy, Fine}
 use Rattle.definitions.specs.Records.{Edition, undated, Pack}
-use Rattle.definitions.specs.Rows.{Records, ofRow, toRow}
+use Rattle.definitions.specs.FieldRows.{RecordsRow, ofRow, toRow}
 use Rattle.definitions.specs.Pack.{firstKind, editionOf, inner, layout, Reading, yes, refuse, complete, read, total, words, WellFormed}
 use Rattle.pack.proofs.FormLaws.{Took, lawful}
 
@@ -55,13 +55,13 @@ and-true true b e = (refl, e)
 and-true false b e = (e, cc)
 
 -- a pack that was read: its edition, the first word's value and the place behind it
-record Whole (e : Edition) (m : Read (ℕ × (ℕ × Records))) (p : Pack) : Type 0 where
+record Whole (e : Edition) (m : Read (ℕ × (ℕ × RecordsRow))) (p : Pack) : Type 0 where
   first : ℕ
   end : ℕ
   edition : e ≡ p .edition
   row : m ≡ got (first, toRow p) end []
 
-whole : (e : Edition) (m : Read (ℕ × (ℕ × Records))) (p : Pack) → complete e m ≡ yes p → Whole e m p
+whole : (e : Edition) (m : Read (ℕ × (ℕ × RecordsRow))) (p : Pack) → complete e m ≡ yes p → Whole e m p
 whole e (got t at []) p h =
     let q : ofRow e (t .1) ≡ p = cc in
     record { first = t .0; end = at; edition = ap (λ (u : Pack). u .edition) q; row = ap (λ (u : Pack). got (t .0, toRow u) at []) q }

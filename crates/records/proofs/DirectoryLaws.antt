@@ -20,7 +20,7 @@ use Rattle.records.specs.declared.directory.Laid.{Laid}
 use Rattle.records.specs.declared.directory.Laid.the-variants.{Yes, No}
 use Rattle.pack.proofs.FormLaws.{clash}
 use Rattle.definitions.specs.Records.{undated, Hop, Derivation, Relation}
-use Rattle.definitions.specs.Rows.{Records, Chain, Member, RelationTail, toDerivation}
+use Rattle.definitions.specs.FieldRows.{RecordsRow, ChainRow, MemberRow, RelationTail, toDerivation}
 use Rattle.definitions.specs.Pack.{defaulted, relations, rules, blocks, records, nextUsed, hop, path, chain, nameList, derivation, optionalDerivation, newName, relationTail, relation}
 use Rattle.definitions.specs.Places.{hops, relationWords}
 use Rattle.pack.specs.Readers.{stepOf, skipOver, itself, nameOf, fieldStep}
@@ -43,7 +43,7 @@ unfolding path wordsBy count items
 path-words n none = refl
 path-words n (some l) = let e = hop-words n l in omega arith
 
-pub chain-words : (n : ℕ) (t : Chain) → length (wordsBy (chain n) t) ≡ 4 + 3 * hops (t .1 .0)
+pub chain-words : (n : ℕ) (t : ChainRow) → length (wordsBy (chain n) t) ≡ 4 + 3 * hops (t .1 .0)
 unfolding chain wordsBy
 chain-words n t = omega (arith, length-append (wordsBy (path n) (t .1 .0)) (wordsBy (field n 17) (t .1 .1 .0) ++ wordsBy (field n 18) (t .1 .1 .1)), path-words n (t .1 .0))
 
@@ -100,7 +100,7 @@ chain-read n ws at {y} {v} {k} e o =
     }
 
 -- what is kept of a derivation
-pub derived-note : (n kinds : ℕ) (a : Chain) (b : Member) {slots lead many s : ℕ} → slots ≡ 3 + kinds + length (wordsBy (chain n) a) → chainLead a ≡ lead → entities b ≡ many
+pub derived-note : (n kinds : ℕ) (a : ChainRow) (b : MemberRow) {slots lead many s : ℕ} → slots ≡ 3 + kinds + length (wordsBy (chain n) a) → chainLead a ≡ lead → entities b ≡ many
     → s ≡ derivedNote kinds slots many lead → noteIn kinds (some (toDerivation (a, b))) ≡ s
 unfolding noteIn
 derived-note n kinds a b {slots} {lead} {many} {s} p l m e =
@@ -307,7 +307,7 @@ module _ (n : ℕ) (ws : List ℕ) (at : ℕ) (d e : List ℕ) {d′ e′ : List
         let s = noted-there n₃ o₃ in
         let c = s .0 in
         let f = there (λ a. 0) (blocks n) ws (k₃ .at) x₄ o₄ in
-        let t : Records = (a .value, (b .value, (c .value, f .value))) in
+        let t : RecordsRow = (a .value, (b .value, (c .value, f .value))) in
         let w : readBy (records undated n) at (drop at ws) ≡ got t (k₄ .at) (drop (k₄ .at) ws) = rw (a .found) (rw (b .found) (rw (c .found) (rw (f .found) refl))) in
         let r : k₂ .at ≡ at + length (wordsBy (defaulted n) (a .value)) + length (wordsBy (relations n) (b .value)) = omega (arith, a .on, b .on) in
         let q : k₃ .at ≡ at + length (wordsBy (defaulted n) (a .value)) + length (wordsBy (relations n) (b .value)) + length (wordsBy (rules n) (c .value)) = omega (arith, c .on) in

@@ -10,7 +10,7 @@ use Rattle.pack.specs.declared.cursor.Step.{Step}
 use Rattle.pack.specs.declared.cursor.Step.the-variants.{On}
 use Rattle.definitions.specs.Form.{list, count, items, wordsAll, field, wordsBy}
 use Rattle.definitions.specs.Tree.{root}
-use Rattle.definitions.specs.Rows.{Member, RelationTail, toBody, toDerivation, toRelation, toRule}
+use Rattle.definitions.specs.FieldRows.{MemberRow, RelationTail, toBody, toDerivation, toRelation, toRule}
 use Rattle.definitions.specs.Pack.{body, bodies, rule, nameList, chain, member, derivation, optionalDerivation, relationTail, relation}
 use Rattle.definitions.specs.Places.{hops}
 use Rattle.pack.specs.Packed.{boundOf}
@@ -73,9 +73,9 @@ module _ (n kinds start : ℕ) (ws : List ℕ) (at : ℕ) (d : List ℕ) {y : St
       (noted-then chainLead (chain n) ws at q o _ _ (λ t. noteDerivation start at (toDerivation t)) d
       (λ a. let long = chain-words n (a .value) in
       let at₁ : (x : ℕ) → k .at + 3 + x ≡ at + 4 + 3 * hops (a .value .1 .0) + 3 + x = λ x. omega (arith, a .on, long) in
-      let same-note : (b : Member) → memberNote kinds slots lead b ≡ noteIn kinds (some (toDerivation (a .value, b)))
+      let same-note : (b : MemberRow) → memberNote kinds slots lead b ≡ noteIn kinds (some (toDerivation (a .value, b)))
       = λ b. sym (derived-note n kinds (a .value) b (omega (arith, a .on, z)) (a .kept) refl refl) in
-      noted-as (subst (λ (f : Member → ℕ). Noted f (member n) (noteMember context (k .at)) ws (k .at) d₁ x e) (λ i. λ b. same-note b i) h)
+      noted-as (subst (λ (f : MemberRow → ℕ). Noted f (member n) (noteMember context (k .at)) ws (k .at) d₁ x e) (λ i. λ b. same-note b i) h)
       (λ b. λ i. noteTree (c i) (b .1 .1 .1) (at₁ (length (b .1 .1 .0)) i, p i) .1)))
 
 -- what follows the name of a relation

@@ -15,7 +15,7 @@ use Rattle.definitions.specs.Table.{pick}
 use Rattle.definitions.specs.Table as table
 use Rattle.definitions.specs.Form.{Read, got, refused, Form, wordsBy, readBy}
 use Rattle.definitions.specs.Records.{Hop, Derivation, Relation}
-use Rattle.definitions.specs.Rows.{Chain, Member, RelationTail, Records}
+use Rattle.definitions.specs.FieldRows.{ChainRow, MemberRow, RelationTail, RecordsRow}
 use Rattle.definitions.specs.Pack.{defaulted, relation, relations, rules}
 use Rattle.definitions.specs.Places.{hops, relationWords}
 use Rattle.pack.specs.Readers.{stepOf}
@@ -44,10 +44,10 @@ leadOf source (some l) = 0
 abbrev pub leadIn : ℕ → ℕ → ℕ
 leadIn source steps = pick (eqb steps table.none) (pick (eqb source table.none) 0 (source + 1)) 0
 
-abbrev pub chainLead : Chain → ℕ
+abbrev pub chainLead : ChainRow → ℕ
 chainLead t = leadOf (t .0) (t .1 .0)
 
-abbrev pub entities : Member → ℕ
+abbrev pub entities : MemberRow → ℕ
 entities t = length (t .1 .1 .0)
 
 -- how far behind the place of a relation with so many kinds the slots of its derivation stand
@@ -65,7 +65,7 @@ derivedNote kinds slots many lead =
     pick (eqb many 0) (pick (eqb kinds 0) (pick (eqb lead 0) (64 * slots) (64 * (63 + lead))) (3 + 64 * slots)) (slots + 4 + 64 * slots)
 
 -- of a derivation with such a chain, by what follows the chain
-abbrev pub memberNote : ℕ → ℕ → ℕ → Member → ℕ
+abbrev pub memberNote : ℕ → ℕ → ℕ → MemberRow → ℕ
 memberNote kinds slots lead t = derivedNote kinds slots (entities t) lead
 
 unfoldable pub noteIn : ℕ → Option Derivation → ℕ
@@ -98,21 +98,21 @@ pub record Clear (n : ℕ) (d : List ℕ) : Type 0 where
 -- ---- all records
 
 -- where the sorts of records stand that are read from a place on
-unfoldable pub relationsAt : ℕ → ℕ → Records → ℕ
+unfoldable pub relationsAt : ℕ → ℕ → RecordsRow → ℕ
 relationsAt n at t = at + length (wordsBy (defaulted n) (t .0))
 
-unfoldable pub rulesAt : ℕ → ℕ → Records → ℕ
+unfoldable pub rulesAt : ℕ → ℕ → RecordsRow → ℕ
 rulesAt n at t = relationsAt n at t + length (wordsBy (relations n) (t .1 .0))
 
-unfoldable pub blocksAt : ℕ → ℕ → Records → ℕ
+unfoldable pub blocksAt : ℕ → ℕ → RecordsRow → ℕ
 blocksAt n at t = rulesAt n at t + length (wordsBy (rules n) (t .1 .1 .0))
 
 -- with so many notes of relations, and so many in all
-unfoldable pub layoutOf : ℕ → ℕ → ℕ → Records → ℕ → ℕ → Layout
+unfoldable pub layoutOf : ℕ → ℕ → ℕ → RecordsRow → ℕ → ℕ → Layout
 layoutOf n at end t first all =
     record { names = n; relations = length (t .1 .0); rules = rulesAt n at t; blocks = blocksAt n at t; end = end; noted = first; all = all }
 
-unfoldable pub directoryOf : ℕ → ℕ → Records → List ℕ → List ℕ
+unfoldable pub directoryOf : ℕ → ℕ → RecordsRow → List ℕ → List ℕ
 directoryOf n at t d = noteRelations n (relationsAt n at t) (t .1 .0) d
 
 -- a layout as a step

@@ -10,7 +10,7 @@ use Rattle.records.specs.declared.directory.Laid.the-variants.{Yes}
 use Rattle.definitions.specs.Form.{got, wordsBy, readBy}
 use Rattle.pack.specs.Readers.{skipOver}
 use Rattle.definitions.specs.Records.{Body, Rule, Derivation, Relation, undated}
-use Rattle.definitions.specs.Rows.{Member, RelationTail, Records}
+use Rattle.definitions.specs.FieldRows.{MemberRow, RelationTail, RecordsRow}
 use Rattle.definitions.specs.Pack.{body, rule, records}
 use Rattle.definitions.specs.Places.{hops, relationWords}
 use Rattle.reading.specs.Notes.{note, contextOf, noteCode}
@@ -49,7 +49,7 @@ noteRules n at l d = notesAll (wordsBy (rule n)) (noteRule n) 0 (at + 1) l d
 -- ---- relations
 
 -- the predicate after 19, 20 and 21 with its names
-abbrev pub noteMember : ℕ → ℕ → Member → List ℕ → List ℕ
+abbrev pub noteMember : ℕ → ℕ → MemberRow → List ℕ → List ℕ
 noteMember context at t d = noteTree context (t .1 .1 .1) (at + 3 + length (t .1 .1 .0), d) .1
 
 -- a derivation at a place, of the relation that starts at another: these stand after 12, 13 with its steps, 17 and 18
@@ -83,16 +83,16 @@ noteAll n at l d = notesAll (relationWords n) noteBoth 0 (at + 1) l d
 
 -- ---- all records from a place on: after the relations, and after the rules
 
-unfoldable pub relationsLeft : ℕ → ℕ → Records → List ℕ → List ℕ
+unfoldable pub relationsLeft : ℕ → ℕ → RecordsRow → List ℕ → List ℕ
 relationsLeft n at t e = notePredicates n (relationsAt n at t) (t .1 .0) e
 
-unfoldable pub notesLeft : ℕ → ℕ → Records → List ℕ → List ℕ
+unfoldable pub notesLeft : ℕ → ℕ → RecordsRow → List ℕ → List ℕ
 notesLeft n at t e = noteRules n (rulesAt n at t) (t .1 .1 .0) (relationsLeft n at t e)
 
 -- The answer; and if they were read, where they stand, what is noted of them in the directory, and the notes.
 pub record LaidOut (n : ℕ) (ws : List ℕ) (at : ℕ) (d e : List ℕ) (r : Laid) (d′ e′ : List ℕ) : Type 0 where
   pub answers : stepIn r ≡ skipOver (records undated n) ws at
-  pub lays : (t : Records) (next : ℕ) (rest : List ℕ) → readBy (records undated n) at (drop at ws) ≡ got t next rest
+  pub lays : (t : RecordsRow) (next : ℕ) (rest : List ℕ) → readBy (records undated n) at (drop at ws) ≡ got t next rest
       → r ≡ Yes (layoutOf n at next t (getD (relationsLeft n at t e) 0 0) (getD (notesLeft n at t e) 0 0))
-  pub enters : (t : Records) (next : ℕ) (rest : List ℕ) → readBy (records undated n) at (drop at ws) ≡ got t next rest → d′ ≡ directoryOf n at t d
-  pub notes : (t : Records) (next : ℕ) (rest : List ℕ) → readBy (records undated n) at (drop at ws) ≡ got t next rest → e′ ≡ notesLeft n at t e
+  pub enters : (t : RecordsRow) (next : ℕ) (rest : List ℕ) → readBy (records undated n) at (drop at ws) ≡ got t next rest → d′ ≡ directoryOf n at t d
+  pub notes : (t : RecordsRow) (next : ℕ) (rest : List ℕ) → readBy (records undated n) at (drop at ws) ≡ got t next rest → e′ ≡ notesLeft n at t e

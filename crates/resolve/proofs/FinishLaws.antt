@@ -14,7 +14,7 @@ use Rattle.definitions.specs.declared.answer.Answer.the-variants.{Given}
 use Rattle.definitions.specs.Table.{pick, wordOf}
 use Rattle.definitions.specs.Form.{count, items, says, wordsBy, Fine}
 use Rattle.definitions.specs.Records.{Relation, Rule, Pack}
-use Rattle.definitions.specs.Rows.{toRow}
+use Rattle.definitions.specs.FieldRows.{toRow}
 use Rattle.definitions.specs.Pack.{WellFormed, yes, read, words, total, relations, rules, blocks, records, inner, rule}
 use Rattle.definitions.specs.Answers.{noRoom, Outcome, done, refused, andThen, mapDone}
 use Rattle.pack.proofs.PackLaws.{words-read, words-length}
@@ -26,10 +26,9 @@ use Rattle.chains.proofs.CheckedLaws.{same-pack}
 use Rattle.definitions.specs.Resolving.{stamp, ruleWords, resolveRule, resolveRules, resolveRelation, resolveRelations, firstRule}
 use Rattle.chains.specs.Record.{Recorded}
 use Rattle.stamping.specs.Stamping.{listsFor, addedBy, Listed}
-use Rattle.resolve.specs.Writing.{sums, lengths, beginnings, otherPieces, piecesOf, Stamped, WriteAsked, WriteCame}
+use Rattle.resolve.specs.Pieces.{sums, lengths, beginnings, otherPieces, piecesOf, Stamped, WriteAsked, WriteCame}
 use Rattle.directions.specs.RecordRuns.{placesFrom, runWords, runBy, RelationKeeps, withRecords, treesResolved, placesIn, TablesFilled}
-use Rattle.definitions.specs.Operations.{givenOut, writtenOut}
-use Rattle.resolve.specs.Finish.{stampAll, AskedOf, ClearFor, FinishAsked, FinishCame}
+use Rattle.resolve.specs.Finish.{stampAll, AskedOf, ClearFor, FinishAsked, givenOut, writtenOut, FinishCame}
 use Rattle.directions.proofs.KeepsForm.{Good}
 use Rattle.directions.proofs.ResolvedFine.{RulesFine, rules-good}
 use Rattle.resolve.proofs.ResolvedPack.{least-words, rules-fine}
@@ -164,7 +163,7 @@ module _ (p : Pack) (w : WellFormed p) (rels : List Relation) (rls : List Rule) 
 
       its-words : {left : List ℕ} → WriteCame ws table found work room left → left ≡ words (stampAll p q)
       unfolding its-asked
-      its-words c = c .each its-asked
+      its-words c = c its-asked
 
 -- ---- for the code
 

@@ -4,5 +4,6 @@ pub mod WrittenPack
 pub mod StampedPack
 pub mod FinishLaws
 pub mod ResolveLaws
+pub mod RefusalNames
 pub mod OrderLaws
 pub mod PlacesLaws

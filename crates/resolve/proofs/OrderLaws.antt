@@ -16,7 +16,7 @@ use Rattle.pack.proofs.PackLaws.{words-read}
 use Rattle.definitions.specs.Kinds.{declared}
 use Rattle.definitions.specs.Places.{relationWords, startOf, firstRelation, relationsEnd}
 use Rattle.chains.specs.PackDirectory.{RulesAt, BlocksAt}
-use Rattle.chains.specs.Entry.{Reaches, startsIn, namesIn}
+use Rattle.chains.specs.DirectoryWord.{Reaches, startsIn, namesIn}
 use Rattle.chains.specs.Record.{valueAt}
 use Rattle.chains.proofs.RelationForm.{RelationsFine, kept}
 use Rattle.chains.proofs.PackParts.{EachFound, all-found, parts}
@@ -34,7 +34,7 @@ use Rattle.chains.proofs.DeclarationLaws.{a-record}
 use Rattle.directions.proofs.TurnedPack.{front, front-long, front22, front22-long, pack-words-22, rulesOn}
 use Rattle.turning.specs.Notes.{Note, notesRun, bodyNotes, ruleNotes, relationsNoted, rulesNoted}
 use Rattle.turning.proofs.MarkedLaws.{AllInside, run-inside}
-use Rattle.resolve.specs.Writing.{joined, sums, lengths, beginnings, blockPiece, otherPieces, piecesOf}
+use Rattle.resolve.specs.Pieces.{joined, sums, lengths, beginnings, blockPiece, otherPieces, piecesOf}
 use Rattle.resolve.specs.Finish.{NamesIn, orderIn, rootsOf, blockPlaces}
 use Rattle.resolve.proofs.WrittenPack.{joined-map, blocks-joined}
 

@@ -13,7 +13,7 @@ use Rattle.definitions.specs.Pack.{WellFormed, yes, read, words}
 use Rattle.definitions.specs.Table.{wordOf}
 use Rattle.pack.proofs.PackLaws.{words-read, words-length}
 use Rattle.definitions.specs.Places.{relationWords}
-use Rattle.chains.specs.Entry.{startsIn, namesIn}
+use Rattle.chains.specs.DirectoryWord.{startsIn, namesIn}
 use Rattle.chains.specs.Record.{valueAt}
 use Rattle.chains.proofs.FillLaws.{table-length}
 use Rattle.chains.proofs.PackParts.{parts}
@@ -29,7 +29,7 @@ use Rattle.turning.proofs.MarkLaws.{mark-place, mark-inside, some-place}
 use Rattle.turning.proofs.KnownLaws.{notes-inside}
 use Rattle.turning.proofs.PackLaws.{held-parts, notes-few}
 use Rattle.resolve.specs.declared.finish.Figures.{Figures}
-use Rattle.resolve.specs.Writing.{beginnings, otherPieces, piecesOf, Put}
+use Rattle.resolve.specs.Pieces.{beginnings, otherPieces, piecesOf, Put}
 use Rattle.resolve.specs.Finish.{NamesIn, orderIn, rootsOf, blockPlaces, RulesAsked, RulesCame, ResolveAsked, OrderAsked}
 use Rattle.resolve.proofs.WriteLaws.{put-then, words-put, one-put, all-there}
 use Rattle.resolve.proofs.OrderLaws.{others-many, others-few, roots-many, all-begin}
@@ -290,7 +290,7 @@ module _ {ws dir notes : List ℕ} {f : Figures} {room : ℕ} (o : OrderAsked ws
 
         pub rules-in : Filled places ((((0 ∷ []) ++ orderIn dir (f .relations)) ++ (f .rules ∷ [])) ++ rootsOf (rulesNoted p)) four last
         unfolding rules-asked
-        rules-in = fill-part places rule-count-in (omega (arith, roots-many p, rules-many)) (omega (arith, table-long)) (t .each rules-asked)
+        rules-in = fill-part places rule-count-in (omega (arith, roots-many p, rules-many)) (omega (arith, table-long)) (t rules-asked)
 
         abbrev five : List ℕ
         five = set four last (f .notes .blocks .at - 1)

@@ -22,12 +22,12 @@ use Rattle.checking.proofs.OperationLaws.{turned-away}
 use Rattle.pack.proofs.PackLaws.{words-read, words-length}
 use Rattle.definitions.specs.Kinds.{find, kindsOf, allKinds}
 use Rattle.definitions.specs.Places.{firstRelation, startOf}
-use Rattle.chains.specs.Entry.{Reaches, startsIn, namesIn}
+use Rattle.chains.specs.DirectoryWord.{Reaches, startsIn, namesIn}
 use Rattle.records.specs.declared.directory.Layout.{Layout}
 use Rattle.records.specs.declared.directory.Laid.{Laid}
 use Rattle.records.specs.declared.directory.Laid.the-variants.{Yes}
 use Rattle.records.specs.Directory.{Clear}
-use Rattle.checking.specs.Checked.{namesSaid, CheckedNotes}
+use Rattle.checking.specs.CheckPromises.{namesSaid, CheckedNotes}
 use Rattle.checking.proofs.CheckLaws.{without-notes}
 use Rattle.chains.specs.PackDirectory.{ClearTable, IsPack, IsDirectory}
 use Rattle.filtered.specs.Taking.{Filled}
@@ -39,18 +39,18 @@ use Rattle.inputs.proofs.BlocksStand.{reads-inputs}
 use Rattle.chains.proofs.PackParts.{parts, find-name, find-kept}
 use Rattle.definitions.specs.Tables.{Tables, derivedAt, tables}
 use Rattle.definitions.specs.Resolving.{equalKinds, defaultedEqual, equalRefusal, resolveRules, resolveRelations, stamp, firstRule, resolveRecords, resolved}
-use Rattle.definitions.specs.Operations.{givenOut, writtenOut, resolveAnswer, resolveBuffer}
+use Rattle.definitions.specs.Operations.{resolveAnswer, resolveBuffer}
 use Rattle.directions.specs.Words.{derivedIn, tablesIn, firstEqual}
 use Rattle.chains.specs.Record.{valueAt}
 use Rattle.directions.specs.RecordRuns.{withRecords, treesResolved, TablesFilled}
 use Rattle.resolve.specs.declared.finish.Figures.{Figures}
-use Rattle.resolve.specs.Writing.{beginnings, piecesOf}
-use Rattle.resolve.specs.Finish.{stampAll, resolvedTrees, AskedOf, TreesAsked, TreesCame, ResolveAsked, PlacedAsked, TablesFor, CheckedAsked, RoomFor, frontOf, Into, FinishAsked, FinishCame}
+use Rattle.resolve.specs.Pieces.{beginnings, piecesOf}
+use Rattle.resolve.specs.Finish.{stampAll, resolvedTrees, AskedOf, TreesAsked, TreesCame, ResolveAsked, PlacedAsked, TablesFor, CheckedAsked, RoomFor, frontOf, Into, FinishAsked, FinishCame, givenOut, writtenOut}
 use Rattle.turning.specs.declared.turns.Ended.{Ended}
 use Rattle.turning.specs.declared.turns.Ended.the-variants as ended
 use Rattle.turning.specs.declared.turns.Counts.{Counts}
 use Rattle.turning.specs.Notes.{notesOfPack}
-use Rattle.turning.specs.Steps.{knownIn, TurnedAs, PackAsked, PackTurned}
+use Rattle.turning.specs.TurnPromises.{knownIn, TurnedAs, PackAsked, PackTurned}
 use Rattle.turning.specs.Asked.{markNotes, InWords, MarksAsked, NotesMarked}
 use Rattle.turning.proofs.KnownLaws.{notes-inside, known-is}
 use Rattle.turning.proofs.MarkedLaws.{marks-are}
@@ -284,7 +284,7 @@ module _ {ws dir acts taken asked₀ notes : List ℕ} {f : Figures} {work : Lis
           says = λ r e.
               let low = its-low r e in
               let long : r .name < length asked₀ = omega (arith, a .lent .long, a .directory .named its checked) in
-              ap (λ (t : List ℕ). getD t (r .name) 0) (m .each (notesOfPack its) (a .noted .held) (a .noted .many) there ∙ ap (λ (x : List ℕ). markNotes x (notesOfPack its) 4096 asked₀) same-words)
+              ap (λ (t : List ℕ). getD t (r .name) 0) (m (notesOfPack its) (a .noted .held) (a .noted .many) there ∙ ap (λ (x : List ℕ). markNotes x (notesOfPack its) 4096 asked₀) same-words)
               ∙ marks-are its fine r e (omega (arith, parts its fine .most)) asked₀ long (a .lent .clear (r .name));
         }
 

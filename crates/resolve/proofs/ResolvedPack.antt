@@ -7,7 +7,7 @@ use mathlib.Core.Option.{Option, none, some}
 use lib.ListN.{length, length-append, length-map}
 use Rattle.definitions.specs.Form.{count, items, says, wordsBy, Fine}
 use Rattle.definitions.specs.Records.{Relation, Rule, Pack}
-use Rattle.definitions.specs.Rows.{toRow}
+use Rattle.definitions.specs.FieldRows.{toRow}
 use Rattle.definitions.specs.Pack.{WellFormed, yes, read, words, total, defaulted, relations, rules, blocks, records, inner}
 use Rattle.pack.proofs.PackLaws.{read-words}
 use Rattle.definitions.specs.Places.{firstRelation}

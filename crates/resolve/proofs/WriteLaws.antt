@@ -13,7 +13,7 @@ use Rattle.definitions.specs.Answers.{tableFrom}
 use Rattle.chains.proofs.FillLaws.{Filling, done}
 use Rattle.chains.specs.Record.{valueAt, kindCount, slotsPlace}
 use Rattle.stamping.specs.Stamping.{namesOr, Lists}
-use Rattle.resolve.specs.Writing.{joined, sums, beginnings, fromTo, listWords, putFor, pieceOut, Stampable, Put, PutRoom}
+use Rattle.resolve.specs.Pieces.{joined, sums, beginnings, fromTo, listWords, putFor, pieceOut, Stampable, Put, PutRoom}
 use Rattle.stamping.proofs.ListForLaws.{names-there}
 
 -- ---- a copy of words

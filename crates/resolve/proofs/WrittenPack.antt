@@ -21,7 +21,7 @@ use Rattle.chains.proofs.PackParts.{parts}
 use Rattle.definitions.specs.Resolving.{ruleWords, orKinds, withEntities, stampedWith}
 use Rattle.chains.specs.Record.{kindCount, slotsPlace}
 use Rattle.stamping.specs.Stamping.{StampedBy, as-it-is, with-kinds, addedFor, addedBy}
-use Rattle.resolve.specs.Writing.{Stamped, no-more, one-more, withRelations, joined, frontPiece, blockPiece, otherPieces, piecesOf, fromTo, listWords, putFor, Stampable, WriteAsked}
+use Rattle.resolve.specs.Pieces.{Stamped, no-more, one-more, withRelations, joined, frontPiece, blockPiece, otherPieces, piecesOf, fromTo, listWords, putFor, Stampable, WriteAsked}
 use Rattle.directions.specs.RecordRuns.{placesFrom, runWords}
 use Rattle.chains.proofs.RecordLaws.{counted, before-slots, four, four-length}
 use Rattle.resolve.proofs.WriteLaws.{piece-stays, piece-stamped, Pieces, no-piece, piece, Writing}

@@ -15,22 +15,22 @@ use Rattle.definitions.specs.Pack.{yes, read, words}
 use Rattle.definitions.specs.Kinds.{find, allKinds}
 use Rattle.records.specs.declared.directory.Layout.{Layout}
 use Rattle.records.specs.Directory.{Clear}
-use Rattle.checking.specs.Checked.{namesSaid}
+use Rattle.checking.specs.CheckPromises.{namesSaid}
 use Rattle.chains.specs.PackDirectory.{ClearTable, IsDirectory}
-use Rattle.definitions.specs.Answers.{tableFrom, Outcome, done, refused}
+use Rattle.definitions.specs.Answers.{tableFrom, Outcome, done, refused, mapDone, given, written}
 use Rattle.chains.specs.Record.{valueAt}
-use Rattle.chains.specs.Entry.{Reaches, startsIn, namesIn}
+use Rattle.chains.specs.DirectoryWord.{Reaches, startsIn, namesIn}
 use Rattle.filtered.specs.Taking.{NamesLow, Filled}
 use Rattle.definitions.specs.Tables.{tables}
 use Rattle.definitions.specs.Resolving.{defaultedEqual, equalRefusal, stamp, atomNames, inDerivation, roleJudgment}
-use Rattle.definitions.specs.Operations.{givenOut, writtenOut, resolveAnswer, resolveBuffer}
-use Rattle.resolve.specs.Writing.{beginnings, piecesOf, withRelations}
+use Rattle.definitions.specs.Operations.{wholePack, resolveAnswer, resolveBuffer}
+use Rattle.resolve.specs.Pieces.{beginnings, piecesOf, withRelations}
 use Rattle.directions.specs.RecordRuns.{treesResolved, TablesFilled}
 use Rattle.turning.specs.declared.turns.Ended.{Ended}
 use Rattle.turning.specs.declared.turns.Counts.{Counts}
 use Rattle.turning.specs.Notes.{Note, Held, NotesIn}
 use Rattle.turning.specs.Asked.{InWords}
-use Rattle.turning.specs.Steps.{TurnedAs, PackAsked}
+use Rattle.turning.specs.TurnPromises.{TurnedAs, PackAsked}
 use Rattle.turning.specs.Asked.{NotesMarked}
 use Rattle.directions.specs.Words.{firstEqual}
 use Rattle.definitions.specs.Table as table
@@ -79,8 +79,8 @@ pub record RulesAsked (notes : List ℕ) (from all room : ℕ) : Type 0 where
   pub size : room ≡ length (rootsOf ns)
   pub few : room ≤ 8192
 
-pub record RulesCame (notes : List ℕ) (from all room : ℕ) (left : List ℕ) : Type 0 where
-  pub each : (a : RulesAsked notes from all room) → left ≡ rootsOf (a .ns)
+abbrev pub RulesCame : List ℕ → ℕ → ℕ → ℕ → List ℕ → Type 0
+RulesCame notes from all room left = (a : RulesAsked notes from all room) → left ≡ rootsOf (a .ns)
 
 -- where so many blocks start, one after the other from a place on
 unfoldable pub blockPlaces : List ℕ → ℕ → ℕ → List ℕ
@@ -114,6 +114,13 @@ pub record ClearFor (places t : List ℕ) : Type 0 where
   pub most : ℕ
   pub zeros : t ≡ replicate most 0
   pub room : length places ≤ most
+
+-- Resolve's answer in a slice of so many words, and what it leaves there, by what resolving comes to
+abbrev pub givenOut : ℕ → ℕ → Outcome Pack → Answer
+givenOut steps room o = given steps room (mapDone wholePack o)
+
+abbrev pub writtenOut : List ℕ → Outcome Pack → List ℕ
+writtenOut lent o = written lent (mapDone wholePack o)
 
 -- what is answered and left of them
 pub record FinishCame (ws lent : List ℕ) (answer : Answer) (left : List ℕ) : Type 0 where
@@ -152,8 +159,8 @@ pub record OrderAsked (ws dir notes : List ℕ) (f : Figures) (room : ℕ) : Typ
   pub asked : ResolveAsked ws dir acts taken marks notes f work
   pub size : room ≡ length (piecesOf (asked .directory .checked .pack))
 
-pub record OrderCame (ws dir notes : List ℕ) (f : Figures) (room : ℕ) (left : List ℕ) : Type 0 where
-  pub each : (a : OrderAsked ws dir notes f room) → left ≡ beginnings 0 (piecesOf (a .asked .directory .checked .pack))
+abbrev pub OrderCame : List ℕ → List ℕ → List ℕ → Figures → ℕ → List ℕ → Type 0
+OrderCame ws dir notes f room left = (a : OrderAsked ws dir notes f room) → left ≡ beginnings 0 (piecesOf (a .asked .directory .checked .pack))
 
 -- tables with a word for each name that the words say, all 0, and a directory that has one for each of them
 pub record TablesFor (ws dir acts taken asked : List ℕ) : Type 0 where

@@ -30,8 +30,8 @@ ghost use Rattle.definitions.specs.Operations.{resolveAnswer, resolveBuffer};
 ghost use mathlib.Core.Path.{_≡_};
 ghost use Prim.Native.Nat.{_+_, _≤_, min};
 ghost use lib.ListN.{length, getD};
-ghost use Rattle.chains.specs.Entry.{Reaches, startsIn};
-ghost use Rattle.checking.specs.Checked.{namesSaid};
+ghost use Rattle.chains.specs.DirectoryWord.{Reaches, startsIn};
+ghost use Rattle.checking.specs.CheckPromises.{namesSaid};
 ghost use Rattle.resolve.specs.Finish.{PlacedAsked, ResolveAsked, CheckedAsked, TablesFor, RoomFor, Into};
 
 // A checked pack's layout, and how many words there is room for.

@@ -12,7 +12,7 @@ ghost use lib.ListN.{length, getD};
 ghost use Rattle.definitions.specs.Table.{wordOf};
 ghost use Rattle.definitions.specs.Places.{namesAt};
 ghost use Rattle.stamping.specs.Stamping.{namesOr, Lists};
-ghost use Rattle.resolve.specs.Writing.{listWords, putFor, pieceOut, Stampable, Put, PutRoom, WriteAsked, WriteCame};
+ghost use Rattle.resolve.specs.Pieces.{listWords, putFor, pieceOut, Stampable, Put, PutRoom, WriteAsked, WriteCame};
 
 // The words of a slice in another of the same length.
 pub fn copy(from: &[u32], to: &mut [u32])

@@ -9,7 +9,15 @@ use lib.Dec.{ltb, leb}
 use borrow.Author.Tests.{lt-ltb, le-ltb, ltb-true, ltb-false, leb-true, leb-false}
 use Rattle.io.specs.Digits.{glyph, digits, Fewest}
 use Rattle.definitions.specs.Table.{pick}
-use Rattle.resolve_main.specs.Text.{digitOf, digitsUpTo, decimal, hexadecimal, readOn, numberRead}
+use Rattle.definitions.specs.Text.{digitOf, digitsUpTo, decimal, hexadecimal}
+
+-- the number that digits read as
+unfoldable pub readOn : ℕ → ℕ → List ℕ → ℕ
+readOn base n [] = n
+readOn base n (d ∷ ds) = readOn base (base * n + d) ds
+
+abbrev pub numberRead : ℕ → List ℕ → ℕ
+numberRead base ds = readOn base 0 ds
 
 read-last : (base n : ℕ) (ds : List ℕ) (d : ℕ) → readOn base n (ds ++ (d ∷ [])) ≡ base * readOn base n ds + d
 unfolding readOn

@@ -7,7 +7,7 @@ use mathlib.Core.List.{_∷_}
 use borrow.Author.Tests.{lt-ltb, le-ltb}
 use Rattle.definitions.specs.Table.{pick}
 use Rattle.definitions.specs.Bytes.{wordFrom}
-use Rattle.resolve_main.specs.Text.{codes, digitOf, lineOf}
+use Rattle.definitions.specs.Text.{codes, digitOf, lineOf}
 
 pub digit-decimal : (d : ℕ) → d < 10 → 48 + d ≡ digitOf d
 digit-decimal d h = ap (λ (b : Bool). pick b (48 + d) (55 + d)) (sym (lt-ltb d 10 h))

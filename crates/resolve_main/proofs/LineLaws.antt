@@ -11,13 +11,11 @@ use borrow.Author.Tests.{leb-true, leb-false}
 use Rattle.definitions.specs.declared.answer.Answer.{Answer}
 use Rattle.definitions.specs.declared.answer.Answer.the-variants.{Given, Refused}
 use Rattle.definitions.specs.declared.answer.Refusal.{Refusal}
-use Rattle.definitions.specs.Bytes.{wordFrom, wordsOf, encode, inRoom, Gives}
-use Rattle.definitions.specs.Operations.{resolveAnswer, resolveBuffer}
-use Rattle.wire.specs.Decoding.{decode}
+use Rattle.definitions.specs.Bytes.{wordFrom, wordsOf}
 use Rattle.wire.proofs.ByteLaws.{four, words-cons, words-length}
-use Rattle.resolve_main.specs.Text.{lineOf, linesOf, okLine, refusedLine, textOf, printed}
-use Rattle.resolve_main.specs.Printing.{Adds, Prints}
-use Rattle.resolve_main.proofs.PrintingLaws.{adds-none, and-then, adds-as, prints-as}
+use Rattle.definitions.specs.Text.{lineOf, linesOf, okLine, refusedLine, textOf}
+use Rattle.resolve_main.specs.Printing.{Adds}
+use Rattle.resolve_main.proofs.PrintingLaws.{adds-none, and-then, adds-as}
 
 -- the words from the i-th on
 words-drop : (i : ℕ) (bytes : List ℕ) → 4 * i ≤ length bytes → drop i (wordsOf bytes) ≡ wordsOf (drop (4 * i) bytes)
@@ -78,11 +76,3 @@ given-text out {a} {b} {n} {steps} {m} d e l = rw (← d, e, words-there out n m
 pub refused-text : (ws : List ℕ) {a b : Answer} {r : Refusal} → a ≡ b → a ≡ Refused r → refusedLine (r .number) (r .place) (r .name) (r .other) ≡ textOf b ws
 unfolding textOf
 refused-text ws d e = rw (← d, e)
-
--- what the host's function gives, as text
-pub resolved-text : {bytes out after before text : List ℕ} {r e : ℕ} → Gives resolveAnswer resolveBuffer bytes out r after
-    → Prints (textOf (decode r) (wordsOf after)) before e text → Prints (printed bytes out) before e text
-resolved-text {bytes} {out} {after} g p =
-    prints-as p
-    (ap (λ (r : ℕ). textOf (decode r) (wordsOf after)) (g .answers)
-    ∙ ap (λ (l : List ℕ). textOf (decode (encode (inRoom resolveAnswer (length out) bytes))) (wordsOf l)) (g .leaves))

@@ -2,16 +2,36 @@
 use cogunwa::cogunwa_resolve;
 use definitions::answer::Answer;
 use definitions::answer::Refusal;
+use pack::kinds::Pack;
 use wire::answer::decode;
 use wire::bytes::room;
 ghost use mathlib.Core.Path.{_≡_};
 ghost use mathlib.Core.List.{_++_};
 ghost use Prim.Native.Nat.{_+_, _*_, _/_, _<_, _≤_};
 ghost use lib.ListN.{length, take};
-ghost use Rattle.definitions.specs.Bytes.{wordFrom, wordsOf};
-ghost use Rattle.wire.specs.Decoding.{decode};
-ghost use Rattle.resolve_main.specs.Text.{digitOf, spaced, lineOf, linesOf, okLine, refusedLine, textOf, printed};
-ghost use Rattle.resolve_main.specs.Printing.{Adds, Prints};
+ghost use Rattle.definitions.specs.Bytes.{wordFrom, wordsOf, decode};
+ghost use Rattle.definitions.specs.Text.{digitOf, spaced, lineOf, linesOf, okLine, refusedLine, textOf, printed};
+ghost use Rattle.resolve_main.specs.Printing.{numberBytes, firstLineBytes, wordLineBytes, Adds, Prints};
+
+// How many bytes a text has at most.
+pub struct Text {}
+
+impl Text {
+    // The digits of a number of 64 bits.
+    pub const DIGITS: usize = 20;
+
+    // A number after a space.
+    pub const NUMBER: usize = 1 + Text::DIGITS;
+
+    // A first line: `refused`, four numbers, and its end.
+    pub const FIRST_LINE: usize = 8 + 4 * Text::NUMBER;
+
+    // The line of a word: eight digits, and its end.
+    pub const WORD_LINE: usize = 9;
+
+    // All that is printed of a pack.
+    pub const ALL: usize = Text::FIRST_LINE + Text::WORD_LINE * Pack::MOST_WORDS;
+}
 
 fn put(bytes: &[u8], text: &mut [u8], at: usize) -> usize
     requires { ⌜ at + length (now bytes) ≤ length (now text) ⌝ }
@@ -27,10 +47,10 @@ fn put(bytes: &[u8], text: &mut [u8], at: usize) -> usize
 
 // A number after a space.
 fn next(n: u64, text: &mut [u8], at: usize) -> usize
-    requires { ⌜ at + 21 ≤ length (now text) ⌝ }
-    ensures { λ r. ⌜ Adds (spaced n) 21 at (now (text .entry)) r (now (text .exit)) ⌝ }
+    requires { ⌜ at + numberBytes ≤ length (now text) ⌝ }
+    ensures { λ r. ⌜ Adds (spaced n) numberBytes at (now (text .entry)) r (now (text .exit)) ⌝ }
 {
-    let mut digits = [0u8; 20];
+    let mut digits = [0u8; Text::DIGITS];
     let count = io::decimal(n, &mut digits);
     let from = put(b" ", text, at);
     put(&digits[..count], text, from)
@@ -46,8 +66,8 @@ fn digit(d: u8) -> u8
 
 // A word on a line of its own, from its bytes, the low one first.
 fn line(a: u8, b: u8, c: u8, d: u8, text: &mut [u8], at: usize) -> usize
-    requires { ⌜ at + 9 ≤ length (now text) ⌝ }
-    ensures { λ r. ⌜ Adds (lineOf (wordFrom a b c d)) 9 at (now (text .entry)) r (now (text .exit)) ⌝ }
+    requires { ⌜ at + wordLineBytes ≤ length (now text) ⌝ }
+    ensures { λ r. ⌜ Adds (lineOf (wordFrom a b c d)) wordLineBytes at (now (text .entry)) r (now (text .exit)) ⌝ }
 {
     let digits = [
         digit(d / 16),
@@ -65,8 +85,8 @@ fn line(a: u8, b: u8, c: u8, d: u8, text: &mut [u8], at: usize) -> usize
 
 // The first words of the output.
 fn lines(out: &[u8], count: usize, text: &mut [u8], from: usize) -> usize
-    requires { ⌜ (4 * count ≤ length (now out)) × (from + 9 * count ≤ length (now text)) ⌝ }
-    ensures { λ r. ⌜ Adds (linesOf (take count (wordsOf (now (out .entry))))) (9 * count) from (now (text .entry)) r (now (text .exit)) ⌝ }
+    requires { ⌜ (4 * count ≤ length (now out)) × (from + wordLineBytes * count ≤ length (now text)) ⌝ }
+    ensures { λ r. ⌜ Adds (linesOf (take count (wordsOf (now (out .entry))))) (wordLineBytes * count) from (now (text .entry)) r (now (text .exit)) ⌝ }
 {
     let mut at = from;
     let mut i = 0;
@@ -86,8 +106,8 @@ fn lines(out: &[u8], count: usize, text: &mut [u8], from: usize) -> usize
 }
 
 fn ok_line(count: u32, steps: u32, text: &mut [u8]) -> usize
-    requires { ⌜ 92 ≤ length (now text) ⌝ }
-    ensures { λ r. ⌜ Adds (okLine count steps) 92 0 (now (text .entry)) r (now (text .exit)) ⌝ }
+    requires { ⌜ firstLineBytes ≤ length (now text) ⌝ }
+    ensures { λ r. ⌜ Adds (okLine count steps) firstLineBytes 0 (now (text .entry)) r (now (text .exit)) ⌝ }
 {
     let name = put(b"ok", text, 0);
     let other = next(count as u64, text, name);
@@ -96,8 +116,8 @@ fn ok_line(count: u32, steps: u32, text: &mut [u8]) -> usize
 }
 
 fn refused_line(r: Refusal, text: &mut [u8]) -> usize
-    requires { ⌜ 92 ≤ length (now text) ⌝ }
-    ensures { λ e. ⌜ Adds (refusedLine (r .number) (r .place) (r .name) (r .other)) 92 0 (now (text .entry)) e (now (text .exit)) ⌝ }
+    requires { ⌜ firstLineBytes ≤ length (now text) ⌝ }
+    ensures { λ e. ⌜ Adds (refusedLine (r .number) (r .place) (r .name) (r .other)) firstLineBytes 0 (now (text .entry)) e (now (text .exit)) ⌝ }
 {
     let number = put(b"refused", text, 0);
     let place = next(r.number as u64, text, number);
@@ -109,7 +129,7 @@ fn refused_line(r: Refusal, text: &mut [u8]) -> usize
 
 // The text of the answer that a number is of, with the words of the output.
 pub fn report(answer: u64, out: &[u8], text: &mut [u8]) -> usize
-    requires { ⌜ 92 + 9 * (length (now out) / 4) ≤ length (now text) ⌝ }
+    requires { ⌜ firstLineBytes + wordLineBytes * (length (now out) / 4) ≤ length (now text) ⌝ }
     ensures { λ r. ⌜ Prints (textOf (decode answer) (wordsOf (now (out .entry)))) (now (text .entry)) r (now (text .exit)) ⌝ }
 {
     match decode(answer) {
@@ -121,11 +141,12 @@ pub fn report(answer: u64, out: &[u8], text: &mut [u8]) -> usize
     }
 }
 
-// The text of what Resolve answers for a pack and writes to the output.
-pub fn resolved_text(pack: &[u8], out: &mut [u8], text: &mut [u8]) -> usize
-    requires { ⌜ 92 + 9 * (length (now out) / 4) ≤ length (now text) ⌝ }
-    ensures { λ r. ⌜ Prints (printed (now (pack .entry)) (now (out .entry))) (now (text .entry)) r (now (text .exit)) ⌝ }
+// The text of what Resolve answers for a pack, and of the words that it writes.
+pub fn resolved_text(pack: &[u8], text: &mut [u8]) -> usize
+    requires { ⌜ firstLineBytes + wordLineBytes * 8192 ≤ length (now text) ⌝ }
+    ensures { λ r. ⌜ Prints (printed (now (pack .entry))) (now (text .entry)) r (now (text .exit)) ⌝ }
 {
-    let answer = cogunwa_resolve(pack, out);
-    report(answer, out, text)
+    let mut out = [0u8; 4 * Pack::MOST_WORDS];
+    let answer = cogunwa_resolve(pack, &mut out);
+    report(answer, &out, text)
 }

@@ -17,7 +17,7 @@ use Rattle.definitions.specs.Filtered.{kindAt}
 use Rattle.definitions.specs.Places.{namesAt, hops}
 use Rattle.chains.proofs.RelationForm.{kept}
 use Rattle.chains.proofs.ListAt.{InWords}
-use Rattle.definitions.specs.Resolving.{holds, roleJudgment, inDerivation, atomNames, empty, unlike, stampedWith, stampBy, stampDerived, stamp}
+use Rattle.definitions.specs.Resolving.{holds, roleJudgment, inDerivation, atomNames, isEmpty, unlike, stampedWith, stampBy, stampDerived, stamp}
 use Rattle.stamping.specs.Stamping.{StampedBy, as-it-is, with-kinds, unstamped, passedIn, unlikeIn, listBy, listFor}
 use Rattle.chains.specs.Record.{valueAt, slotsPlace, entityCount}
 use Rattle.filtered.specs.Acts.{actPart, actList, partAt}
@@ -25,7 +25,7 @@ use Rattle.chains.proofs.RecordLaws.{value-there, counted, slots-at, current-th
 
 -- ---- the list
 
-no-names : (l : List ℕ) → eqb (length l) 0 ≡ empty l
+no-names : (l : List ℕ) → eqb (length l) 0 ≡ isEmpty l
 no-names [] = refl
 no-names (k ∷ l) = ne-eqb (length (k ∷ l)) 0 (λ e. omega arith)
 
@@ -33,7 +33,7 @@ one-if : (b : Bool) → eqb (pick b 1 0) 1 ≡ b
 one-if true = refl
 one-if false = refl
 
-is-empty : (l : List ℕ) → empty l ≡ true → l ≡ []
+is-empty : (l : List ℕ) → isEmpty l ≡ true → l ≡ []
 is-empty [] e = refl
 is-empty (k ∷ l) e = let z : _≡_ {A = ℕ} 0 1 = cc in absurd (omega arith)
 
@@ -50,7 +50,7 @@ module _ (ws : List ℕ) (list : ℕ) (r : Relation) (d : Derivation) (e : r .de
   stampedBy none-21 none = r
   stampedBy none-21 (some ks) = pick (none-21 && differ (some ks)) (stampedWith r d ks) r
 
-  by-kinds : (kinds : Option (List ℕ)) → stampedBy (empty (d .slotEntities)) kinds ≡ stampBy kinds r d
+  by-kinds : (kinds : Option (List ℕ)) → stampedBy (isEmpty (d .slotEntities)) kinds ≡ stampBy kinds r d
   by-kinds none = refl
   by-kinds (some ks) = refl
 
@@ -62,7 +62,7 @@ module _ (ws : List ℕ) (list : ℕ) (r : Relation) (d : Derivation) (e : r .de
       go true = with-kinds d ks (some-place ws list ks q) q e z
       go false = as-it-is refl
 
-  -- by whether list 9 and list 21 are empty, and whether the relation is named or its predicate holds a judgment of roles
+  -- by whether list 9 and list 21 are isEmpty, and whether the relation is named or its predicate holds a judgment of roles
   decided : (none-9 none-21 spoken : Bool) (kinds : Option (List ℕ)) → namesAt ws list ≡ kinds → (none-21 ≡ true → d .slotEntities ≡ [])
       → StampedBy ws (pick none-21 (pick (differ kinds) (pick (none-9 && spoken) 0 list) 0) 0) r (pick ((none-9 && none-21) && spoken) r (stampedBy none-21 kinds))
   decided true true true kinds q z = go (differ kinds)
@@ -112,14 +112,14 @@ module _ (ws work acts asked : List ℕ) (p : Pack) (start : ℕ) (r : Relation)
         let far : start + 7 + length (r .slotKinds) + 3 * hops (d .path) ≡ 0 → ⊥ = λ z. omega arith in
         part ∙ rw (e, ne-eqb (start + 7 + length (r .slotKinds) + 3 * hops (d .path)) 0 far) refl ∙ sym (slots-at work start (p .names) r i most d e)
 
-    none-21 : unstamped work (actPart x) ≡ empty (d .slotEntities)
+    none-21 : unstamped work (actPart x) ≡ isEmpty (d .slotEntities)
     unfolding unstamped entityCount
     none-21 =
         let far : 2 ≤ slotsPlace work start = omega (arith, slots-at work start (p .names) r i most d e) in
         rw (slots, le-ltb (slotsPlace work start) 2 far, entities-there work start (p .names) r i most d e) (no-names (d .slotEntities))
 
     list-read : listFor ws work acts asked start
-        ≡ pick (empty (d .slotEntities)) (pick (unlike (kindAt K (d .current)) (kindAt K (d .related))) (pick (empty (r .slotKinds) && (atomNames p (r .name) || holds roleJudgment (d .predicate))) 0 (actList x)) 0) 0
+        ≡ pick (isEmpty (d .slotEntities)) (pick (unlike (kindAt K (d .current)) (kindAt K (d .related))) (pick (isEmpty (r .slotKinds) && (atomNames p (r .name) || holds roleJudgment (d .predicate))) 0 (actList x)) 0) 0
     unfolding listBy passedIn unlikeIn
     list-read =
         by-name
@@ -135,4 +135,4 @@ module _ (ws work acts asked : List ℕ) (p : Pack) (start : ℕ) (r : Relation)
       go none e = as-it-is (not-derived e)
       go (some d) e =
           let spoken : Bool = atomNames p (r .name) || holds roleJudgment (d .predicate) in
-          rw (list-read d e, ← by-kinds ws (actList x) r d e K) (decided ws (actList x) r d e (empty (r .slotKinds)) (empty (d .slotEntities)) spoken K kinds (is-empty (d .slotEntities)))
+          rw (list-read d e, ← by-kinds ws (actList x) r d e K) (decided ws (actList x) r d e (isEmpty (r .slotKinds)) (isEmpty (d .slotEntities)) spoken K kinds (is-empty (d .slotEntities)))

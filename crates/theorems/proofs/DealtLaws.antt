@@ -12,11 +12,11 @@ use Rattle.definitions.specs.declared.answer.Answer.the-variants.{Given}
 use Rattle.definitions.specs.Table.{wordOf, entryOf}
 use Rattle.definitions.specs.Form.{Form, field, _▹_, countedFrom, counted, Holder, list, listOrNone, Suits, count, items, says, among, wordsAll, FineAll, wordsBy, Fine}
 use Rattle.definitions.specs.Records.{Item, Block, Relation, Rule, Edition, Pack}
-use Rattle.definitions.specs.Rows.{toRow}
+use Rattle.definitions.specs.FieldRows.{toRow}
 use Rattle.definitions.specs.Pack.{firstKind, newName, relation, nextUsed, relations, rule, rules, item, blockItems, block, blocks, defaulted, records, inner, layout, Reading, yes, refuse, read, total, words, WellFormed}
 use Rattle.definitions.specs.Answers.{answer}
 use Rattle.definitions.specs.Checking.{checkAnswer}
-use Rattle.definitions.specs.Dealt.{Checked, Shuffled, nil, cons, swap, trans, InAnyOrder, SameItems, noSequence, sequence, SameBlock, Dealt}
+use Rattle.definitions.specs.Dealt.{Checked, Shuffled, nil, cons, swap, trans, InAnyOrder, SameItems, bothNone, bothSome, SameBlock, Dealt}
 use Rattle.pack.proofs.PackLaws.{Rewrites, words-length, read-words, words-read}
 
 -- the counts stay
@@ -123,8 +123,8 @@ module _ (n : ℕ) where
 
   items-alike : {a b : Option (List Item)} → SameItems a b → Alike itemsForm a b
   unfolding count items
-  items-alike noSequence = equal-alike itemsForm none none refl
-  items-alike (sequence {l = l} {m = m} p) =
+  items-alike bothNone = equal-alike itemsForm none none refl
+  items-alike (bothSome {l = l} {m = m} p) =
       counted-alike _ _ _ _ (stateless (item n) _ (equal-alike (item n))) listOrNone n 30 tt tt (some l) (some m) (shuffled-length p) p
 
   block-alike : (a b : Block) → SameBlock a b → Alike (block n) a b

@@ -21,7 +21,7 @@ use Rattle.filtered.proofs.FilteredLaws.{filtered-dealt}
 use Rattle.definitions.specs.Tables.{derivedAt, typedAt, Tables, tables}
 use Rattle.definitions.specs.Answers.{Outcome, done, refused, andThen, mapDone, result}
 use Rattle.definitions.specs.ResolvingTrees.{Citing, InRange}
-use Rattle.definitions.specs.Resolving.{cites, defaultedEqual, equalRefusal, ruleBy, resolveRule, resolveRules, predicateBy, withPredicate, resolveDerivation, resolveRelation, resolveRelations, holds, roleJudgment, atomOf, inDerivation, inRule, atomNames, empty, stampBy, stampDerived, stamp, firstRule, resolveRecords, resolved}
+use Rattle.definitions.specs.Resolving.{cites, defaultedEqual, equalRefusal, ruleBy, resolveRule, resolveRules, predicateBy, withPredicate, resolveDerivation, resolveRelation, resolveRelations, holds, roleJudgment, atomOf, inDerivation, inRule, atomNames, isEmpty, stampBy, stampDerived, stamp, firstRule, resolveRecords, resolved}
 use Rattle.theorems.proofs.OutcomeLaws.{result-map, allDone, Alike, all-dealt}
 use Rattle.theorems.proofs.PlaceFree.{rules-each, relations-each}
 use Rattle.directions.proofs.Numbers.{Numbered, rules-numbered, relations-numbered}
@@ -92,8 +92,8 @@ module _ (p q : Pack) (w : WellFormed p) (d : Dealt p q) where
   stamp-derived : (r : Relation) (o : Option Derivation) → stampDerived p r o ≡ stampDerived q r o
   stamp-derived r none = refl
   stamp-derived r (some e) =
-      ap (λ (b : Bool). pick ((empty (r .slotKinds) && empty (e .slotEntities)) && (b || holds roleJudgment (e .predicate))) r (stampBy (kindsOf (p .relations) (r .name)) r e)) (atoms-alike (r .name))
-      ∙ ap (λ (ks : Option (List ℕ)). pick ((empty (r .slotKinds) && empty (e .slotEntities)) && (atomNames q (r .name) || holds roleJudgment (e .predicate))) r (stampBy ks r e)) (same-kinds (r .name))
+      ap (λ (b : Bool). pick ((isEmpty (r .slotKinds) && isEmpty (e .slotEntities)) && (b || holds roleJudgment (e .predicate))) r (stampBy (kindsOf (p .relations) (r .name)) r e)) (atoms-alike (r .name))
+      ∙ ap (λ (ks : Option (List ℕ)). pick ((isEmpty (r .slotKinds) && isEmpty (e .slotEntities)) && (atomNames q (r .name) || holds roleJudgment (e .predicate))) r (stampBy ks r e)) (same-kinds (r .name))
 
   pub stamp-alike : (r : Relation) → stamp p r ≡ stamp q r
   unfolding stamp

@@ -17,7 +17,8 @@ use Rattle.pack.proofs.PackLaws.{words-read}
 use Rattle.theorems.proofs.DealtLaws.{dealt-total, dealt-again, dealt-checked}
 use Rattle.definitions.specs.Kinds.{allKinds, ownAnswer, kindsOf}
 use Rattle.definitions.specs.Places.{placeOf, namesAt, allKindsWords, SettledAt}
-use Rattle.definitions.specs.Operations.{allKindsAnswer, allKindsBuffer, givenOut, writtenOut, resolveAnswer, resolveBuffer}
+use Rattle.definitions.specs.Operations.{allKindsAnswer, allKindsBuffer, resolveAnswer, resolveBuffer}
+use Rattle.resolve.specs.Finish.{givenOut, writtenOut}
 use Rattle.chains.proofs.KindLaws.{kinds-dealt, distinct-names, words-own, kinds-steps}
 use Rattle.chains.proofs.ListAt.{walk-end, place-holds}
 use Rattle.theorems.proofs.DealtChains.{chains-dealt}

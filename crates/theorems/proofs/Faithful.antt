@@ -1,17 +1,11 @@
--- Nothing is lost: words and their bytes give each other back, and so does an answer's number its parts, and those the answer.
+-- Nothing is lost: words and their bytes give each other back.
 use Prim.Native.Nat.{ℕ, _+_, _*_, _/_, _%_, _^_, _<_}
 use native.Mathlib.Nat.{div-div-eq-div-mul}
 use native.Mathlib.Omega.{arith}
 use mathlib.Core.Path.{_≡_, refl, ap, sym, _∙_}
-use mathlib.Core.Bool.{Bool, true, false}
 use mathlib.Core.List.{List, [], _∷_}
 use lib.ListN.{length}
-use Rattle.definitions.specs.declared.answer.Answer.{Answer}
-use Rattle.definitions.specs.declared.answer.Answer.the-variants.{Given, Refused}
-use Rattle.definitions.specs.Table.{pick}
-use Rattle.definitions.specs.Bytes.{wordFrom, wordsOf, bytesOf, encode, areWords, notWords, overBytes}
-use Rattle.wire.specs.Decoding.{decode}
-use Rattle.wire.proofs.DecodingLaws.{given-again, refused-again}
+use Rattle.definitions.specs.Bytes.{wordFrom, wordsOf, bytesOf}
 use Rattle.theorems.specs.RoundTrips.{Below}
 
 -- the bytes of a word one after the other
@@ -48,26 +42,3 @@ bytes-again (a ∷ b ∷ []) h k = absurd (omega arith)
 bytes-again (a ∷ b ∷ c ∷ []) h k = absurd (omega arith)
 bytes-again (a ∷ b ∷ c ∷ d ∷ bytes) (ha, (hb, (hc, (hd, h)))) k =
     rw (first a b c d ha hb hc hd, second a b c d ha hb hc hd, third a b c d ha hb hc hd, fourth a b c d ha hb hc hd, bytes-again bytes h (omega arith))
-
--- an answer of which no part is too large for its bits
-abbrev pub FitsBits : Answer → Type 0
-FitsBits (Given value steps) = (value < 2 ^ 32) × (steps < 2 ^ 12)
-FitsBits (Refused r) = (0 < r .number) × (r .number < 2 ^ 6) × (r .place < 2 ^ 14) × (r .name < 2 ^ 32) × (r .other < 2 ^ 12)
-
--- the number gives the answer back
-pub decode-again : (a : Answer) → FitsBits a → decode (encode a) ≡ a
-decode-again (Given value steps) (h, k) = given-again value steps h k
-decode-again (Refused r) (z, h, k, l, m) = refused-again r z h k l m
-
--- two answers with one number are one answer
-pub answers-again : (a b : Answer) → FitsBits a → FitsBits b → encode a ≡ encode b → a ≡ b
-answers-again a b f g e = sym (decode-again a f) ∙ ap decode e ∙ decode-again b g
-
--- an operation whose answers all fit, over bytes
-pub over-bytes-fits : (answer : List ℕ → Answer) → ((ws : List ℕ) → FitsBits (answer ws)) → (bytes : List ℕ) → FitsBits (overBytes answer bytes)
-unfolding overBytes
-over-bytes-fits answer h bytes = go (areWords (length bytes))
-  where
-    go : (b : Bool) → FitsBits (pick b (answer (wordsOf bytes)) notWords)
-    go true = h (wordsOf bytes)
-    go false = (omega arith, omega arith, omega arith, omega arith, omega arith)

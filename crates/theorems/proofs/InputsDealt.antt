@@ -40,12 +40,12 @@ named-dealt n (swap {a = a} {b = b} {l = l}) = go (eqb (a .name) n) (eqb (b .nam
 named-dealt n (trans p q) = trans (named-dealt n p) (named-dealt n q)
 
 items-dealt : (n : ℕ) (x y : Option (List Item)) → SameItems x y → InAnyOrder (named n (sequence x)) (named n (sequence y))
-items-dealt n none none dealt.noSequence = nil
-items-dealt n (some l) (some m) (dealt.sequence p) = named-dealt n p
+items-dealt n none none dealt.bothNone = nil
+items-dealt n (some l) (some m) (dealt.bothSome p) = named-dealt n p
 
 sequence-alike : (x y : Option (List Item)) → SameItems x y → noSequence x ≡ noSequence y
-sequence-alike none none dealt.noSequence = refl
-sequence-alike (some l) (some m) (dealt.sequence p) = refl
+sequence-alike none none dealt.bothNone = refl
+sequence-alike (some l) (some m) (dealt.bothSome p) = refl
 
 -- the blocks of an origin
 module _ (o : ℕ) where

@@ -28,9 +28,10 @@ use Rattle.chains.proofs.KindLaws.{kind-leads}
 use Rattle.chains.proofs.PackParts.{parts, find-name, EachFound, all-found}
 use Rattle.definitions.specs.Filtered.{kindAt, listed, entityIs, takes, takenFrom, taken, single, direct}
 use Rattle.definitions.specs.Tables.{Derived, Tables, derivedBy, derivedAt, pair, typedBy, typedAt, tables}
-use Rattle.definitions.specs.Resolving.{sameKind, equalKinds, defaultedEqual, equalRefusal, resolveRules, predicateBy, resolvePredicate, resolveDerivation, resolveRelation, withPredicate, resolveRelations, empty, unlike, passedOver, orKinds, stampedWith, stampBy, stampDerived, stamp, firstRule, resolveRecords, resolved}
+use Rattle.definitions.specs.Resolving.{sameKind, equalKinds, defaultedEqual, equalRefusal, resolveRules, predicateBy, resolvePredicate, resolveDerivation, resolveRelation, withPredicate, resolveRelations, isEmpty, unlike, passedOver, orKinds, stampedWith, stampBy, stampDerived, stamp, firstRule, resolveRecords, resolved}
 use Rattle.directions.proofs.Numbers.{Numbered, rules-numbered, relations-numbered}
-use Rattle.definitions.specs.Operations.{givenOut, resolveAnswer}
+use Rattle.definitions.specs.Operations.{resolveAnswer}
+use Rattle.resolve.specs.Finish.{givenOut}
 use Rattle.theorems.specs.Demand3.{relationOut, DerivedRelation, TakesOne, EqualKinds, ListsLeft, as-they-stood, stamped, KindsUsed}
 use Rattle.resolve.proofs.ResolveLaws.{equal-named}
 
@@ -300,7 +301,7 @@ lists-left p r out = go (r .derivation) refl
 
         by : (ks : Option (List ℕ)) → kindsOf (p .relations) (r .name) ≡ ks → stampBy ks x b ≡ out → ListsLeft p r out
         by none k s = stood s
-        by (some ks) k s = kinds (empty (d .slotEntities) && unlike (kindAt (some ks) (d .current)) (kindAt (some ks) (d .related))) s
+        by (some ks) k s = kinds (isEmpty (d .slotEntities) && unlike (kindAt (some ks) (d .current)) (kindAt (some ks) (d .related))) s
           where
             kinds : (c : Bool) → pick c (stampedWith x b ks) x ≡ out → ListsLeft p r out
             kinds true s = subst (ListsLeft p r) s (stamped k refl)

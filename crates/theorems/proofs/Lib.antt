@@ -1,8 +1,6 @@
-pub mod CitingNames
 pub mod InputsDealt
 pub mod LeanDealt
 pub mod KindsNumbers
-pub mod Bits
 pub mod BytesCases
 pub mod RefusingLaws
 pub mod DealtLaws
@@ -14,7 +12,6 @@ pub mod Demand3Laws
 pub mod KindsUsed
 pub mod OutcomeLaws
 pub mod PlaceFree
-pub mod RefusalNames
 pub mod ResolveNumbers
 pub mod StarredLaws
 pub mod WrongResolves

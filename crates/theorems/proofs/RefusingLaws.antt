@@ -21,18 +21,18 @@ use Rattle.pack.proofs.Refusals.{CheckRefuses, check-numbers, rewrite-numbers}
 use Rattle.definitions.specs.Kinds.{allKinds}
 use Rattle.definitions.specs.Places.{allKindsWords}
 use Rattle.chains.proofs.RefusalNumbers.{no-given, NoRoom}
-use Rattle.definitions.specs.Operations.{allKindsAnswer, allKindsBuffer, filterAnswer, filterBuffer, givenOut, writtenOut, resolveAnswer, resolveBuffer, answerTo, answerOf, bufferOf}
+use Rattle.definitions.specs.Operations.{allKindsAnswer, allKindsBuffer, filterAnswer, filterBuffer, resolveAnswer, resolveBuffer, answerTo, answerOf, bufferOf}
+use Rattle.resolve.specs.Finish.{givenOut, writtenOut}
 use Rattle.theorems.proofs.KindsNumbers.{all-kinds-numbers, kinds-of-numbers, lean-numbers}
 use Rattle.definitions.specs.Filtered.{filterWords}
 use Rattle.filtered.proofs.FilterLaws.{filter-numbers}
 use Rattle.definitions.specs.Resolving.{resolved}
 use Rattle.theorems.proofs.ResolveNumbers.{ResolveRefuses, checks, equal-kinds, open-direction, no-room, resolve-numbers}
-use Rattle.definitions.specs.Bytes.{wordsOf, encode, areWords, notWords, overBytes, outAfter, inRoom}
+use Rattle.definitions.specs.Bytes.{wordsOf, encode, numberField, areWords, notWords, overBytes, outAfter, inRoom}
 use Rattle.definitions.specs.declared.operation.Question.{Question}
 use Rattle.definitions.specs.declared.operation.Question.the-variants.{Check, KindsOf, Lean}
 use Rattle.definitions.specs.declared.operation.Writing.{Writing}
 use Rattle.definitions.specs.declared.operation.Writing.the-variants.{Rewrite, AllKinds, Filtered, Resolve}
-use Rattle.wire.specs.Decoding.{numberField}
 use Rattle.theorems.specs.Refusing.{checkNumbers, numbersTo, numbersOf, Among, NoneOrAmong, QuestionRefuses, WritingRefuses}
 
 -- ---- numbers among numbers

@@ -18,9 +18,10 @@ use Rattle.pack.proofs.Refusals.{CheckRefuses, read-numbers}
 use Rattle.definitions.specs.Kinds.{allKinds}
 use Rattle.definitions.specs.ResolvingTrees.{InRange}
 use Rattle.definitions.specs.Resolving.{resolved}
-use Rattle.definitions.specs.Operations.{givenOut, resolveAnswer}
+use Rattle.definitions.specs.Operations.{resolveAnswer}
+use Rattle.resolve.specs.Finish.{givenOut}
 use Rattle.directions.proofs.Numbers.{refused-number}
-use Rattle.theorems.proofs.RefusalNames.{Told, resolved-told}
+use Rattle.resolve.proofs.RefusalNames.{Told, resolved-told}
 
 -- a refusal of a checked pack: its place is a word's, its name and other are names of the pack
 pub record OfPack (ws : List ℕ) (r : Refusal) : Type 0 where

@@ -9,8 +9,7 @@ use lib.ListN.{length}
 use Rattle.definitions.specs.declared.answer.Refusal.{Refusal}
 use Rattle.definitions.specs.declared.answer.Answer.the-variants.{Refused}
 use Rattle.definitions.specs.Form.{among}
-use Rattle.definitions.specs.Bytes.{encode, overBytes, inRoom, Gives}
-use Rattle.wire.specs.Decoding.{numberField}
+use Rattle.definitions.specs.Bytes.{encode, numberField, overBytes, inRoom, Gives}
 use Rattle.definitions.specs.declared.operation.Question.{Question}
 use Rattle.definitions.specs.declared.operation.Question.the-variants.{Check, KindsOf, Lean}
 use Rattle.definitions.specs.declared.operation.Writing.{Writing}

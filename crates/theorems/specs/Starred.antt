@@ -69,14 +69,14 @@ pub data Case : Type 0 where
   -- of a pack: what resolving comes to
   resolves : Pack → Outcome Pack → Case
   -- of relations: for each of some entities direct, and then innermost
-  inner : List Relation → List (ℕ × Option ℕ) → List (ℕ × Option ℕ) → Case
+  directKinds : List Relation → List (ℕ × Option ℕ) → List (ℕ × Option ℕ) → Case
 
 -- what a case says: of kinds, by All kinds and by each relation's own walk
 abbrev pub CaseHolds : Case → Type 0
 CaseHolds (kinds rs ks steps) =
     (map (λ (r : Relation). namesOf rs (settledOf (allKinds rs .settled (r .name)))) rs ≡ ks) × (map (λ (r : Relation). kindsOf rs (r .name)) rs ≡ ks) × (allKinds rs .steps ≡ steps)
 CaseHolds (resolves p o) = resolved p ≡ o
-CaseHolds (inner rs directs innermosts) =
+CaseHolds (directKinds rs directs innermosts) =
     (map (λ (e : ℕ × Option ℕ). (e .0, direct rs (e .0))) directs ≡ directs) × (map (λ (e : ℕ × Option ℕ). (e .0, innermost rs 10 (e .0))) innermosts ≡ innermosts)
 
 abbrev pub AllHold : List Case → Type 0
@@ -116,7 +116,7 @@ cases =
     -- "★S1 [1,2], slots 0,5: stamped."
     ∷ resolves (packed [] (withDerivation 6 (1 ∷ 2 ∷ []) [] 0 5 3 saysNothing ∷ []) []) (done (packed [] (withDerivation 6 (1 ∷ 2 ∷ []) (1 ∷ 2 ∷ []) 0 5 3 saysNothing ∷ []) []))
     -- "★I1 direct 3→4, 4→3, 5→3: none." The name 6 has no direct, and gets none.
-    ∷ inner (withDerivation 7 [] (4 ∷ []) 0 1 3 saysNothing ∷ withDerivation 8 [] (3 ∷ []) 0 1 4 saysNothing ∷ withDerivation 9 [] (3 ∷ []) 0 1 5 saysNothing ∷ [])
+    ∷ directKinds (withDerivation 7 [] (4 ∷ []) 0 1 3 saysNothing ∷ withDerivation 8 [] (3 ∷ []) 0 1 4 saysNothing ∷ withDerivation 9 [] (3 ∷ []) 0 1 5 saysNothing ∷ [])
     ((3, some 4) ∷ (4, some 3) ∷ (5, some 3) ∷ (6, none) ∷ [])
     ((3, none) ∷ (4, none) ∷ (5, none) ∷ (6, none) ∷ [])
     ∷ []

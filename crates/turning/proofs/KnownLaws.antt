@@ -24,7 +24,7 @@ use Rattle.directions.proofs.Numbers.{OfInput, input-numbered}
 use Rattle.directions.proofs.CheckedTables.{tables-are}
 use Rattle.turning.specs.Notes.{Note, notesOfPack}
 use Rattle.turning.specs.Turns.{KnownTables, knownOf}
-use Rattle.turning.specs.Steps.{orNot, knownIn, Stands, Placed}
+use Rattle.turning.specs.TurnPromises.{orNot, knownIn, Stands, Placed}
 use Rattle.turning.specs.Asked.{InWords}
 use Rattle.turning.proofs.PlacedLaws.{all-placed}
 
@@ -32,7 +32,7 @@ inside-words : (ws : List ℕ) (i : ℕ) (n : Note) → Stands ws i n → n .pla
 inside-words ws i n s = go (eqb (n .inside) 0) refl
   where
     go : (b : Bool) → eqb (n .inside) 0 ≡ b → n .place < length ws
-    go true e = let f = s .root (eqb-true (n .inside) 0 e) .fields in omega arith
+    go true e = let f = s .root (eqb-true (n .inside) 0 e) in omega arith
     go false e = let f = s .node (eqb-false (n .inside) 0 e) .fields in omega arith
 
 placed-in : (ws : List ℕ) (i : ℕ) (ns : List Note) → Placed ws i ns → InWords ws ns

@@ -11,7 +11,7 @@ use Rattle.definitions.specs.Table.{judgment}
 use Rattle.definitions.specs.Form.{Fine, wordsBy}
 use Rattle.definitions.specs.Tree.{Tree, root, tree}
 use Rattle.definitions.specs.Records.{Derivation, Relation, Body, Rule, Pack}
-use Rattle.definitions.specs.Rows.{toRow}
+use Rattle.definitions.specs.FieldRows.{toRow}
 use Rattle.definitions.specs.Pack.{WellFormed, yes, read, total, body, rule}
 use Rattle.pack.proofs.PackLaws.{words-read, words-length}
 use Rattle.reading.specs.Noting.{push, nextNote, noteTree, pushAll}
@@ -20,7 +20,7 @@ use Rattle.records.specs.Directory.{notesAll, relationsAt, rulesAt, Clear, layo
 use Rattle.records.specs.declared.directory.Layout.{Layout}
 use Rattle.records.specs.declared.directory.Laid.{Laid}
 use Rattle.records.specs.declared.directory.Laid.the-variants.{Yes}
-use Rattle.checking.specs.Checked.{CheckedNotes}
+use Rattle.checking.specs.CheckPromises.{CheckedNotes}
 use Rattle.records.specs.Notes.{opened, inside, noteBody, bodyAt, noteBodies, noteRule, noteRules, noteOptional, notePredicate, notePredicates, relationsLeft, notesLeft}
 use Rattle.checking.proofs.CheckLaws.{clear-zeros}
 use Rattle.definitions.specs.Places.{relationWords, firstRelation, hops}

@@ -157,4 +157,4 @@ module _ (ws notes : List ℕ) (all : ℕ) (t₀ : List ℕ) where
     ends-by ns (n ∷ rest) h many left = absurd (omega arith)
 
     pub marks-end : all < i → NotesMarked ws notes all t₀ t
-    marks-end h = record { each = λ ns are many there. let l = g .each ns are many there in ends-by ns (l .rest) h (l .many) (l .left) }
+    marks-end h ns are many there = let l = g .each ns are many there in ends-by ns (l .rest) h (l .many) (l .left)

@@ -21,7 +21,7 @@ use Rattle.turning.specs.declared.root.Root as code
 use Rattle.turning.specs.declared.turns.Next.the-variants as next
 use Rattle.turning.specs.Notes.{Note, lookOf, noteCode}
 use Rattle.turning.specs.Turns.{insideOf, KnownTables, Root, citing, Work, work, valueIn, kindHere, ruleRoot, relationRoot, held, fieldsAt, stepAt, turnedBy, openRoot, turnNode, turnNote}
-use Rattle.turning.specs.Steps.{knownIn, NodeStands, Stands, outBy, outAt, OutFits, StepTaken, rootIn, RootStands, RootOpened, NextBy, NoteAsked, NoteTurned}
+use Rattle.turning.specs.TurnPromises.{knownIn, NodeStands, Stands, outBy, outAt, OutFits, StepTaken, rootIn, RootStands, RootOpened, NextBy, NoteAsked, NoteTurned}
 use Rattle.turning.proofs.FlatLaws.{Leaves, look-leaves}
 use Rattle.turning.proofs.CodeLaws.{code-parts}
 use Rattle.turning.proofs.StepLaws.{two-fields, two-or-more, three-words}

@@ -30,7 +30,7 @@ use Rattle.turning.specs.declared.turns.Ended.{Ended}
 use Rattle.turning.specs.declared.turns.Ended.the-variants as ended
 use Rattle.turning.specs.Notes.{Note, note, lookOf, noted, within, notesOf, notesIn, notesRun, bodyNotes, ruleNotes, derivedNotes, relationNotes, relationsNoted, rulesNoted, notesOfPack, Held}
 use Rattle.turning.specs.Turns.{KnownTables, knownOf, Work, work, nowhere, afresh, turnNotes, turnPack, TurnedInto}
-use Rattle.turning.specs.Steps.{knownIn, Placed, EndedBy, TurnsAsked, NotesTurned, PackAsked, TurnedAs, PackTurned}
+use Rattle.turning.specs.TurnPromises.{knownIn, Placed, EndedBy, TurnsAsked, NotesTurned, PackAsked, TurnedAs, PackTurned}
 use Rattle.turning.proofs.RecordFlat.{its-derivation}
 use Rattle.turning.proofs.PackFlat.{flattening}
 use Rattle.turning.proofs.PlacedLaws.{both-placed}

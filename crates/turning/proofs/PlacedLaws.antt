@@ -33,7 +33,7 @@ use Rattle.directions.proofs.RelationLaws.{lead, lead-words, lead-long, predica
 use Rattle.directions.proofs.TurnedPack.{front, pack-words, front-long, front22, pack-words-22, front22-long, rules-keep, relations-keep}
 use Rattle.turning.specs.Notes.{Note, note, lookBy, lookOf, noted, within, notesOf, notesIn, notesRun, bodyNotes, ruleNotes, derivedNotes, relationNotes, relationsNoted, rulesNoted, notesOfPack}
 use Rattle.turning.specs.Turns.{valueIn, kindHere}
-use Rattle.turning.specs.Steps.{NodeStands, RootStands, Stands, Placed}
+use Rattle.turning.specs.TurnPromises.{NodeStands, RootStands, Stands, Placed}
 use Rattle.turning.proofs.FlatLaws.{kind-there, value-there}
 use Rattle.turning.proofs.RecordFlat.{value-is, kind-is, its-derivation, name-below}
 
@@ -186,7 +186,7 @@ module _ (ws : List ℕ) (short : length ws ≤ 8192) (n : ℕ) (most : n ≤ 40
       tree-placed (b .tree) 32 (b .sort) (f .1) (front ++ one) back i inside (at + 1) false (s ∙ sym (append-assoc front one (treeWords (b .tree) ++ back))) (length-append front one ∙ omega arith) more-words (omega arith) p
 
   root-placed : (i at : ℕ) → 1 ≤ i → RootStands ws at → Stands ws i (note at 0 false)
-  root-placed i at l s = record { within = omega arith; near = let f = s .fields in omega arith; root = λ e. s; node = λ e. absurd (e refl) }
+  root-placed i at l s = record { within = omega arith; near = omega arith; root = λ e. s; node = λ e. absurd (e refl) }
 
   rule-placed : (r : records.Rule) → Fine (pack.rule n) r → PlacedAt 1 (ruleWords n) ruleNotes r
   unfolding ruleNotes
@@ -195,7 +195,7 @@ module _ (ws : List ℕ) (short : length ws ≤ 8192) (n : ℕ) (most : n ≤ 40
       let tail : List ℕ = runWords bodyWords (bodiesOf r) ++ back in
       let headed : ws ≡ front ++ (head r ++ tail) = s ∙ ap (λ (x : List ℕ). front ++ (x ++ back)) (its .words) ∙ ap (λ (x : List ℕ). front ++ x) (append-assoc (head r) (runWords bodyWords (bodiesOf r)) back) in
       let long = ap length headed ∙ length-append front (head r ++ tail) in (
-        root-placed i at l (record { fields = let x = length-append (head r) tail in omega arith }),
+        root-placed i at l (let x = length-append (head r) tail in omega arith),
         run-placed (suc i) bodyWords (bodyNotes i) (λ b. Fine (body n) b) (λ b f. body-placed i l b f) (bodiesOf r) (its .bodies) (front ++ head r) back (suc i) (at + 4) (headed ∙ sym (append-assoc front (head r) tail)) (length-append front (head r) ∙ omega arith) b (omega arith),
       )
 
@@ -208,7 +208,7 @@ module _ (ws : List ℕ) (short : length ws ≤ 8192) (n : ℕ) (most : n ≤ 40
         let L : List ℕ = lead (p .names) r d in
         let opened : ws ≡ front ++ (L ++ T) = s ∙ ap (λ (x : List ℕ). front ++ (x ++ back)) (lead-words (p .names) r d e fine) ∙ ap (λ (x : List ℕ). front ++ x) (append-assoc L (treeWords (d .predicate)) back) in
         let long = ap length opened ∙ length-append front (L ++ T) in (
-          root-placed i at l (record { fields = let x = length-append L T in omega (arith, lead-long (p .names) r d) }),
+          root-placed i at l (let x = length-append L T in omega (arith, lead-long (p .names) r d)),
           tree-placed (d .predicate) 32 judgment (subst (λ (x : ℕ). Fine (tree x 32 judgment) (d .predicate)) names fine) (front ++ L) back (suc i) i (at + predicatePlace r d) false (opened ∙ sym (append-assoc front L T)) (length-append front L ∙ omega (arith, lead-long (p .names) r d)) b (omega arith) l,
         )
 

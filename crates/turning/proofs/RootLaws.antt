@@ -8,7 +8,7 @@ use Rattle.definitions.specs.Table.{kindOf, valueOf}
 use Rattle.definitions.specs.Direction.{relatedKind, memberKinds}
 use Rattle.directions.specs.Words.{derivedIn, tablesIn, memberIn}
 use Rattle.turning.specs.Turns.{valueIn}
-use Rattle.turning.specs.Steps.{RootOpened}
+use Rattle.turning.specs.TurnPromises.{RootOpened}
 
 module _ (ws acts : List ℕ) (at : ℕ) where
   pub rule-opened : {word name origin entity : ℕ} → word ≡ getD ws at 0 → kindOf word ≡ 23 → name ≡ valueOf word → origin ≡ valueIn ws (at + 1) → entity ≡ valueIn ws (at + 2)

@@ -27,7 +27,7 @@ use Rattle.turning.specs.declared.step.Out.{Out}
 use Rattle.turning.specs.declared.step.Out.the-variants.{Opens, Passes, Stops}
 use Rattle.turning.specs.Notes.{Note, lookBy, lookOf, noteCode}
 use Rattle.turning.specs.Turns.{lostOf, valueIn, kindHere, held, fieldsAt, stepAt}
-use Rattle.turning.specs.Steps.{orNot, NodeStands, turnAt, outBy, outAt, wentBy, testedBy, allowedBy, onlyBy, OutFits, StepTaken}
+use Rattle.turning.specs.TurnPromises.{orNot, NodeStands, turnAt, outBy, outAt, wentBy, testedBy, allowedBy, onlyBy, OutFits, StepTaken}
 use Rattle.turning.proofs.CodeLaws.{code-parts}
 
 -- ---- fields read from the words
@@ -182,7 +182,7 @@ module _ {ws acts taken : List ℕ} {blocks count origin entity at : ℕ} {m : M
   test-taken e {d} t {o} q =
       record {
         each = λ root same. q ∙ rw (e, two-fields ws at 0 (three-words s (slots-of e test-slots)))
-            (ap testedBy (t .each taken) ∙ test-out (fieldAt ws (at + 1)) (fieldAt ws (at + 2)) [] entity m (direction.memberDirection (tablesIn ws acts taken) (valueIn ws at) m (valueIn ws (at + 1)) (valueIn ws (at + 2))));
+            (ap testedBy (t taken) ∙ test-out (fieldAt ws (at + 1)) (fieldAt ws (at + 2)) [] entity m (direction.memberDirection (tablesIn ws acts taken) (valueIn ws at) m (valueIn ws (at + 1)) (valueIn ws (at + 2))));
         fits = rw q (test-fits d (member-fits-code ws acts (valueIn ws at) m (valueIn ws (at + 1)) (valueIn ws (at + 2)) (omega arith) (omega arith) t));
       }
 

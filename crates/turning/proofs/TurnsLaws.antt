@@ -14,7 +14,7 @@ use Rattle.turning.specs.declared.turns.Ended.the-variants as ended
 use Rattle.turning.specs.Notes.{Note, noteCode, Held}
 use Rattle.turning.specs.Turns.{KnownTables, Root, Work, work, nowhere, turnNote, turnNotes}
 use Rattle.directions.specs.Words.{derivedIn, memberIn}
-use Rattle.turning.specs.Steps.{knownIn, Stands, rootIn, NextBy, NoteAsked, NoteTurned, Placed, EndedBy, TurnsAsked, NotesTurned}
+use Rattle.turning.specs.TurnPromises.{knownIn, Stands, rootIn, NextBy, NoteAsked, NoteTurned, Placed, EndedBy, TurnsAsked, NotesTurned}
 
 -- numbers that are left as they were
 held-still : (notes left : List ℕ) (i : ℕ) → ((j : ℕ) → (j ≡ i → ⊥) → getD left j 0 ≡ getD notes j 0) → (k : ℕ) → i < k → (ns : List Note) → Held notes k ns → Held left k ns

@@ -67,5 +67,5 @@ pub record MarksAsked (ws notes : List ℕ) (all : ℕ) : Type 0 where
   pub room : all < length notes
   pub there : InWords ws ns
 
-pub record NotesMarked (ws notes : List ℕ) (all : ℕ) (t left : List ℕ) : Type 0 where
-  pub each : (ns : List Note) → Held notes 1 ns → all ≡ length ns → InWords ws ns → left ≡ markNotes ws ns 4096 t
+abbrev pub NotesMarked : List ℕ → List ℕ → ℕ → List ℕ → List ℕ → Type 0
+NotesMarked ws notes all t left = (ns : List Note) → Held notes 1 ns → all ≡ length ns → InWords ws ns → left ≡ markNotes ws ns 4096 t

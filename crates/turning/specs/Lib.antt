@@ -1,4 +1,4 @@
 pub mod Notes
 pub mod Turns
-pub mod Steps
+pub mod TurnPromises
 pub mod Asked

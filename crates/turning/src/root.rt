@@ -4,7 +4,7 @@ use directions::direction::related_kind;
 use filtered::act::act_of;
 use pack::kinds::Pack;
 ghost use mathlib.Core.Path.{_≡_};
-ghost use Rattle.turning.specs.Steps.{RootStands, RootOpened};
+ghost use Rattle.turning.specs.TurnPromises.{RootStands, RootOpened};
 
 // Its name, its origin, the entity of its trees, and the number of the relation in whose predicate they stand, 0 for a rule.
 pub struct Root {

@@ -10,7 +10,7 @@ ghost use Prim.Native.Nat.{_<_, _≤_};
 ghost use Rattle.directions.specs.Words.{tablesIn, memberIn};
 ghost use Rattle.inputs.specs.Blocks.{inputIn};
 ghost use Rattle.directions.specs.Words.{SlotsFit};
-ghost use Rattle.turning.specs.Steps.{NodeStands, turnAt, wentBy, testedBy, onlyBy, StepTaken};
+ghost use Rattle.turning.specs.TurnPromises.{NodeStands, turnAt, wentBy, testedBy, onlyBy, StepTaken};
 ghost use Rattle.turning.specs.Notes.{lookOf};
 ghost use Rattle.turning.specs.Turns.{kindHere};
 ghost use mathlib.Core.Bool.{true};

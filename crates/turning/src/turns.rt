@@ -19,7 +19,7 @@ ghost use Rattle.definitions.specs.Table.{wordOf};
 ghost use Rattle.directions.specs.Words.{memberIn};
 ghost use Rattle.turning.specs.Notes.{Note, noteCode};
 ghost use Rattle.turning.specs.Turns.{held, insideOf};
-ghost use Rattle.turning.specs.Steps.{NoteAsked, NoteTurned, TurnsAsked, NotesTurned, PackAsked, PackTurned};
+ghost use Rattle.turning.specs.TurnPromises.{NoteAsked, NoteTurned, TurnsAsked, NotesTurned, PackAsked, PackTurned};
 
 // A note's number: the place after its word below FIELDS, FIELDS where membership is lost, and INSIDES times what it stands inside.
 pub struct NoteCode {}

@@ -4,9 +4,8 @@ use definitions::answer::Answer;
 use definitions::answer::Refusal;
 ghost use mathlib.Core.Path.{_≡_};
 ghost use lib.ListN.{length};
-ghost use Rattle.definitions.specs.Bytes.{inBits, encode, outAfter};
+ghost use Rattle.definitions.specs.Bytes.{inBits, encode, decode, outAfter};
 ghost use Rattle.wire.specs.Loading.{FitsOutput};
-ghost use Rattle.wire.specs.Decoding.{decode};
 
 // The fields of an answer's number, the lowest first: how many values each has, and what one of it counts.
 pub struct Field {}

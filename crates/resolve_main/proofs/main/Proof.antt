@@ -22,17 +22,14 @@ slice-aggregate-resolved-text c = search needs
 slice-aggregate-resolved-text-2 : tie.Need-slice-aggregate-resolved-text-2
 slice-aggregate-resolved-text-2 c = search needs
 
-slice-aggregate-resolved-text-3 : tie.Need-slice-aggregate-resolved-text-3
-slice-aggregate-resolved-text-3 c = search needs
-
 resolved-text-requires : tie.Need-resolved-text-requires
 resolved-text-requires c κs = search needs
 
 array-share-prefix-text : tie.Need-array-share-prefix-text
-array-share-prefix-text c = prints-within (c .before .before .resolved-text .ensures)
+array-share-prefix-text c = prints-within (c .before .resolved-text .ensures)
 
 slice-aggregate-write-all : tie.Need-slice-aggregate-write-all
-slice-aggregate-write-all c = prints-front (c .before .before .before .resolved-text .ensures)
+slice-aggregate-write-all c = prints-front (c .before .before .resolved-text .ensures)
 
 write-all-requires : tie.Need-write-all-requires
 write-all-requires c κs = search needs
@@ -50,7 +47,6 @@ main-spec =
     array-share-prefix-pack
     slice-aggregate-resolved-text
     slice-aggregate-resolved-text-2
-    slice-aggregate-resolved-text-3
     resolved-text-requires
     array-share-prefix-text
     slice-aggregate-write-all

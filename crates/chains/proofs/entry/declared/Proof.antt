@@ -2,7 +2,7 @@
 use mathlib.Core.Path.{sym, refl}
 use native.Mathlib.Omega.{arith}
 use borrow.Author.Tests.{eq-eqb, ne-eqb, lt-ltb, le-ltb}
-use Rattle.chains.specs.Entry.{declaredIn}
+use Rattle.chains.specs.DirectoryWord.{declaredIn}
 use borrow.Author.Needs.{needs}
 use Rattle.chains.proofs.entry.declared.Statement.{statement}
 use Rattle.chains.proofs.entry.declared.Tie as tie

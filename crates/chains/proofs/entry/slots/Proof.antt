@@ -2,7 +2,7 @@
 use mathlib.Core.Path.{refl, sym, _∙_}
 use native.Mathlib.Omega.{arith}
 use borrow.Author.Tests.{eq-eqb, ne-eqb, lt-ltb, le-ltb}
-use Rattle.chains.specs.Entry.{slotIn, slotsIn}
+use Rattle.chains.specs.DirectoryWord.{slotIn, slotsIn}
 use Rattle.chains.proofs.FillLaws.{whole-at}
 use borrow.Author.Needs.{needs}
 use Rattle.chains.proofs.entry.slots.Statement.{statement}

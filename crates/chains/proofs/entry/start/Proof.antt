@@ -1,7 +1,7 @@
 -- `chains::entry::start` meets its contract.
 use mathlib.Core.Path.{sym}
 use native.Mathlib.Omega.{arith}
-use Rattle.chains.specs.Entry.{startIn, startsIn}
+use Rattle.chains.specs.DirectoryWord.{startIn, startsIn}
 use Rattle.chains.proofs.FillLaws.{whole-at}
 use borrow.Author.Needs.{needs}
 use Rattle.chains.proofs.entry.start.Statement.{statement}

@@ -2,7 +2,7 @@
 use native.Mathlib.Omega.{arith}
 use mathlib.Core.Path.{refl, sym}
 use borrow.Author.Needs.{needs}
-use Rattle.chains.specs.Entry.{declarationsIn}
+use Rattle.chains.specs.DirectoryWord.{declarationsIn}
 use Rattle.chains.proofs.EntryLaws.{reaches-one, read-one}
 use Rattle.chains.proofs.AheadLaws.{GoingAhead, ahead-begin, stops-settled, stops-ring, stops-empty, stops-end, goes-on}
 use Rattle.chains.proofs.settle.ahead.Statement.{statement}

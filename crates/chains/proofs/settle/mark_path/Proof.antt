@@ -2,7 +2,7 @@
 use native.Mathlib.Omega.{arith}
 use mathlib.Core.Path.{refl, sym}
 use borrow.Author.Needs.{needs}
-use Rattle.chains.specs.Entry.{declarationsIn}
+use Rattle.chains.specs.DirectoryWord.{declarationsIn}
 use Rattle.chains.proofs.EntryLaws.{reaches-one, read-one}
 use Rattle.chains.proofs.AheadLaws.{MarkingPath, path-begin, path-next, path-end}
 use Rattle.chains.proofs.settle.mark_path.Statement.{statement}

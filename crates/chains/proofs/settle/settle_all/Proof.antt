@@ -4,7 +4,7 @@ use native.Mathlib.Omega.{arith}
 use mathlib.Core.Path.{_∙_, sym, subst}
 use Rattle.chains.proofs.EntryLaws.{name-here, names-long}
 use borrow.Author.Needs.{needs}
-use Rattle.chains.specs.Entry.{Reaches, declarationsIn, namesIn}
+use Rattle.chains.specs.DirectoryWord.{Reaches, declarationsIn, namesIn}
 use Rattle.chains.proofs.SettleLaws.{Settling, begin, walkable, walk-on, all-settled}
 use Rattle.chains.proofs.settle.settle_all.Statement.{statement}
 use Rattle.chains.proofs.settle.settle_all.Tie as tie

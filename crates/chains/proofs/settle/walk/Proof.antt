@@ -1,7 +1,7 @@
 -- `chains::settle::walk` meets its contract.
 use native.Mathlib.Omega.{arith}
 use mathlib.Core.Path.{refl, sym, subst}
-use Rattle.chains.specs.Entry.{Reaches, declarationsIn}
+use Rattle.chains.specs.DirectoryWord.{Reaches, declarationsIn}
 use Rattle.chains.specs.Settle.{Leading}
 use Rattle.chains.proofs.AheadLaws.{walked}
 use borrow.Author.Needs.{needs}

@@ -1,6 +1,6 @@
 -- `checking::check::answer` meets its contract.
 use mathlib.Core.Path.{ap, sym}
-use Rattle.checking.specs.Checked.{answerIn}
+use Rattle.checking.specs.CheckPromises.{answerIn}
 use borrow.Author.Needs.{needs}
 use Rattle.checking.proofs.check.answer.Statement.{statement}
 use Rattle.checking.proofs.check.answer.Tie as tie

@@ -4,7 +4,7 @@ use mathlib.Core.Path.{refl, sym}
 use native.Mathlib.Omega.{arith}
 use borrow.Author.Tests.{le-leb, lt-leb}
 use lib.ListN.{length, List·getD-eq-default}
-use Rattle.checking.specs.Checked.{namesSaid}
+use Rattle.checking.specs.CheckPromises.{namesSaid}
 use borrow.Author.Needs.{needs}
 use Rattle.checking.proofs.check.names_said.Statement.{statement}
 use Rattle.checking.proofs.check.names_said.Tie as tie

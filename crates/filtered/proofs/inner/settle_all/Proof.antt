@@ -4,7 +4,7 @@ use native.Mathlib.Omega.{arith}
 use mathlib.Core.Path.{sym, subst}
 use lib.ListN.{length}
 use Rattle.definitions.specs.Answers.{tableFrom}
-use Rattle.chains.specs.Entry.{Reaches, declarationsIn}
+use Rattle.chains.specs.DirectoryWord.{Reaches, declarationsIn}
 use Rattle.filtered.specs.Said.{plainly}
 use Rattle.chains.proofs.FillLaws.{table-length}
 use Rattle.chains.proofs.SettleLaws.{Settling, begin, all-settled}

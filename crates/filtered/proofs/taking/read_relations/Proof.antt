@@ -4,7 +4,7 @@ use native.Mathlib.Omega.{arith}
 use mathlib.Core.Path.{_≡_, refl, _∙_, sym}
 use lib.ListN.{length}
 use borrow.Author.Needs.{needs}
-use Rattle.chains.specs.Entry.{startsIn, slotsIn, namesIn}
+use Rattle.chains.specs.DirectoryWord.{startsIn, slotsIn, namesIn}
 use Rattle.chains.proofs.EntryLaws.{name-here, names-long, reaches-one}
 use Rattle.filtered.proofs.TakingLaws.{Reading, begin, read-all, read-next, name-low}
 use Rattle.filtered.proofs.taking.read_relations.Statement.{statement}

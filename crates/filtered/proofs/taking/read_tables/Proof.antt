@@ -1,7 +1,7 @@
 -- `filtered::taking::read_tables` meets its contract.
 use native.Mathlib.Omega.{arith}
 use mathlib.Core.Path.{sym, subst}
-use Rattle.chains.specs.Entry.{Reaches}
+use Rattle.chains.specs.DirectoryWord.{Reaches}
 use Rattle.chains.proofs.CheckedLaws.{few-relations, settleable, kinds-marked}
 use Rattle.filtered.proofs.TakenKnown.{takeable, filled}
 use borrow.Author.Needs.{needs}

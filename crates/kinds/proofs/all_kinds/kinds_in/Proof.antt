@@ -1,7 +1,7 @@
 -- `kinds::all_kinds::kinds_in` meets its contract.
 use native.Mathlib.Omega.{arith}
 use mathlib.Core.Path.{_∙_, ap}
-use Rattle.checking.specs.Checked.{answerIn}
+use Rattle.checking.specs.CheckPromises.{answerIn}
 use Rattle.chains.proofs.CheckedLaws.{few-relations, settleable, kinds-marked, placeable}
 use Rattle.chains.proofs.AnswerLaws.{front-length}
 use Rattle.chains.proofs.EntryLaws.{directed, lent-said, reaches-kept}

@@ -4,7 +4,7 @@ use native.Mathlib.Omega.{arith}
 use mathlib.Core.Path.{refl}
 use lib.ListN.{length}
 use borrow.Author.Needs.{needs}
-use Rattle.kinds.specs.Parts.{placeAt}
+use Rattle.kinds.specs.KindsPromises.{placeAt}
 use Rattle.chains.proofs.FillLaws.{Filling, begin, next, done}
 use Rattle.kinds.proofs.PartLaws.{named-low, named-settled}
 use Rattle.kinds.proofs.all_kinds.places.Statement.{statement}

@@ -1,7 +1,7 @@
 -- `kinds::kinds_of::place_in` meets its contract.
 use native.Mathlib.Omega.{arith}
 use mathlib.Core.Path.{_∙_, ap}
-use Rattle.checking.specs.Checked.{answerIn}
+use Rattle.checking.specs.CheckPromises.{answerIn}
 use Rattle.chains.proofs.CheckedLaws.{few-relations}
 use Rattle.chains.proofs.EntryLaws.{directed, lent-said, reaches-kept}
 use Rattle.kinds.proofs.PartLaws.{walkable-own, own-place}

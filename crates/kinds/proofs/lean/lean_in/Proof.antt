@@ -1,7 +1,7 @@
 -- `kinds::lean::lean_in` meets its contract.
 use native.Mathlib.Omega.{arith}
 use mathlib.Core.Path.{_∙_, ap}
-use Rattle.checking.specs.Checked.{answerIn}
+use Rattle.checking.specs.CheckPromises.{answerIn}
 use Rattle.chains.proofs.EntryLaws.{directed}
 use Rattle.kinds.proofs.SourceLaws.{its-sourced, its-leaning}
 use Rattle.kinds.proofs.OperationLaws.{lean-refused, first-unknown, second-unknown, leans-or-not}

@@ -2,7 +2,7 @@
 use mathlib.Core.Path.{sym}
 use native.Mathlib.Omega.{arith}
 use lib.Seq.{length-take-le}
-use Rattle.over_bytes.specs.Operations.{RoomIn}
+use Rattle.over_bytes.specs.BytesPromises.{RoomIn}
 use Rattle.over_bytes.proofs.IntoBytes.{room-as, room-into, fits-into, tried-into}
 use borrow.Author.Needs.{needs}
 use Rattle.over_bytes.proofs.operations.resolve_in.Statement.{statement}

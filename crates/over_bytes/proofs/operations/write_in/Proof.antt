@@ -2,7 +2,7 @@
 use borrow.Author.Needs.{needs}
 use mathlib.Core.Path.{sym}
 use lib.Seq.{length-take-le}
-use Rattle.over_bytes.specs.Operations.{asWriting}
+use Rattle.over_bytes.specs.BytesPromises.{asWriting}
 use Rattle.over_bytes.proofs.Writes.{writes}
 use Rattle.wire.proofs.OverBytes.{fits-out, tried}
 use Rattle.over_bytes.proofs.operations.write_in.Statement.{statement}

@@ -3,7 +3,7 @@ use borrow.Author.Needs.{needs}
 use mathlib.Core.Path.{refl, ap, _∙_}
 use mathlib.Core.Logic.{⊎-elim}
 use lib.ListN.{length}
-use Rattle.over_bytes.specs.Operations.{asWriting}
+use Rattle.over_bytes.specs.BytesPromises.{asWriting}
 use Rattle.over_bytes.proofs.Writes.{writes}
 use Rattle.wire.proofs.OverBytes.{given-short, given-long, kept-out}
 use Rattle.over_bytes.proofs.operations.written.Statement.{statement}

@@ -207,14 +207,12 @@ same-length c =
     (at-order-rules .order-rules .ensures) _ (at-order-blocks .order-blocks .ensures) .long
 
 returns : tie.Need-returns
-returns c =
+returns c a =
     let at-order-blocks = c .before .before in let at-order-rules = at-order-blocks .before .before .before .before in
     let at-order-relations = at-order-rules .before .before .before .before .before .before in let at-value-at = at-order-relations .before .before in
     let on-the-way = at-value-at .before .before .before .before .before .before in let start = on-the-way .before .before in
-    record {
-      each = λ a. all-ordered a (at-value-at .value-at .result) (at-value-at .value-at .ensures .0) (start .args .places .now) refl _
-          (at-order-relations .order-relations .ensures) _ (at-order-rules .order-rules .ensures) _ (at-order-blocks .order-blocks .ensures);
-    }
+    all-ordered a (at-value-at .value-at .result) (at-value-at .value-at .ensures .0) (start .args .places .now) refl _
+    (at-order-relations .order-relations .ensures) _ (at-order-rules .order-rules .ensures) _ (at-order-blocks .order-blocks .ensures)
 
 pub order-spec : {M : Type 1} → statement M
 order-spec =

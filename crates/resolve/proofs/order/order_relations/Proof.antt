@@ -4,7 +4,7 @@ use Prim.Native.Nat.{_-_}
 use mathlib.Core.Path.{refl}
 use lib.ListN.{length, getD}
 use borrow.Author.Needs.{needs}
-use Rattle.chains.specs.Entry.{startsIn}
+use Rattle.chains.specs.DirectoryWord.{startsIn}
 use Rattle.chains.proofs.FillLaws.{Filling, begin, next, done}
 use Rattle.resolve.specs.Finish.{orderIn}
 use Rattle.resolve.proofs.OrderLaws.{its-name}

@@ -71,7 +71,7 @@ same-length : tie.Need-same-length Inv-loop μ-loop
 same-length c = (c .before .loop) .inv _ refl (c .before .before .pre) .long
 
 returns : tie.Need-returns Inv-loop μ-loop
-returns c = record { each = λ a. roots-end a ((c .before .loop) .inv _ refl a) ((c .loop-test) .left) }
+returns c a = roots-end a ((c .before .loop) .inv _ refl a) ((c .loop-test) .left)
 
 pub order-rules-spec : {M : Type 1} → statement M
 order-rules-spec =

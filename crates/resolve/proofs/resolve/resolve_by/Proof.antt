@@ -2,7 +2,7 @@
 use native.Mathlib.Omega.{arith}
 use mathlib.Core.Path.{_≡_, _∙_, ap}
 use borrow.Author.Needs.{needs}
-use Rattle.checking.specs.Checked.{answerIn}
+use Rattle.checking.specs.CheckPromises.{answerIn}
 use Rattle.resolve.proofs.ResolveLaws.{resolve-refused, its-words, checked-asked, into-refused}
 use Rattle.resolve.proofs.resolve.resolve_by.Statement.{statement}
 use Rattle.resolve.proofs.resolve.resolve_by.Tie as tie

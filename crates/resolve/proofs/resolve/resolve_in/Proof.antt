@@ -60,7 +60,7 @@ resolve-placed-requires c κs =
       before = _;
       resolves = start .pre;
       marked = at-ask-notes .ask-notes .ensures;
-      begins = at-order .order .ensures .each
+      begins = at-order .order .ensures
           (orderOf (start .pre) (pieces-room (start .pre) (at-pieces .pieces .ensures) 128 (at-if2 .if2 .taken)));
       unequal = sym (at-first-equal .first-equal .ensures) ∙ at-if1 .if1 .left;
     }
@@ -106,7 +106,7 @@ resolve-placed-requires-2 c κs =
       before = _;
       resolves = start .pre;
       marked = at-ask-notes .ask-notes .ensures;
-      begins = at-order2 .order2 .ensures .each
+      begins = at-order2 .order2 .ensures
           (orderOf (start .pre) (pieces-room (start .pre) (at-pieces .pieces .ensures) 1603 (pieces-few (start .pre) (at-pieces .pieces .ensures))));
       unequal = sym
           (at-first-equal .first-equal .ensures) ∙ at-if1 .if1 .left;

@@ -3,7 +3,7 @@ use native.Mathlib.Omega.{arith}
 use Prim.Native.Nat.{ℕ, _-_}
 use mathlib.Core.Path.{_≡_, refl, sym, _∙_}
 use lib.ListN.{length, length-set}
-use Rattle.resolve.specs.Writing.{joined, WriteAsked}
+use Rattle.resolve.specs.Pieces.{joined, WriteAsked}
 use Rattle.resolve.proofs.WriteLaws.{Writing, part-within, part-asked, part-put, all-put}
 use Rattle.resolve.proofs.WrittenPack.{come, come-long, come-few, writing-begin, not-empty, writing-end}
 use borrow.Author.Needs.{needs}
@@ -95,7 +95,7 @@ same-length c =
     length-set (at-loop .loop .out) 0 _ ∙ (at-loop .loop) .inv _ refl (start-2 .pre) .size ∙ come-long (start-2 .pre)
 
 returns : tie.Need-returns Inv-loop μ-loop
-returns c = record { each = λ a. writing-end a (all-put _ _ _ _ _ ((c .before .loop) .inv _ refl a) ((c .loop-test) .left)) }
+returns c a = writing-end a (all-put _ _ _ _ _ ((c .before .loop) .inv _ refl a) ((c .loop-test) .left))
 
 pub write-spec : {M : Type 1} → statement M
 write-spec =

@@ -5,7 +5,7 @@ use mathlib.Core.Path.{_≡_, refl, _∙_}
 use mathlib.Core.List.{List}
 use lib.ListN.{length, take}
 use Rattle.definitions.specs.Bytes.{wordsOf}
-use Rattle.resolve_main.specs.Text.{linesOf}
+use Rattle.definitions.specs.Text.{linesOf}
 use Rattle.resolve_main.specs.Printing.{Adds}
 use Rattle.resolve_main.proofs.LineLaws.{lines-none, lines-turn}
 use Rattle.resolve_main.proofs.report.lines.Statement.{statement}

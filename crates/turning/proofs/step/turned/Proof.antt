@@ -1,6 +1,6 @@
 -- `turning::step::turned` meets its contract.
 use Rattle.turning.proofs.StepLaws.{three-words}
-use Rattle.turning.specs.Steps.{turnAt}
+use Rattle.turning.specs.TurnPromises.{turnAt}
 use Rattle.directions.proofs.SlotLaws.{turned-fits}
 use native.Mathlib.Omega.{arith}
 use borrow.Author.Needs.{needs}

@@ -1,7 +1,7 @@
 -- `wire::answer::decode` meets its contract, by whether the number is 0.
 use borrow.Author.Needs.{needs}
 use borrow.Author.Tests.{eq-eqb, ne-eqb}
-use Rattle.wire.specs.Decoding.{decode}
+use Rattle.definitions.specs.Bytes.{decode}
 use Rattle.wire.proofs.answer.decode.Statement.{statement}
 use Rattle.wire.proofs.answer.decode.Tie as tie
 

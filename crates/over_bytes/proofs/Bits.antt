@@ -22,7 +22,8 @@ use Rattle.definitions.specs.Chain.{Link, end, next, same, withNext, outside}
 use Rattle.definitions.specs.Kinds as kinds
 use Rattle.definitions.specs.Kinds.{kindStep, declared, ownAnswer, allKinds}
 use Rattle.definitions.specs.Places.{placeOf, allKindsWords}
-use Rattle.definitions.specs.Operations.{allKindsAnswer, kindsOfAnswer, leanAnswer, filterAnswer, givenOut, resolveAnswer}
+use Rattle.definitions.specs.Operations.{allKindsAnswer, kindsOfAnswer, leanAnswer, filterAnswer, resolveAnswer}
+use Rattle.resolve.specs.Finish.{givenOut}
 use Rattle.definitions.specs.Filtered.{filterWords}
 use Rattle.definitions.specs.Lean.{leans}
 use Rattle.definitions.specs.declared.operation.Filter.{Filter}
@@ -32,11 +33,10 @@ use Rattle.chains.proofs.PlaceBounds.{end-small}
 use Rattle.chains.proofs.ListAt.{own-holds}
 use Rattle.definitions.specs.Resolving.{resolved}
 use Rattle.directions.proofs.Numbers.{refused-number}
-use Rattle.theorems.proofs.RefusalNames.{Told, resolved-told}
-use Rattle.definitions.specs.Bytes.{encode, inRoom}
-use Rattle.wire.specs.Decoding.{decode}
-use Rattle.theorems.proofs.Faithful.{FitsBits, decode-again, over-bytes-fits}
+use Rattle.resolve.proofs.RefusalNames.{Told, resolved-told}
+use Rattle.definitions.specs.Bytes.{encode, decode, inRoom}
+use Rattle.wire.proofs.DecodingLaws.{FitsBits, decode-again, over-bytes-fits}
 use Rattle.over_bytes.proofs.Writes.{few-words, few-places, few-names}
 
 -- Check's refusals, and what is answered for a pack
 reads : (ws : List ℕ) (f : Pack → Answer) → ((p : Pack) → read ws ≡ yes p → FitsBits (f p)) → FitsBits (answer (read ws) f)
@@ -151,6 +151,6 @@ pub filtered-fits : (f : Filter) (ws : List ℕ) (room : ℕ) → FitsBits (filt
 unfolding filterAnswer
 filtered-fits f ws room = reads ws _ (λ p e. writes (filterWords f p) 0 room (omega (arith, few-names f ws p e)) (omega arith))
 
--- so the program, which decodes the number, prints Resolve's answer
+-- so a program that has the number has Resolve's answer
 pub resolve-decoded : (b : ℕ) (bytes : List ℕ) → decode (encode (inRoom resolveAnswer b bytes)) ≡ inRoom resolveAnswer b bytes
 resolve-decoded b bytes = decode-again (inRoom resolveAnswer b bytes) (over-bytes-fits (λ ws. resolveAnswer ws (b / 4)) (λ ws. resolve-fits ws (b / 4)) bytes)

@@ -11,13 +11,13 @@ toHop t = record { relation = t .0; current = t .1 .0; related = t .1 .1 }
 abbrev pub ofHop : Hop → ℕ × (ℕ × ℕ)
 ofHop h = (h .relation, (h .current, h .related))
 
-abbrev pub Chain : Type 0
-Chain = ℕ × (Option (List Hop) × (ℕ × ℕ))
+abbrev pub ChainRow : Type 0
+ChainRow = ℕ × (Option (List Hop) × (ℕ × ℕ))
 
-abbrev pub Member : Type 0
-Member = ℕ × (ℕ × (List ℕ × Tree))
+abbrev pub MemberRow : Type 0
+MemberRow = ℕ × (ℕ × (List ℕ × Tree))
 
-abbrev pub toDerivation : Chain × Member → Derivation
+abbrev pub toDerivation : ChainRow × MemberRow → Derivation
 toDerivation t =
     record {
       source = t .0 .0;
@@ -30,7 +30,7 @@ toDerivation t =
       predicate = t .1 .1 .1 .1;
     }
 
-abbrev pub ofDerivation : Derivation → Chain × Member
+abbrev pub ofDerivation : Derivation → ChainRow × MemberRow
 ofDerivation d = ((d .source, (d .path, (d .current, d .related))), (d .entity, (d .member, (d .slotEntities, d .predicate))))
 
 abbrev pub RelationTail : Type 0
@@ -66,11 +66,11 @@ toBlock t = record { origin = t .0; items = t .1 }
 abbrev pub ofBlock : Block → ℕ × Option (List Item)
 ofBlock b = (b .origin, b .items)
 
-abbrev pub Records : Type 0
-Records = List ℕ × (List Relation × (List Rule × List Block))
+abbrev pub RecordsRow : Type 0
+RecordsRow = List ℕ × (List Relation × (List Rule × List Block))
 
-abbrev pub ofRow : Edition → ℕ × Records → Pack
+abbrev pub ofRow : Edition → ℕ × RecordsRow → Pack
 ofRow e t = record { edition = e; names = t .0; defaulted = t .1 .0; relations = t .1 .1 .0; rules = t .1 .1 .1 .0; blocks = t .1 .1 .1 .1 }
 
-abbrev pub toRow : Pack → ℕ × Records
+abbrev pub toRow : Pack → ℕ × RecordsRow
 toRow p = (p .names, (p .defaulted, (p .relations, (p .rules, p .blocks))))

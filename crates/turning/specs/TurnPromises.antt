@@ -46,8 +46,8 @@ pub record NodeStands (ws : List ℕ) (at : ℕ) : Type 0 where
   pub short : length ws ≤ 8192
 
 -- a rule or relation: its origin and what follows are there
-pub record RootStands (ws : List ℕ) (at : ℕ) : Type 0 where
-  pub fields : at + 2 < length ws
+abbrev pub RootStands : List ℕ → ℕ → Type 0
+RootStands ws at = at + 2 < length ws
 
 -- the i-th note, inside an earlier one or none
 pub record Stands (ws : List ℕ) (i : ℕ) (n : Note) : Type 0 where

@@ -105,5 +105,5 @@ pub record WriteAsked (ws places lists work : List ℕ) (room : ℕ) : Type 0 wh
   pub size : room ≡ length (words (withRelations whole stamped))
   pub few : room ≤ 8192
 
-pub record WriteCame (ws places lists work : List ℕ) (room : ℕ) (left : List ℕ) : Type 0 where
-  pub each : (a : WriteAsked ws places lists work room) → left ≡ words (withRelations (a .whole) (a .stamped))
+abbrev pub WriteCame : List ℕ → List ℕ → List ℕ → List ℕ → ℕ → List ℕ → Type 0
+WriteCame ws places lists work room left = (a : WriteAsked ws places lists work room) → left ≡ words (withRelations (a .whole) (a .stamped))

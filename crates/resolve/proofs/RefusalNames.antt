@@ -28,13 +28,13 @@ use Rattle.definitions.specs.Resolving.{cites, defaultedEqual, equalRefusal, re
 use Rattle.directions.specs.RecordRuns.{runWords, runBy, EachKeeps, bodyWords, RelationKeeps}
 use Rattle.directions.proofs.Numbers.{OfInput, input-numbered}
 use Rattle.directions.proofs.TreeWords.{size-is}
-use Rattle.theorems.proofs.CitingNames.{NamedBy, tree-named}
+use Rattle.directions.proofs.CitingNames.{NamedBy, tree-named}
 use Rattle.directions.proofs.SmallKinds.{Small, below-small, KindsBelow, turn-below}
 use Rattle.directions.proofs.RefusalBounds.{Fits, Refuses, CitingFits, MemberSmall, tree-refuses}
 use Rattle.directions.proofs.RuleLaws.{bodiesOf, head, rule-parts, again, rule-run}
 use Rattle.directions.proofs.RelationLaws.{lead, lead-words, lead-long, predicate-kept, both-small}
 use Rattle.directions.proofs.TurnedPack.{front, front-long, pack-words, front22, front22-long, pack-words-22, rules-run, relations-run, rules-keep, relations-keep}
 use Rattle.resolve.proofs.ResolveLaws.{equal-named, declared-of}
 
 -- a refusal with a place below a limit, whose name and other are below another
 abbrev pub Told : {A : Type 0} → ℕ → ℕ → Outcome A → Type 0

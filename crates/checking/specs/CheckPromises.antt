@@ -9,7 +9,7 @@ use Rattle.definitions.specs.declared.answer.Answer.the-variants.{Refused}
 use Rattle.definitions.specs.Table.{pick, valueOf}
 use Rattle.definitions.specs.Form.{got, readBy}
 use Rattle.definitions.specs.Records.{undated, Pack}
-use Rattle.definitions.specs.Rows.{Records, toRow}
+use Rattle.definitions.specs.FieldRows.{RecordsRow, toRow}
 use Rattle.definitions.specs.Pack.{layout, yes, read}
 use Rattle.pack.specs.Readers.{skipOver}
 use Rattle.definitions.specs.Answers.{saysYes}
@@ -26,10 +26,10 @@ namesSaid ws = pick (leb (valueOf (getD ws 1 0)) 4096) (valueOf (getD ws 1 0)) 0
 -- all the words of a slice of so many, of which the records start at word 2
 pub record LaidWhole (len : ℕ) (ws d e : List ℕ) (r : Laid) (d′ e′ : List ℕ) : Type 0 where
   pub answers : stepIn r ≡ skipOver (layout undated len) ws 0
-  pub lays : (t : ℕ × (ℕ × Records)) (next : ℕ) (rest : List ℕ) → readBy (layout undated len) 0 ws ≡ got t next rest
+  pub lays : (t : ℕ × (ℕ × RecordsRow)) (next : ℕ) (rest : List ℕ) → readBy (layout undated len) 0 ws ≡ got t next rest
       → r ≡ Yes (layoutOf (t .1 .0) 2 next (t .1 .1) (getD (relationsLeft (t .1 .0) 2 (t .1 .1) e) 0 0) (getD (notesLeft (t .1 .0) 2 (t .1 .1) e) 0 0))
-  pub enters : (t : ℕ × (ℕ × Records)) (next : ℕ) (rest : List ℕ) → readBy (layout undated len) 0 ws ≡ got t next rest → d′ ≡ directoryOf (t .1 .0) 2 (t .1 .1) d
-  pub notes : (t : ℕ × (ℕ × Records)) (next : ℕ) (rest : List ℕ) → readBy (layout undated len) 0 ws ≡ got t next rest → e′ ≡ notesLeft (t .1 .0) 2 (t .1 .1) e
+  pub enters : (t : ℕ × (ℕ × RecordsRow)) (next : ℕ) (rest : List ℕ) → readBy (layout undated len) 0 ws ≡ got t next rest → d′ ≡ directoryOf (t .1 .0) 2 (t .1 .1) d
+  pub notes : (t : ℕ × (ℕ × RecordsRow)) (next : ℕ) (rest : List ℕ) → readBy (layout undated len) 0 ws ≡ got t next rest → e′ ≡ notesLeft (t .1 .0) 2 (t .1 .1) e
 
 abbrev pub answerIn : Laid → Answer
 answerIn (Yes l) = saysYes
