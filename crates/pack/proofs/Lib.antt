@@ -1,4 +1,5 @@
 pub mod Listed
+pub mod HeadLaws
 pub mod FormLaws
 pub mod PackLaws
 pub mod StepLaws

@@ -12,7 +12,7 @@ use Rattle.definitions.specs.declared.table.Entry.{Entry}
 use Rattle.definitions.specs.declared.table.Follows.{Follows}
 use Rattle.definitions.specs.declared.table.Follows.the-variants.{Nothing, Counted, OneScalar, TwoScalars, Scalars, Patterns, Periods, OneJudgment, Judgments, Choice, Aggregate, OnlyRelated, Slots, Atom, Exists}
 use Rattle.definitions.specs.Table.{pick, entryOf, howMany}
-use Rattle.pack.specs.Packed.{followsBy, followsFrom, Tabled, inRow}
+use Rattle.pack.specs.Packed.{followsBy, followsFrom, Entries, Tabled, inRow}
 use Rattle.pack.proofs.table.children.Statement.{statement}
 use Rattle.pack.proofs.table.children.Tie as tie
 
@@ -38,9 +38,9 @@ others v false false false false false false false false false true b14 e = no e
 others v false false false false false false false false false false true e = no e
 others v false false false false false false false false false false false e = no e
 
-module _ (t : List ℕ) (kind v : ℕ) (h : kind < 256) (tabled : Tabled t) where
+module _ (t : List ℕ) (kind v : ℕ) (h : kind < 128) (tabled : Tabled t) where
   here : followsFrom (getD t kind 0) ≡ entryOf kind .follows
-  unfolding Tabled
+  unfolding Entries
   here = ap (λ (e : Entry). e .follows) (tabled kind h)
 
   two : getD t kind 0 / 262144 ≡ 3 → 2 ≡ howMany (entryOf kind .follows) v
