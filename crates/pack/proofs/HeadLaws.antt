@@ -146,3 +146,21 @@ by-end t sort w h s k e =
             q ∙ sym (eq-eqb (entryOf (kindOf w) .sort) sort (omega (arith, of-its-sort (kindOf w) (omega arith) l)))
         go false q =
             q ∙ sym (ne-eqb (entryOf (kindOf w) .sort) sort (λ z. omega (arith, ltb-false (entryOf (kindOf w) .sort) 2 q)))
+
+-- what is known of a word that may, and of one that may not
+module _ (n sort w : ℕ) where
+  pub begun-sort : true ≡ mayBegin n sort w → entryOf (kindOf w) .sort ≡ sort
+  unfolding mayBegin
+  begun-sort e = go (eqb (entryOf (kindOf w) .sort) sort) refl
+    where
+      go : (b : Bool) → eqb (entryOf (kindOf w) .sort) sort ≡ b → entryOf (kindOf w) .sort ≡ sort
+      go true q = eqb-true (entryOf (kindOf w) .sort) sort q
+      go false q = no (sym (rw q at e))
+
+  pub begun-value : true ≡ mayBegin n sort w → allowedHere n (kindOf w) (valueOf w) ≡ true
+  unfolding mayBegin
+  begun-value e = let q : eqb (entryOf (kindOf w) .sort) sort ≡ true = eq-eqb (entryOf (kindOf w) .sort) sort (begun-sort e) in sym (rw q at e)
+
+  pub unbegun-value : false ≡ mayBegin n sort w → entryOf (kindOf w) .sort ≡ sort → allowedHere n (kindOf w) (valueOf w) ≡ false
+  unfolding mayBegin
+  unbegun-value e s = let q : eqb (entryOf (kindOf w) .sort) sort ≡ true = eq-eqb (entryOf (kindOf w) .sort) sort s in sym (rw q at e)
