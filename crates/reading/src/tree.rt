@@ -45,10 +45,10 @@ fn head(s: &[u32], t: &[u32; 256], at: usize, sort: u32, left: u32) -> usize
     }
     let w = s[at];
     if begins(t, sort, w) {
-        if left == 0 {
-            return refused(Number::TOO_DEEP, at);
+        if 0 < left {
+            return 0;
         }
-        return 0;
+        return refused(Number::TOO_DEEP, at);
     }
     let found = sort_of(t, w / Pack::VALUES);
     if found != sort {
