@@ -1,16 +1,16 @@
 -- How an entry of the code's table is packed into one number.
-use Prim.Native.Nat.{ℕ, _/_, _%_, _<_, _≤_}
+use Prim.Native.Nat.{ℕ, _+_, _/_, _%_, _<_, _≤_}
 use mathlib.Core.Path.{_≡_}
-use mathlib.Core.Bool.{Bool, true, false}
+use mathlib.Core.Bool.{Bool, true, false, _&&_}
 use mathlib.Core.List.{List}
 use lib.ListN.{length, getD}
-use lib.Dec.{eqb, leb}
+use lib.Dec.{eqb, leb, ltb}
 use Rattle.definitions.specs.declared.table.Entry.{Entry}
 use Rattle.definitions.specs.declared.table.Values.{Values}
 use Rattle.definitions.specs.declared.table.Values.the-variants.{Unused, Any, AtMost, FromOne, AtMostOrNone, Total, Name, NameOrNone}
 use Rattle.definitions.specs.declared.table.Follows.{Follows}
 use Rattle.definitions.specs.declared.table.Follows.the-variants.{Nothing, Counted, OneScalar, TwoScalars, Scalars, Patterns, Periods, OneJudgment, Judgments, Choice, Aggregate, OnlyRelated, Slots, Atom, Exists}
-use Rattle.definitions.specs.Table.{pick, kindOf, entryOf}
+use Rattle.definitions.specs.Table.{pick, kindOf, valueOf, wordOf, allowed, entryOf}
 use Rattle.definitions.specs.Form.{allowedHere}
 
 abbrev pub ruleFrom : ℕ → Values
@@ -68,20 +68,51 @@ inRow Exists = false
 abbrev pub Ruled : ℕ → Values → Type 0
 Ruled kind rule = entryOf kind .values ≡ rule
 
--- a list that holds the table: at each kind an entry's number
-unfoldable pub Tabled : List ℕ → Type 0
-Tabled t = (k : ℕ) → k < 256 → entryFrom (getD t k 0) ≡ entryOf k
+-- a list that begins with the table: at each kind below a number an entry's number
+unfoldable pub Entries : ℕ → List ℕ → Type 0
+Entries kinds t = (k : ℕ) → k < kinds → entryFrom (getD t k 0) ≡ entryOf k
+
+-- the whole table: no kind from 128 on is in use
+pub record Whole (t : List ℕ) : Type 0 where
+  pub entries : Entries 256 t
+  pub unused : (k : ℕ) → 128 ≤ k → k < 256 → getD t k 0 ≡ 131072
+
+-- an operation's table begins with the entries of the kinds below 128
+abbrev pub Tabled : List ℕ → Type 0
+Tabled t = Entries 128 t
 
 -- the last kind of the words of trees
 abbrev pub lastOfTrees : ℕ
 lastOfTrees = 106
 
--- In an operation's copy of the table the entries of names, among the kinds of trees, have the bound of names as their limit.
+-- In an operation's table the entries of names, among the kinds of trees, have the bound of names as their limit.
 unfoldable pub boundOf : List ℕ → ℕ
 boundOf t = getD t 84 0 / 8 % 8192
 
-unfoldable pub Bounded : ℕ → List ℕ → Type 0
-Bounded n t = (k : ℕ) → 64 ≤ k → k < 256 → getD t k 0 % 8 ≡ 6 → getD t k 0 / 8 % 8192 ≡ n
+-- "each node's kind decides": whether a word may begin a tree of a sort
+unfoldable pub mayBegin : ℕ → ℕ → ℕ → Bool
+mayBegin n sort w = eqb (entryOf (kindOf w) .sort) sort && allowedHere n (kindOf w) (valueOf w)
+
+-- the three rules of words that begin trees
+abbrev pub plain : Values → Bool
+plain Unused = false
+plain Any = true
+plain (AtMost m) = true
+plain (FromOne m) = false
+plain (AtMostOrNone m) = false
+plain Total = false
+plain Name = true
+plain NameOrNone = false
+
+-- by the number of a kind's entry: the words of the kind that may begin a tree are those below an end
+unfoldable pub EndsBy : ℕ → ℕ → ℕ → Type 0
+EndsBy x kind end =
+    (n v : ℕ) → v < 16777216 → (x % 8 ≡ 6 → x / 8 % 8192 ≡ n) → (entryFrom x .sort < 2 → plain (entryFrom x .values) ≡ true)
+    → ltb (wordOf kind v) end ≡ (ltb (entryFrom x .sort) 2 && allowed (entryFrom x .values) n v)
+
+-- In an operation's table these ends stand 128 behind the kinds of trees.
+unfoldable pub Ended : ℕ → List ℕ → Type 0
+Ended n t = (k v : ℕ) → 64 ≤ k → k < 128 → v < 16777216 → ltb (wordOf k v) (getD t (128 + k) 0) ≡ (ltb (entryOf k .sort) 2 && allowedHere n k v)
 
 -- what is lent to a reader: words, of which there are no more than a pack may have, and the table
 pub record Lent (ws t : List ℕ) : Type 0 where

@@ -138,11 +138,16 @@ impl Pack {
     pub const NO_TREE: u32 = 2;
 }
 
-// The kinds of tree nodes; the words of trees, fields among them, have kinds from FIRST_OF_TREES to LAST_OF_TREES.
+// The kinds of tree nodes; the words of trees, fields among them, have kinds from FIRST_OF_TREES to LAST_OF_TREES. The first
+// KINDS_OF_A_SORT of them begin scalars, the next ones judgments. No kind that is in use reaches ENTRIES.
 impl Pack {
     pub const FIRST_OF_TREES: u32 = 64;
 
     pub const LAST_OF_TREES: u32 = Pack::ROLE_DERIVED;
+
+    pub const KINDS_OF_A_SORT: u32 = 32;
+
+    pub const ENTRIES: u32 = 128;
 
     pub const ONE_CHILD: u32 = 66;
 

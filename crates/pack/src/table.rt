@@ -7,8 +7,7 @@ ghost use mathlib.Core.Path.{_≡_};
 ghost use mathlib.Core.Bool.{true};
 ghost use Prim.Native.Nat.{ℕ, _/_, _%_, _<_};
 ghost use Rattle.definitions.specs.Table.{allowed, howMany, entryOf};
-ghost use Rattle.definitions.specs.Form.{allowedHere};
-ghost use Rattle.pack.specs.Packed.{ruleFrom, followsFrom, entryFrom, Tabled, boundOf, Bounded, inRow};
+ghost use Rattle.pack.specs.Packed.{ruleFrom, followsFrom, entryFrom, Whole, Tabled, boundOf, EndsBy, Ended, mayBegin, inRow};
 
 // An entry is one number: the rule in its last digit to the base LIMIT, the rule's limit, the sort, and what follows.
 const LIMIT: u32 = 8;
@@ -370,16 +369,16 @@ fn follows_from(x: u32) -> Follows
     }
 }
 
-// The table, for an operation to lend to the functions that read by it: a constant is copied wherever it is used.
-pub fn table() -> [u32; 256]
-    ensures { λ r. ⌜ Tabled r ⌝ }
+// The table. A constant is copied wherever it is used, so an operation lends its own (`table_for`) to the functions that read by it.
+fn table() -> [u32; 256]
+    ensures { λ r. ⌜ Whole r ⌝ }
 {
     TABLE
 }
 
 // The entry of a kind.
 pub fn entry_of(t: &[u32; 256], kind: u32) -> Entry
-    requires { ⌜ (kind < 256) × Tabled (now t) ⌝ }
+    requires { ⌜ (kind < 128) × Tabled (now t) ⌝ }
     ensures { λ r. ⌜ r ≡ entryOf kind ⌝ }
 {
     let x = t[kind as usize];
@@ -395,6 +394,9 @@ pub fn sort_of(t: &[u32; 256], kind: u32) -> u32
     requires { ⌜ (kind < 256) × Tabled (now t) ⌝ }
     ensures { λ r. ⌜ r ≡ entryOf kind .sort ⌝ }
 {
+    if Pack::ENTRIES <= kind {
+        return Pack::NO_TREE;
+    }
     t[kind as usize] / SORT % 4
 }
 
@@ -409,15 +411,38 @@ fn with_bound(x: u32, n: u32) -> u32
     x / SORT * SORT + LIMIT * n + NAME
 }
 
-// The table for a pack of so many names: among the kinds of trees, the entries of names have N as their limit.
+// One more than the last word of a kind that may begin a tree, by the kind's entry; 0 where none may.
+fn end_of(x: u32, kind: u32) -> u32
+    requires { ⌜ kind < 128 ⌝ }
+    ensures { λ r. ⌜ EndsBy x kind r ⌝ }
+{
+    if Pack::NO_TREE <= x / SORT % 4 {
+        return 0;
+    }
+    let first = kind * Pack::VALUES;
+    let rule = x % LIMIT;
+    if rule == ANY {
+        return first + Pack::VALUES;
+    }
+    let limit = x / LIMIT % LIMITS;
+    if rule == NAME {
+        return first + limit;
+    }
+    first + limit + 1
+}
+
+// The table for a pack of so many names: the entries of the kinds below ENTRIES, of which those of names have N as their limit
+// among the kinds of trees; and ENTRIES behind each kind of trees where its words that may begin a tree end.
 pub fn table_for(n: u32) -> [u32; 256]
     requires { ⌜ n < 8192 ⌝ }
-    ensures { λ r. ⌜ Tabled r × Bounded n r ⌝ }
+    ensures { λ r. ⌜ Tabled r × (boundOf r ≡ n) × Ended n r ⌝ }
 {
     let mut t = table();
     let mut kind = Pack::FIRST_OF_TREES;
     while kind <= Pack::LAST_OF_TREES {
-        t[kind as usize] = with_bound(t[kind as usize], n);
+        let x = with_bound(t[kind as usize], n);
+        t[kind as usize] = x;
+        t[(Pack::ENTRIES + kind) as usize] = end_of(x, kind);
         kind += 1;
     }
     t
@@ -430,21 +455,16 @@ pub fn bound(t: &[u32; 256]) -> u32
     t[Pack::DERIVED as usize] / LIMIT % LIMITS
 }
 
-// Whether a word of this kind, with which a tree begins, may have the value v: any, a name, or one up to a most.
-pub fn allows_head(t: &[u32; 256], kind: u32, v: u32) -> bool
-    requires { ⌜ (kind < 256) × Tabled (now t) × (entryOf kind .sort < 2) ⌝ }
-    ensures { λ r. ⌜ ((n : ℕ) → Bounded n (now (t .entry)) → r ≡ allowedHere n kind v) ⌝ }
+// Whether a word may begin a tree of a sort. Of the kinds of trees, those of each sort stand among KINDS_OF_A_SORT.
+pub fn begins(t: &[u32; 256], sort: u32, w: u32) -> bool
+    requires { ⌜ (sort < 2) × Ended (boundOf (now t)) (now t) ⌝ }
+    ensures { λ r. ⌜ r ≡ mayBegin (boundOf (now (t .entry))) sort w ⌝ }
 {
-    let x = t[kind as usize];
-    let rule = x % LIMIT;
-    if rule == ANY {
-        return true;
+    let kind = w / Pack::VALUES;
+    if kind / Pack::KINDS_OF_A_SORT != Pack::FIRST_OF_TREES / Pack::KINDS_OF_A_SORT + sort {
+        return false;
     }
-    let limit = x / LIMIT % LIMITS;
-    if rule == NAME {
-        return v < limit;
-    }
-    v <= limit
+    w < t[(Pack::ENTRIES + kind) as usize]
 }
 
 // Whether a rule allows a value, which is held to n: the total to the number of words, a name to N. One more than none is 0
@@ -484,7 +504,7 @@ pub fn how_many(follows: Follows, v: u32) -> u32
 
 // How many children follow a word of this kind and the value v, where they are one, two or as many as the value says.
 pub fn children(t: &[u32; 256], kind: u32, v: u32) -> u32
-    requires { ⌜ (kind < 256) × Tabled (now t) × (inRow (entryOf kind .follows) ≡ true) ⌝ }
+    requires { ⌜ (kind < 128) × Tabled (now t) × (inRow (entryOf kind .follows) ≡ true) ⌝ }
     ensures { λ r. ⌜ r ≡ howMany (entryOf kind .follows) v ⌝ }
 {
     let follows = t[kind as usize] / FOLLOWS;

@@ -216,7 +216,7 @@ pub part-long : (ws : List ℕ) (b : ℕ) → b ≤ length ws → length (partOf
 part-long ws b h = omega (arith, ap (λ (l : List ℕ). length l) (part-to-end ws b), length-drop b ws)
 
 pub ready-part : (b : ℕ) {ws part t : List ℕ} → Ready ws t → length part + b ≡ length ws → Ready part t
-ready-part b h l = record { most = omega (arith, h .most); tabled = h .tabled; bounded = h .bounded }
+ready-part b h l = record { most = omega (arith, h .most); tabled = h .tabled; ended = h .ended }
 
 pub part-rows : (n left sort count c : ℕ) (ws : List ℕ) (b : ℕ) → c % 8192 + length ws ≤ 8192 → {part : List ℕ} → part ≡ drop b ws → {r : ℕ} {d e : List ℕ}
     → Rows n left sort count (c + b) part 0 d r e → Rows n left sort count c ws b d (r + b) e

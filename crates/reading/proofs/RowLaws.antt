@@ -5,8 +5,8 @@ use mathlib.Core.Path.{_≡_, refl, ap, sym, _∙_, subst}
 use mathlib.Core.List.{List, [], _∷_}
 use mathlib.Core.Bool.{Bool, true, false}
 use lib.ListN.{length, getD, replicate}
-use lib.Dec.{ltb}
-use borrow.Author.Tests.{ltb-true, ltb-false}
+use lib.Dec.{ltb, eqb}
+use borrow.Author.Tests.{ltb-true, ltb-false, eqb-true, eqb-false, eq-eqb, ne-eqb}
 use Rattle.definitions.specs.declared.table.Follows.the-variants.{Aggregate, Exists}
 use Rattle.definitions.specs.declared.answer.Refusal.{Refusal}
 use Rattle.pack.specs.declared.cursor.Cursor.{Cursor}
@@ -18,9 +18,9 @@ use Rattle.definitions.specs.Form.{Form, word, only, each, allowedHere}
 use Rattle.definitions.specs.Tree.{toForest, heads, fields, follow, tree, root}
 use Rattle.pack.specs.Readers.{skipOver, codedStep, fault, decoded}
 use Rattle.reading.specs.Notes.{noted}
-use Rattle.reading.specs.Noting.{State, push, inNext, noteTree, noteForest, Came, NotedCode, NotedStep, Sorted, Rows, Shape, After}
+use Rattle.reading.specs.Noting.{firstFault, aggregateFault, State, push, inNext, noteTree, noteForest, Came, NotedCode, NotedStep, Sorted, Rows, Shape, After}
 use Rattle.reading.proofs.TreeLaws.{heads-in, comparison-row, compared, Row, Leaf}
-use Rattle.reading.proofs.CodeLaws.{Turn, turn, Moved, passed, by-where, then-next, last-code, code-as, code-forward, code-within, code-stands, fault-code, fault-large, fault-on, fault-read, small-next, row-stop, row-leaf, row-last, node-stop, node-on, row-done, first-code, next-code, one-row, by-compared, tree-code, decode-on, decode-stop}
+use Rattle.reading.proofs.CodeLaws.{Turn, turn, Moved, passed, by-where, then-code, then-next, last-code, code-as, code-forward, code-within, code-stands, fault-code, fault-large, fault-on, fault-read, small-next, row-stop, row-leaf, row-last, node-stop, node-on, row-done, first-code, next-code, one-row, by-compared, tree-code, decode-on, decode-stop}
 use Rattle.reading.proofs.NotingLaws.{Rowed, Treed, rowed-end, rowed-next, rowed-turn, rowed-one, Followed, treed, row-followed, after-leaf, where-came, exists-came, Steady, steady-judgment}
 
 -- of a refusal nothing is to be shown but the answer
@@ -141,15 +141,73 @@ pub record Fielded (n : ℕ) (ws : List ℕ) (at : ℕ) : Type 0 where
   pub opaque : Moved (only (86 ∷ [])) n ws (at + 2) (at + 3)
   pub flag : Moved (only (83 ∷ [])) n ws (at + 3) (at + 4)
 
-pub fielded : (n : ℕ) (ws : List ℕ) (at : ℕ) → length ws ≤ 8192 → at ≤ length ws → {f g h i : ℕ} → f ≡ fault (skipOver (word (only (80 ∷ [])) n) ws at) → f ≡ 0
-    → g ≡ fault (skipOver (word (only (81 ∷ [])) n) ws (at + 1)) → g ≡ 0 → h ≡ fault (skipOver (word (only (86 ∷ [])) n) ws (at + 2)) → h ≡ 0
-    → i ≡ fault (skipOver (word (only (83 ∷ [])) n) ws (at + 3)) → i ≡ 0 → Fielded n ws at
-fielded n ws at most l e1 z1 e2 z2 e3 z3 e4 z4 =
-    let m1 = passed (only (80 ∷ [])) n ws at e1 most l z1 (at + 1) refl in
-    let m2 = passed (only (81 ∷ [])) n ws (at + 1) e2 most (m1 .there) z2 (at + 2) (omega arith) in
-    let m3 = passed (only (86 ∷ [])) n ws (at + 2) e3 most (m2 .there) z3 (at + 3) (omega arith) in
-    let m4 = passed (only (83 ∷ [])) n ws (at + 3) e4 most (m3 .there) z4 (at + 4) (omega arith) in
-    record { current = m1; related = m2; opaque = m3; flag = m4 }
+-- the first of two that is no 0 is 0 only where both are
+both-none : (a b : ℕ) → firstFault a b ≡ 0 → (a ≡ 0) × (b ≡ 0)
+both-none a b e = go (eqb a 0) refl
+  where
+    go : (x : Bool) → eqb a 0 ≡ x → (a ≡ 0) × (b ≡ 0)
+    go true q = (eqb-true a 0 q, rw q at e)
+    go false q = absurd (eqb-false a 0 q (rw q at e))
+
+pub first-is : (a b : ℕ) {f : ℕ} → f ≡ a → (f ≡ 0 → ⊥) → f ≡ firstFault a b
+first-is a b e z = rw (ne-eqb a 0 (λ q. z (e ∙ q))) e
+
+pub first-passed : (a b : ℕ) {g f : ℕ} → g ≡ a → g ≡ 0 → f ≡ b → f ≡ firstFault a b
+first-passed a b p z e = rw (eq-eqb a 0 (sym p ∙ z)) e
+
+-- and otherwise it is the one or the other
+one-of : {A : Type 0} (a b : ℕ) {f : ℕ} → f ≡ firstFault a b → ((a ≡ 0 → ⊥) → f ≡ a → A) → (a ≡ 0 → f ≡ b → A) → A
+one-of {A} a b {f} e x y = go (eqb a 0) refl
+  where
+    go : (z : Bool) → eqb a 0 ≡ z → A
+    go true q = y (eqb-true a 0 q) (rw q at e)
+    go false q = x (eqb-false a 0 q) (rw q at e)
+
+module _ (n : ℕ) (ws : List ℕ) (at : ℕ) (most : length ws ≤ 8192) (l : at ≤ length ws) {f : ℕ} (e : f ≡ aggregateFault n ws at) where
+  pub fields-read : f ≡ 0 → Fielded n ws at
+  unfolding aggregateFault
+  fields-read z =
+      let b1 = both-none _ _ (sym e ∙ z) in
+      let b2 = both-none _ _ (b1 .1) in
+      let b3 = both-none _ _ (b2 .1) in
+      let m1 = passed (only (80 ∷ [])) n ws at refl most l (b1 .0) (at + 1) refl in
+      let m2 = passed (only (81 ∷ [])) n ws (at + 1) refl most (m1 .there) (b2 .0) (at + 2) (omega arith) in
+      let m3 = passed (only (86 ∷ [])) n ws (at + 2) refl most (m2 .there) (b3 .0) (at + 3) (omega arith) in
+      let m4 = passed (only (83 ∷ [])) n ws (at + 3) refl most (m3 .there) (b3 .1) (at + 4) (omega arith) in
+      record { current = m1; related = m2; opaque = m3; flag = m4 }
+
+  pub fields-refused : (f ≡ 0 → ⊥) → (f ≡ codedStep (skipOver (fields n (fieldsOf Aggregate)) ws at)) × (65536 ≤ f)
+  unfolding aggregateFault fields fieldsOf
+  fields-refused z =
+      one-of _ _ e (λ x q. let k = faulted-as (only (80 ∷ [])) at x q in (first-code _ _ _ _ _ (k .0) most l (k .1), k .1))
+      (λ x1 e2.
+      let m1 = passed (only (80 ∷ [])) n ws at refl most l x1 (at + 1) refl in
+      one-of _ _ e2 (λ x q. let k = faulted-as (only (81 ∷ [])) (at + 1) x q in (next-code _ _ _ _ _ (m1 .same) (m1 .small) (first-code _ _ _ _ _ (k .0) most (m1 .there) (k .1)), k .1))
+      (λ x2 e3.
+      let m2 = passed (only (81 ∷ [])) n ws (at + 1) refl most (m1 .there) x2 (at + 2) (omega arith) in
+      one-of _ _ e3 (λ x q. let k = faulted-as (only (86 ∷ [])) (at + 2) x q in (next-code _ _ _ _ _ (m1 .same) (m1 .small) (next-code _ _ _ _ _ (m2 .same) (m2 .small) (first-code _ _ _ _ _ (k .0) most (m2 .there) (k .1))), k .1))
+      (λ x3 e4.
+      let m3 = passed (only (86 ∷ [])) n ws (at + 2) refl most (m2 .there) x3 (at + 3) (omega arith) in
+      let k = faulted-as (only (83 ∷ [])) (at + 3) (λ h. z (e4 ∙ h)) e4 in
+      (next-code _ _ _ _ _ (m1 .same) (m1 .small) (next-code _ _ _ _ _ (m2 .same) (m2 .small) (next-code _ _ _ _ _ (m3 .same) (m3 .small) (last-code _ _ _ _ (k .0)))), k .1))))
+    where
+      faulted-as : (rejects : ℕ → ℕ) (to : ℕ) → (fault (skipOver (word rejects n) ws to) ≡ 0 → ⊥) → f ≡ fault (skipOver (word rejects n) ws to) → (f ≡ codedStep (skipOver (word rejects n) ws to)) × (65536 ≤ f)
+      faulted-as rejects to x q = (fault-code rejects n ws to q (λ h. x (sym q ∙ h)), fault-large rejects n ws to q (λ h. x (sym q ∙ h)))
+
+  -- so an aggregate is refused
+  pub aggregate-refused : (f ≡ 0 → ⊥) → (left c : ℕ) {d d₁ : List ℕ} → Shape n left true Aggregate 0 c ws at d f d₁
+  unfolding follow
+  aggregate-refused z left c = let k = fields-refused z in refuses _ (then-code _ _ _ _ (k .0) most l (k .1)) (k .1)
+
+-- fields of the right kinds leave it to the flag
+pub flag-alone : (n : ℕ) (ws : List ℕ) (at : ℕ) → at + 3 < length ws → kindOf (getD ws at 0) ≡ 80 → kindOf (getD ws (at + 1) 0) ≡ 81 → kindOf (getD ws (at + 2) 0) ≡ 86
+    → fault (skipOver (word (only (83 ∷ [])) n) ws (at + 3)) ≡ aggregateFault n ws at
+unfolding aggregateFault entryOf table allowedHere
+flag-alone n ws at h a b c =
+    let r1 : 0 ≡ fault (skipOver (word (only (80 ∷ [])) n) ws at) = fault-read _ n ws at (omega arith) (rw a refl) (rw a refl) in
+    let r2 : 0 ≡ fault (skipOver (word (only (81 ∷ [])) n) ws (at + 1)) = fault-read _ n ws (at + 1) (omega arith) (rw b refl) (rw b refl) in
+    let r3 : 0 ≡ fault (skipOver (word (only (86 ∷ [])) n) ws (at + 2)) = fault-read _ n ws (at + 2) (omega arith) (rw c refl) (rw c refl) in
+    rw (← r1, ← r2, ← r3) refl
 
 pub where-rows : (n left c : ℕ) (ws : List ℕ) (at : ℕ) → Fielded n ws at → {inner r : ℕ} {d d₁ e : List ℕ} → inner ≡ inNext d + c % 8192 → d₁ ≡ push (at + c) d
     → Rows n left judgment (valueOf (getD ws (at + 3) 0)) inner ws (at + 4) d₁ r e → Shape n left true Aggregate 0 c ws at d r e

@@ -4,28 +4,42 @@ use mathlib.Core.Path.{_≡_}
 use mathlib.Core.List.{List, [], _∷_, map}
 use mathlib.Core.Bool.{Bool, true}
 use lib.ListN.{length, getD, set, drop, replicate}
+use lib.Dec.{eqb}
 use Rattle.pack.specs.declared.cursor.Cursor.{Cursor}
 use Rattle.pack.specs.declared.cursor.Step.{Step}
 use Rattle.pack.specs.declared.cursor.Step.the-variants.{On}
 use Rattle.definitions.specs.declared.table.Follows.{Follows}
 use Rattle.definitions.specs.Table.{pick, kindOf, valueOf, entryOf, fieldsOf}
-use Rattle.pack.specs.Packed.{Tabled, boundOf, Bounded}
-use Rattle.definitions.specs.Form.{got, Form, each, readBy}
+use Rattle.pack.specs.Packed.{Tabled, boundOf, Ended}
+use Rattle.definitions.specs.Form.{got, Form, each, readBy, word, only}
 use Rattle.definitions.specs.Tree.{Tree, Forest, node, more, toForest, follow, tree, size}
 use Rattle.definitions.specs.Tree as trees
-use Rattle.pack.specs.Readers.{skipOver, codedStep}
+use Rattle.pack.specs.Readers.{skipOver, codedStep, fault}
 use Rattle.reading.specs.Notes.{lookBy, noted, notesOf, noteCode}
 
--- what is lent to the readers of trees: words, of which there are no more than a pack may have, and a table with the bound of names
+-- what is lent to the readers of trees: words, of which there are no more than a pack may have, and the table of an operation
 pub record Ready (ws t : List ℕ) : Type 0 where
   pub most : length ws ≤ 8192
   pub tabled : Tabled t
-  pub bounded : Bounded (boundOf t) t
+  pub ended : Ended (boundOf t) t
 
 -- the same, of a pack of so many names
 pub record ReadyFor (ws t : List ℕ) (n : ℕ) : Type 0 where
   pub ready : Ready ws t
   pub names : boundOf t ≡ n
+
+-- ---- fields
+
+-- the first of two numbers that is no 0
+abbrev pub firstFault : ℕ → ℕ → ℕ
+firstFault a b = pick (eqb a 0) b a
+
+-- the fields of an aggregate, each tested as one word
+unfoldable pub aggregateFault : ℕ → List ℕ → ℕ → ℕ
+aggregateFault n ws at =
+    firstFault (fault (skipOver (word (only (80 ∷ [])) n) ws at))
+    (firstFault (fault (skipOver (word (only (81 ∷ [])) n) ws (at + 1)))
+    (firstFault (fault (skipOver (word (only (86 ∷ [])) n) ws (at + 2))) (fault (skipOver (word (only (83 ∷ [])) n) ws (at + 3)))))
 
 -- ---- contexts
 
@@ -117,6 +131,12 @@ Rows n left sort count c = Sorted n left (replicate count sort) c c
 -- what follows a head word of this shape and value
 abbrev pub Shape : ℕ → ℕ → Bool → Follows → ℕ → ℕ → List ℕ → ℕ → List ℕ → ℕ → List ℕ → Type 0
 Shape n left noted w v c = NotedCode (follow n (tree n left) w v) (λ p. noteFollow c noted w (toForest (p .1)))
+
+-- a kind of scalars that begins neither an aggregate nor a row of scalars alone
+pub record OtherScalar (k : ℕ) : Type 0 where
+  pub scalar : k ≤ 95
+  pub no-row : 66 ≤ k → 70 < k
+  pub no-aggregate : 74 ≤ k → 77 < k
 
 -- what follows the head word at a place
 abbrev pub After : ℕ → ℕ → ℕ → List ℕ → ℕ → List ℕ → ℕ → List ℕ → Type 0

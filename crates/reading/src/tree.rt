@@ -6,7 +6,7 @@ use pack::cursor::Cursor;
 use pack::cursor::Step;
 use pack::cursor::stop;
 use pack::kinds::Pack;
-use pack::table::allows_head;
+use pack::table::begins;
 use pack::table::bound;
 use pack::table::children;
 use pack::table::entry_of;
@@ -20,12 +20,12 @@ ghost use lib.ListN.{length, getD, set, replicate};
 ghost use Rattle.pack.specs.declared.cursor.Step.the-variants.{Refused};
 ghost use Rattle.definitions.specs.declared.table.Follows.the-variants.{Aggregate, OnlyRelated, Slots, Atom, Exists};
 ghost use Rattle.definitions.specs.Table.{scalar, judgment, kindOf, valueOf, entryOf, howMany, fieldsOf};
-ghost use Rattle.pack.specs.Packed.{Tabled, boundOf, Bounded, UpTo, Compares};
+ghost use Rattle.pack.specs.Packed.{Tabled, boundOf, UpTo, Compares};
 ghost use Rattle.definitions.specs.Form.{word, only};
 ghost use Rattle.definitions.specs.Tree.{heads, fields, root};
 ghost use Rattle.pack.specs.Readers.{skipOver, codedStep, fault, decoded};
 ghost use Rattle.reading.specs.Notes.{contextOf, noteCode, note};
-ghost use Rattle.reading.specs.Noting.{nextNote, Ready, Based, Context, losing, push, inNext, noteTree, NotedStep, Sorted, Rows, Shape, After};
+ghost use Rattle.reading.specs.Noting.{aggregateFault, nextNote, Ready, Based, Context, losing, push, inNext, noteTree, NotedStep, Sorted, Rows, Shape, OtherScalar, After};
 
 // The code of a refusal.
 fn refused(number: u32, at: usize) -> usize
@@ -44,19 +44,20 @@ fn head(s: &[u32], t: &[u32; 256], at: usize, sort: u32, left: u32) -> usize
         return refused(Number::ENDED, at);
     }
     let w = s[at];
-    let kind = w / Pack::VALUES;
-    let found = sort_of(t, kind);
+    if begins(t, sort, w) {
+        if 0 < left {
+            return 0;
+        }
+        return refused(Number::TOO_DEEP, at);
+    }
+    let found = sort_of(t, w / Pack::VALUES);
     if found != sort {
         return refused(Number::WRONG_KIND, at);
     }
     if left == 0 {
         return refused(Number::TOO_DEEP, at);
     }
-    if allows_head(t, kind, w % Pack::VALUES) {
-        0
-    } else {
-        refused(Number::WRONG_VALUE, at)
-    }
+    refused(Number::WRONG_VALUE, at)
 }
 
 // A word of this kind, with any value up to a most: 0, or a refusal's code.
@@ -125,6 +126,46 @@ fn only_related(s: &[u32], t: &[u32; 256], at: usize) -> usize
     }
 }
 
+// The fields of an aggregate: 0, or the code of the first refusal.
+fn field_faults(s: &[u32], at: usize) -> usize
+    requires { ⌜ (length (now s) ≤ 8192) × (at ≤ length (now s)) ⌝ }
+    ensures { λ r. ⌜ ((n : ℕ) → r ≡ aggregateFault n (now (s .entry)) at) ⌝ }
+{
+    let f1 = up_to(s, at, Pack::CURRENT, Pack::ANY_VALUE);
+    if f1 != 0 {
+        return f1;
+    }
+    let f2 = up_to(s, at + 1, Pack::RELATED, Pack::ANY_VALUE);
+    if f2 != 0 {
+        return f2;
+    }
+    let f3 = up_to(s, at + 2, Pack::VALUE, Pack::ANY_VALUE);
+    if f3 != 0 {
+        return f3;
+    }
+    up_to(s, at + 3, Pack::WHERE, 1)
+}
+
+// The same, with one look at the end of the words where all are as they must be.
+fn aggregate_fields(s: &[u32], at: usize) -> usize
+    requires { ⌜ (length (now s) ≤ 8192) × (at ≤ length (now s)) ⌝ }
+    ensures { λ r. ⌜ ((n : ℕ) → r ≡ aggregateFault n (now (s .entry)) at) ⌝ }
+{
+    if s.len() <= at + 3 {
+        return field_faults(s, at);
+    }
+    if s[at] / Pack::VALUES != Pack::CURRENT {
+        return field_faults(s, at);
+    }
+    if s[at + 1] / Pack::VALUES != Pack::RELATED {
+        return field_faults(s, at);
+    }
+    if s[at + 2] / Pack::VALUES != Pack::VALUE {
+        return field_faults(s, at);
+    }
+    up_to(s, at + 3, Pack::WHERE, 1)
+}
+
 // Whether a Comparison stands at a place, with a level left.
 fn compares(s: &[u32], at: usize, left: u32) -> bool
     ensures { λ r. ⌜ (r ≡ true → Compares (now (s .entry)) at left) ⌝ }
@@ -140,7 +181,7 @@ fn compares(s: &[u32], at: usize, left: u32) -> bool
 
 // How many follow a word, by the table.
 fn by_table(t: &[u32; 256], kind: u32, v: u32) -> u32
-    requires { ⌜ (kind < 256) × Tabled (now t) × (v < 16777216) ⌝ }
+    requires { ⌜ (kind < 128) × Tabled (now t) × (v < 16777216) ⌝ }
     ensures { λ r. ⌜ r ≡ howMany (entryOf kind .follows) v ⌝ }
 {
     let e = entry_of(t, kind);
@@ -235,31 +276,40 @@ fn scalars(
     at
 }
 
-// A row of judgments.
+// A row of judgments, in the same way.
 fn judgments(
     s: &[u32],
     t: &[u32; 256],
     start: usize,
     count: u32,
-    left: u32,
+    levels: u32,
     context: u32,
     notes: &mut [u32],
 ) -> usize
     requires { ⌜ Ready (now s) (now t) × (start ≤ length (now s)) × Based (now s) context ⌝ }
-    ensures { λ r. ⌜ Rows (boundOf (now (t .entry))) left judgment count context (now (s .entry)) start (now (notes .entry)) r (now (notes .exit)) ⌝ }
+    ensures { λ r. ⌜ Rows (boundOf (now (t .entry))) levels judgment count context (now (s .entry)) start (now (notes .entry)) r (now (notes .exit)) ⌝ }
 {
     let mut at = start;
     let mut k = count;
+    let mut left = levels;
     while 0 < k {
         let f = head(s, t, at, Pack::JUDGMENT, left);
         if f != 0 {
             return f;
         }
+        let w = s[at];
+        let kind = w / Pack::VALUES;
         k -= 1;
-        if s[at] / Pack::VALUES <= Pack::SAME_ENTITY {
-            at = after_judgment(s, t, at, left - 1, context, notes);
-            if Pack::CODES <= at {
-                return at;
+        if kind <= Pack::SAME_ENTITY {
+            if k == 0 && Pack::AND <= kind && kind <= Pack::NOT {
+                at += 1;
+                k = children(t, kind, w % Pack::VALUES);
+                left -= 1;
+            } else {
+                at = after_judgment(s, t, at, left - 1, context, notes);
+                if Pack::CODES <= at {
+                    return at;
+                }
             }
         } else {
             at += 1;
@@ -314,21 +364,9 @@ fn aggregate(
     requires { ⌜ Ready (now s) (now t) × (at ≤ length (now s)) × Based (now s) context ⌝ }
     ensures { λ r. ⌜ Shape (boundOf (now (t .entry))) left true Aggregate 0 context (now (s .entry)) at (now (notes .entry)) r (now (notes .exit)) ⌝ }
 {
-    let f1 = up_to(s, at, Pack::CURRENT, Pack::ANY_VALUE);
-    if f1 != 0 {
-        return f1;
-    }
-    let f2 = up_to(s, at + 1, Pack::RELATED, Pack::ANY_VALUE);
-    if f2 != 0 {
-        return f2;
-    }
-    let f3 = up_to(s, at + 2, Pack::VALUE, Pack::ANY_VALUE);
-    if f3 != 0 {
-        return f3;
-    }
-    let f4 = up_to(s, at + 3, Pack::WHERE, 1);
-    if f4 != 0 {
-        return f4;
+    let f = aggregate_fields(s, at);
+    if f != 0 {
+        return f;
     }
     let inner = note(notes, at as u32 + context) + context % Pack::LOST;
     let flag = s[at + 3] % Pack::VALUES;
@@ -375,6 +413,26 @@ fn after_scalar(
             let count = children(t, kind, v);
             scalars(s, t, at + 1, count, left, context, notes)
         }
+        _ => after_other(s, t, at, left, context, notes),
+    }
+}
+
+// The same of one that is neither an aggregate nor a row of scalars. Aggregates, which are most, are told first.
+fn after_other(
+    s: &[u32],
+    t: &[u32; 256],
+    at: usize,
+    left: u32,
+    context: u32,
+    notes: &mut [u32],
+) -> usize
+    requires { ⌜ Ready (now s) (now t) × (at < length (now s)) × OtherScalar (kindOf (getD (now s) at 0)) × Based (now s) context ⌝ }
+    ensures { λ r. ⌜ After (boundOf (now (t .entry))) left context (now (s .entry)) at (now (notes .entry)) r (now (notes .exit)) ⌝ }
+{
+    let w = s[at];
+    let kind = w / Pack::VALUES;
+    let v = w % Pack::VALUES;
+    match kind {
         Pack::NO_MATCH => patterns(s, t, at + 1, v, left, context, notes),
         Pack::OVER_PERIODS => scalars(
             s,
@@ -459,5 +517,12 @@ pub fn judgment(s: &[u32], t: &[u32; 256], c: Cursor, context: u32, notes: &mut 
     requires { ⌜ Ready (now s) (now t) × (c .at ≤ length (now s)) × Context context ⌝ }
     ensures { λ r. ⌜ NotedStep (root (boundOf (now (t .entry))) judgment) (λ u. noteTree context u) (now (s .entry)) (c .at) (now (notes .entry)) r (now (notes .exit)) ⌝ }
 {
-    step_of(judgments(s, t, c.at, 1, Pack::DEPTH, context, notes))
+    let at = c.at;
+    if head(s, t, at, Pack::JUDGMENT, Pack::DEPTH) == 0 {
+        // many predicates are a leaf, for which a call would take longer than the work
+        if Pack::SAME_ENTITY < s[at] / Pack::VALUES {
+            return Step::On(0, Cursor { at: at + 1 });
+        }
+    }
+    step_of(judgments(s, t, at, 1, Pack::DEPTH, context, notes))
 }

@@ -60,7 +60,7 @@ records-requires c κs =
     let start-2 = at-start .before .before .before .before in (
       names-most _ _ _ (at-field .field .ensures) (at-f2 .f2 .given .1),
       ready-for _ _ _ (start-2 .pre .0) (at-table-for .table-for .ensures .0)
-          (at-table-for .table-for .ensures .1),
+          (at-table-for .table-for .ensures .1) (at-table-for .table-for .ensures .2),
       clear-read _ _ (at-start .start .ensures) (at-skip .skip .ensures) (at-f1 .f1 .given .1) (at-field .field .ensures) (at-f2 .f2 .given .1)
           (start-2 .pre .1),
     )

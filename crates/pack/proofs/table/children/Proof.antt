@@ -10,7 +10,7 @@ use borrow.Author.Tests.{ne-eqb}
 use Rattle.definitions.specs.declared.table.Entry.{Entry}
 use Rattle.definitions.specs.declared.table.Follows.{Follows}
 use Rattle.definitions.specs.Table.{pick, entryOf, howMany}
-use Rattle.pack.specs.Packed.{followsBy, followsFrom, Tabled, inRow}
+use Rattle.pack.specs.Packed.{followsBy, followsFrom, Entries, Tabled, inRow}
 use Rattle.pack.proofs.table.children.Statement.{statement}
 use Rattle.pack.proofs.table.children.Tie as tie
 
@@ -29,9 +29,9 @@ pick-same v false = refl
 others : (v f : ℕ) → eqb f 3 ≡ false → eqb f 2 ≡ false → eqb f 7 ≡ false → rowOr v (followsBy f) ≡ v
 others v f x y z = simp (x, y, z, row-pick, pick-same)
 
-module _ (t : List ℕ) (kind v : ℕ) (h : kind < 256) (tabled : Tabled t) where
+module _ (t : List ℕ) (kind v : ℕ) (h : kind < 128) (tabled : Tabled t) where
   here : followsFrom (getD t kind 0) ≡ entryOf kind .follows
-  unfolding Tabled
+  unfolding Entries
   here = ap (λ (e : Entry). e .follows) (tabled kind h)
 
   two : getD t kind 0 / 262144 ≡ 3 → 2 ≡ howMany (entryOf kind .follows) v

@@ -1,6 +1,6 @@
 -- `pack::table::entry_of` meets its contract.
 use native.Mathlib.Omega.{arith}
-use Rattle.pack.specs.Packed.{Tabled}
+use Rattle.pack.specs.Packed.{Entries}
 use borrow.Author.Needs.{needs}
 use Rattle.pack.proofs.table.entry_of.Statement.{statement}
 use Rattle.pack.proofs.table.entry_of.Tie as tie
@@ -18,7 +18,7 @@ follows-from-requires : tie.Need-follows-from-requires
 follows-from-requires c κs = search needs
 
 returns : tie.Need-returns
-unfolding Tabled
+unfolding Entries
 returns c = rw ((c .before .rule-from .ensures), (c .follows-from .ensures)) ((c .before .before .before .pre .1) _ (omega arith))
 
 pub entry-of-spec : {M : Type 1} → statement M

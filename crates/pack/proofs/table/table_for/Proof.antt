@@ -1,85 +1,121 @@
--- `pack::table::table_for` meets its contract: each entry says what it said, and those of names have the bound; past the last kind of trees there is none.
+-- `pack::table::table_for` meets its contract: each entry says what it said, those of names have the bound, and behind the kinds of trees stand their ends.
 use Prim.Native.Nat.{ℕ, suc, _+_, _-_, _/_, _%_, _<_, _≤_}
 use native.Mathlib.Omega.{arith}
 use mathlib.Core.Path.{_≡_, refl, ap, sym, _∙_, subst}
 use mathlib.Core.List.{List}
-use mathlib.Core.Bool.{Bool, true, false}
+use mathlib.Core.Bool.{Bool, true, false, _&&_}
 use lib.ListN.{length, getD, set, length-set}
 use lib.Seq.{getD-set-same, getD-set-other}
 use lib.Dec.{eqb, ltb}
 use borrow.Author.Needs.{needs}
-use borrow.Author.Tests.{eqb-true, eqb-false, ltb-true, ltb-false}
+use borrow.Author.Tests.{eqb-true, eqb-false, ltb-true, ltb-false, le-ltb}
 use Rattle.definitions.specs.declared.table.Entry.{Entry}
 use Rattle.definitions.specs.declared.table.Values.{Values}
 use Rattle.definitions.specs.declared.table.Values.the-variants.{Unused, Any, AtMost, FromOne, AtMostOrNone, Total, Name, NameOrNone}
-use Rattle.definitions.specs.Table.{table, entryOf}
-use Rattle.pack.specs.Packed.{ruleFrom, entryFrom, Tabled, lastOfTrees, Bounded}
+use Rattle.definitions.specs.Table.{table, allowed, wordOf, entryOf}
+use Rattle.definitions.specs.Form.{allowedHere}
+use Rattle.pack.specs.Packed.{ruleFrom, entryFrom, Entries, Whole, Tabled, lastOfTrees, boundOf, plain, EndsBy, Ended}
 use Rattle.pack.proofs.Listed.{in-range}
+use Rattle.pack.proofs.HeadLaws.{heads-plain, names-six}
 use Rattle.pack.proofs.table.table_for.Statement.{statement}
 use Rattle.pack.proofs.table.table_for.Tie as tie
 
--- the table with the bound at the kinds of trees below a kind
+-- the ends of the kinds of trees below a kind
+abbrev EndedTo : ℕ → ℕ → List ℕ → Type 0
+EndedTo n kind t = (k v : ℕ) → 64 ≤ k → k < kind → v < 16777216 → ltb (wordOf k v) (getD t (128 + k) 0) ≡ (ltb (entryOf k .sort) 2 && allowedHere n k v)
+
+-- the table with the bound and the ends at the kinds of trees below a kind
 record Filled (n kind : ℕ) (t : List ℕ) : Type 0 where
   pub tabled : Tabled t
   pub long : length t ≡ 256
   pub low : 64 ≤ kind
   pub high : kind ≤ lastOfTrees + 1
-  pub held : (k : ℕ) → 64 ≤ k → k < kind → getD t k 0 % 8 ≡ 6 → getD t k 0 / 8 % 8192 ≡ n
+  pub bounds : 84 < kind → boundOf t ≡ n
+  pub ends : EndedTo n kind t
+  pub rest : (k : ℕ) → kind ≤ k → k < 128 → getD t (128 + k) 0 ≡ 131072
 
-filled : (n : ℕ) (t : List ℕ) → Tabled t → length t ≡ 256 → Filled n 64 t
-filled n t h l = record { tabled = h; long = l; low = omega arith; high = omega arith; held = λ k a b. absurd (omega arith) }
+filled : (n : ℕ) (t : List ℕ) → Whole t → length t ≡ 256 → Filled n 64 t
+unfolding Entries
+filled n t h l = record { tabled = λ k a. h .entries k (omega arith); long = l; low = omega arith; high = omega arith; bounds = λ a. absurd (omega arith); ends = λ k v a b. absurd (omega arith); rest = λ k a b. h .unused (128 + k) (omega arith) (omega arith) }
 
-module _ (n kind r : ℕ) (t : List ℕ) (f : Filled n kind t) (last : kind ≤ lastOfTrees) (same : entryFrom r ≡ entryFrom (getD t kind 0)) (bound : r % 8 ≡ 6 → r / 8 % 8192 ≡ n) where
-  here : getD (set t kind r) kind 0 ≡ r
-  here = getD-set-same t kind r 0 (omega (arith, f .long))
+-- kinds past the last one begin no tree, and what stands behind them is below their words
+unused-past : (k : ℕ) → lastOfTrees < k → k < 128 → entryOf k .sort ≡ 2
+unfolding entryOf table
+unused-past k l h = in-range (λ (k : ℕ). entryOf k .sort) 2 107 21 refl k l h
 
-  still : Tabled (set t kind r)
-  unfolding Tabled
+module _ (n kind x end : ℕ) (t : List ℕ) (f : Filled n kind t) (last : kind ≤ lastOfTrees) (same : entryFrom x ≡ entryFrom (getD t kind 0)) (bound : x % 8 ≡ 6 → x / 8 % 8192 ≡ n) (by : EndsBy x kind end) where
+  abbrev t′ : List ℕ
+  t′ = set (set t kind x) (128 + kind) end
+
+  long′ : length t′ ≡ 256
+  long′ = length-set (set t kind x) (128 + kind) end ∙ length-set t kind x ∙ f .long
+
+  here : getD t′ kind 0 ≡ x
+  here = getD-set-other (set t kind x) (128 + kind) kind end 0 (λ e. omega arith) ∙ getD-set-same t kind x 0 (omega (arith, f .long))
+
+  elsewhere : (k : ℕ) → (k ≡ kind → ⊥) → (k ≡ 128 + kind → ⊥) → getD t′ k 0 ≡ getD t k 0
+  elsewhere k a b = getD-set-other (set t kind x) (128 + kind) k end 0 b ∙ getD-set-other t kind k x 0 a
+
+  behind : getD t′ (128 + kind) 0 ≡ end
+  behind = getD-set-same (set t kind x) (128 + kind) end 0 (omega (arith, f .long, length-set t kind x))
+
+  entry : entryFrom x ≡ entryOf kind
+  unfolding Entries
+  entry = same ∙ f .tabled kind (omega arith)
+
+  still : Tabled t′
+  unfolding Entries
   still k h = go (eqb k kind) refl
     where
-      go : (b : Bool) → eqb k kind ≡ b → entryFrom (getD (set t kind r) k 0) ≡ entryOf k
-      go true e = subst (λ (i : ℕ). entryFrom (getD (set t kind r) i 0) ≡ entryOf i) (sym (eqb-true k kind e)) (ap entryFrom here ∙ same ∙ f .tabled kind (omega arith))
-      go false e = ap entryFrom (getD-set-other t kind k r 0 (eqb-false k kind e)) ∙ f .tabled k h
+      go : (b : Bool) → eqb k kind ≡ b → entryFrom (getD t′ k 0) ≡ entryOf k
+      go true e = rw (eqb-true k kind e) (ap entryFrom here ∙ entry)
+      go false e = ap entryFrom (elsewhere k (eqb-false k kind e) (λ q. omega arith)) ∙ f .tabled k h
 
-  holds : (k : ℕ) → 64 ≤ k → k < kind + 1 → getD (set t kind r) k 0 % 8 ≡ 6 → getD (set t kind r) k 0 / 8 % 8192 ≡ n
-  holds k a b = go (eqb k kind) refl
+  bounds′ : 84 < kind + 1 → boundOf t′ ≡ n
+  unfolding boundOf Entries entryOf table
+  bounds′ h = go (eqb 84 kind) refl
     where
-      go : (b : Bool) → eqb k kind ≡ b → getD (set t kind r) k 0 % 8 ≡ 6 → getD (set t kind r) k 0 / 8 % 8192 ≡ n
-      go true e = subst (λ (x : ℕ). x % 8 ≡ 6 → x / 8 % 8192 ≡ n) (sym (ap (λ (i : ℕ). getD (set t kind r) i 0) (eqb-true k kind e) ∙ here)) bound
-      go false e = subst (λ (x : ℕ). x % 8 ≡ 6 → x / 8 % 8192 ≡ n) (sym (getD-set-other t kind k r 0 (eqb-false k kind e))) (f .held k a (omega (arith, eqb-false k kind e)))
+      go : (b : Bool) → eqb 84 kind ≡ b → getD t′ 84 0 / 8 % 8192 ≡ n
+      go true e =
+          let k : 84 ≡ kind = eqb-true 84 kind e in
+          let m : ruleFrom x ≡ Name = ap (λ (e : Entry). e .values) entry ∙ ap (λ (i : ℕ). entryOf i .values) (sym k) in
+          rw (k, here) (bound (names-six x m))
+      go false e = ap (λ (y : ℕ). y / 8 % 8192) (elsewhere 84 (eqb-false 84 kind e) (λ q. omega arith)) ∙ f .bounds (omega (arith, eqb-false 84 kind e))
 
-  next : Filled n (kind + 1) (set t kind r)
-  next = record { tabled = still; long = length-set t kind r ∙ f .long; low = omega (arith, f .low); high = omega arith; held = holds }
+  heads : entryFrom x .sort < 2 → plain (entryFrom x .values) ≡ true
+  heads = subst (λ (e : Entry). e .sort < 2 → plain (e .values) ≡ true) (sym entry) (heads-plain kind (omega arith))
 
--- no kind past those of trees takes a name
-abbrev unused : Values → Bool
-unused Unused = true
-unused Any = false
-unused (AtMost m) = false
-unused (FromOne m) = false
-unused (AtMostOrNone m) = false
-unused Total = false
-unused Name = false
-unused NameOrNone = false
+  ends′ : EndedTo n (kind + 1) t′
+  unfolding EndsBy allowedHere
+  ends′ k v a b h = go (eqb k kind) refl
+    where
+      go : (c : Bool) → eqb k kind ≡ c → ltb (wordOf k v) (getD t′ (128 + k) 0) ≡ (ltb (entryOf k .sort) 2 && allowed (entryOf k .values) n v)
+      go true e =
+          let q : k ≡ kind = eqb-true k kind e in
+          rw (q, behind) (subst (λ (e : Entry). ltb (wordOf kind v) end ≡ (ltb (e .sort) 2 && allowed (e .values) n v)) entry (by n v h bound heads))
+      go false e =
+          rw (elsewhere (128 + k) (λ q. omega arith) (λ q. eqb-false k kind e (omega arith))) (f .ends k v a (omega (arith, eqb-false k kind e)) h)
 
-no : true ≡ false → ⊥
-no e = let z : _≡_ {A = ℕ} 0 1 = cc in omega arith
+  next : Filled n (kind + 1) t′
+  next = record {
+    tabled = still;
+    long = long′;
+    low = omega (arith, f .low);
+    high = omega arith;
+    bounds = bounds′;
+    ends = ends′;
+    rest = λ k a b. elsewhere (128 + k) (λ q. omega arith) (λ q. omega arith) ∙ f .rest k (omega arith) b;
+  }
 
-past : (t : List ℕ) → Tabled t → (k : ℕ) → lastOfTrees + 1 ≤ k → k < 256 → getD t k 0 % 8 ≡ 6 → ⊥
-unfolding Tabled entryOf table
-past t h k lo hi e =
-    let u : unused (entryOf k .values) ≡ true = in-range (λ (k : ℕ). unused (entryOf k .values)) true (lastOfTrees + 1) (255 - lastOfTrees) refl k lo hi in
-    let r : ruleFrom (getD t k 0) ≡ Name = rw e refl in
-    let s : ruleFrom (getD t k 0) ≡ entryOf k .values = ap (λ (e : Entry). e .values) (h k hi) in
-    no (sym u ∙ ap unused (sym s ∙ r))
-
-whole : (n kind : ℕ) (t : List ℕ) → Filled n kind t → lastOfTrees < kind → Bounded n t
-unfolding Bounded
-whole n kind t f z k lo hi e = go (ltb k kind) refl
+whole : (n kind : ℕ) (t : List ℕ) → Filled n kind t → lastOfTrees < kind → Ended n t
+unfolding Ended
+whole n kind t f z k v lo hi h = go (ltb k kind) refl
   where
-    go : (b : Bool) → ltb k kind ≡ b → getD t k 0 / 8 % 8192 ≡ n
-    go true l = f .held k lo (ltb-true k kind l) e
-    go false l = absurd (past t (f .tabled) k (omega (arith, ltb-false k kind l)) hi e)
+    go : (b : Bool) → ltb k kind ≡ b → ltb (wordOf k v) (getD t (128 + k) 0) ≡ (ltb (entryOf k .sort) 2 && allowedHere n k v)
+    go true l = f .ends k v lo (ltb-true k kind l) h
+    go false l =
+        let m : kind ≤ k = ltb-false k kind l in
+        rw (f .rest k m hi, unused-past k (omega arith) hi) (le-ltb (wordOf k v) 131072 (omega arith))
 
 abbrev Inv-loop : tie.InvT-loop
 Inv-loop n t₀ kind₀ t kind = Filled n kind t
@@ -114,17 +150,32 @@ mul-t c = search needs
 array-write-t : tie.Need-array-write-t Inv-loop μ-loop
 array-write-t c = omega (arith, c .before .before .loop .inv .long)
 
+end-of-requires : tie.Need-end-of-requires Inv-loop μ-loop
+end-of-requires c κs = omega arith
+
+add-t : tie.Need-add-t Inv-loop μ-loop
+add-t c = omega arith
+
+cast-t-2 : tie.Need-cast-t-2 Inv-loop μ-loop
+cast-t-2 c = search needs
+
+mul-t-2 : tie.Need-mul-t-2 Inv-loop μ-loop
+mul-t-2 c = search needs
+
+array-write-t-2 : tie.Need-array-write-t-2 Inv-loop μ-loop
+array-write-t-2 c = omega (arith, c .before .before .before .loop .inv .long, length-set (c .before .before .before .loop .t) (c .before .before .before .loop .kind) (c .before .with-bound .result))
+
 add-kind : tie.Need-add-kind Inv-loop μ-loop
-add-kind c = search needs
+add-kind c = omega arith
 
 loop-less : tie.Need-loop-less Inv-loop μ-loop
 loop-less c = omega arith
 
 loop-again : tie.Need-loop-again Inv-loop μ-loop
-loop-again c = next _ _ _ _ (c .before .before .loop .inv) (c .before .loop-test .taken) (c .with-bound .ensures .0) (c .with-bound .ensures .1)
+loop-again c = next _ _ _ _ _ (c .before .before .before .loop .inv) (c .before .before .loop-test .taken) (c .before .with-bound .ensures .0) (c .before .with-bound .ensures .1) (c .end-of .ensures)
 
 returns : tie.Need-returns Inv-loop μ-loop
-returns c = (c .before .loop .inv .tabled, whole _ _ _ (c .before .loop .inv) (c .loop-test .left))
+returns c = let f = c .before .loop .inv in (f .tabled, f .bounds (omega arith), whole _ _ _ f (c .loop-test .left))
 
 pub table-for-spec : {M : Type 1} → statement M
 table-for-spec =
@@ -141,6 +192,11 @@ table-for-spec =
     cast-t
     mul-t
     array-write-t
+    end-of-requires
+    add-t
+    cast-t-2
+    mul-t-2
+    array-write-t-2
     add-kind
     loop-less
     loop-again

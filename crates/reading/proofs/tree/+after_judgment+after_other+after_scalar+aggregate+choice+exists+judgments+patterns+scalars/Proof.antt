@@ -13,38 +13,42 @@ use Rattle.definitions.specs.Table.{kindOf, valueOf, entryOf, table, fieldsOf, 
 use Rattle.pack.specs.Packed.{boundOf}
 use Rattle.definitions.specs.Tree.{fields, follow}
 use Rattle.reading.specs.Notes.{lookBy, noted}
-use Rattle.reading.proofs.TreeLaws.{aggregate-kind, scalars-in-row, judgments-in-row, scalar-row, comparison-row, judgment-row, above, leaf-past, leaf-low, leaf-last, leaf-between, compared, scalar-kind, judgment-kind}
-use Rattle.reading.proofs.CodeLaws.{code-within, passed, fault-code, fault-large, first-code, next-code, last-code, then-code, up-to-any, up-to-most, row-small}
+use Rattle.reading.proofs.TreeLaws.{aggregate-kind, scalars-in-row, judgments-in-row, other-low, other-between, other-high, other-leaf, scalar-row, comparison-row, judgment-row, above, leaf-past, leaf-low, leaf-last, leaf-between, compared, scalar-kind, judgment-kind}
+use Rattle.reading.proofs.CodeLaws.{code-within, passed, fault-code, fault-large, first-code, next-code, last-code, then-code, up-to-any, row-small}
 use Rattle.reading.proofs.NotingLaws.{by-shape, after-row, after-bare, after-leaf, after-words, steady-scalar, steady-judgment, noted-aggregate, plain-low, plain-between, plain-last}
-use Rattle.reading.proofs.RowLaws.{refuses, Walking, walking, walked, head-refused, begun, past-leaf, past-last, node-refused, forward, past-node, first-refused, first-then, rows-as, fielded, where-rows, exists-rows, compared-rows}
+use Rattle.reading.proofs.RowLaws.{refuses, Walking, walking, walked, head-refused, begun, past-leaf, past-last, node-refused, forward, past-node, first-refused, first-then, rows-as, fields-read, aggregate-refused, where-rows, exists-rows, compared-rows}
 use Rattle.reading.proofs.PartLaws.{based-losing, based-inside, based-part, part-long, ready-part, part-rows}
 use borrow.Fn.Kinds.{In}
 use borrow.Fn.PlainCycle.{Measures, is, falls, and}
 use Rattle.reading.proofs.tree.after_judgment.Reads as after-judgment
 use Rattle.reading.proofs.tree.after_judgment.Kinds as after-judgment-kinds
-use Rattle.reading.proofs.tree.+after_judgment+after_scalar+aggregate+choice+exists+judgments+patterns+scalars.Lts-after_judgment as after-judgment-lts
+use Rattle.reading.proofs.tree.+after_judgment+after_other+after_scalar+aggregate+choice+exists+judgments+patterns+scalars.Lts-after_judgment as after-judgment-lts
+use Rattle.reading.proofs.tree.after_other.Reads as after-other
+use Rattle.reading.proofs.tree.after_other.Kinds as after-other-kinds
+use Rattle.reading.proofs.tree.+after_judgment+after_other+after_scalar+aggregate+choice+exists+judgments+patterns+scalars.Lts-after_other as after-other-lts
 use Rattle.reading.proofs.tree.after_scalar.Reads as after-scalar
 use Rattle.reading.proofs.tree.after_scalar.Kinds as after-scalar-kinds
-use Rattle.reading.proofs.tree.+after_judgment+after_scalar+aggregate+choice+exists+judgments+patterns+scalars.Lts-after_scalar as after-scalar-lts
+use Rattle.reading.proofs.tree.+after_judgment+after_other+after_scalar+aggregate+choice+exists+judgments+patterns+scalars.Lts-after_scalar as after-scalar-lts
 use Rattle.reading.proofs.tree.aggregate.Reads as aggregate
 use Rattle.reading.proofs.tree.aggregate.Kinds as aggregate-kinds
-use Rattle.reading.proofs.tree.+after_judgment+after_scalar+aggregate+choice+exists+judgments+patterns+scalars.Lts-aggregate as aggregate-lts
+use Rattle.reading.proofs.tree.+after_judgment+after_other+after_scalar+aggregate+choice+exists+judgments+patterns+scalars.Lts-aggregate as aggregate-lts
 use Rattle.reading.proofs.tree.choice.Reads as choice
 use Rattle.reading.proofs.tree.choice.Kinds as choice-kinds
-use Rattle.reading.proofs.tree.+after_judgment+after_scalar+aggregate+choice+exists+judgments+patterns+scalars.Lts-choice as choice-lts
+use Rattle.reading.proofs.tree.+after_judgment+after_other+after_scalar+aggregate+choice+exists+judgments+patterns+scalars.Lts-choice as choice-lts
 use Rattle.reading.proofs.tree.exists.Reads as exists
 use Rattle.reading.proofs.tree.exists.Kinds as exists-kinds
-use Rattle.reading.proofs.tree.+after_judgment+after_scalar+aggregate+choice+exists+judgments+patterns+scalars.Lts-exists as exists-lts
+use Rattle.reading.proofs.tree.+after_judgment+after_other+after_scalar+aggregate+choice+exists+judgments+patterns+scalars.Lts-exists as exists-lts
 use Rattle.reading.proofs.tree.judgments.Reads as judgments
 use Rattle.reading.proofs.tree.judgments.Kinds as judgments-kinds
-use Rattle.reading.proofs.tree.+after_judgment+after_scalar+aggregate+choice+exists+judgments+patterns+scalars.Lts-judgments as judgments-lts
+use Rattle.reading.proofs.tree.+after_judgment+after_other+after_scalar+aggregate+choice+exists+judgments+patterns+scalars.Lts-judgments as judgments-lts
 use Rattle.reading.proofs.tree.patterns.Reads as patterns
 use Rattle.reading.proofs.tree.patterns.Kinds as patterns-kinds
-use Rattle.reading.proofs.tree.+after_judgment+after_scalar+aggregate+choice+exists+judgments+patterns+scalars.Lts-patterns as patterns-lts
+use Rattle.reading.proofs.tree.+after_judgment+after_other+after_scalar+aggregate+choice+exists+judgments+patterns+scalars.Lts-patterns as patterns-lts
 use Rattle.reading.proofs.tree.scalars.Reads as scalars
 use Rattle.reading.proofs.tree.scalars.Kinds as scalars-kinds
-use Rattle.reading.proofs.tree.+after_judgment+after_scalar+aggregate+choice+exists+judgments+patterns+scalars.Lts-scalars as scalars-lts
+use Rattle.reading.proofs.tree.+after_judgment+after_other+after_scalar+aggregate+choice+exists+judgments+patterns+scalars.Lts-scalars as scalars-lts
 use Rattle.pack.proofs.table.children.Reads as children-reads
+use Rattle.reading.proofs.tree.aggregate_fields.Reads as aggregate-fields-reads
 use Rattle.reading.proofs.tree.atom.Reads as atom-reads
 use Rattle.reading.proofs.tree.by_table.Reads as by-table-reads
 use Rattle.reading.proofs.tree.compares.Reads as compares-reads
@@ -54,18 +58,21 @@ use Rattle.reading.proofs.tree.note.Reads as note-reads
 use Rattle.reading.proofs.tree.only_related.Reads as only-related-reads
 use Rattle.reading.proofs.tree.slots.Reads as slots-reads
 use Rattle.reading.proofs.tree.up_to.Reads as up-to-reads
-use Rattle.reading.proofs.tree.+after_judgment+after_scalar+aggregate+choice+exists+judgments+patterns+scalars.{
+use Rattle.reading.proofs.tree.+after_judgment+after_other+after_scalar+aggregate+choice+exists+judgments+patterns+scalars.{
   statement,
 }
-use Rattle.reading.proofs.tree.+after_judgment+after_scalar+aggregate+choice+exists+judgments+patterns+scalars.Tie.{
+use Rattle.reading.proofs.tree.+after_judgment+after_other+after_scalar+aggregate+choice+exists+judgments+patterns+scalars.Tie.{
   close,
 }
 
 abbrev μ-after-judgment : Measures 3 after-judgment-kinds.ps ℕ
 μ-after-judgment κs a = a .1 .1 .1 .0 * 8 + 3
 
+abbrev μ-after-other : Measures 3 after-other-kinds.ps ℕ
+μ-after-other κs a = a .1 .1 .1 .0 * 8 + 3
+
 abbrev μ-after-scalar : Measures 3 after-scalar-kinds.ps ℕ
-μ-after-scalar κs a = a .1 .1 .1 .0 * 8 + 3
+μ-after-scalar κs a = a .1 .1 .1 .0 * 8 + 4
 
 abbrev μ-aggregate : Measures 3 aggregate-kinds.ps ℕ
 μ-aggregate κs a = a .1 .1 .1 .0 * 8 + 2
@@ -100,6 +107,14 @@ after-judgment-below t =
     after-judgment-kinds.ps
     (falls 3 after-judgment-kinds.ps _<_ μ-after-judgment t)
     after-judgment.Pre
+
+abbrev after-other-at : ℕ → In 3 after-other-kinds.ps
+after-other-at t =
+    and 3 after-other-kinds.ps (is 3 after-other-kinds.ps μ-after-other t) after-other.Pre
+
+abbrev after-other-below : ℕ → In 3 after-other-kinds.ps
+after-other-below t =
+    and 3 after-other-kinds.ps (falls 3 after-other-kinds.ps _<_ μ-after-other t) after-other.Pre
 
 abbrev after-scalar-at : ℕ → In 3 after-scalar-kinds.ps
 after-scalar-at t =
@@ -155,11 +170,14 @@ scalars-below t = and 3 scalars-kinds.ps (falls 3 scalars-kinds.ps _<_ μ-scalar
 abbrev after-judgment-calls : ℕ → after-judgment-lts.Claims
 after-judgment-calls t = (scalars-below t, scalars.Post, note-reads.Asked, note-reads.Learnt, slots-reads.Asked, slots-reads.Learnt, atom-reads.Asked, atom-reads.Learnt, exists-below t, exists.Post, children-reads.Asked, children-reads.Learnt, judgments-below t, judgments.Post)
 
+abbrev after-other-calls : ℕ → after-other-lts.Claims
+after-other-calls t = (patterns-below t, patterns.Post, by-table-reads.Asked, by-table-reads.Learnt, lost-reads.Asked, lost-reads.Learnt, scalars-below t, scalars.Post, choice-below t, choice.Post, note-reads.Asked, note-reads.Learnt, only-related-reads.Asked, only-related-reads.Learnt)
+
 abbrev after-scalar-calls : ℕ → after-scalar-lts.Claims
-after-scalar-calls t = (patterns-below t, patterns.Post, by-table-reads.Asked, by-table-reads.Learnt, lost-reads.Asked, lost-reads.Learnt, scalars-below t, scalars.Post, choice-below t, choice.Post, note-reads.Asked, note-reads.Learnt, only-related-reads.Asked, only-related-reads.Learnt, children-reads.Asked, children-reads.Learnt, aggregate-below t, aggregate.Post)
+after-scalar-calls t = (children-reads.Asked, children-reads.Learnt, scalars-below t, scalars.Post, aggregate-below t, aggregate.Post, after-other-below t, after-other.Post)
 
 abbrev aggregate-calls : ℕ → aggregate-lts.Claims
-aggregate-calls t = (up-to-reads.Asked, up-to-reads.Learnt, note-reads.Asked, note-reads.Learnt, compares-reads.Asked, compares-reads.Learnt, scalars-below t, scalars.Post, judgments-below t, judgments.Post)
+aggregate-calls t = (aggregate-fields-reads.Asked, aggregate-fields-reads.Learnt, note-reads.Asked, note-reads.Learnt, compares-reads.Asked, compares-reads.Learnt, scalars-below t, scalars.Post, judgments-below t, judgments.Post)
 
 abbrev choice-calls : ℕ → choice-lts.Claims
 choice-calls t = (judgments-below t, judgments.Post, scalars-below t, scalars.Post)
@@ -168,7 +186,7 @@ abbrev exists-calls : ℕ → exists-lts.Claims
 exists-calls t = (up-to-reads.Asked, up-to-reads.Learnt, note-reads.Asked, note-reads.Learnt, judgments-below t, judgments.Post)
 
 abbrev judgments-calls : ℕ → judgments-lts.Claims
-judgments-calls t = (head-reads.Asked, head-reads.Learnt, after-judgment-below t, after-judgment.Post)
+judgments-calls t = (head-reads.Asked, head-reads.Learnt, children-reads.Asked, children-reads.Learnt, after-judgment-below t, after-judgment.Post)
 
 abbrev patterns-calls : ℕ → patterns-lts.Claims
 patterns-calls t = (scalars-below t, scalars.Post, lost-reads.Asked, lost-reads.Learnt)
@@ -349,105 +367,79 @@ after-judgment-returns-7 t c =
     (valueOf (getD (start-2 .args .s .now) (start-2 .args .at) 0)) _ (leaf-last (valueOf (getD (start-2 .args .s .now) (start-2 .args .at) 0)) k (omega (arith, lo)) hi) false
     (plain-last k lo hi) _ refl
 
-after-scalar-mul-w : (t : ℕ) → after-scalar-lts.Need-mul-w (after-scalar-calls t) (after-scalar-at t) after-scalar.Post
-after-scalar-mul-w t c = omega (arith, (c .before .before .pre) .1 .0 .most, (c .before .before .pre) .1 .1)
+after-other-mul-w : (t : ℕ) → after-other-lts.Need-mul-w (after-other-calls t) (after-other-at t) after-other.Post
+after-other-mul-w t c = omega (arith, (c .before .before .pre) .1 .0 .most, (c .before .before .pre) .1 .1)
 
-after-scalar-shared-slice-read-w : (t : ℕ) → after-scalar-lts.Need-shared-slice-read-w (after-scalar-calls t) (after-scalar-at t) after-scalar.Post
-after-scalar-shared-slice-read-w t c = (c .before .before .before .pre) .1 .1
+after-other-shared-slice-read-w : (t : ℕ) → after-other-lts.Need-shared-slice-read-w (after-other-calls t) (after-other-at t) after-other.Post
+after-other-shared-slice-read-w t c = (c .before .before .before .pre) .1 .1
 
-after-scalar-add-patterns : (t : ℕ) → after-scalar-lts.Need-add-patterns (after-scalar-calls t) (after-scalar-at t) after-scalar.Post
-after-scalar-add-patterns t c = omega (arith, (c .before .before .before .before .pre) .1 .0 .most, (c .before .before .before .before .pre) .1 .1)
+after-other-add-patterns : (t : ℕ) → after-other-lts.Need-add-patterns (after-other-calls t) (after-other-at t) after-other.Post
+after-other-add-patterns t c = omega (arith, (c .before .before .before .before .pre) .1 .0 .most, (c .before .before .before .before .pre) .1 .1)
 
-after-scalar-patterns-requires : (t : ℕ) → after-scalar-lts.Need-patterns-requires (after-scalar-calls t) (after-scalar-at t) after-scalar.Post
-after-scalar-patterns-requires t c κs = (omega arith, ((c .before .before .before .before .before .pre) .1 .0, omega (arith, (c .before .before .before .before .before .pre) .1 .1), (c .before .before .before .before .before .pre) .1 .3))
+after-other-patterns-requires : (t : ℕ) → after-other-lts.Need-patterns-requires (after-other-calls t) (after-other-at t) after-other.Post
+after-other-patterns-requires t c κs = (omega arith, ((c .before .before .before .before .before .pre) .1 .0, omega (arith, (c .before .before .before .before .before .pre) .1 .1), (c .before .before .before .before .before .pre) .1 .3))
 
-after-scalar-add-scalars : (t : ℕ) → after-scalar-lts.Need-add-scalars (after-scalar-calls t) (after-scalar-at t) after-scalar.Post
-after-scalar-add-scalars t c = omega (arith, (c .before .before .before .before .pre) .1 .0 .most, (c .before .before .before .before .pre) .1 .1)
+after-other-add-scalars : (t : ℕ) → after-other-lts.Need-add-scalars (after-other-calls t) (after-other-at t) after-other.Post
+after-other-add-scalars t c = omega (arith, (c .before .before .before .before .pre) .1 .0 .most, (c .before .before .before .before .pre) .1 .1)
 
-after-scalar-by-table-requires : (t : ℕ) → after-scalar-lts.Need-by-table-requires (after-scalar-calls t) (after-scalar-at t) after-scalar.Post
-after-scalar-by-table-requires t c κs = (omega (arith, (c .before .shared-slice-known2) .given ((c .before .before .before .before .args) .at)), (c .before .before .before .before .pre) .1 .0 .tabled, omega arith)
+after-other-by-table-requires : (t : ℕ) → after-other-lts.Need-by-table-requires (after-other-calls t) (after-other-at t) after-other.Post
+after-other-by-table-requires t c κs = (omega arith, (c .before .before .before .before .pre) .1 .0 .tabled, omega arith)
 
-after-scalar-lost-requires : (t : ℕ) → after-scalar-lts.Need-lost-requires (after-scalar-calls t) (after-scalar-at t) after-scalar.Post
-after-scalar-lost-requires t c κs = (c .before .before .before .before .before .pre) .1 .3 .few
+after-other-lost-requires : (t : ℕ) → after-other-lts.Need-lost-requires (after-other-calls t) (after-other-at t) after-other.Post
+after-other-lost-requires t c κs = (c .before .before .before .before .before .pre) .1 .3 .few
 
-after-scalar-scalars-requires : (t : ℕ) → after-scalar-lts.Need-scalars-requires (after-scalar-calls t) (after-scalar-at t) after-scalar.Post
-after-scalar-scalars-requires t c κs =
+after-other-scalars-requires : (t : ℕ) → after-other-lts.Need-scalars-requires (after-other-calls t) (after-other-at t) after-other.Post
+after-other-scalars-requires t c κs =
     let at-lost = c .before in let start-2 = at-lost .before .before .before .before .before .before in
     (omega arith, (start-2 .pre .1 .0, omega (arith, (start-2 .pre) .1 .1), based-losing _ (start-2 .pre .1 .3) (at-lost .lost .ensures)))
 
-after-scalar-add-choice : (t : ℕ) → after-scalar-lts.Need-add-choice (after-scalar-calls t) (after-scalar-at t) after-scalar.Post
-after-scalar-add-choice t c = omega (arith, (c .before .before .before .before .pre) .1 .0 .most, (c .before .before .before .before .pre) .1 .1)
+after-other-add-choice : (t : ℕ) → after-other-lts.Need-add-choice (after-other-calls t) (after-other-at t) after-other.Post
+after-other-add-choice t c = omega (arith, (c .before .before .before .before .pre) .1 .0 .most, (c .before .before .before .before .pre) .1 .1)
 
-after-scalar-choice-requires : (t : ℕ) → after-scalar-lts.Need-choice-requires (after-scalar-calls t) (after-scalar-at t) after-scalar.Post
-after-scalar-choice-requires t c κs = (omega arith, ((c .before .before .before .before .before .pre) .1 .0, omega (arith, (c .before .before .before .before .before .pre) .1 .1), (c .before .before .before .before .before .pre) .1 .3))
+after-other-choice-requires : (t : ℕ) → after-other-lts.Need-choice-requires (after-other-calls t) (after-other-at t) after-other.Post
+after-other-choice-requires t c κs = (omega arith, ((c .before .before .before .before .before .pre) .1 .0, omega (arith, (c .before .before .before .before .before .pre) .1 .1), (c .before .before .before .before .before .pre) .1 .3))
 
-after-scalar-cast-note : (t : ℕ) → after-scalar-lts.Need-cast-note (after-scalar-calls t) (after-scalar-at t) after-scalar.Post
-after-scalar-cast-note t c = search needs
+after-other-cast-note : (t : ℕ) → after-other-lts.Need-cast-note (after-other-calls t) (after-other-at t) after-other.Post
+after-other-cast-note t c = search needs
 
-after-scalar-add-note : (t : ℕ) → after-scalar-lts.Need-add-note (after-scalar-calls t) (after-scalar-at t) after-scalar.Post
-after-scalar-add-note t c = omega (arith, (c .before .before .before .before .before .pre) .1 .0 .most, (c .before .before .before .before .before .pre) .1 .1, (c .before .before .before .before .before .pre) .1 .3)
+after-other-add-note : (t : ℕ) → after-other-lts.Need-add-note (after-other-calls t) (after-other-at t) after-other.Post
+after-other-add-note t c = omega (arith, (c .before .before .before .before .before .pre) .1 .0 .most, (c .before .before .before .before .before .pre) .1 .1, (c .before .before .before .before .before .pre) .1 .3)
 
-after-scalar-add-note-2 : (t : ℕ) → after-scalar-lts.Need-add-note-2 (after-scalar-calls t) (after-scalar-at t) after-scalar.Post
-after-scalar-add-note-2 t c = omega (arith, (c .before .before .before .before .before .pre) .1 .0 .most, (c .before .before .before .before .before .pre) .1 .1, (c .before .before .before .before .before .pre) .1 .3)
+after-other-add-note-2 : (t : ℕ) → after-other-lts.Need-add-note-2 (after-other-calls t) (after-other-at t) after-other.Post
+after-other-add-note-2 t c = omega (arith, (c .before .before .before .before .before .pre) .1 .0 .most, (c .before .before .before .before .before .pre) .1 .1, (c .before .before .before .before .before .pre) .1 .3)
 
-after-scalar-note-requires : (t : ℕ) → after-scalar-lts.Need-note-requires (after-scalar-calls t) (after-scalar-at t) after-scalar.Post
-after-scalar-note-requires t c κs = search needs
+after-other-note-requires : (t : ℕ) → after-other-lts.Need-note-requires (after-other-calls t) (after-other-at t) after-other.Post
+after-other-note-requires t c κs = search needs
 
-after-scalar-add-only-related : (t : ℕ) → after-scalar-lts.Need-add-only-related (after-scalar-calls t) (after-scalar-at t) after-scalar.Post
-after-scalar-add-only-related t c =
+after-other-add-only-related : (t : ℕ) → after-other-lts.Need-add-only-related (after-other-calls t) (after-other-at t) after-other.Post
+after-other-add-only-related t c =
     let on-the-way = c .before .before .before .before .before .before in let start-2 = on-the-way .before .before in
     omega (arith, (start-2 .pre) .1 .0 .most, (start-2 .pre) .1 .1)
 
-after-scalar-only-related-requires : (t : ℕ) → after-scalar-lts.Need-only-related-requires (after-scalar-calls t) (after-scalar-at t) after-scalar.Post
-after-scalar-only-related-requires t c κs =
+after-other-only-related-requires : (t : ℕ) → after-other-lts.Need-only-related-requires (after-other-calls t) (after-other-at t) after-other.Post
+after-other-only-related-requires t c κs =
     let on-the-way = c .before .before .before .before .before .before in let start-2 = on-the-way .before .before in
     (start-2 .pre .1 .0 .most, omega (arith, (start-2 .pre) .1 .1))
 
-after-scalar-children-requires : (t : ℕ) → after-scalar-lts.Need-children-requires (after-scalar-calls t) (after-scalar-at t) after-scalar.Post
-after-scalar-children-requires t c κs =
-    let at-if1 = c .before in let at-shared-slice-known2 = at-if1 .before .before in let start-2 = at-shared-slice-known2 .before .before .before in
-    let k = kindOf (getD (start-2 .args .s .now) (start-2 .args .at) 0) in
-    (omega (arith, (at-shared-slice-known2 .shared-slice-known2) .given (start-2 .args .at)), (start-2 .pre) .1 .0 .tabled, scalars-in-row k (at-if1 .if1 .left) ((c .if2) .taken))
+after-other-add-result : (t : ℕ) → after-other-lts.Need-add-result (after-other-calls t) (after-other-at t) after-other.Post
+after-other-add-result t c = omega (arith, (c .before .before .before .before .pre) .1 .0 .most, (c .before .before .before .before .pre) .1 .1)
 
-after-scalar-add-scalars-2 : (t : ℕ) → after-scalar-lts.Need-add-scalars-2 (after-scalar-calls t) (after-scalar-at t) after-scalar.Post
-after-scalar-add-scalars-2 t c =
-    let on-the-way = c .before .before .before .before .before .before in let start-2 = on-the-way .before in
-    omega (arith, (start-2 .pre) .1 .0 .most, (start-2 .pre) .1 .1)
+after-other-same-length : (t : ℕ) → after-other-lts.Need-same-length (after-other-calls t) (after-other-at t) after-other.Post
+after-other-same-length t c = search needs
 
-after-scalar-scalars-requires-2 : (t : ℕ) → after-scalar-lts.Need-scalars-requires-2 (after-scalar-calls t) (after-scalar-at t) after-scalar.Post
-after-scalar-scalars-requires-2 t c κs =
-    let on-the-way = c .before .before .before .before .before .before in let start-2 = on-the-way .before .before in
-    (omega arith, (start-2 .pre .1 .0, omega (arith, (start-2 .pre) .1 .1), (start-2 .pre) .1 .3))
-
-after-scalar-add-aggregate : (t : ℕ) → after-scalar-lts.Need-add-aggregate (after-scalar-calls t) (after-scalar-at t) after-scalar.Post
-after-scalar-add-aggregate t c =
-    let on-the-way = c .before .before .before .before .before .before in let start-2 = on-the-way .before in
-    omega (arith, (start-2 .pre) .1 .0 .most, (start-2 .pre) .1 .1)
-
-after-scalar-aggregate-requires : (t : ℕ) → after-scalar-lts.Need-aggregate-requires (after-scalar-calls t) (after-scalar-at t) after-scalar.Post
-after-scalar-aggregate-requires t c κs =
-    let on-the-way = c .before .before .before .before .before .before in let start-2 = on-the-way .before .before in
-    (omega arith, (start-2 .pre .1 .0, omega (arith, (start-2 .pre) .1 .1), (start-2 .pre) .1 .3))
-
-after-scalar-add-result : (t : ℕ) → after-scalar-lts.Need-add-result (after-scalar-calls t) (after-scalar-at t) after-scalar.Post
-after-scalar-add-result t c = omega (arith, (c .before .before .before .before .before .pre) .1 .0 .most, (c .before .before .before .before .before .pre) .1 .1)
-
-after-scalar-same-length : (t : ℕ) → after-scalar-lts.Need-same-length (after-scalar-calls t) (after-scalar-at t) after-scalar.Post
-after-scalar-same-length t c = search needs
-
-after-scalar-returns : (t : ℕ) → after-scalar-lts.Need-returns (after-scalar-calls t) (after-scalar-at t) after-scalar.Post
+after-other-returns : (t : ℕ) → after-other-lts.Need-returns (after-other-calls t) (after-other-at t) after-other.Post
 unfolding entryOf table fieldsOf childrenOf noted lookBy
-after-scalar-returns t c =
+after-other-returns t c =
     let at-patterns = c .before .before in let at-match = at-patterns .before .before in let start-2 = at-match .before .before .before .before in
     after-bare _ _ _ _ (kindOf (getD (start-2 .args .s .now) (start-2 .args .at) 0)) (valueOf (getD (start-2 .args .s .now) (start-2 .args .at) 0)) _ Patterns
     (ap (λ (k : ℕ). entryOf k .follows) (at-match .match .keys1)) (ap noted (at-match .match .keys1)) refl (at-patterns .patterns .ensures)
 
-after-scalar-same-length-2 : (t : ℕ) → after-scalar-lts.Need-same-length-2 (after-scalar-calls t) (after-scalar-at t) after-scalar.Post
-after-scalar-same-length-2 t c = search needs
+after-other-same-length-2 : (t : ℕ) → after-other-lts.Need-same-length-2 (after-other-calls t) (after-other-at t) after-other.Post
+after-other-same-length-2 t c = search needs
 
-after-scalar-returns-2 : (t : ℕ) → after-scalar-lts.Need-returns-2 (after-scalar-calls t) (after-scalar-at t) after-scalar.Post
+after-other-returns-2 : (t : ℕ) → after-other-lts.Need-returns-2 (after-other-calls t) (after-other-at t) after-other.Post
 unfolding entryOf table fieldsOf childrenOf noted lookBy
-after-scalar-returns-2 t c =
+after-other-returns-2 t c =
     let at-scalars = c .before .before in let at-lost = at-scalars .before .before in let at-by-table = at-lost .before in
     let at-match = at-by-table .before in let start-2 = at-match .before .before .before .before in
     after-bare _ _ _ _ (kindOf (getD (start-2 .args .s .now) (start-2 .args .at) 0)) (valueOf (getD (start-2 .args .s .now) (start-2 .args .at) 0)) _ Periods
@@ -455,149 +447,106 @@ after-scalar-returns-2 t c =
     (rows-as _ _ scalar-sort _ (at-by-table .by-table .ensures ∙ ap (λ (k : ℕ). howMany (entryOf k .follows) (valueOf (getD (start-2 .args .s .now) (start-2 .args .at) 0)))
     (at-match .match .keys2)) (at-lost .lost .ensures) (at-scalars .scalars .ensures))
 
-after-scalar-same-length-3 : (t : ℕ) → after-scalar-lts.Need-same-length-3 (after-scalar-calls t) (after-scalar-at t) after-scalar.Post
-after-scalar-same-length-3 t c = search needs
+after-other-same-length-3 : (t : ℕ) → after-other-lts.Need-same-length-3 (after-other-calls t) (after-other-at t) after-other.Post
+after-other-same-length-3 t c = search needs
 
-after-scalar-returns-3 : (t : ℕ) → after-scalar-lts.Need-returns-3 (after-scalar-calls t) (after-scalar-at t) after-scalar.Post
+after-other-returns-3 : (t : ℕ) → after-other-lts.Need-returns-3 (after-other-calls t) (after-other-at t) after-other.Post
 unfolding entryOf table fieldsOf childrenOf noted lookBy
-after-scalar-returns-3 t c =
+after-other-returns-3 t c =
     let at-choice = c .before .before in let at-match = at-choice .before .before in let start-2 = at-match .before .before .before .before in
     after-bare _ _ _ _ (kindOf (getD (start-2 .args .s .now) (start-2 .args .at) 0)) (valueOf (getD (start-2 .args .s .now) (start-2 .args .at) 0)) _ Choice
     (ap (λ (k : ℕ). entryOf k .follows) (at-match .match .keys3)) (ap noted (at-match .match .keys3)) refl (at-choice .choice .ensures)
 
-after-scalar-same-length-4 : (t : ℕ) → after-scalar-lts.Need-same-length-4 (after-scalar-calls t) (after-scalar-at t) after-scalar.Post
-after-scalar-same-length-4 t c = search needs
+after-other-same-length-4 : (t : ℕ) → after-other-lts.Need-same-length-4 (after-other-calls t) (after-other-at t) after-other.Post
+after-other-same-length-4 t c = search needs
 
-after-scalar-returns-4 : (t : ℕ) → after-scalar-lts.Need-returns-4 (after-scalar-calls t) (after-scalar-at t) after-scalar.Post
+after-other-returns-4 : (t : ℕ) → after-other-lts.Need-returns-4 (after-other-calls t) (after-other-at t) after-other.Post
 unfolding entryOf table fieldsOf childrenOf noted lookBy
-after-scalar-returns-4 t c =
+after-other-returns-4 t c =
     let at-note = c .before .before .before in let at-match = at-note .before .before in let start-2 = at-match .before .before .before .before in
     after-words _ _ _ _ (kindOf (getD (start-2 .args .s .now) (start-2 .args .at) 0)) (valueOf (getD (start-2 .args .s .now) (start-2 .args .at) 0)) _ OnlyRelated
     (ap (λ (k : ℕ). entryOf k .follows) (at-match .match .keys4)) (ap noted (at-match .match .keys4)) (λ last. refl) ((c .only-related) .ensures) (at-note .note .ensures .1)
 
-after-scalar-same-length-5 : (t : ℕ) → after-scalar-lts.Need-same-length-5 (after-scalar-calls t) (after-scalar-at t) after-scalar.Post
-after-scalar-same-length-5 t c = search needs
+after-other-returns-5 : (t : ℕ) → after-other-lts.Need-returns-5 (after-other-calls t) (after-other-at t) after-other.Post
+after-other-returns-5 t c =
+    let start-2 = c .before .before .before .before in let m = (c .match) .rest in
+    let k = kindOf (getD (start-2 .args .s .now) (start-2 .args .at) 0) in let v = valueOf (getD (start-2 .args .s .now) (start-2 .args .at) 0) in
+    other-leaf k (start-2 .pre .1 .2) (m .0 .1) (m .0 .0 .0 .1) (m .0 .0 .1) (m .1)
+    (λ lo. after-leaf _ _ _ _ k v _ (leaf-low v k lo) false (plain-low k lo) _ refl)
+    (λ lo hi. after-leaf _ _ _ _ k v _ (leaf-between v k (omega (arith, lo)) (m .1) hi) false (plain-between k lo hi) _ refl)
 
-after-scalar-returns-5 : (t : ℕ) → after-scalar-lts.Need-returns-5 (after-scalar-calls t) (after-scalar-at t) after-scalar.Post
-after-scalar-returns-5 t c =
-    let at-scalars2 = c .before .before in let at-children = at-scalars2 .before .before in let at-if2 = at-children .before in
-    let at-if1 = at-if2 .before in let at-match = at-if1 .before in let start-2 = at-match .before .before .before .before in
-    let k = kindOf (getD (start-2 .args .s .now) (start-2 .args .at) 0) in let lo = (at-if1 .if1) .left in let hi : k < 71 = omega (arith, (at-if2 .if2) .taken) in after-row _ _ _ _ k
+after-scalar-mul-w : (t : ℕ) → after-scalar-lts.Need-mul-w (after-scalar-calls t) (after-scalar-at t) after-scalar.Post
+after-scalar-mul-w t c = omega (arith, (c .before .before .pre) .1 .0 .most, (c .before .before .pre) .1 .1)
+
+after-scalar-shared-slice-read-w : (t : ℕ) → after-scalar-lts.Need-shared-slice-read-w (after-scalar-calls t) (after-scalar-at t) after-scalar.Post
+after-scalar-shared-slice-read-w t c = (c .before .before .before .pre) .1 .1
+
+after-scalar-children-requires : (t : ℕ) → after-scalar-lts.Need-children-requires (after-scalar-calls t) (after-scalar-at t) after-scalar.Post
+after-scalar-children-requires t c κs =
+    let start-2 = c .before .before .before .before .before in let k = kindOf (getD (start-2 .args .s .now) (start-2 .args .at) 0) in
+    (omega (arith, (c .if2) .taken), (start-2 .pre) .1 .0 .tabled, scalars-in-row k (c .before .if1 .left) ((c .if2) .taken))
+
+after-scalar-add-scalars : (t : ℕ) → after-scalar-lts.Need-add-scalars (after-scalar-calls t) (after-scalar-at t) after-scalar.Post
+after-scalar-add-scalars t c = let start-2 = c .before .before .before .before .before .before in omega (arith, (start-2 .pre) .1 .0 .most, (start-2 .pre) .1 .1)
+
+after-scalar-scalars-requires : (t : ℕ) → after-scalar-lts.Need-scalars-requires (after-scalar-calls t) (after-scalar-at t) after-scalar.Post
+after-scalar-scalars-requires t c κs = let start-2 = c .before .before .before .before .before .before .before in (omega arith, (start-2 .pre .1 .0, omega (arith, (start-2 .pre) .1 .1), (start-2 .pre) .1 .3))
+
+after-scalar-add-aggregate : (t : ℕ) → after-scalar-lts.Need-add-aggregate (after-scalar-calls t) (after-scalar-at t) after-scalar.Post
+after-scalar-add-aggregate t c = let start-2 = c .before .before .before .before .before .before .before in omega (arith, (start-2 .pre) .1 .0 .most, (start-2 .pre) .1 .1)
+
+after-scalar-aggregate-requires : (t : ℕ) → after-scalar-lts.Need-aggregate-requires (after-scalar-calls t) (after-scalar-at t) after-scalar.Post
+after-scalar-aggregate-requires t c κs = let start-2 = c .before .before .before .before .before .before .before .before in (omega arith, (start-2 .pre .1 .0, omega (arith, (start-2 .pre) .1 .1), (start-2 .pre) .1 .3))
+
+after-scalar-after-other-requires : (t : ℕ) → after-scalar-lts.Need-after-other-requires (after-scalar-calls t) (after-scalar-at t) after-scalar.Post
+after-scalar-after-other-requires t c κs =
+    let start-2 = c .before .before .before .before .before in let k = kindOf (getD (start-2 .args .s .now) (start-2 .args .at) 0) in
+    let other = ⊎-elim (λ x. other-low k (x .taken)) (λ y. ⊎-elim (λ y. other-between k (y .1 .left) (y .2 .taken)) (λ z. other-high k (z .3 .left) (start-2 .pre .1 .2)) y) (c .before .if1 .came) in
+    (omega arith, (start-2 .pre .1 .0, (start-2 .pre) .1 .1, other, (start-2 .pre) .1 .3))
+
+after-scalar-same-length : (t : ℕ) → after-scalar-lts.Need-same-length (after-scalar-calls t) (after-scalar-at t) after-scalar.Post
+after-scalar-same-length t c = search needs
+
+after-scalar-returns : (t : ℕ) → after-scalar-lts.Need-returns (after-scalar-calls t) (after-scalar-at t) after-scalar.Post
+after-scalar-returns t c =
+    let at-scalars = c .before .before in let at-children = at-scalars .before .before in let at-if2 = at-children .before in
+    let at-if1 = at-if2 .before in let start-2 = at-if1 .before .before .before .before in
+    let k = kindOf (getD (start-2 .args .s .now) (start-2 .args .at) 0) in let lo = (at-if1 .if1) .left in let hi : k < 71 = (at-if2 .if2) .taken in after-row _ _ _ _ k
     (valueOf (getD (start-2 .args .s .now) (start-2 .args .at) 0)) _ scalar-sort
-    (scalar-row (valueOf (getD (start-2 .args .s .now) (start-2 .args .at) 0)) k lo (omega (arith, hi)) (at-match .match .rest .0 .1)) (at-children .children .ensures)
-    (steady-scalar k lo hi) (at-scalars2 .scalars2 .ensures)
+    (scalar-row (valueOf (getD (start-2 .args .s .now) (start-2 .args .at) 0)) k lo (omega (arith, hi)) (λ z. omega (arith, hi))) (at-children .children .ensures)
+    (steady-scalar k lo hi) (at-scalars .scalars .ensures)
 
-after-scalar-same-length-6 : (t : ℕ) → after-scalar-lts.Need-same-length-6 (after-scalar-calls t) (after-scalar-at t) after-scalar.Post
-after-scalar-same-length-6 t c = search needs
+after-scalar-same-length-2 : (t : ℕ) → after-scalar-lts.Need-same-length-2 (after-scalar-calls t) (after-scalar-at t) after-scalar.Post
+after-scalar-same-length-2 t c = search needs
 
-after-scalar-returns-6 : (t : ℕ) → after-scalar-lts.Need-returns-6 (after-scalar-calls t) (after-scalar-at t) after-scalar.Post
+after-scalar-returns-2 : (t : ℕ) → after-scalar-lts.Need-returns-2 (after-scalar-calls t) (after-scalar-at t) after-scalar.Post
 unfolding follow childrenOf
-after-scalar-returns-6 t c =
-    let at-aggregate = c .before .before in let at-if3 = at-aggregate .before .before in let at-if2 = at-if3 .before in
-    let at-match = at-if2 .before .before in let start-2 = at-match .before .before .before .before in
-    let k = kindOf (getD (start-2 .args .s .now) (start-2 .args .at) 0) in let m = (at-match .match) .rest in let lo : 74 ≤ k = omega
-    (arith, (at-if2 .if2) .left, m .0 .1, m .0 .0 .1, m .0 .0 .0 .1) in by-shape _ _ _ _ k (valueOf (getD (start-2 .args .s .now) (start-2 .args .at) 0)) _ true Aggregate
-    (aggregate-kind k lo (at-if3 .if3 .taken)) (noted-aggregate k lo (at-if3 .if3 .taken)) (at-aggregate .aggregate .ensures)
+after-scalar-returns-2 t c =
+    let at-aggregate = c .before .before in let at-if4 = at-aggregate .before .before in let at-if3 = at-if4 .before in
+    let start-2 = at-if3 .before .before .before .before .before .before in
+    let k = kindOf (getD (start-2 .args .s .now) (start-2 .args .at) 0) in by-shape _ _ _ _ k (valueOf (getD (start-2 .args .s .now) (start-2 .args .at) 0)) _ true Aggregate
+    (aggregate-kind k (at-if3 .if3 .left) (at-if4 .if4 .taken)) (noted-aggregate k (at-if3 .if3 .left) (at-if4 .if4 .taken)) (at-aggregate .aggregate .ensures)
 
-after-scalar-returns-7 : (t : ℕ) → after-scalar-lts.Need-returns-7 (after-scalar-calls t) (after-scalar-at t) after-scalar.Post
-after-scalar-returns-7 t c =
-    let at-match = c .before in let start-2 = at-match .before .before .before .before in
-    ⊎-elim (λ x. after-leaf _ _ _ _ (kindOf (getD (start-2 .args .s .now) (start-2 .args .at) 0)) (valueOf (getD (start-2 .args .s .now) (start-2 .args .at) 0)) _
-    (leaf-low (valueOf (getD (start-2 .args .s .now) (start-2 .args .at) 0)) (kindOf (getD (start-2 .args .s .now) (start-2 .args .at) 0)) (x .taken)) false
-    (plain-low (kindOf (getD (start-2 .args .s .now) (start-2 .args .at) 0)) (x .taken)) _ refl)
-    (λ y. let k = kindOf (getD (start-2 .args .s .now) (start-2 .args .at) 0) in let z = (at-match .match) .rest .1 in let hi : k < 96 = omega
-    (arith, (start-2 .pre) .1 .2) in let lo : 78 < k = omega (arith, above 78 k (y .2 .left) z) in after-leaf _ _ _ _ k (valueOf (getD (start-2 .args .s .now) (start-2 .args .at) 0)) _
-    (leaf-between (valueOf (getD (start-2 .args .s .now) (start-2 .args .at) 0)) k (y .2 .left) z hi) false (plain-between k lo hi) _ refl) ((c .if1) .came)
+after-scalar-same-length-3 : (t : ℕ) → after-scalar-lts.Need-same-length-3 (after-scalar-calls t) (after-scalar-at t) after-scalar.Post
+after-scalar-same-length-3 t c = search needs
 
-aggregate-up-to-requires : (t : ℕ) → aggregate-lts.Need-up-to-requires (aggregate-calls t) (aggregate-at t) aggregate.Post
-unfolding entryOf table
-aggregate-up-to-requires t c κs = ((c .before .before .pre) .1 .0 .most, (c .before .before .pre) .1 .1, up-to-any 80 refl)
+after-scalar-returns-3 : (t : ℕ) → after-scalar-lts.Need-returns-3 (after-scalar-calls t) (after-scalar-at t) after-scalar.Post
+after-scalar-returns-3 t c = c .before .before .after-other .ensures
+
+aggregate-aggregate-fields-requires : (t : ℕ) → aggregate-lts.Need-aggregate-fields-requires (aggregate-calls t) (aggregate-at t) aggregate.Post
+aggregate-aggregate-fields-requires t c κs = ((c .before .before .pre) .1 .0 .most, (c .before .before .pre) .1 .1)
 
 aggregate-returns : (t : ℕ) → aggregate-lts.Need-returns (aggregate-calls t) (aggregate-at t) aggregate.Post
-unfolding follow fields fieldsOf
 aggregate-returns t c =
-    let at-up-to = c .before in let start-2 = at-up-to .before .before .before in
-    let g = fault-large _ _ _ _ (at-up-to .up-to .ensures (boundOf (start-2 .args .t .now))) ((c .if1) .taken) in let q = fault-code _ _ _ _
-    (at-up-to .up-to .ensures (boundOf (start-2 .args .t .now))) ((c .if1) .taken) in refuses _
-    (then-code _ _ _ _ (first-code _ _ _ _ _ q (start-2 .pre .1 .0 .most) (start-2 .pre .1 .1) g) (start-2 .pre .1 .0 .most) (start-2 .pre .1 .1) g) g
-
-aggregate-add-up-to : (t : ℕ) → aggregate-lts.Need-add-up-to (aggregate-calls t) (aggregate-at t) aggregate.Post
-aggregate-add-up-to t c = omega (arith, (c .before .before .before .before .pre) .1 .0 .most, (c .before .before .before .before .pre) .1 .1)
-
-aggregate-up-to-requires-2 : (t : ℕ) → aggregate-lts.Need-up-to-requires-2 (aggregate-calls t) (aggregate-at t) aggregate.Post
-unfolding entryOf table
-aggregate-up-to-requires-2 t c κs =
-    let at-up-to = c .before in let start-2 = at-up-to .before .before .before in
-    let m1 = passed _ _ _ _ (at-up-to .up-to .ensures (boundOf (start-2 .args .t .now))) (start-2 .pre .1 .0 .most) (start-2 .pre .1 .1) ((c .if1) .left)
-    (start-2 .args .at + 1) refl in (start-2 .pre .1 .0 .most, m1 .there, up-to-any 81 refl)
-
-aggregate-returns-2 : (t : ℕ) → aggregate-lts.Need-returns-2 (aggregate-calls t) (aggregate-at t) aggregate.Post
-unfolding follow fields fieldsOf
-aggregate-returns-2 t c =
-    let at-up-to2 = c .before in let at-if1 = at-up-to2 .before in let at-up-to = at-if1 .before in let start-2 = at-up-to .before .before .before in
-    let m1 = passed _ _ _ _ (at-up-to .up-to .ensures (boundOf (start-2 .args .t .now))) (start-2 .pre .1 .0 .most) (start-2 .pre .1 .1) (at-if1 .if1 .left)
-    (start-2 .args .at + 1) refl in let g = fault-large _ _ _ _ (at-up-to2 .up-to2 .ensures (boundOf (start-2 .args .t .now))) ((c .if2) .taken) in let q = fault-code _ _ _ _
-    (at-up-to2 .up-to2 .ensures (boundOf (start-2 .args .t .now))) ((c .if2) .taken) in refuses _
-    (then-code _ _ _ _ (next-code _ _ _ _ _ (m1 .same) (m1 .small) (first-code _ _ _ _ _ q (start-2 .pre .1 .0 .most) (m1 .there) g)) (start-2 .pre .1 .0 .most) (start-2 .pre .1 .1) g) g
-
-aggregate-add-up-to-2 : (t : ℕ) → aggregate-lts.Need-add-up-to-2 (aggregate-calls t) (aggregate-at t) aggregate.Post
-aggregate-add-up-to-2 t c = omega (arith, (c .before .before .before .before .before .before .pre) .1 .0 .most, (c .before .before .before .before .before .before .pre) .1 .1)
-
-aggregate-up-to-requires-3 : (t : ℕ) → aggregate-lts.Need-up-to-requires-3 (aggregate-calls t) (aggregate-at t) aggregate.Post
-unfolding entryOf table
-aggregate-up-to-requires-3 t c κs =
-    let at-up-to2 = c .before in let at-if1 = at-up-to2 .before in let at-up-to = at-if1 .before in let start-2 = at-up-to .before .before .before in
-    let m1 = passed _ _ _ _ (at-up-to .up-to .ensures (boundOf (start-2 .args .t .now))) (start-2 .pre .1 .0 .most) (start-2 .pre .1 .1) (at-if1 .if1 .left)
-    (start-2 .args .at + 1) refl in let m2 = passed _ _ _ _ (at-up-to2 .up-to2 .ensures (boundOf (start-2 .args .t .now))) (start-2 .pre .1 .0 .most) (m1 .there) ((c .if2) .left)
-    (start-2 .args .at + 2) (omega arith) in (start-2 .pre .1 .0 .most, m2 .there, up-to-any 86 refl)
-
-aggregate-returns-3 : (t : ℕ) → aggregate-lts.Need-returns-3 (aggregate-calls t) (aggregate-at t) aggregate.Post
-unfolding follow fields fieldsOf
-aggregate-returns-3 t c =
-    let at-up-to3 = c .before in let at-if2 = at-up-to3 .before in let at-up-to2 = at-if2 .before in let at-if1 = at-up-to2 .before in
-    let at-up-to = at-if1 .before in let start-2 = at-up-to .before .before .before in
-    let m1 = passed _ _ _ _ (at-up-to .up-to .ensures (boundOf (start-2 .args .t .now))) (start-2 .pre .1 .0 .most) (start-2 .pre .1 .1) (at-if1 .if1 .left)
-    (start-2 .args .at + 1) refl in let m2 = passed _ _ _ _ (at-up-to2 .up-to2 .ensures (boundOf (start-2 .args .t .now))) (start-2 .pre .1 .0 .most) (m1 .there) (at-if2 .if2 .left)
-    (start-2 .args .at + 2) (omega arith) in let g = fault-large _ _ _ _ (at-up-to3 .up-to3 .ensures (boundOf (start-2 .args .t .now))) ((c .if3) .taken) in let q = fault-code _ _ _ _
-    (at-up-to3 .up-to3 .ensures (boundOf (start-2 .args .t .now))) ((c .if3) .taken) in refuses _
-    (then-code _ _ _ _ (next-code _ _ _ _ _ (m1 .same) (m1 .small) (next-code _ _ _ _ _ (m2 .same) (m2 .small) (first-code _ _ _ _ _ q (start-2 .pre .1 .0 .most) (m2 .there) g)))
-    (start-2 .pre .1 .0 .most) (start-2 .pre .1 .1) g) g
-
-aggregate-add-up-to-3 : (t : ℕ) → aggregate-lts.Need-add-up-to-3 (aggregate-calls t) (aggregate-at t) aggregate.Post
-aggregate-add-up-to-3 t c =
-    let on-the-way = c .before .before .before .before .before .before in let start-2 = on-the-way .before .before in
-    omega (arith, (start-2 .pre) .1 .0 .most, (start-2 .pre) .1 .1)
-
-aggregate-up-to-requires-4 : (t : ℕ) → aggregate-lts.Need-up-to-requires-4 (aggregate-calls t) (aggregate-at t) aggregate.Post
-unfolding entryOf table
-aggregate-up-to-requires-4 t c κs =
-    let at-up-to3 = c .before in let at-if2 = at-up-to3 .before in let at-up-to2 = at-if2 .before in let at-if1 = at-up-to2 .before in
-    let at-up-to = at-if1 .before in let start-2 = at-up-to .before .before .before in
-    let m1 = passed _ _ _ _ (at-up-to .up-to .ensures (boundOf (start-2 .args .t .now))) (start-2 .pre .1 .0 .most) (start-2 .pre .1 .1) (at-if1 .if1 .left)
-    (start-2 .args .at + 1) refl in let m2 = passed _ _ _ _ (at-up-to2 .up-to2 .ensures (boundOf (start-2 .args .t .now))) (start-2 .pre .1 .0 .most) (m1 .there) (at-if2 .if2 .left)
-    (start-2 .args .at + 2) (omega arith) in let m3 = passed _ _ _ _ (at-up-to3 .up-to3 .ensures (boundOf (start-2 .args .t .now))) (start-2 .pre .1 .0 .most) (m2 .there)
-    ((c .if3) .left) (start-2 .args .at + 3) (omega arith) in (start-2 .pre .1 .0 .most, m3 .there, up-to-most 83 1 refl)
-
-aggregate-returns-4 : (t : ℕ) → aggregate-lts.Need-returns-4 (aggregate-calls t) (aggregate-at t) aggregate.Post
-unfolding follow fields fieldsOf
-aggregate-returns-4 t c =
-    let at-up-to4 = c .before in let at-if3 = at-up-to4 .before in let at-up-to3 = at-if3 .before in let at-if2 = at-up-to3 .before in
-    let at-up-to2 = at-if2 .before in let at-if1 = at-up-to2 .before in let at-up-to = at-if1 .before in
-    let start-2 = at-up-to .before .before .before in
-    let m1 = passed _ _ _ _ (at-up-to .up-to .ensures (boundOf (start-2 .args .t .now))) (start-2 .pre .1 .0 .most) (start-2 .pre .1 .1) (at-if1 .if1 .left)
-    (start-2 .args .at + 1) refl in let m2 = passed _ _ _ _ (at-up-to2 .up-to2 .ensures (boundOf (start-2 .args .t .now))) (start-2 .pre .1 .0 .most) (m1 .there) (at-if2 .if2 .left)
-    (start-2 .args .at + 2) (omega arith) in let m3 = passed _ _ _ _ (at-up-to3 .up-to3 .ensures (boundOf (start-2 .args .t .now))) (start-2 .pre .1 .0 .most) (m2 .there)
-    (at-if3 .if3 .left) (start-2 .args .at + 3) (omega arith) in let g = fault-large _ _ _ _ (at-up-to4 .up-to4 .ensures (boundOf (start-2 .args .t .now)))
-    ((c .if4) .taken) in let q = fault-code _ _ _ _ (at-up-to4 .up-to4 .ensures (boundOf (start-2 .args .t .now))) ((c .if4) .taken) in refuses _
-    (then-code _ _ _ _ (next-code _ _ _ _ _ (m1 .same) (m1 .small) (next-code _ _ _ _ _ (m2 .same) (m2 .small) (next-code _ _ _ _ _ (m3 .same) (m3 .small) (last-code _ _ _ _ q))))
-    (start-2 .pre .1 .0 .most) (start-2 .pre .1 .1) g) g
+    let start-2 = c .before .before .before .before in
+    aggregate-refused _ _ _ (start-2 .pre .1 .0 .most) (start-2 .pre .1 .1) (c .before .aggregate-fields .ensures _) (c .if1 .taken) _ _
 
 aggregate-cast-note : (t : ℕ) → aggregate-lts.Need-cast-note (aggregate-calls t) (aggregate-at t) aggregate.Post
 aggregate-cast-note t c = search needs
 
 aggregate-add-note : (t : ℕ) → aggregate-lts.Need-add-note (aggregate-calls t) (aggregate-at t) aggregate.Post
 aggregate-add-note t c =
-    let on-the-way = c .before .before .before .before .before .before in let start-2 = on-the-way .before .before .before .before .before in
+    let at-if1 = c .before in let at-aggregate-fields = at-if1 .before in let start-2 = at-aggregate-fields .before .before .before in
     omega (arith, (start-2 .pre) .1 .0 .most, (start-2 .pre) .1 .1, (start-2 .pre) .1 .2)
 
 aggregate-note-requires : (t : ℕ) → aggregate-lts.Need-note-requires (aggregate-calls t) (aggregate-at t) aggregate.Post
@@ -608,32 +557,24 @@ aggregate-add-inner t c = omega (arith, (c .before .before .note) .ensures .0)
 
 aggregate-add-flag : (t : ℕ) → aggregate-lts.Need-add-flag (aggregate-calls t) (aggregate-at t) aggregate.Post
 aggregate-add-flag t c =
-    let on-the-way = c .before .before .before .before .before .before in
-    let on-the-way-2 = on-the-way .before .before .before .before .before .before in let start-2 = on-the-way-2 .before .before in
+    let at-if1 = c .before .before .before .before in let at-aggregate-fields = at-if1 .before in let start-2 = at-aggregate-fields .before .before .before in
     omega (arith, (start-2 .pre) .1 .0 .most, (start-2 .pre) .1 .1)
 
 aggregate-mul-flag : (t : ℕ) → aggregate-lts.Need-mul-flag (aggregate-calls t) (aggregate-at t) aggregate.Post
 aggregate-mul-flag t c =
-    let at-if4 = c .before .before .before .before in let at-up-to4 = at-if4 .before in let at-if3 = at-up-to4 .before in
-    let at-up-to3 = at-if3 .before in let at-if2 = at-up-to3 .before in let at-up-to2 = at-if2 .before in let at-if1 = at-up-to2 .before in
-    let at-up-to = at-if1 .before in let start-2 = at-up-to .before .before .before in
-    let f = fielded (boundOf (start-2 .args .t .now)) _ _ (start-2 .pre .1 .0 .most) (start-2 .pre .1 .1) (at-up-to .up-to .ensures (boundOf (start-2 .args .t .now)))
-    (at-if1 .if1 .left) (at-up-to2 .up-to2 .ensures (boundOf (start-2 .args .t .now))) (at-if2 .if2 .left) (at-up-to3 .up-to3 .ensures (boundOf (start-2 .args .t .now)))
-    (at-if3 .if3 .left) (at-up-to4 .up-to4 .ensures (boundOf (start-2 .args .t .now))) (at-if4 .if4 .left) in omega (arith, f .flag .there, (start-2 .pre) .1 .0 .most)
+    let at-if1 = c .before .before .before .before in let at-aggregate-fields = at-if1 .before in let start-2 = at-aggregate-fields .before .before .before in
+    let f = fields-read (boundOf (start-2 .args .t .now)) _ _ (start-2 .pre .1 .0 .most) (start-2 .pre .1 .1) (at-aggregate-fields .aggregate-fields .ensures _) (at-if1 .if1 .left) in
+    omega (arith, f .flag .there, (start-2 .pre) .1 .0 .most)
 
 aggregate-shared-slice-read-flag : (t : ℕ) → aggregate-lts.Need-shared-slice-read-flag (aggregate-calls t) (aggregate-at t) aggregate.Post
 aggregate-shared-slice-read-flag t c =
-    let at-if4 = c .before .before .before .before .before in let at-up-to4 = at-if4 .before in let at-if3 = at-up-to4 .before in
-    let at-up-to3 = at-if3 .before in let at-if2 = at-up-to3 .before in let at-up-to2 = at-if2 .before in let at-if1 = at-up-to2 .before in
-    let at-up-to = at-if1 .before in let start-2 = at-up-to .before .before .before in
-    let f = fielded (boundOf (start-2 .args .t .now)) _ _ (start-2 .pre .1 .0 .most) (start-2 .pre .1 .1) (at-up-to .up-to .ensures (boundOf (start-2 .args .t .now)))
-    (at-if1 .if1 .left) (at-up-to2 .up-to2 .ensures (boundOf (start-2 .args .t .now))) (at-if2 .if2 .left) (at-up-to3 .up-to3 .ensures (boundOf (start-2 .args .t .now)))
-    (at-if3 .if3 .left) (at-up-to4 .up-to4 .ensures (boundOf (start-2 .args .t .now))) (at-if4 .if4 .left) in omega (arith, f .flag .there)
+    let at-if1 = c .before .before .before .before .before in let at-aggregate-fields = at-if1 .before in let start-2 = at-aggregate-fields .before .before .before in
+    let f = fields-read (boundOf (start-2 .args .t .now)) _ _ (start-2 .pre .1 .0 .most) (start-2 .pre .1 .1) (at-aggregate-fields .aggregate-fields .ensures _) (at-if1 .if1 .left) in
+    omega (arith, f .flag .there)
 
 aggregate-add-compares : (t : ℕ) → aggregate-lts.Need-add-compares (aggregate-calls t) (aggregate-at t) aggregate.Post
 aggregate-add-compares t c =
-    let on-the-way = c .before .before .before .before .before .before in
-    let on-the-way-2 = on-the-way .before .before .before .before .before .before in let start-2 = on-the-way-2 .before .before .before .before in
+    let at-if1 = c .before .before .before .before .before .before in let at-aggregate-fields = at-if1 .before in let start-2 = at-aggregate-fields .before .before .before in
     omega (arith, (start-2 .pre) .1 .0 .most, (start-2 .pre) .1 .1)
 
 aggregate-compares-requires : (t : ℕ) → aggregate-lts.Need-compares-requires (aggregate-calls t) (aggregate-at t) aggregate.Post
@@ -641,119 +582,88 @@ aggregate-compares-requires t c κs = search needs
 
 aggregate-add-scalars : (t : ℕ) → aggregate-lts.Need-add-scalars (aggregate-calls t) (aggregate-at t) aggregate.Post
 aggregate-add-scalars t c =
-    let on-the-way = c .before .before .before .before .before .before in
-    let on-the-way-2 = on-the-way .before .before .before .before .before .before in
-    let start-2 = on-the-way-2 .before .before .before .before .before .before in
+    let at-if1 = c .before .before .before .before .before .before .before .before in let at-aggregate-fields = at-if1 .before in let start-2 = at-aggregate-fields .before .before .before in
     omega (arith, (start-2 .pre) .1 .0 .most, (start-2 .pre) .1 .1)
 
 aggregate-sub-scalars : (t : ℕ) → aggregate-lts.Need-sub-scalars (aggregate-calls t) (aggregate-at t) aggregate.Post
-aggregate-sub-scalars t c = omega (arith, (c .before .compares) .ensures ((c .if6) .taken) .level)
+aggregate-sub-scalars t c = omega (arith, (c .before .compares) .ensures ((c .if3) .taken) .level)
 
 aggregate-scalars-requires : (t : ℕ) → aggregate-lts.Need-scalars-requires (aggregate-calls t) (aggregate-at t) aggregate.Post
 aggregate-scalars-requires t c κs =
-    let at-if6 = c .before in let at-compares = at-if6 .before in let at-note = at-compares .before .before .before .before .before in
-    let on-the-way = at-note .before .before .before .before .before .before in
-    let start-2 = on-the-way .before .before .before .before .before .before in
-    let p = (at-compares .compares) .ensures (at-if6 .if6 .taken) in
+    let at-if3 = c .before in let at-compares = at-if3 .before in let at-note = at-compares .before .before .before .before .before in
+    let start-2 = at-note .before .before .before .before .before .before in
+    let p = (at-compares .compares) .ensures (at-if3 .if3 .taken) in
     (omega (arith, p .level, (start-2 .pre) .0), (start-2 .pre .1 .0, omega (arith, p .inside), based-inside _ (start-2 .pre .1 .2) (start-2 .args .notes .now) (at-note .note .ensures .0)))
 
 aggregate-same-length : (t : ℕ) → aggregate-lts.Need-same-length (aggregate-calls t) (aggregate-at t) aggregate.Post
 aggregate-same-length t c = search needs
 
-aggregate-returns-5 : (t : ℕ) → aggregate-lts.Need-returns-5 (aggregate-calls t) (aggregate-at t) aggregate.Post
-aggregate-returns-5 t c =
-    let at-scalars = c .before .before in let at-if6 = at-scalars .before .before in let at-compares = at-if6 .before in
-    let at-if5 = at-compares .before in let at-note = at-if5 .before .before .before .before in let at-if4 = at-note .before .before in
-    let at-up-to4 = at-if4 .before in let at-if3 = at-up-to4 .before in let at-up-to3 = at-if3 .before in let at-if2 = at-up-to3 .before in
-    let at-up-to2 = at-if2 .before in let at-if1 = at-up-to2 .before in let at-up-to = at-if1 .before in
-    let start-2 = at-up-to .before .before .before in
-    let f = fielded (boundOf (start-2 .args .t .now)) _ _ (start-2 .pre .1 .0 .most) (start-2 .pre .1 .1) (at-up-to .up-to .ensures (boundOf (start-2 .args .t .now)))
-    (at-if1 .if1 .left) (at-up-to2 .up-to2 .ensures (boundOf (start-2 .args .t .now))) (at-if2 .if2 .left) (at-up-to3 .up-to3 .ensures (boundOf (start-2 .args .t .now)))
-    (at-if3 .if3 .left) (at-up-to4 .up-to4 .ensures (boundOf (start-2 .args .t .now))) (at-if4 .if4 .left) in where-rows _ _ (start-2 .args .context) _ _ f
+aggregate-returns-2 : (t : ℕ) → aggregate-lts.Need-returns-2 (aggregate-calls t) (aggregate-at t) aggregate.Post
+aggregate-returns-2 t c =
+    let at-scalars = c .before .before in let at-if3 = at-scalars .before .before in let at-compares = at-if3 .before in
+    let at-if2 = at-compares .before in let at-note = at-if2 .before .before .before .before in let at-if1 = at-note .before .before in
+    let at-aggregate-fields = at-if1 .before in let start-2 = at-aggregate-fields .before .before .before in
+    let f = fields-read (boundOf (start-2 .args .t .now)) _ _ (start-2 .pre .1 .0 .most) (start-2 .pre .1 .1) (at-aggregate-fields .aggregate-fields .ensures _) (at-if1 .if1 .left) in
+    where-rows _ _ (start-2 .args .context) _ _ f
     (ap (λ (i : ℕ). i + (start-2 .args) .context % 8192) (at-note .note .ensures .0)) (at-note .note .ensures .1)
-    (compared-rows _ _ _ _ _ (start-2 .pre .1 .0 .most) (at-compares .compares .ensures (at-if6 .if6 .taken)) (at-if5 .if5 .taken) _ (omega arith) (at-scalars .scalars .ensures))
+    (compared-rows _ _ _ _ _ (start-2 .pre .1 .0 .most) (at-compares .compares .ensures (at-if3 .if3 .taken)) (at-if2 .if2 .taken) _ (omega arith) (at-scalars .scalars .ensures))
 
 aggregate-add-root : (t : ℕ) → aggregate-lts.Need-add-root (aggregate-calls t) (aggregate-at t) aggregate.Post
 aggregate-add-root t c =
-    let on-the-way = c .before .before .before .before .before .before in
-    let on-the-way-2 = on-the-way .before .before .before .before .before .before in let start-2 = on-the-way-2 .before .before .before .before in
+    let at-if1 = c .before .before .before .before .before .before in let at-aggregate-fields = at-if1 .before in let start-2 = at-aggregate-fields .before .before .before in
     omega (arith, (start-2 .pre) .1 .0 .most, (start-2 .pre) .1 .1)
 
 aggregate-mul-judgments : (t : ℕ) → aggregate-lts.Need-mul-judgments (aggregate-calls t) (aggregate-at t) aggregate.Post
 aggregate-mul-judgments t c =
-    let at-if4 = c .before .before .before .before .before .before in let at-up-to4 = at-if4 .before in let at-if3 = at-up-to4 .before in
-    let at-up-to3 = at-if3 .before in let at-if2 = at-up-to3 .before in let at-up-to2 = at-if2 .before in let at-if1 = at-up-to2 .before in
-    let at-up-to = at-if1 .before in let start-2 = at-up-to .before .before .before in
-    let f = fielded (boundOf (start-2 .args .t .now)) _ _ (start-2 .pre .1 .0 .most) (start-2 .pre .1 .1) (at-up-to .up-to .ensures (boundOf (start-2 .args .t .now)))
-    (at-if1 .if1 .left) (at-up-to2 .up-to2 .ensures (boundOf (start-2 .args .t .now))) (at-if2 .if2 .left) (at-up-to3 .up-to3 .ensures (boundOf (start-2 .args .t .now)))
-    (at-if3 .if3 .left) (at-up-to4 .up-to4 .ensures (boundOf (start-2 .args .t .now))) (at-if4 .if4 .left) in omega (arith, f .flag .there, (start-2 .pre) .1 .0 .most)
+    let at-if1 = c .before .before .before .before .before .before in let at-aggregate-fields = at-if1 .before in let start-2 = at-aggregate-fields .before .before .before in
+    let f = fields-read (boundOf (start-2 .args .t .now)) _ _ (start-2 .pre .1 .0 .most) (start-2 .pre .1 .1) (at-aggregate-fields .aggregate-fields .ensures _) (at-if1 .if1 .left) in
+    omega (arith, f .flag .there, (start-2 .pre) .1 .0 .most)
 
 aggregate-sub-judgments : (t : ℕ) → aggregate-lts.Need-sub-judgments (aggregate-calls t) (aggregate-at t) aggregate.Post
 aggregate-sub-judgments t c =
-    let at-if4 = c .before .before .before .before .before .before in let at-up-to4 = at-if4 .before in let at-if3 = at-up-to4 .before in
-    let at-up-to3 = at-if3 .before in let at-if2 = at-up-to3 .before in let at-up-to2 = at-if2 .before in let at-if1 = at-up-to2 .before in
-    let at-up-to = at-if1 .before in let start-2 = at-up-to .before .before .before in
-    let f = fielded (boundOf (start-2 .args .t .now)) _ _ (start-2 .pre .1 .0 .most) (start-2 .pre .1 .1) (at-up-to .up-to .ensures (boundOf (start-2 .args .t .now)))
-    (at-if1 .if1 .left) (at-up-to2 .up-to2 .ensures (boundOf (start-2 .args .t .now))) (at-if2 .if2 .left) (at-up-to3 .up-to3 .ensures (boundOf (start-2 .args .t .now)))
-    (at-if3 .if3 .left) (at-up-to4 .up-to4 .ensures (boundOf (start-2 .args .t .now))) (at-if4 .if4 .left) in omega (arith, f .flag .there, (start-2 .pre) .1 .0 .most)
+    let at-if1 = c .before .before .before .before .before .before in let at-aggregate-fields = at-if1 .before in let start-2 = at-aggregate-fields .before .before .before in
+    let f = fields-read (boundOf (start-2 .args .t .now)) _ _ (start-2 .pre .1 .0 .most) (start-2 .pre .1 .1) (at-aggregate-fields .aggregate-fields .ensures _) (at-if1 .if1 .left) in
+    omega (arith, f .flag .there, (start-2 .pre) .1 .0 .most)
 
 aggregate-part-judgments-start : (t : ℕ) → aggregate-lts.Need-part-judgments-start (aggregate-calls t) (aggregate-at t) aggregate.Post
 aggregate-part-judgments-start t c =
-    let at-if4 = c .before .before .before .before .before .before in let at-up-to4 = at-if4 .before in let at-if3 = at-up-to4 .before in
-    let at-up-to3 = at-if3 .before in let at-if2 = at-up-to3 .before in let at-up-to2 = at-if2 .before in let at-if1 = at-up-to2 .before in
-    let at-up-to = at-if1 .before in let start-2 = at-up-to .before .before .before in
-    let f = fielded (boundOf (start-2 .args .t .now)) _ _ (start-2 .pre .1 .0 .most) (start-2 .pre .1 .1) (at-up-to .up-to .ensures (boundOf (start-2 .args .t .now)))
-    (at-if1 .if1 .left) (at-up-to2 .up-to2 .ensures (boundOf (start-2 .args .t .now))) (at-if2 .if2 .left) (at-up-to3 .up-to3 .ensures (boundOf (start-2 .args .t .now)))
-    (at-if3 .if3 .left) (at-up-to4 .up-to4 .ensures (boundOf (start-2 .args .t .now))) (at-if4 .if4 .left) in omega (arith, f .flag .there, (start-2 .pre) .1 .0 .most)
+    let at-if1 = c .before .before .before .before .before .before in let at-aggregate-fields = at-if1 .before in let start-2 = at-aggregate-fields .before .before .before in
+    let f = fields-read (boundOf (start-2 .args .t .now)) _ _ (start-2 .pre .1 .0 .most) (start-2 .pre .1 .1) (at-aggregate-fields .aggregate-fields .ensures _) (at-if1 .if1 .left) in
+    omega (arith, f .flag .there, (start-2 .pre) .1 .0 .most)
 
 aggregate-part-judgments-end : (t : ℕ) → aggregate-lts.Need-part-judgments-end (aggregate-calls t) (aggregate-at t) aggregate.Post
 aggregate-part-judgments-end t c =
-    let at-if4 = c .before .before .before .before .before .before in let at-up-to4 = at-if4 .before in let at-if3 = at-up-to4 .before in
-    let at-up-to3 = at-if3 .before in let at-if2 = at-up-to3 .before in let at-up-to2 = at-if2 .before in let at-if1 = at-up-to2 .before in
-    let at-up-to = at-if1 .before in let start-2 = at-up-to .before .before .before in
-    let f = fielded (boundOf (start-2 .args .t .now)) _ _ (start-2 .pre .1 .0 .most) (start-2 .pre .1 .1) (at-up-to .up-to .ensures (boundOf (start-2 .args .t .now)))
-    (at-if1 .if1 .left) (at-up-to2 .up-to2 .ensures (boundOf (start-2 .args .t .now))) (at-if2 .if2 .left) (at-up-to3 .up-to3 .ensures (boundOf (start-2 .args .t .now)))
-    (at-if3 .if3 .left) (at-up-to4 .up-to4 .ensures (boundOf (start-2 .args .t .now))) (at-if4 .if4 .left) in omega (arith, f .flag .there, (start-2 .pre) .1 .0 .most)
+    let at-if1 = c .before .before .before .before .before .before in let at-aggregate-fields = at-if1 .before in let start-2 = at-aggregate-fields .before .before .before in
+    let f = fields-read (boundOf (start-2 .args .t .now)) _ _ (start-2 .pre .1 .0 .most) (start-2 .pre .1 .1) (at-aggregate-fields .aggregate-fields .ensures _) (at-if1 .if1 .left) in
+    omega (arith, f .flag .there, (start-2 .pre) .1 .0 .most)
 
 aggregate-cast-judgments : (t : ℕ) → aggregate-lts.Need-cast-judgments (aggregate-calls t) (aggregate-at t) aggregate.Post
 aggregate-cast-judgments t c =
-    let on-the-way = c .before .before .before .before .before .before in let at-if4 = on-the-way .before in let at-up-to4 = at-if4 .before in
-    let at-if3 = at-up-to4 .before in let at-up-to3 = at-if3 .before in let at-if2 = at-up-to3 .before in let at-up-to2 = at-if2 .before in
-    let at-if1 = at-up-to2 .before in let at-up-to = at-if1 .before in let start-2 = at-up-to .before .before .before in
-    let f = fielded (boundOf (start-2 .args .t .now)) _ _ (start-2 .pre .1 .0 .most) (start-2 .pre .1 .1) (at-up-to .up-to .ensures (boundOf (start-2 .args .t .now)))
-    (at-if1 .if1 .left) (at-up-to2 .up-to2 .ensures (boundOf (start-2 .args .t .now))) (at-if2 .if2 .left) (at-up-to3 .up-to3 .ensures (boundOf (start-2 .args .t .now)))
-    (at-if3 .if3 .left) (at-up-to4 .up-to4 .ensures (boundOf (start-2 .args .t .now))) (at-if4 .if4 .left) in omega (arith, f .flag .there, (start-2 .pre) .1 .0 .most)
+    let at-if1 = c .before .before .before .before .before .before .before in let at-aggregate-fields = at-if1 .before in let start-2 = at-aggregate-fields .before .before .before in
+    let f = fields-read (boundOf (start-2 .args .t .now)) _ _ (start-2 .pre .1 .0 .most) (start-2 .pre .1 .1) (at-aggregate-fields .aggregate-fields .ensures _) (at-if1 .if1 .left) in
+    omega (arith, f .flag .there, (start-2 .pre) .1 .0 .most)
 
 aggregate-add-judgments : (t : ℕ) → aggregate-lts.Need-add-judgments (aggregate-calls t) (aggregate-at t) aggregate.Post
 aggregate-add-judgments t c =
-    let at-note = c .before .before .before .before .before in let at-if4 = at-note .before .before in let at-up-to4 = at-if4 .before in
-    let at-if3 = at-up-to4 .before in let at-up-to3 = at-if3 .before in let at-if2 = at-up-to3 .before in let at-up-to2 = at-if2 .before in
-    let at-if1 = at-up-to2 .before in let at-up-to = at-if1 .before in let start-2 = at-up-to .before .before .before in
-    let f = fielded (boundOf (start-2 .args .t .now)) _ _ (start-2 .pre .1 .0 .most) (start-2 .pre .1 .1) (at-up-to .up-to .ensures (boundOf (start-2 .args .t .now)))
-    (at-if1 .if1 .left) (at-up-to2 .up-to2 .ensures (boundOf (start-2 .args .t .now))) (at-if2 .if2 .left) (at-up-to3 .up-to3 .ensures (boundOf (start-2 .args .t .now)))
-    (at-if3 .if3 .left) (at-up-to4 .up-to4 .ensures (boundOf (start-2 .args .t .now))) (at-if4 .if4 .left) in omega
-    (arith, f .flag .there, (start-2 .pre) .1 .0 .most, (at-note .note) .ensures .0)
+    let at-note = c .before .before .before .before .before in let at-if1 = at-note .before .before in let at-aggregate-fields = at-if1 .before in
+    let start-2 = at-aggregate-fields .before .before .before in
+    let f = fields-read (boundOf (start-2 .args .t .now)) _ _ (start-2 .pre .1 .0 .most) (start-2 .pre .1 .1) (at-aggregate-fields .aggregate-fields .ensures _) (at-if1 .if1 .left) in
+    omega (arith, f .flag .there, (start-2 .pre) .1 .0 .most, (at-note .note) .ensures .0)
 
 aggregate-judgments-requires : (t : ℕ) → aggregate-lts.Need-judgments-requires (aggregate-calls t) (aggregate-at t) aggregate.Post
 aggregate-judgments-requires t c κs =
-    let at-note = c .before .before .before .before .before .before in let at-if4 = at-note .before .before in let at-up-to4 = at-if4 .before in
-    let at-if3 = at-up-to4 .before in let at-up-to3 = at-if3 .before in let at-if2 = at-up-to3 .before in let at-up-to2 = at-if2 .before in
-    let at-if1 = at-up-to2 .before in let at-up-to = at-if1 .before in let start-2 = at-up-to .before .before .before in
-    let f = fielded (boundOf (start-2 .args .t .now)) _ _ (start-2 .pre .1 .0 .most) (start-2 .pre .1 .1) (at-up-to .up-to .ensures (boundOf (start-2 .args .t .now)))
-    (at-if1 .if1 .left) (at-up-to2 .up-to2 .ensures (boundOf (start-2 .args .t .now))) (at-if2 .if2 .left) (at-up-to3 .up-to3 .ensures (boundOf (start-2 .args .t .now)))
-    (at-if3 .if3 .left) (at-up-to4 .up-to4 .ensures (boundOf (start-2 .args .t .now))) (at-if4 .if4 .left) in let l = part-long (start-2 .args .s .now) (start-2 .args .at + 4)
-    (f .flag .there) in (omega arith, (ready-part _ (start-2 .pre .1 .0) l, omega arith, based-part _ _ l (start-2 .pre .1 .2) (start-2 .args .notes .now) (at-note .note .ensures .0)))
+    let at-note = c .before .before .before .before .before .before in let at-if1 = at-note .before .before in let at-aggregate-fields = at-if1 .before in
+    let start-2 = at-aggregate-fields .before .before .before in
+    let f = fields-read (boundOf (start-2 .args .t .now)) _ _ (start-2 .pre .1 .0 .most) (start-2 .pre .1 .1) (at-aggregate-fields .aggregate-fields .ensures _) (at-if1 .if1 .left) in
+    let l = part-long (start-2 .args .s .now) (start-2 .args .at + 4) (f .flag .there) in
+    (omega arith, (ready-part _ (start-2 .pre .1 .0) l, omega arith, based-part _ _ l (start-2 .pre .1 .2) (start-2 .args .notes .now) (at-note .note .ensures .0)))
 
 aggregate-add-result : (t : ℕ) → aggregate-lts.Need-add-result (aggregate-calls t) (aggregate-at t) aggregate.Post
 aggregate-add-result t c =
-    let at-judgments = c .before .before in let on-the-way = at-judgments .before .before .before .before .before .before in
-    let at-if4 = on-the-way .before .before .before in let at-up-to4 = at-if4 .before in let at-if3 = at-up-to4 .before in
-    let at-up-to3 = at-if3 .before in let at-if2 = at-up-to3 .before in let at-up-to2 = at-if2 .before in let at-if1 = at-up-to2 .before in
-    let at-up-to = at-if1 .before in let start-2 = at-up-to .before .before .before in
-    let f = fielded (boundOf (start-2 .args .t .now)) _ _ (start-2 .pre .1 .0 .most) (start-2 .pre .1 .1) (at-up-to .up-to .ensures (boundOf (start-2 .args .t .now)))
-    (at-if1 .if1 .left) (at-up-to2 .up-to2 .ensures (boundOf (start-2 .args .t .now))) (at-if2 .if2 .left) (at-up-to3 .up-to3 .ensures (boundOf (start-2 .args .t .now)))
-    (at-if3 .if3 .left) (at-up-to4 .up-to4 .ensures (boundOf (start-2 .args .t .now))) (at-if4 .if4 .left) in let l = part-long (start-2 .args .s .now) (start-2 .args .at + 4)
-    (f .flag .there) in omega (
+    let at-judgments = c .before .before in let at-if1 = at-judgments .before .before .before .before .before .before .before .before .before in let at-aggregate-fields = at-if1 .before in
+    let start-2 = at-aggregate-fields .before .before .before in
+    let f = fields-read (boundOf (start-2 .args .t .now)) _ _ (start-2 .pre .1 .0 .most) (start-2 .pre .1 .1) (at-aggregate-fields .aggregate-fields .ensures _) (at-if1 .if1 .left) in
+    let l = part-long (start-2 .args .s .now) (start-2 .args .at + 4) (f .flag .there) in omega (
       arith,
       row-small _ _ _ _ _ (omega (arith, l, (start-2 .pre) .1 .0 .most)) (omega arith) (at-judgments .judgments .ensures .answers),
       f .flag .there,
@@ -763,17 +673,14 @@ aggregate-add-result t c =
 aggregate-same-length-2 : (t : ℕ) → aggregate-lts.Need-same-length-2 (aggregate-calls t) (aggregate-at t) aggregate.Post
 aggregate-same-length-2 t c = search needs
 
-aggregate-returns-6 : (t : ℕ) → aggregate-lts.Need-returns-6 (aggregate-calls t) (aggregate-at t) aggregate.Post
-aggregate-returns-6 t c =
-    let at-judgments = c .before .before in let on-the-way = at-judgments .before .before .before .before .before .before in
-    let at-note = on-the-way .before in let at-if4 = at-note .before .before in let at-up-to4 = at-if4 .before in let at-if3 = at-up-to4 .before in
-    let at-up-to3 = at-if3 .before in let at-if2 = at-up-to3 .before in let at-up-to2 = at-if2 .before in let at-if1 = at-up-to2 .before in
-    let at-up-to = at-if1 .before in let start-2 = at-up-to .before .before .before in
-    let f = fielded (boundOf (start-2 .args .t .now)) _ _ (start-2 .pre .1 .0 .most) (start-2 .pre .1 .1) (at-up-to .up-to .ensures (boundOf (start-2 .args .t .now)))
-    (at-if1 .if1 .left) (at-up-to2 .up-to2 .ensures (boundOf (start-2 .args .t .now))) (at-if2 .if2 .left) (at-up-to3 .up-to3 .ensures (boundOf (start-2 .args .t .now)))
-    (at-if3 .if3 .left) (at-up-to4 .up-to4 .ensures (boundOf (start-2 .args .t .now))) (at-if4 .if4 .left) in let i = ap (λ (i : ℕ). i + (start-2 .args) .context % 8192)
-    (at-note .note .ensures .0) in let g = based-inside _ (start-2 .pre .1 .2) (start-2 .args .notes .now) (at-note .note .ensures .0) in where-rows _ _
-    (start-2 .args .context) _ _ f i (at-note .note .ensures .1)
+aggregate-returns-3 : (t : ℕ) → aggregate-lts.Need-returns-3 (aggregate-calls t) (aggregate-at t) aggregate.Post
+aggregate-returns-3 t c =
+    let at-judgments = c .before .before in let at-note = at-judgments .before .before .before .before .before .before .before in let at-if1 = at-note .before .before in
+    let at-aggregate-fields = at-if1 .before in let start-2 = at-aggregate-fields .before .before .before in
+    let f = fields-read (boundOf (start-2 .args .t .now)) _ _ (start-2 .pre .1 .0 .most) (start-2 .pre .1 .1) (at-aggregate-fields .aggregate-fields .ensures _) (at-if1 .if1 .left) in
+    let i = ap (λ (i : ℕ). i + (start-2 .args) .context % 8192) (at-note .note .ensures .0) in
+    let g = based-inside _ (start-2 .pre .1 .2) (start-2 .args .notes .now) (at-note .note .ensures .0) in
+    where-rows _ _ (start-2 .args .context) _ _ f i (at-note .note .ensures .1)
     (part-rows _ _ judgment-sort (valueOf (getD (start-2 .args .s .now) (start-2 .args .at + 3) 0)) _ _ _ (g .room) (part-to-end (start-2 .args .s .now) (start-2 .args .at + 4))
     (at-judgments .judgments .ensures))
 
@@ -843,11 +750,11 @@ exists-returns-2 t c =
     (start-2 .args .at + 1) refl in exists-rows _ _ _ _ _ m (start-2 .pre .1 .1) (at-note .note .ensures .1) (at-judgments .judgments .ensures)
 
 abbrev judgments-Inv-loop : judgments-lts.InvT-loop
-judgments-Inv-loop s t start count left context notes₀ at₀ k₀ notes at k =
-    Walking (boundOf t) judgment-sort context s left count start notes₀ left k at notes × (length notes ≡ length notes₀)
+judgments-Inv-loop s t start count levels context notes₀ at₀ k₀ left₀ notes at k left =
+    Walking (boundOf t) judgment-sort context s levels count start notes₀ left k at notes × (length notes ≡ length notes₀)
 
 abbrev judgments-μ-loop : judgments-lts.MeasureT-loop
-judgments-μ-loop s t start count left context notes₀ at₀ k₀ notes at k = length s - at
+judgments-μ-loop s t start count levels context notes₀ at₀ k₀ left₀ notes at k left = length s - at
 
 judgments-loop-holds : (t : ℕ) → judgments-lts.Need-loop-holds (judgments-calls t) (judgments-at t) judgments.Post judgments-Inv-loop judgments-μ-loop
 judgments-loop-holds t c = (walking _ _ _ _ _ _ _ _ ((c .before .before .pre) .1 .1), refl)
@@ -861,28 +768,64 @@ judgments-same-length t c = search needs
 judgments-returns : (t : ℕ) → judgments-lts.Need-returns (judgments-calls t) (judgments-at t) judgments.Post judgments-Inv-loop judgments-μ-loop
 judgments-returns t c = head-refused ((c .before .before .before .loop) .inv .0) ((c .before .before .before .before .before .before .pre) .1 .0 .most) (omega arith) ((c .before .head) .ensures) ((c .if1) .taken)
 
-judgments-sub-k : (t : ℕ) → judgments-lts.Need-sub-k (judgments-calls t) (judgments-at t) judgments.Post judgments-Inv-loop judgments-μ-loop
-judgments-sub-k t c = search needs
+judgments-mul-w : (t : ℕ) → judgments-lts.Need-mul-w (judgments-calls t) (judgments-at t) judgments.Post judgments-Inv-loop judgments-μ-loop
+judgments-mul-w t c = omega (arith, begun ((c .before .before .before .loop) .inv .0) ((c .before .before .before .before .before .before .pre) .1 .0 .most) (omega arith) ((c .before .head) .ensures) ((c .if1) .left) .inside, (c .before .before .before .before .before .before .pre) .1 .0 .most)
 
-judgments-mul-if2 : (t : ℕ) → judgments-lts.Need-mul-if2 (judgments-calls t) (judgments-at t) judgments.Post judgments-Inv-loop judgments-μ-loop
-judgments-mul-if2 t c = omega (arith, begun ((c .before .before .before .loop) .inv .0) ((c .before .before .before .before .before .before .pre) .1 .0 .most) (omega arith) ((c .before .head) .ensures) ((c .if1) .left) .inside, (c .before .before .before .before .before .before .pre) .1 .0 .most)
-
-judgments-shared-slice-read-if2 : (t : ℕ) → judgments-lts.Need-shared-slice-read-if2 (judgments-calls t) (judgments-at t) judgments.Post judgments-Inv-loop judgments-μ-loop
-judgments-shared-slice-read-if2 t c =
+judgments-shared-slice-read-w : (t : ℕ) → judgments-lts.Need-shared-slice-read-w (judgments-calls t) (judgments-at t) judgments.Post judgments-Inv-loop judgments-μ-loop
+judgments-shared-slice-read-w t c =
     let at-if1 = c .before in let at-head = at-if1 .before in let at-loop = at-head .before .before in
     let start-2 = at-loop .before .before .before in
     begun (at-loop .loop .inv .0) (start-2 .pre .1 .0 .most) (omega arith) (at-head .head .ensures) (at-if1 .if1 .left) .inside
 
+judgments-sub-k : (t : ℕ) → judgments-lts.Need-sub-k (judgments-calls t) (judgments-at t) judgments.Post judgments-Inv-loop judgments-μ-loop
+judgments-sub-k t c = search needs
+
+judgments-add-at : (t : ℕ) → judgments-lts.Need-add-at (judgments-calls t) (judgments-at t) judgments.Post judgments-Inv-loop judgments-μ-loop
+judgments-add-at t c = search needs
+
+judgments-children-requires : (t : ℕ) → judgments-lts.Need-children-requires (judgments-calls t) (judgments-at t) judgments.Post judgments-Inv-loop judgments-μ-loop
+judgments-children-requires t c κs =
+    let at-shared-slice-known2 = c .before .before .before .before in
+    let at-loop = at-shared-slice-known2 .before .before .before .before in let start-2 = at-loop .before .before .before in
+    let k = kindOf (getD (start-2 .args .s .now) (at-loop .loop .at) 0) in (
+      omega (arith, leb-true k 100 ((c .if5) .taken)),
+      (start-2 .pre) .1 .0 .tabled,
+      judgments-in-row k (leb-true 97 k (c .before .if4 .taken)) (omega (arith, leb-true k 100 ((c .if5) .taken))),
+    )
+
+judgments-sub-left : (t : ℕ) → judgments-lts.Need-sub-left (judgments-calls t) (judgments-at t) judgments.Post judgments-Inv-loop judgments-μ-loop
+judgments-sub-left t c =
+    let at-if1 = c .before .before .before .before .before .before in let at-head = at-if1 .before in let at-loop = at-head .before .before in
+    let start-2 = at-loop .before .before .before in
+    begun (at-loop .loop .inv .0) (start-2 .pre .1 .0 .most) (omega arith) (at-head .head .ensures) (at-if1 .if1 .left) .level
+
+judgments-loop-less : (t : ℕ) → judgments-lts.Need-loop-less (judgments-calls t) (judgments-at t) judgments.Post judgments-Inv-loop judgments-μ-loop
+judgments-loop-less t c =
+    let at-if1 = c .before .before .before .before .before .before in let at-head = at-if1 .before in let at-loop = at-head .before .before in
+    let start-2 = at-loop .before .before .before in
+    omega (arith, begun (at-loop .loop .inv .0) (start-2 .pre .1 .0 .most) (omega arith) (at-head .head .ensures) (at-if1 .if1 .left) .inside)
+
+judgments-loop-again : (t : ℕ) → judgments-lts.Need-loop-again (judgments-calls t) (judgments-at t) judgments.Post judgments-Inv-loop judgments-μ-loop
+judgments-loop-again t c =
+    let at-if5 = c .before in let at-if4 = at-if5 .before in let at-if1 = at-if4 .before .before .before .before in let at-head = at-if1 .before in
+    let at-loop = at-head .before .before in let start-2 = at-loop .before .before .before in (
+      let k = kindOf (getD (start-2 .args .s .now) (at-loop .loop .at) 0) in let lo : 97 ≤ k = leb-true 97 k (at-if4 .if4 .taken) in let hi : k < 101 = omega (arith, leb-true k 100 (at-if5 .if5 .taken)) in
+      let one : (at-loop .loop) .k ≡ 1 = omega arith in past-last (at-loop .loop .inv .0) (start-2 .pre .1 .0 .most) (omega arith)
+          (at-head .head .ensures) (at-if1 .if1 .left) one (judgment-row (valueOf (getD (start-2 .args .s .now) (at-loop .loop .at) 0)) k lo hi)
+          ((c .children) .ensures) (steady-judgment k (omega (arith, lo)) hi),
+      omega (arith, (at-loop .loop) .inv .1),
+    )
+
 judgments-sub-after-judgment : (t : ℕ) → judgments-lts.Need-sub-after-judgment (judgments-calls t) (judgments-at t) judgments.Post judgments-Inv-loop judgments-μ-loop
 judgments-sub-after-judgment t c =
-    let at-if1 = c .before .before in let at-head = at-if1 .before in let at-loop = at-head .before .before in
+    let at-if1 = c .before .before .before in let at-head = at-if1 .before in let at-loop = at-head .before .before in
     let start-2 = at-loop .before .before .before in
     begun (at-loop .loop .inv .0) (start-2 .pre .1 .0 .most) (omega arith) (at-head .head .ensures) (at-if1 .if1 .left) .level
 
 judgments-after-judgment-requires : (t : ℕ) → judgments-lts.Need-after-judgment-requires (judgments-calls t) (judgments-at t) judgments.Post judgments-Inv-loop judgments-μ-loop
 judgments-after-judgment-requires t c κs =
-    let at-if1 = c .before .before .before in let at-head = at-if1 .before in let at-loop = at-head .before .before in
-    let start-2 = at-loop .before .before .before in
+    let at-if1 = c .before .before .before .before in let at-head = at-if1 .before in
+    let at-loop = at-head .before .before in let start-2 = at-loop .before .before .before in
     let u = begun (at-loop .loop .inv .0) (start-2 .pre .1 .0 .most) (omega arith) (at-head .head .ensures) (at-if1 .if1 .left) in (
       omega (arith, u .level, (at-loop .loop) .inv .0 .deep),
       (start-2 .pre .1 .0, u .inside, judgment-kind (kindOf (getD (start-2 .args .s .now) (at-loop .loop .at) 0)) (u .kind), (start-2 .pre) .1 .2),
@@ -893,37 +836,37 @@ judgments-same-length-2 t c = search needs
 
 judgments-returns-2 : (t : ℕ) → judgments-lts.Need-returns-2 (judgments-calls t) (judgments-at t) judgments.Post judgments-Inv-loop judgments-μ-loop
 judgments-returns-2 t c =
-    let at-after-judgment = c .before .before .before in let at-if1 = at-after-judgment .before .before .before .before in
+    let at-after-judgment = c .before .before .before in let at-if1 = at-after-judgment .before .before .before .before .before in
     let at-head = at-if1 .before in let at-loop = at-head .before .before in let start-2 = at-loop .before .before .before in
-    node-refused (at-loop .loop .inv .0) (start-2 .pre .1 .0 .most) (omega arith) (at-head .head .ensures) (at-if1 .if1 .left) (at-after-judgment .after-judgment .ensures) ((c .if3) .taken)
-
-judgments-loop-less : (t : ℕ) → judgments-lts.Need-loop-less (judgments-calls t) (judgments-at t) judgments.Post judgments-Inv-loop judgments-μ-loop
-judgments-loop-less t c =
-    let at-after-judgment = c .before .before .before in let at-if1 = at-after-judgment .before .before .before .before in
-    let at-head = at-if1 .before in let at-loop = at-head .before .before in let start-2 = at-loop .before .before .before in
-    let w = forward (at-loop .loop .inv .0) (start-2 .pre .1 .0 .most) (omega arith) (at-head .head .ensures) (at-if1 .if1 .left) (at-after-judgment .after-judgment .ensures)
-    ((c .if3) .left) in omega (arith, w .0, w .1)
-
-judgments-loop-again : (t : ℕ) → judgments-lts.Need-loop-again (judgments-calls t) (judgments-at t) judgments.Post judgments-Inv-loop judgments-μ-loop
-judgments-loop-again t c =
-    let at-after-judgment = c .before .before .before in let at-if1 = at-after-judgment .before .before .before .before in
-    let at-head = at-if1 .before in let at-loop = at-head .before .before in let start-2 = at-loop .before .before .before in (
-      past-node (at-loop .loop .inv .0) (start-2 .pre .1 .0 .most) (omega arith) (at-head .head .ensures) (at-if1 .if1 .left) (at-after-judgment .after-judgment .ensures)
-          ((c .if3) .left),
-      omega (arith, (at-loop .loop) .inv .1),
-    )
-
-judgments-add-at : (t : ℕ) → judgments-lts.Need-add-at (judgments-calls t) (judgments-at t) judgments.Post judgments-Inv-loop judgments-μ-loop
-judgments-add-at t c = search needs
+    node-refused (at-loop .loop .inv .0) (start-2 .pre .1 .0 .most) (omega arith) (at-head .head .ensures) (at-if1 .if1 .left) (at-after-judgment .after-judgment .ensures) ((c .if6) .taken)
 
 judgments-loop-less-2 : (t : ℕ) → judgments-lts.Need-loop-less-2 (judgments-calls t) (judgments-at t) judgments.Post judgments-Inv-loop judgments-μ-loop
 judgments-loop-less-2 t c =
+    let at-after-judgment = c .before .before .before in let at-if1 = at-after-judgment .before .before .before .before .before in
+    let at-head = at-if1 .before in let at-loop = at-head .before .before in let start-2 = at-loop .before .before .before in
+    let w = forward (at-loop .loop .inv .0) (start-2 .pre .1 .0 .most) (omega arith) (at-head .head .ensures) (at-if1 .if1 .left) (at-after-judgment .after-judgment .ensures)
+    ((c .if6) .left) in omega (arith, w .0, w .1)
+
+judgments-loop-again-2 : (t : ℕ) → judgments-lts.Need-loop-again-2 (judgments-calls t) (judgments-at t) judgments.Post judgments-Inv-loop judgments-μ-loop
+judgments-loop-again-2 t c =
+    let at-after-judgment = c .before .before .before in let at-if1 = at-after-judgment .before .before .before .before .before in
+    let at-head = at-if1 .before in let at-loop = at-head .before .before in let start-2 = at-loop .before .before .before in (
+      past-node (at-loop .loop .inv .0) (start-2 .pre .1 .0 .most) (omega arith) (at-head .head .ensures) (at-if1 .if1 .left) (at-after-judgment .after-judgment .ensures)
+          ((c .if6) .left),
+      omega (arith, (at-loop .loop) .inv .1),
+    )
+
+judgments-add-at-2 : (t : ℕ) → judgments-lts.Need-add-at-2 (judgments-calls t) (judgments-at t) judgments.Post judgments-Inv-loop judgments-μ-loop
+judgments-add-at-2 t c = search needs
+
+judgments-loop-less-3 : (t : ℕ) → judgments-lts.Need-loop-less-3 (judgments-calls t) (judgments-at t) judgments.Post judgments-Inv-loop judgments-μ-loop
+judgments-loop-less-3 t c =
     let at-if1 = c .before .before in let at-head = at-if1 .before in let at-loop = at-head .before .before in
     let start-2 = at-loop .before .before .before in
     omega (arith, begun (at-loop .loop .inv .0) (start-2 .pre .1 .0 .most) (omega arith) (at-head .head .ensures) (at-if1 .if1 .left) .inside)
 
-judgments-loop-again-2 : (t : ℕ) → judgments-lts.Need-loop-again-2 (judgments-calls t) (judgments-at t) judgments.Post judgments-Inv-loop judgments-μ-loop
-judgments-loop-again-2 t c =
+judgments-loop-again-3 : (t : ℕ) → judgments-lts.Need-loop-again-3 (judgments-calls t) (judgments-at t) judgments.Post judgments-Inv-loop judgments-μ-loop
+judgments-loop-again-3 t c =
     let at-shared-slice-known2 = c .before in let at-if1 = at-shared-slice-known2 .before in let at-head = at-if1 .before in
     let at-loop = at-head .before .before in let start-2 = at-loop .before .before .before in (
       let k = kindOf (getD (start-2 .args .s .now) (at-loop .loop .at) 0) in let lo : 104 < k = (c .if2) .left in let hi : k < 256 = omega
@@ -1019,7 +962,7 @@ scalars-children-requires t c κs =
     let at-if2 = c .before .before in let at-shared-slice-known2 = at-if2 .before in
     let at-loop = at-shared-slice-known2 .before .before .before .before in let start-2 = at-loop .before .before .before in
     let k = kindOf (getD (start-2 .args .s .now) (at-loop .loop .at) 0) in (
-      omega (arith, (at-shared-slice-known2 .shared-slice-known2) .given (at-loop .loop .at)),
+      omega (arith, leb-true k 70 ((c .if4) .taken)),
       (start-2 .pre) .1 .0 .tabled,
       scalars-in-row k (at-if2 .if2 .taken)
           (omega (arith, leb-true k 70 ((c .if4) .taken))),
@@ -1119,11 +1062,12 @@ scalars-same-length-3 t c = search needs
 scalars-returns-3 : (t : ℕ) → scalars-lts.Need-returns-3 (scalars-calls t) (scalars-at t) scalars.Post scalars-Inv-loop scalars-μ-loop
 scalars-returns-3 t c = walked ((c .before .loop) .inv .0) (omega arith)
 
-pub +after-judgment+after-scalar+aggregate+choice+exists+judgments+patterns+scalars-spec :
+pub +after-judgment+after-other+after-scalar+aggregate+choice+exists+judgments+patterns+scalars-spec :
     {M : Type 1} → statement M
-+after-judgment+after-scalar+aggregate+choice+exists+judgments+patterns+scalars-spec =
++after-judgment+after-other+after-scalar+aggregate+choice+exists+judgments+patterns+scalars-spec =
     close
     μ-after-judgment
+    μ-after-other
     μ-after-scalar
     μ-aggregate
     μ-choice
@@ -1173,56 +1117,54 @@ pub +after-judgment+after-scalar+aggregate+choice+exists+judgments+patterns+scal
     (after-judgment-same-length-6 t)
     (after-judgment-returns-6 t)
     (after-judgment-returns-7 t))
+    (λ t. after-other-lts.spec (after-other-calls t) (after-other-at t)
+    after-other.Post
+    (after-other-mul-w t)
+    (after-other-shared-slice-read-w t)
+    (after-other-add-patterns t)
+    (after-other-patterns-requires t)
+    (after-other-add-scalars t)
+    (after-other-by-table-requires t)
+    (after-other-lost-requires t)
+    (after-other-scalars-requires t)
+    (after-other-add-choice t)
+    (after-other-choice-requires t)
+    (after-other-cast-note t)
+    (after-other-add-note t)
+    (after-other-add-note-2 t)
+    (after-other-note-requires t)
+    (after-other-add-only-related t)
+    (after-other-only-related-requires t)
+    (after-other-add-result t)
+    (after-other-same-length t)
+    (after-other-returns t)
+    (after-other-same-length-2 t)
+    (after-other-returns-2 t)
+    (after-other-same-length-3 t)
+    (after-other-returns-3 t)
+    (after-other-same-length-4 t)
+    (after-other-returns-4 t)
+    (after-other-returns-5 t))
     (λ t. after-scalar-lts.spec (after-scalar-calls t) (after-scalar-at t)
     after-scalar.Post
     (after-scalar-mul-w t)
     (after-scalar-shared-slice-read-w t)
-    (after-scalar-add-patterns t)
-    (after-scalar-patterns-requires t)
-    (after-scalar-add-scalars t)
-    (after-scalar-by-table-requires t)
-    (after-scalar-lost-requires t)
-    (after-scalar-scalars-requires t)
-    (after-scalar-add-choice t)
-    (after-scalar-choice-requires t)
-    (after-scalar-cast-note t)
-    (after-scalar-add-note t)
-    (after-scalar-add-note-2 t)
-    (after-scalar-note-requires t)
-    (after-scalar-add-only-related t)
-    (after-scalar-only-related-requires t)
     (after-scalar-children-requires t)
-    (after-scalar-add-scalars-2 t)
-    (after-scalar-scalars-requires-2 t)
+    (after-scalar-add-scalars t)
+    (after-scalar-scalars-requires t)
     (after-scalar-add-aggregate t)
     (after-scalar-aggregate-requires t)
-    (after-scalar-add-result t)
+    (after-scalar-after-other-requires t)
     (after-scalar-same-length t)
     (after-scalar-returns t)
     (after-scalar-same-length-2 t)
     (after-scalar-returns-2 t)
     (after-scalar-same-length-3 t)
-    (after-scalar-returns-3 t)
-    (after-scalar-same-length-4 t)
-    (after-scalar-returns-4 t)
-    (after-scalar-same-length-5 t)
-    (after-scalar-returns-5 t)
-    (after-scalar-same-length-6 t)
-    (after-scalar-returns-6 t)
-    (after-scalar-returns-7 t))
+    (after-scalar-returns-3 t))
     (λ t. aggregate-lts.spec (aggregate-calls t) (aggregate-at t)
     aggregate.Post
-    (aggregate-up-to-requires t)
+    (aggregate-aggregate-fields-requires t)
     (aggregate-returns t)
-    (aggregate-add-up-to t)
-    (aggregate-up-to-requires-2 t)
-    (aggregate-returns-2 t)
-    (aggregate-add-up-to-2 t)
-    (aggregate-up-to-requires-3 t)
-    (aggregate-returns-3 t)
-    (aggregate-add-up-to-3 t)
-    (aggregate-up-to-requires-4 t)
-    (aggregate-returns-4 t)
     (aggregate-cast-note t)
     (aggregate-add-note t)
     (aggregate-note-requires t)
@@ -1236,7 +1178,7 @@ pub +after-judgment+after-scalar+aggregate+choice+exists+judgments+patterns+scal
     (aggregate-sub-scalars t)
     (aggregate-scalars-requires t)
     (aggregate-same-length t)
-    (aggregate-returns-5 t)
+    (aggregate-returns-2 t)
     (aggregate-add-root t)
     (aggregate-mul-judgments t)
     (aggregate-sub-judgments t)
@@ -1247,7 +1189,7 @@ pub +after-judgment+after-scalar+aggregate+choice+exists+judgments+patterns+scal
     (aggregate-judgments-requires t)
     (aggregate-add-result t)
     (aggregate-same-length-2 t)
-    (aggregate-returns-6 t))
+    (aggregate-returns-3 t))
     (λ t. choice-lts.spec (choice-calls t) (choice-at t)
     choice.Post
     (choice-judgments-requires t)
@@ -1275,18 +1217,23 @@ pub +after-judgment+after-scalar+aggregate+choice+exists+judgments+patterns+scal
     (judgments-head-requires t)
     (judgments-same-length t)
     (judgments-returns t)
+    (judgments-mul-w t)
+    (judgments-shared-slice-read-w t)
     (judgments-sub-k t)
-    (judgments-mul-if2 t)
-    (judgments-shared-slice-read-if2 t)
+    (judgments-add-at t)
+    (judgments-children-requires t)
+    (judgments-sub-left t)
+    (judgments-loop-less t)
+    (judgments-loop-again t)
     (judgments-sub-after-judgment t)
     (judgments-after-judgment-requires t)
     (judgments-same-length-2 t)
     (judgments-returns-2 t)
-    (judgments-loop-less t)
-    (judgments-loop-again t)
-    (judgments-add-at t)
     (judgments-loop-less-2 t)
     (judgments-loop-again-2 t)
+    (judgments-add-at-2 t)
+    (judgments-loop-less-3 t)
+    (judgments-loop-again-3 t)
     (judgments-same-length-3 t)
     (judgments-returns-3 t))
     (λ t. patterns-lts.spec (patterns-calls t) (patterns-at t)
