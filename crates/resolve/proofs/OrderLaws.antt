@@ -34,7 +34,7 @@ use Rattle.chains.proofs.DeclarationLaws.{a-record}
 use Rattle.directions.proofs.TurnedPack.{front, front-long, front22, front22-long, pack-words-22, rulesOn}
 use Rattle.turning.specs.Notes.{Note, notesRun, bodyNotes, ruleNotes, relationsNoted, rulesNoted}
 use Rattle.turning.proofs.MarkedLaws.{AllInside, run-inside}
-use Rattle.resolve.specs.Pieces.{joined, sums, lengths, beginnings, blockPiece, otherPieces, piecesOf}
+use Rattle.definitions.specs.Written.{joined, sums, lengths, beginnings, blockPiece, otherPieces, piecesOf}
 use Rattle.resolve.specs.Finish.{NamesIn, orderIn, rootsOf, blockPlaces}
 use Rattle.resolve.proofs.WrittenPack.{joined-map, blocks-joined}
 
@@ -60,7 +60,7 @@ unfolding sums
 sums-many at [] = refl
 sums-many at (n ∷ l) = ap suc (sums-many (at + n) l)
 
-begin-append : (at : ℕ) (a b : List (List ℕ)) → beginnings at (a ++ b) ≡ beginnings at a ++ beginnings (at + length (joined a)) b
+pub begin-append : (at : ℕ) (a b : List (List ℕ)) → beginnings at (a ++ b) ≡ beginnings at a ++ beginnings (at + length (joined a)) b
 unfolding sums
 begin-append at [] b = let e : at ≡ at + 0 = omega arith in ap (λ (x : ℕ). beginnings x b) e
 begin-append at (w ∷ a) b =

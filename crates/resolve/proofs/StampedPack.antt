@@ -19,7 +19,8 @@ use Rattle.chains.proofs.PackParts.{EachFound, parts}
 use Rattle.definitions.specs.Answers.{Outcome, done}
 use Rattle.definitions.specs.Resolving.{atomNames, roleJudgment, inDerivation, stamp, resolveRelation}
 use Rattle.stamping.specs.Stamping.{StampedBy, listFor, listsFor}
-use Rattle.resolve.specs.Pieces.{lengths, Stamped, no-more, one-more}
+use Rattle.definitions.specs.Written.{lengths}
+use Rattle.resolve.specs.Pieces.{Stamped, no-more, one-more}
 use Rattle.resolve.specs.Finish.{AskedOf}
 use Rattle.directions.specs.RecordRuns.{placesFrom, runWords, EachKeeps, RelationKeeps, KindsReady}
 use Rattle.directions.proofs.KeepsForm.{Good}

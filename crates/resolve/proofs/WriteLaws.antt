@@ -13,7 +13,8 @@ use Rattle.definitions.specs.Answers.{tableFrom}
 use Rattle.chains.proofs.FillLaws.{Filling, done}
 use Rattle.chains.specs.Record.{valueAt, kindCount, slotsPlace}
 use Rattle.stamping.specs.Stamping.{namesOr, Lists}
-use Rattle.resolve.specs.Pieces.{joined, sums, beginnings, fromTo, listWords, putFor, pieceOut, Stampable, Put, PutRoom}
+use Rattle.definitions.specs.Written.{joined, sums, beginnings}
+use Rattle.resolve.specs.Pieces.{fromTo, listWords, putFor, pieceOut, Stampable, Put, PutRoom, Written, RecordPut}
 use Rattle.stamping.proofs.ListForLaws.{names-there}
 
 -- ---- a copy of words
@@ -159,6 +160,24 @@ list-inside list w s z e = rw e (s z)
 
 -- ---- pieces one after the other
 
+pub joined-append : (a b : List (List ℕ)) → joined (a ++ b) ≡ joined a ++ joined b
+joined-append [] b = refl
+joined-append (w ∷ a) b = ap (λ (l : List ℕ). w ++ l) (joined-append a b) ∙ sym (append-assoc w (joined a) (joined b))
+
+joined-one : (a : List (List ℕ)) (w : List ℕ) → joined (a ++ (w ∷ [])) ≡ joined a ++ w
+joined-one a w = joined-append a (w ∷ []) ∙ ap (λ (l : List ℕ). joined a ++ l) (append-nil w)
+
+-- words put at the running place are one record more
+pub record-put : {out r left : List ℕ} {to next : ℕ} → Put out to r left next → RecordPut out to r left next
+record-put {out} {r} {left} {to} {next} p =
+    record {
+      carried = λ before w. record { given = w .counts; handed-on = p .after };
+      writes = λ before w. record {
+        counts = p .after ∙ ap (λ (n : ℕ). n + length r) (w .counts) ∙ sym (ap length (joined-one before r) ∙ length-append (joined before) r);
+        holds = p .holds ∙ ap (λ (l : List ℕ). l ++ r) (w .holds) ∙ sym (joined-one before r);
+      };
+    }
+
 pub data Pieces (ws : List ℕ) : List ℕ → List (List ℕ) → List (List ℕ) → Type 0 where
   no-piece : Pieces ws [] [] []
   piece : {list : ℕ} {w w′ : List ℕ} {lists : List ℕ} {l l′ : List (List ℕ)} → Stampable list w → w′ ≡ pieceOut ws list w → Pieces ws lists l l′ → Pieces ws (list ∷ lists) (w ∷ l) (w′ ∷ l′)
@@ -172,8 +191,8 @@ unfolding sums
 begins-here work B [] e = ap length (e ∙ append-nil B)
 begins-here work B (w ∷ l) e = refl
 
-module _ (ws work places lists whole : List ℕ) where
-  -- so many are written, from `B` up to `to`; `l` are to come and become `l′`
+module _ (ws work places lists : List ℕ) (rs : List (List ℕ)) where
+  -- of `rs` so many are written, `done`; of the words `B` are behind, and `l` are to come and become `l′`
   pub record Writing (i start to : ℕ) (out : List ℕ) : Type 0 where
     pub B : List ℕ
     pub l : List (List ℕ)
@@ -184,9 +203,14 @@ module _ (ws work places lists whole : List ℕ) where
     pub begins : drop i places ≡ beginnings (length B) l
     pub listed : drop i lists ≡ its
     pub comes : Pieces ws its l l′
-    pub size : length out ≡ length whole
-    pub room : to ≤ length out
-    pub todo : take to out ++ joined l′ ≡ whole
+    pub done : List (List ℕ)
+    pub written : Written done out to
+    pub all : done ++ l′ ≡ rs
+    pub size : length out ≡ length (joined rs)
+
+  -- the place is within the slice
+  room : {i start to : ℕ} {out : List ℕ} → Writing i start to out → to ≤ length out
+  room s = omega (arith, s .written .counts, s .size, ap (λ (l : List (List ℕ)). length (joined l)) (s .all), ap length (joined-append (s .done) (s .l′)), length-append (joined (s .done)) (joined (s .l′)))
 
   -- the next piece
   record Facing (i start to : ℕ) (out : List ℕ) : Type 0 where
@@ -201,16 +225,18 @@ module _ (ws work places lists whole : List ℕ) where
     listed : drop (i + 1) lists ≡ its
     fits : Stampable (getD lists i 0) w
     comes : Pieces ws its l l′
-    todo : (take to out ++ pieceOut ws (getD lists i 0) w) ++ joined l′ ≡ whole
+    done : List (List ℕ)
+    written : Written done out to
+    all : (done ++ (pieceOut ws (getD lists i 0) w ∷ [])) ++ l′ ≡ rs
 
   tail-of : (i : ℕ) (xs : List ℕ) {x : ℕ} {ys : List ℕ} → drop i xs ≡ x ∷ ys → drop (i + 1) xs ≡ ys
   tail-of i xs e = sym (drop-drop 1 i xs) ∙ ap (drop 1) e
 
   face : {i start to : ℕ} {out : List ℕ} → Writing i start to out → i < length lists → Facing i start to out
   unfolding sums
-  face {i} {start} {to} {out} s h = go (s .comes) (s .stands) (s .begins) (s .listed) (s .todo)
+  face {i} {start} {to} {out} s h = go (s .comes) (s .stands) (s .begins) (s .listed) (s .all)
     where
-      go : {its : List ℕ} {l l′ : List (List ℕ)} → Pieces ws its l l′ → work ≡ s .B ++ joined l → drop i places ≡ beginnings (length (s .B)) l → drop i lists ≡ its → take to out ++ joined l′ ≡ whole → Facing i start to out
+      go : {its : List ℕ} {l l′ : List (List ℕ)} → Pieces ws its l l′ → work ≡ s .B ++ joined l → drop i places ≡ beginnings (length (s .B)) l → drop i lists ≡ its → s .done ++ l′ ≡ rs → Facing i start to out
       go no-piece e b q t = let x = drop-cons lists i 0 h in let z : _≡_ {A = ℕ} 0 1 = cc in absurd (omega arith)
       go (piece {list = list} {w = w} {w′ = w′} {lists = ls} {l = l} {l′ = l′} f o more) e b q t =
           let x = drop-cons lists i 0 h in
@@ -227,7 +253,9 @@ module _ (ws work places lists whole : List ℕ) where
             listed = tail-of i lists q;
             fits = subst (λ (v : ℕ). Stampable v w) list-is f;
             comes = more;
-            todo = append-assoc (take to out) (pieceOut ws (getD lists i 0) w) (joined l′) ∙ ap (λ (v : List ℕ). take to out ++ (v ++ joined l′)) (sym (o ∙ ap (λ (v : ℕ). pieceOut ws v w) list-is)) ∙ t;
+            done = s .done;
+            written = s .written;
+            all = append-assoc (s .done) (pieceOut ws (getD lists i 0) w ∷ []) l′ ∙ ap (λ (v : List ℕ). s .done ++ (v ∷ l′)) (sym (o ∙ ap (λ (v : ℕ). pieceOut ws v w) list-is)) ∙ t;
           }
 
   module _ {i start to : ℕ} {out : List ℕ} (s : Writing i start to out) (h : i < length lists) {end : ℕ} (e : end ≡ getD places (i + 1) (length work)) where
@@ -250,15 +278,26 @@ module _ (ws work places lists whole : List ℕ) where
     abbrev more : List ℕ
     more = pieceOut ws (getD lists i 0) (F .w)
 
+    -- it and what is written before it are within the slice
     fits : to + length more ≤ length out
-    fits = omega (arith, s .size, s .room, ap length (F .todo), length-append (take to out ++ more) (joined (F .l′)), length-append (take to out) more, length-take-le to out (s .room))
+    fits =
+        omega (
+          arith,
+          F .written .counts,
+          s .size,
+          ap (λ (l : List (List ℕ)). length (joined l)) (F .all),
+          ap length (joined-append (F .done ++ (more ∷ [])) (F .l′)),
+          length-append (joined (F .done ++ (more ∷ []))) (joined (F .l′)),
+          ap length (joined-one (F .done) more),
+          length-append (joined (F .done)) more,
+        )
 
-    pub part-asked : length whole ≤ 8192 → Stampable (getD lists i 0) (fromTo start end work) × PutRoom out to (pieceOut ws (getD lists i 0) (fromTo start end work))
+    pub part-asked : length (joined rs) ≤ 8192 → Stampable (getD lists i 0) (fromTo start end work) × PutRoom out to (pieceOut ws (getD lists i 0) (fromTo start end work))
     part-asked few = rw part-is (F .fits, record { fits = fits; few = omega (arith, s .size) })
 
-    pub part-put : {next : ℕ} {left : List ℕ} → Put out to (pieceOut ws (getD lists i 0) (fromTo start end work)) left next → length left ≡ length out → Writing (i + 1) end next left
+    pub part-put : {next : ℕ} {left : List ℕ} → RecordPut out to (pieceOut ws (getD lists i 0) (fromTo start end work)) left next → length left ≡ length out → Writing (i + 1) end next left
     part-put {next} {left} p same =
-        let q : Put out to more left next = rw part-is at p in
+        let q : RecordPut out to more left next = rw part-is at p in
         record {
           B = F .B ++ F .w;
           l = F .l;
@@ -269,18 +308,20 @@ module _ (ws work places lists whole : List ℕ) where
           begins = F .begins;
           listed = F .listed;
           comes = F .comes;
+          done = F .done ++ (more ∷ []);
+          written = q .writes (F .done) (F .written);
+          all = F .all;
           size = same ∙ s .size;
-          room = omega (arith, q .after, fits);
-          todo = ap (λ (v : List ℕ). v ++ joined (F .l′)) (q .holds) ∙ F .todo;
         }
 
   -- no piece is left
-  pub all-put : {i start to : ℕ} {out : List ℕ} → Writing i start to out → length lists ≤ i → out ≡ whole
-  all-put {i} {to = to} {out} s h = go (s .comes) (sym (drop-of-length-le lists h) ∙ s .listed) (s .todo)
+  pub all-put : {i start to : ℕ} {out : List ℕ} → Writing i start to out → length lists ≤ i → Written rs out to
+  all-put {i} {to = to} {out} s h = go (s .comes) (sym (drop-of-length-le lists h) ∙ s .listed) (s .all)
     where
-      go : {its : List ℕ} {l l′ : List (List ℕ)} → Pieces ws its l l′ → [] ≡ its → take to out ++ joined l′ ≡ whole → out ≡ whole
-      go no-piece q t =
-          let r : take to out ≡ whole = sym (append-nil (take to out)) ∙ t in
-          let n : length (take to out) ≡ to = length-take-le to out (s .room) in
-          sym (take-all to out (omega (arith, s .size, ap length r))) ∙ r
+      go : {its : List ℕ} {l l′ : List (List ℕ)} → Pieces ws its l l′ → [] ≡ its → s .done ++ l′ ≡ rs → Written rs out to
+      go no-piece q t = subst (λ (l : List (List ℕ)). Written l out to) (sym (append-nil (s .done)) ∙ t) (s .written)
       go (piece f o more) q t = let z : _≡_ {A = ℕ} 0 1 = cc in absurd (omega arith)
+
+-- so they fill the slice
+pub all-filled : {rs : List (List ℕ)} {out : List ℕ} {to : ℕ} → Written rs out to → length out ≡ length (joined rs) → out ≡ joined rs
+all-filled {rs} {out} {to} w l = sym (take-all to out (omega (arith, w .counts))) ∙ w .holds

@@ -21,10 +21,11 @@ use Rattle.chains.proofs.PackParts.{parts}
 use Rattle.definitions.specs.Resolving.{ruleWords, orKinds, withEntities, stampedWith}
 use Rattle.chains.specs.Record.{kindCount, slotsPlace}
 use Rattle.stamping.specs.Stamping.{StampedBy, as-it-is, with-kinds, addedFor, addedBy}
-use Rattle.resolve.specs.Pieces.{Stamped, no-more, one-more, withRelations, joined, frontPiece, blockPiece, otherPieces, piecesOf, fromTo, listWords, putFor, Stampable, WriteAsked}
+use Rattle.definitions.specs.Written.{joined, frontPiece, blockPiece, otherPieces, piecesOf}
+use Rattle.resolve.specs.Pieces.{Stamped, no-more, one-more, withRelations, fromTo, listWords, putFor, Stampable, Written, WriteAsked, comeOut}
 use Rattle.directions.specs.RecordRuns.{placesFrom, runWords}
 use Rattle.chains.proofs.RecordLaws.{counted, before-slots, four, four-length}
-use Rattle.resolve.proofs.WriteLaws.{piece-stays, piece-stamped, Pieces, no-piece, piece, Writing}
+use Rattle.resolve.proofs.WriteLaws.{joined-append, piece-stays, piece-stamped, Pieces, no-piece, piece, Writing, all-filled}
 use Rattle.directions.proofs.TurnedPack.{opened, pack-words, rulesOn}
 
 -- ---- a derived relation: the words up to list 21, by its list 9
@@ -155,10 +156,6 @@ module _ (ws work : List ℕ) (n : ℕ) (most : n ≤ 4096) (after : List ℕ) w
 
 -- ---- pieces
 
-joined-append : (a b : List (List ℕ)) → joined (a ++ b) ≡ joined a ++ joined b
-joined-append [] b = refl
-joined-append (w ∷ a) b = ap (λ (l : List ℕ). w ++ l) (joined-append a b) ∙ sym (append-assoc w (joined a) (joined b))
-
 pub joined-map : {A : Type 0} (W : A → List ℕ) (l : List A) → joined (map W l) ≡ runWords W l
 joined-map W [] = refl
 joined-map W (a ∷ l) = ap (λ (x : List ℕ). W a ++ x) (joined-map W l)
@@ -221,7 +218,7 @@ module _ {ws places lists work : List ℕ} {room : ℕ} (a : WriteAsked ws place
 
   -- the pieces come out as those of the pack with its relations stamped, but for the total
   abbrev pub come : List (List ℕ)
-  come = frontPiece q ∷ (map (relationWords (q .names)) (a .stamped) ++ otherPieces q)
+  come = comeOut a
 
   same-many : {ls : List ℕ} {rs rs′ : List Relation} → Stamped ws ls rs rs′ → length rs ≡ length rs′
   same-many no-more = refl
@@ -239,7 +236,7 @@ module _ {ws places lists work : List ℕ} {room : ℕ} (a : WriteAsked ws place
   pub come-few : length (joined come) ≤ 8192
   come-few = omega (arith, come-long, a .few)
 
-  pub writing-begin : (out : List ℕ) → length out ≡ room → Writing ws work places lists (joined come) 0 0 0 out
+  pub writing-begin : (out : List ℕ) → length out ≡ room → Writing ws work places lists come 0 0 0 out
   writing-begin out l =
       record {
         B = [];
@@ -251,13 +248,18 @@ module _ {ws places lists work : List ℕ} {room : ℕ} (a : WriteAsked ws place
         begins = a .begins;
         listed = refl;
         comes = subst (λ (x : List ℕ). Pieces ws x (piecesOf q) come) (sym (a .listed)) (stays ws (frontPiece q) (relation-pieces ws (q .names) (parts q (a .fine) .most) [] (parts q (a .fine) .relations-fine) (a .stamps) (all-stay ws (otherPieces q))));
+        done = [];
+        written = record { counts = refl; holds = refl };
+        all = refl;
         size = l ∙ sym come-long;
-        room = omega arith;
-        todo = refl;
       }
 
-  pub not-empty : {out : List ℕ} → out ≡ joined come → 0 < length out
-  not-empty e = omega (arith, ap length e)
+  -- all are written, up to the end
+  pub all-counted : {out : List ℕ} {to : ℕ} → Written come out to → to ≡ room
+  all-counted w = w .counts ∙ come-long
 
-  pub writing-end : {out : List ℕ} → out ≡ joined come → set out 0 (wordOf 1 (length out)) ≡ words q′
-  writing-end {out} e = ap (λ (x : List ℕ). set x 0 (wordOf 1 (length out))) e ∙ total-set (ap (wordOf 1) (ap length e ∙ come-long))
+  pub not-empty : {long : ℕ} → long ≡ room → 0 < long
+  not-empty e = omega (arith, come-long)
+
+  pub writing-end : {out : List ℕ} {end : ℕ} → Written come out end → end ≡ room → length out ≡ room → set out 0 (wordOf 1 end) ≡ words q′
+  writing-end {out} {end} w e l = ap (λ (x : List ℕ). set x 0 (wordOf 1 end)) (all-filled w (l ∙ sym come-long)) ∙ total-set (ap (wordOf 1) e)

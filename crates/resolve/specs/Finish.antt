@@ -24,7 +24,8 @@ use Rattle.filtered.specs.Taking.{NamesLow, Filled}
 use Rattle.definitions.specs.Tables.{tables}
 use Rattle.definitions.specs.Resolving.{defaultedEqual, equalRefusal, stamp, atomNames, inDerivation, roleJudgment}
 use Rattle.definitions.specs.Operations.{wholePack, resolveAnswer, resolveBuffer}
-use Rattle.resolve.specs.Pieces.{beginnings, piecesOf, withRelations}
+use Rattle.definitions.specs.Written.{beginnings, piecesOf}
+use Rattle.resolve.specs.Pieces.{withRelations}
 use Rattle.directions.specs.RecordRuns.{treesResolved, TablesFilled}
 use Rattle.turning.specs.declared.turns.Ended.{Ended}
 use Rattle.turning.specs.declared.turns.Counts.{Counts}

@@ -6,12 +6,11 @@ use mathlib.Core.List.{List, [], _∷_, _++_, map}
 use lib.ListN.{length, take, drop, replicate}
 use lib.Dec.{eqb}
 use Rattle.definitions.specs.Table.{pick, wordOf}
-use Rattle.definitions.specs.Form.{wordsBy}
-use Rattle.definitions.specs.Records.{Relation, Block, Pack}
-use Rattle.definitions.specs.Pack.{WellFormed, defaulted, block, total, words}
+use Rattle.definitions.specs.Records.{Relation, Pack}
+use Rattle.definitions.specs.Pack.{WellFormed, words}
 use Rattle.definitions.specs.Places.{namesAt, relationWords}
+use Rattle.definitions.specs.Written.{joined, beginnings, frontPiece, otherPieces, piecesOf, Carried}
 use Rattle.chains.specs.Record.{kindCount, slotsPlace}
-use Rattle.definitions.specs.Resolving.{ruleWords}
 use Rattle.stamping.specs.Stamping.{StampedBy, namesOr}
 
 -- relations, and in the same order as they come out with their lists stamped
@@ -23,38 +22,6 @@ pub data Stamped (ws : List ℕ) : List ℕ → List Relation → List Relation 
 abbrev pub withRelations : Pack → List Relation → Pack
 withRelations p rs =
     record { edition = p .edition; names = p .names; defaulted = p .defaulted; relations = rs; rules = p .rules; blocks = p .blocks }
-
--- ---- pieces
-
--- one after the other
-abbrev pub joined : List (List ℕ) → List ℕ
-joined [] = []
-joined (w ∷ l) = w ++ joined l
-
--- where each begins, from a place on
-unfoldable pub sums : ℕ → List ℕ → List ℕ
-sums at [] = []
-sums at (n ∷ l) = at ∷ sums (at + n) l
-
-abbrev pub lengths : List (List ℕ) → List ℕ
-lengths l = map (λ (w : List ℕ). length w) l
-
-abbrev pub beginnings : ℕ → List (List ℕ) → List ℕ
-beginnings at l = sums at (lengths l)
-
--- those of a pack: what stands before the relations, each relation, the count of rules, each rule, the count of blocks, each block
-abbrev pub frontPiece : Pack → List ℕ
-frontPiece p = wordOf 1 (total p) ∷ wordOf 2 (p .names) ∷ (wordsBy (defaulted (p .names)) (p .defaulted) ++ (wordOf 5 (length (p .relations)) ∷ []))
-
-abbrev pub blockPiece : ℕ → Block → List ℕ
-blockPiece n b = wordsBy (block n) b
-
-unfoldable pub otherPieces : Pack → List (List ℕ)
-otherPieces p =
-    (wordOf 22 (length (p .rules)) ∷ []) ∷ (map (ruleWords (p .names)) (p .rules) ++ ((wordOf 28 (length (p .blocks)) ∷ []) ∷ map (blockPiece (p .names)) (p .blocks)))
-
-abbrev pub piecesOf : Pack → List (List ℕ)
-piecesOf p = frontPiece p ∷ (map (relationWords (p .names)) (p .relations) ++ otherPieces p)
 
 -- ---- in the words
 
@@ -93,6 +60,16 @@ pub record PutRoom (out : List ℕ) (to : ℕ) (more : List ℕ) : Type 0 where
 
 -- ---- all of them
 
+-- records written one after the other from the start of a slice on, and the running place: the number of words written
+pub record Written (rs : List (List ℕ)) (out : List ℕ) (to : ℕ) : Type 0 where
+  pub counts : to ≡ length (joined rs)
+  pub holds : take to out ≡ joined rs
+
+-- one more, written at the running place
+pub record RecordPut (out : List ℕ) (to : ℕ) (r left : List ℕ) (next : ℕ) : Type 0 where
+  pub carried : (before : List (List ℕ)) → Written before out to → Carried before r to next
+  pub writes : (before : List (List ℕ)) → Written before out to → Written (before ++ (r ∷ [])) left next
+
 pub record WriteAsked (ws places lists work : List ℕ) (room : ℕ) : Type 0 where
   pub whole : Pack
   pub fine : WellFormed whole
@@ -104,6 +81,14 @@ pub record WriteAsked (ws places lists work : List ℕ) (room : ℕ) : Type 0 wh
   pub listed : lists ≡ 0 ∷ (its ++ replicate (length (otherPieces whole)) 0)
   pub size : room ≡ length (words (withRelations whole stamped))
   pub few : room ≤ 8192
+
+-- the pieces as they come out, but for the total
+abbrev pub comeOut : {ws places lists work : List ℕ} {room : ℕ} → WriteAsked ws places lists work room → List (List ℕ)
+comeOut a = frontPiece (a .whole) ∷ (map (relationWords (a .whole .names)) (a .stamped) ++ otherPieces (a .whole))
+
+-- all are written, and the place handed on from the last is the end of the slice
+abbrev pub RecordsPut : List ℕ → List ℕ → List ℕ → List ℕ → ℕ → List ℕ → ℕ → Type 0
+RecordsPut ws places lists work room left end = (a : WriteAsked ws places lists work room) → Written (comeOut a) left end × (end ≡ room)
 
 abbrev pub WriteCame : List ℕ → List ℕ → List ℕ → List ℕ → ℕ → List ℕ → Type 0
 WriteCame ws places lists work room left = (a : WriteAsked ws places lists work room) → left ≡ words (withRelations (a .whole) (a .stamped))

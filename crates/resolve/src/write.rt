@@ -12,7 +12,7 @@ ghost use lib.ListN.{length, getD};
 ghost use Rattle.definitions.specs.Table.{wordOf};
 ghost use Rattle.definitions.specs.Places.{namesAt};
 ghost use Rattle.stamping.specs.Stamping.{namesOr, Lists};
-ghost use Rattle.resolve.specs.Pieces.{listWords, putFor, pieceOut, Stampable, Put, PutRoom, WriteAsked, WriteCame};
+ghost use Rattle.resolve.specs.Pieces.{listWords, putFor, pieceOut, Stampable, Put, PutRoom, RecordPut, WriteAsked, RecordsPut, WriteCame};
 
 // The words of a slice in another of the same length.
 pub fn copy(from: &[u32], to: &mut [u32])
@@ -80,10 +80,11 @@ fn put_lists(
     put_list(pack, list, Pack::SLOT_ENTITIES, &words[4..place], out, next)
 }
 
-// A record with the list at a place stamped on it; at 0 there is none.
+// A record at the running place, with the list at a place of the pack stamped on it; at 0 there is none. The answer is the
+// running place after it.
 fn put_record(pack: &[u32], list: u32, words: &[u32], out: &mut [u32], to: usize) -> usize
     requires { ⌜ Stampable list (now words) × PutRoom (now out) to (pieceOut (now pack) list (now words)) ⌝ }
-    ensures { λ r. ⌜ Put (now (out .entry)) to (pieceOut (now (pack .entry)) list (now (words .entry))) (now (out .exit)) r ⌝ }
+    ensures { λ r. ⌜ RecordPut (now (out .entry)) to (pieceOut (now (pack .entry)) list (now (words .entry))) (now (out .exit)) r ⌝ }
 {
     if list == 0 {
         return put_words(words, out, to);
@@ -103,10 +104,11 @@ fn place_at(places: &[u32], i: usize, end: usize) -> usize
     end
 }
 
-// All pieces, in a slice with as many words: each ends where the next begins, the last where the words end.
-pub fn write(pack: &[u32], work: &[u32], places: &[u32], lists: &[u32], out: &mut [u32])
+// All records, in a slice with as many words, each at the place that the one before it hands on: the place after the last.
+// In the pack's words each ends where the next begins, the last where the words end.
+fn put_records(pack: &[u32], work: &[u32], places: &[u32], lists: &[u32], out: &mut [u32]) -> usize
     requires { ⌜ WriteAsked (now pack) (now places) (now lists) (now work) (length (now out)) ⌝ }
-    ensures { λ r. ⌜ WriteCame (now (pack .entry)) (now (places .entry)) (now (lists .entry)) (now (work .entry)) (length (now (out .entry))) (now (out .exit)) ⌝ }
+    ensures { λ r. ⌜ RecordsPut (now (pack .entry)) (now (places .entry)) (now (lists .entry)) (now (work .entry)) (length (now (out .entry))) (now (out .exit)) r ⌝ }
 {
     let mut start: usize = 0;
     let mut to: usize = 0;
@@ -115,8 +117,18 @@ pub fn write(pack: &[u32], work: &[u32], places: &[u32], lists: &[u32], out: &mu
         let list = lists[i];
         i += 1;
         let end = place_at(places, i, work.len());
-        to = put_record(pack, list, &work[start..end], out, to);
+        let next = put_record(pack, list, &work[start..end], out, to);
         start = end;
+        to = next;
     }
-    out[0] = Pack::TOTAL * Pack::VALUES + out.len() as u32;
+    to
+}
+
+// The whole pack: its records, and then the total, which is the running place at the end.
+pub fn write(pack: &[u32], work: &[u32], places: &[u32], lists: &[u32], out: &mut [u32])
+    requires { ⌜ WriteAsked (now pack) (now places) (now lists) (now work) (length (now out)) ⌝ }
+    ensures { λ r. ⌜ WriteCame (now (pack .entry)) (now (places .entry)) (now (lists .entry)) (now (work .entry)) (length (now (out .entry))) (now (out .exit)) ⌝ }
+{
+    let end = put_records(pack, work, places, lists, out);
+    out[0] = Pack::TOTAL * Pack::VALUES + end as u32;
 }

@@ -20,3 +20,4 @@ pub mod WireCases
 pub mod Faithful
 pub mod WalksLaws
 pub mod RoundTripLaws
+pub mod OutputPlacesLaws

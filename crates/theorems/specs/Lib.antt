@@ -3,3 +3,4 @@ pub mod Starred
 pub mod Refusing
 pub mod Walks
 pub mod RoundTrips
+pub mod OutputPlaces

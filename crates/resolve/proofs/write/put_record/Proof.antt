@@ -2,7 +2,7 @@
 use native.Mathlib.Omega.{arith}
 use Prim.Native.Nat.{ℕ, _+_}
 use mathlib.Core.Path.{ap}
-use Rattle.resolve.proofs.WriteLaws.{piece-stays, piece-stamped, list-inside, room-first, room-then, put-then}
+use Rattle.resolve.proofs.WriteLaws.{piece-stays, piece-stamped, list-inside, room-first, room-then, put-then, record-put}
 use borrow.Author.Needs.{needs}
 use Rattle.resolve.proofs.write.put_record.Statement.{statement}
 use Rattle.resolve.proofs.write.put_record.Tie as tie
@@ -14,7 +14,7 @@ same-length : tie.Need-same-length
 same-length c = search needs
 
 returns : tie.Need-returns
-returns c = rw (piece-stays _ _ ((c .before .before .before .before .if1) .taken)) ((c .before .before .put-words) .ensures)
+returns c = rw (piece-stays _ _ ((c .before .before .before .before .if1) .taken)) (record-put ((c .before .before .put-words) .ensures))
 
 slots-place-requires : tie.Need-slots-place-requires
 slots-place-requires c κs = search needs
@@ -67,7 +67,7 @@ returns-2 c =
     let at-put-words2 = c .before .before in let at-put-lists = at-put-words2 .before .before .before .before .before in
     let at-slots-place = at-put-lists .before .before in let at-if1 = at-slots-place .before in
     rw (piece-stamped _ _ (at-if1 .if1 .left) (ap (λ (x : ℕ). x + 4) (at-slots-place .slots-place .ensures .0)))
-    (put-then (at-put-lists .put-lists .ensures) (at-put-words2 .put-words2 .ensures))
+    (record-put (put-then (at-put-lists .put-lists .ensures) (at-put-words2 .put-words2 .ensures)))
 
 pub put-record-spec : {M : Type 1} → statement M
 put-record-spec =
