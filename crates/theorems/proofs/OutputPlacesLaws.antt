@@ -67,7 +67,7 @@ carried-in q rest =
       carried = λ before after r e. record {
         given = ap (λ (l : List (List ℕ)). getD (beginnings 0 l) (length before) (total q)) e ∙ place-there before after r (total q);
         handed-on = ap (λ (l : List (List ℕ)). getD (beginnings 0 l) (length before + 1) (total q)) e ∙ next-there before after r (total q) (sym (words-length q) ∙ ap length (whole-words q) ∙ ap (λ (l : List (List ℕ)). length (joined l)) e)
-        ∙ ap (λ (i : ℕ). i + length r) (sym (ap (λ (l : List (List ℕ)). getD (beginnings 0 l) (length before) (total q)) e ∙ place-there before after r (total q)));
+            ∙ ap (λ (i : ℕ). i + length r) (sym (ap (λ (l : List (List ℕ)). getD (beginnings 0 l) (length before) (total q)) e ∙ place-there before after r (total q)));
       };
       stands = λ before after r e.
           ap (λ (l : List ℕ). take (length r) (drop (placeOfRecord q (length before)) (l ++ rest))) (whole-words q ∙ ap joined e)

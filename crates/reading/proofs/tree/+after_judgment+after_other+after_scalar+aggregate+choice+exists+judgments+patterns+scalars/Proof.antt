@@ -490,13 +490,13 @@ after-scalar-add-scalars : (t : ℕ) → after-scalar-lts.Need-add-scalars (afte
 after-scalar-add-scalars t c = let start-2 = c .before .before .before .before .before .before in omega (arith, (start-2 .pre) .1 .0 .most, (start-2 .pre) .1 .1)
 
 after-scalar-scalars-requires : (t : ℕ) → after-scalar-lts.Need-scalars-requires (after-scalar-calls t) (after-scalar-at t) after-scalar.Post
-after-scalar-scalars-requires t c κs = let start-2 = c .before .before .before .before .before .before .before in (omega arith, (start-2 .pre .1 .0, omega (arith, (start-2 .pre) .1 .1), (start-2 .pre) .1 .3))
+after-scalar-scalars-requires t c κs = let at-if1 = c .before .before .before in let start-2 = at-if1 .before .before .before .before in (omega arith, (start-2 .pre .1 .0, omega (arith, (start-2 .pre) .1 .1), (start-2 .pre) .1 .3))
 
 after-scalar-add-aggregate : (t : ℕ) → after-scalar-lts.Need-add-aggregate (after-scalar-calls t) (after-scalar-at t) after-scalar.Post
-after-scalar-add-aggregate t c = let start-2 = c .before .before .before .before .before .before .before in omega (arith, (start-2 .pre) .1 .0 .most, (start-2 .pre) .1 .1)
+after-scalar-add-aggregate t c = let at-if1 = c .before .before .before in let start-2 = at-if1 .before .before .before .before in omega (arith, (start-2 .pre) .1 .0 .most, (start-2 .pre) .1 .1)
 
 after-scalar-aggregate-requires : (t : ℕ) → after-scalar-lts.Need-aggregate-requires (after-scalar-calls t) (after-scalar-at t) after-scalar.Post
-after-scalar-aggregate-requires t c κs = let start-2 = c .before .before .before .before .before .before .before .before in (omega arith, (start-2 .pre .1 .0, omega (arith, (start-2 .pre) .1 .1), (start-2 .pre) .1 .3))
+after-scalar-aggregate-requires t c κs = let at-if1 = c .before .before .before .before in let start-2 = at-if1 .before .before .before .before in (omega arith, (start-2 .pre .1 .0, omega (arith, (start-2 .pre) .1 .1), (start-2 .pre) .1 .3))
 
 after-scalar-after-other-requires : (t : ℕ) → after-scalar-lts.Need-after-other-requires (after-scalar-calls t) (after-scalar-at t) after-scalar.Post
 after-scalar-after-other-requires t c κs =
@@ -582,7 +582,7 @@ aggregate-compares-requires t c κs = search needs
 
 aggregate-add-scalars : (t : ℕ) → aggregate-lts.Need-add-scalars (aggregate-calls t) (aggregate-at t) aggregate.Post
 aggregate-add-scalars t c =
-    let at-if1 = c .before .before .before .before .before .before .before .before in let at-aggregate-fields = at-if1 .before in let start-2 = at-aggregate-fields .before .before .before in
+    let at-note = c .before .before .before .before .before .before in let at-if1 = at-note .before .before in let at-aggregate-fields = at-if1 .before in let start-2 = at-aggregate-fields .before .before .before in
     omega (arith, (start-2 .pre) .1 .0 .most, (start-2 .pre) .1 .1)
 
 aggregate-sub-scalars : (t : ℕ) → aggregate-lts.Need-sub-scalars (aggregate-calls t) (aggregate-at t) aggregate.Post
@@ -639,7 +639,7 @@ aggregate-part-judgments-end t c =
 
 aggregate-cast-judgments : (t : ℕ) → aggregate-lts.Need-cast-judgments (aggregate-calls t) (aggregate-at t) aggregate.Post
 aggregate-cast-judgments t c =
-    let at-if1 = c .before .before .before .before .before .before .before in let at-aggregate-fields = at-if1 .before in let start-2 = at-aggregate-fields .before .before .before in
+    let at-note = c .before .before .before .before .before in let at-if1 = at-note .before .before in let at-aggregate-fields = at-if1 .before in let start-2 = at-aggregate-fields .before .before .before in
     let f = fields-read (boundOf (start-2 .args .t .now)) _ _ (start-2 .pre .1 .0 .most) (start-2 .pre .1 .1) (at-aggregate-fields .aggregate-fields .ensures _) (at-if1 .if1 .left) in
     omega (arith, f .flag .there, (start-2 .pre) .1 .0 .most)
 
@@ -660,7 +660,7 @@ aggregate-judgments-requires t c κs =
 
 aggregate-add-result : (t : ℕ) → aggregate-lts.Need-add-result (aggregate-calls t) (aggregate-at t) aggregate.Post
 aggregate-add-result t c =
-    let at-judgments = c .before .before in let at-if1 = at-judgments .before .before .before .before .before .before .before .before .before in let at-aggregate-fields = at-if1 .before in
+    let at-judgments = c .before .before in let at-if2 = at-judgments .before .before .before in let at-note = at-if2 .before .before .before .before in let at-if1 = at-note .before .before in let at-aggregate-fields = at-if1 .before in
     let start-2 = at-aggregate-fields .before .before .before in
     let f = fields-read (boundOf (start-2 .args .t .now)) _ _ (start-2 .pre .1 .0 .most) (start-2 .pre .1 .1) (at-aggregate-fields .aggregate-fields .ensures _) (at-if1 .if1 .left) in
     let l = part-long (start-2 .args .s .now) (start-2 .args .at + 4) (f .flag .there) in omega (
@@ -675,7 +675,7 @@ aggregate-same-length-2 t c = search needs
 
 aggregate-returns-3 : (t : ℕ) → aggregate-lts.Need-returns-3 (aggregate-calls t) (aggregate-at t) aggregate.Post
 aggregate-returns-3 t c =
-    let at-judgments = c .before .before in let at-note = at-judgments .before .before .before .before .before .before .before in let at-if1 = at-note .before .before in
+    let at-judgments = c .before .before in let at-if2 = at-judgments .before .before .before in let at-note = at-if2 .before .before .before .before in let at-if1 = at-note .before .before in
     let at-aggregate-fields = at-if1 .before in let start-2 = at-aggregate-fields .before .before .before in
     let f = fields-read (boundOf (start-2 .args .t .now)) _ _ (start-2 .pre .1 .0 .most) (start-2 .pre .1 .1) (at-aggregate-fields .aggregate-fields .ensures _) (at-if1 .if1 .left) in
     let i = ap (λ (i : ℕ). i + (start-2 .args) .context % 8192) (at-note .note .ensures .0) in
@@ -810,7 +810,7 @@ judgments-loop-again t c =
     let at-if5 = c .before in let at-if4 = at-if5 .before in let at-if1 = at-if4 .before .before .before .before in let at-head = at-if1 .before in
     let at-loop = at-head .before .before in let start-2 = at-loop .before .before .before in (
       let k = kindOf (getD (start-2 .args .s .now) (at-loop .loop .at) 0) in let lo : 97 ≤ k = leb-true 97 k (at-if4 .if4 .taken) in let hi : k < 101 = omega (arith, leb-true k 100 (at-if5 .if5 .taken)) in
-      let one : (at-loop .loop) .k ≡ 1 = omega arith in past-last (at-loop .loop .inv .0) (start-2 .pre .1 .0 .most) (omega arith)
+          let one : (at-loop .loop) .k ≡ 1 = omega arith in past-last (at-loop .loop .inv .0) (start-2 .pre .1 .0 .most) (omega arith)
           (at-head .head .ensures) (at-if1 .if1 .left) one (judgment-row (valueOf (getD (start-2 .args .s .now) (at-loop .loop .at) 0)) k lo hi)
           ((c .children) .ensures) (steady-judgment k (omega (arith, lo)) hi),
       omega (arith, (at-loop .loop) .inv .1),
