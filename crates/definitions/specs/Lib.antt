@@ -17,7 +17,7 @@ pub mod Direction
 pub mod ResolvingTrees
 pub mod Resolving
 pub mod Operations
-pub mod Written
+pub mod WrittenRecords
 pub mod Bytes
 pub mod Text
 pub mod Dealt

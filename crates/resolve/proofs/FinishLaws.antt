@@ -26,7 +26,7 @@ use Rattle.chains.proofs.CheckedLaws.{same-pack}
 use Rattle.definitions.specs.Resolving.{stamp, ruleWords, resolveRule, resolveRules, resolveRelation, resolveRelations, firstRule}
 use Rattle.chains.specs.Record.{Recorded}
 use Rattle.stamping.specs.Stamping.{listsFor, addedBy, Listed}
-use Rattle.definitions.specs.Written.{sums, lengths, beginnings, otherPieces, piecesOf}
+use Rattle.definitions.specs.WrittenRecords.{sums, lengths, beginnings, otherPieces, piecesOf}
 use Rattle.resolve.specs.Pieces.{Stamped, WriteAsked, WriteCame}
 use Rattle.directions.specs.RecordRuns.{placesFrom, runWords, runBy, RelationKeeps, withRecords, treesResolved, placesIn, TablesFilled}
 use Rattle.resolve.specs.Finish.{stampAll, AskedOf, ClearFor, FinishAsked, givenOut, writtenOut, FinishCame}

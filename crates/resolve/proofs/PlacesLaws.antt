@@ -29,7 +29,7 @@ use Rattle.turning.proofs.MarkLaws.{mark-place, mark-inside, some-place}
 use Rattle.turning.proofs.KnownLaws.{notes-inside}
 use Rattle.turning.proofs.PackLaws.{held-parts, notes-few}
 use Rattle.resolve.specs.declared.finish.Figures.{Figures}
-use Rattle.definitions.specs.Written.{beginnings, otherPieces, piecesOf}
+use Rattle.definitions.specs.WrittenRecords.{beginnings, otherPieces, piecesOf}
 use Rattle.resolve.specs.Pieces.{Put}
 use Rattle.resolve.specs.Finish.{NamesIn, orderIn, rootsOf, blockPlaces, RulesAsked, RulesCame, ResolveAsked, OrderAsked}
 use Rattle.resolve.proofs.WriteLaws.{put-then, words-put, one-put, all-there}

@@ -44,7 +44,7 @@ use Rattle.directions.specs.Words.{derivedIn, tablesIn, firstEqual}
 use Rattle.chains.specs.Record.{valueAt}
 use Rattle.directions.specs.RecordRuns.{withRecords, treesResolved, TablesFilled}
 use Rattle.resolve.specs.declared.finish.Figures.{Figures}
-use Rattle.definitions.specs.Written.{beginnings, piecesOf}
+use Rattle.definitions.specs.WrittenRecords.{beginnings, piecesOf}
 use Rattle.resolve.specs.Finish.{stampAll, resolvedTrees, AskedOf, TreesAsked, TreesCame, ResolveAsked, PlacedAsked, TablesFor, CheckedAsked, RoomFor, frontOf, Into, FinishAsked, FinishCame, givenOut, writtenOut}
 use Rattle.turning.specs.declared.turns.Ended.{Ended}
 use Rattle.turning.specs.declared.turns.Ended.the-variants as ended

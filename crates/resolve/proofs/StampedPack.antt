@@ -19,7 +19,7 @@ use Rattle.chains.proofs.PackParts.{EachFound, parts}
 use Rattle.definitions.specs.Answers.{Outcome, done}
 use Rattle.definitions.specs.Resolving.{atomNames, roleJudgment, inDerivation, stamp, resolveRelation}
 use Rattle.stamping.specs.Stamping.{StampedBy, listFor, listsFor}
-use Rattle.definitions.specs.Written.{lengths}
+use Rattle.definitions.specs.WrittenRecords.{lengths}
 use Rattle.resolve.specs.Pieces.{Stamped, no-more, one-more}
 use Rattle.resolve.specs.Finish.{AskedOf}
 use Rattle.directions.specs.RecordRuns.{placesFrom, runWords, EachKeeps, RelationKeeps, KindsReady}

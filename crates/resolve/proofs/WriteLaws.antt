@@ -13,7 +13,7 @@ use Rattle.definitions.specs.Answers.{tableFrom}
 use Rattle.chains.proofs.FillLaws.{Filling, done}
 use Rattle.chains.specs.Record.{valueAt, kindCount, slotsPlace}
 use Rattle.stamping.specs.Stamping.{namesOr, Lists}
-use Rattle.definitions.specs.Written.{joined, sums, beginnings}
+use Rattle.definitions.specs.WrittenRecords.{joined, sums, beginnings}
 use Rattle.resolve.specs.Pieces.{fromTo, listWords, putFor, pieceOut, Stampable, Put, PutRoom, Written, RecordPut}
 use Rattle.stamping.proofs.ListForLaws.{names-there}
 

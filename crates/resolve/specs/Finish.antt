@@ -24,7 +24,7 @@ use Rattle.filtered.specs.Taking.{NamesLow, Filled}
 use Rattle.definitions.specs.Tables.{tables}
 use Rattle.definitions.specs.Resolving.{defaultedEqual, equalRefusal, stamp, atomNames, inDerivation, roleJudgment}
 use Rattle.definitions.specs.Operations.{wholePack, resolveAnswer, resolveBuffer}
-use Rattle.definitions.specs.Written.{beginnings, piecesOf}
+use Rattle.definitions.specs.WrittenRecords.{beginnings, piecesOf}
 use Rattle.resolve.specs.Pieces.{withRelations}
 use Rattle.directions.specs.RecordRuns.{treesResolved, TablesFilled}
 use Rattle.turning.specs.declared.turns.Ended.{Ended}

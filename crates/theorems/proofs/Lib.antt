@@ -21,3 +21,4 @@ pub mod Faithful
 pub mod WalksLaws
 pub mod RoundTripLaws
 pub mod OutputPlacesLaws
+pub mod PlacesCases

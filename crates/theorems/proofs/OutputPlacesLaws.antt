@@ -15,7 +15,7 @@ use Rattle.definitions.specs.Kinds.{allKinds}
 use Rattle.definitions.specs.Answers.{done, noRoom, wordsAndSteps}
 use Rattle.definitions.specs.Resolving.{resolved}
 use Rattle.definitions.specs.Operations.{resolveAnswer, resolveBuffer}
-use Rattle.definitions.specs.Written.{frontPiece, piecesOf, joined, sums, lengths, beginnings, Carried}
+use Rattle.definitions.specs.WrittenRecords.{frontPiece, piecesOf, joined, sums, lengths, beginnings, Carried}
 use Rattle.pack.proofs.PackLaws.{words-length}
 use Rattle.directions.proofs.TurnedPack.{pack-words}
 use Rattle.resolve.proofs.WriteLaws.{joined-append}

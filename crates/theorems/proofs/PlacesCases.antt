@@ -1,0 +1,38 @@
+-- Worked cases of document 02, Job 2: where the records of small packs begin, and where they come out.
+use mathlib.Core.Path.{_≡_, refl}
+use mathlib.Core.List.{[], _∷_}
+use mathlib.Core.Option.{none}
+use Rattle.definitions.specs.Table.{table, entryOf, fieldsOf, childrenOf}
+use Rattle.definitions.specs.Form.{wordsBy, count, items}
+use Rattle.definitions.specs.Tree.{tree, root, follow, fields, size}
+use Rattle.definitions.specs.Records.{Pack}
+use Rattle.definitions.specs.Pack.{defaultedName, defaulted, relation, newName, relationTail, nameList, optionalDerivation, derivation, chain, path, hop, member, rule, bodies, body, block, total}
+use Rattle.definitions.specs.Chain.{walk, own, walksFrom}
+use Rattle.definitions.specs.Kinds.{find, kindStep, kindsOf}
+use Rattle.definitions.specs.Places.{startOf}
+use Rattle.definitions.specs.Filtered.{taken, direct}
+use Rattle.definitions.specs.Tables.{tables}
+use Rattle.definitions.specs.Direction.{turn}
+use Rattle.definitions.specs.Answers.{done, mapDone}
+use Rattle.definitions.specs.ResolvingTrees.{nodeStep, resolveTree}
+use Rattle.definitions.specs.Resolving.{defaultedEqual, resolveBodies, ruleBy, resolveRules, predicateBy, resolveRelation, resolveRelations, holds, atomNames, stamp, resolved}
+use Rattle.definitions.specs.WrittenRecords.{piecesOf, beginnings, sums, otherPieces}
+use Rattle.theorems.specs.Starred.{withoutDerivation, withSource, counting, ruled, packed}
+
+-- no record: four words in front, and the two counts
+abbrev nothing : Pack
+nothing = packed [] [] []
+
+-- 5[1,2] of 7 words, 6<5 of 13, and a rule of 10
+abbrev chained : Pack
+chained = packed [] (withoutDerivation 5 (1 ∷ 2 ∷ []) ∷ withSource 6 5 none [] [] ∷ []) (ruled 2 (counting 0 1))
+
+pub record Worked : Type 0 where
+  pub empty : beginnings 0 (piecesOf nothing) ≡ 0 ∷ 4 ∷ 5 ∷ []
+  pub before : beginnings 0 (piecesOf chained) ≡ 0 ∷ 4 ∷ 11 ∷ 24 ∷ 25 ∷ 35 ∷ []
+  -- 6 comes out with both lists, four words longer: what stands behind it moves on by four
+  pub after : mapDone (λ q. beginnings 0 (piecesOf q)) (resolved chained) ≡ done (0 ∷ 4 ∷ 11 ∷ 28 ∷ 29 ∷ 39 ∷ [])
+
+pub worked : Worked
+unfolding entryOf table fieldsOf childrenOf wordsBy count items tree root follow fields size defaultedName defaulted relation newName relationTail nameList optionalDerivation derivation chain path hop member rule bodies body block total walk own walksFrom find kindStep kindsOf startOf taken direct tables turn nodeStep resolveTree defaultedEqual resolveBodies ruleBy resolveRules predicateBy resolveRelation resolveRelations holds atomNames stamp resolved sums otherPieces
+worked = record { empty = refl; before = refl; after = refl }
