@@ -62,7 +62,7 @@ module _ (ws : List ℕ) (list : ℕ) (r : Relation) (d : Derivation) (e : r .de
       go true = with-kinds d ks (some-place ws list ks q) q e z
       go false = as-it-is refl
 
-  -- by whether list 9 and list 21 are isEmpty, and whether the relation is named or its predicate holds a judgment of roles
+  -- by whether list 9 and list 21 are empty, and whether the relation is named or its predicate holds a judgment of roles
   decided : (none-9 none-21 spoken : Bool) (kinds : Option (List ℕ)) → namesAt ws list ≡ kinds → (none-21 ≡ true → d .slotEntities ≡ [])
       → StampedBy ws (pick none-21 (pick (differ kinds) (pick (none-9 && spoken) 0 list) 0) 0) r (pick ((none-9 && none-21) && spoken) r (stampedBy none-21 kinds))
   decided true true true kinds q z = go (differ kinds)

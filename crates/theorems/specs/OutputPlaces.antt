@@ -20,7 +20,7 @@ pub record PlacesCarried (q : Pack) (buffer : List ℕ) : Type 0 where
   pub carried : (before after : List (List ℕ)) (r : List ℕ) → piecesOf q ≡ before ++ (r ∷ after) → Carried before r (placeOfRecord q (length before)) (placeOfRecord q (length before + 1))
   pub stands : (before after : List (List ℕ)) (r : List ℕ) → piecesOf q ≡ before ++ (r ∷ after) → take (length r) (drop (placeOfRecord q (length before)) buffer) ≡ r
 
--- of every pack that resolves, whatever is lent
+-- of every pack that resolves, wherever the answer is no refusal for want of room
 abbrev pub OutputPlaces : Type 0
 OutputPlaces =
     (ws lent : List ℕ) (p q : Pack) (n steps : ℕ) → read ws ≡ yes p → resolved p ≡ done q → resolveAnswer ws (length lent) ≡ wordsAndSteps n steps
