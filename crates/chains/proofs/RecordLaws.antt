@@ -2,17 +2,21 @@
 use Prim.Native.Nat.{ℕ, zero, suc, _+_, _*_, _<_, _≤_}
 use native.Mathlib.Omega.{arith}
 use mathlib.Core.Path.{_≡_, refl, ap, sym, _∙_}
-use mathlib.Core.List.{List, [], _∷_, _++_, append-assoc}
+use mathlib.Core.List.{List, [], _∷_, _++_, map, append-assoc}
+use mathlib.Core.Bool.{true}
 use mathlib.Core.Option.{Option, none, some}
 use lib.ListN.{length, getD, length-append, length-map}
 use lib.Seq.{getD-at}
+use lib.Dec.{eqb}
 use borrow.Author.Tests.{eq-eqb, ne-eqb}
 use Rattle.definitions.specs.Table.{wordOf, valueOf}
-use Rattle.definitions.specs.Form.{listOrNone, count, items, repeats, wordsBy}
+use Rattle.definitions.specs.Form.{among, listOrNone, count, items, repeats, wordsAll, wordsBy}
 use Rattle.definitions.specs.Records.{Hop, Derivation, Relation}
-use Rattle.definitions.specs.Pack.{relation, newName, relationTail, nameList, optionalDerivation, path, derivation, member}
+use Rattle.definitions.specs.Pack.{relation, newName, relationTail, nameList, optionalDerivation, hop, path, derivation, member}
 use Rattle.definitions.specs.Places.{hops}
-use Rattle.chains.specs.Record.{valueAt, kindCount, flagAt, slotsPlace, entityCount}
+use Rattle.definitions.specs.Lean.{stepNames}
+use Rattle.chains.specs.Record.{valueAt, kindCount, flagAt, slotsPlace, stepsIn, pathIn, entityCount}
+use Rattle.chains.proofs.Names.{or-left, or-right}
 use Rattle.chains.proofs.RelationForm.{Fitting, Kept, kept}
 use Rattle.chains.proofs.ListAt.{nameWords, list-words, path-words, early, late, option-words, InWords}
 
@@ -66,6 +70,21 @@ unfolding count
 steps-again none h = refl
 steps-again (some l) h = rw (ne-eqb (length l) 16777215 (λ e. omega (arith, h l refl))) refl
 
+-- the steps of a path, each in three words
+abbrev hopWords : ℕ → List Hop → List ℕ
+hopWords n l = wordsAll {S = Unit {0}} (λ s a. s) (λ s a. wordsBy (hop n) a) tt l
+
+steps-read : (n : ℕ) (ws pre : List ℕ) (l : List Hop) (rest : List ℕ) (at : ℕ) → ws ≡ pre ++ (hopWords n l ++ rest) → length pre ≡ at
+    → ((m : ℕ) → among m (map (λ (h : Hop). h .relation) l) ≡ true → m < 16777216) → stepsIn ws at (length l) ≡ map (λ (h : Hop). h .relation) l
+unfolding stepsIn hop wordsBy
+steps-read n ws pre [] rest at e long low = refl
+steps-read n ws pre (h ∷ l) rest at e long low =
+    let three : List ℕ = wordOf 14 (h .relation) ∷ wordOf 15 (h .current) ∷ wordOf 16 (h .related) ∷ [] in
+    let here : valueAt ws at ≡ h .relation = value-there ws pre (wordOf 15 (h .current) ∷ wordOf 16 (h .related) ∷ (hopWords n l ++ rest)) 14 (h .relation) at e long (low (h .relation) (or-left (among (h .relation) (map (λ (h : Hop). h .relation) l)) (eq-eqb (h .relation) (h .relation) refl))) in
+    let more : stepsIn ws (at + 3) (length l) ≡ map (λ (h : Hop). h .relation) l =
+    steps-read n ws (pre ++ three) l rest (at + 3) (e ∙ sym (append-assoc pre three (hopWords n l ++ rest))) (length-append pre three ∙ omega arith) (λ m i. low m (or-right (eqb m (h .relation)) i)) in
+    rw (here, more) refl
+
 module _ (ws : List ℕ) (start n : ℕ) (r : Relation) (i : InWords ws start n r) (most : n ≤ 4096) where
   k : Kept n (i .used) r
   k = kept n (i .used) r (i .fine)
@@ -109,7 +128,7 @@ module _ (ws : List ℕ) (start n : ℕ) (r : Relation) (i : InWords ws start n 
   no-flag e = value-there ws front (i .after) 11 0 (start + 4 + kindCount ws start) (front-words ∙ rw e refl) flag-place (omega arith)
 
   module _ (d : Derivation) (e : r .derivation ≡ some d) where
-    g : Fitting d
+    g : Fitting n d
     g = k .derived d e
 
     abbrev tail : List ℕ
@@ -151,6 +170,22 @@ module _ (ws : List ℕ) (start n : ℕ) (r : Relation) (i : InWords ws start n 
     pub place-of-slots : slotsPlace ws start ≡ start + 4 + kindCount ws start + 3 + 3 * hops (d .path)
     unfolding slotsPlace
     place-of-slots = ap (λ (s : ℕ). start + 4 + kindCount ws start + 3 + 3 * s) (ap repeats path-count ∙ steps-again (d .path) (g .steps))
+
+    -- the relations that its steps name
+    steps-of : (p : Option (List Hop)) → d .path ≡ p → stepsIn ws (start + 4 + kindCount ws start + 2 + 1) (hops p) ≡ stepNames p
+    unfolding stepsIn path wordsBy count items
+    steps-of none e = refl
+    steps-of (some l) e =
+        let first : List ℕ = wordOf 11 1 ∷ wordOf 12 (d .source) ∷ wordOf 13 (length l) ∷ [] in
+        let after : List ℕ = wordOf 17 (d .current) ∷ rest in
+        steps-read n ws (front ++ first) l after (start + 4 + kindCount ws start + 2 + 1)
+        (opened ∙ ap (λ (p : Option (List Hop)). front ++ (wordOf 11 1 ∷ wordOf 12 (d .source) ∷ (wordsBy (path n) p ++ after))) e ∙ sym (append-assoc front first (hopWords n l ++ after)))
+        (length-append front first ∙ omega (arith, flag-place))
+        (λ m i. omega (arith, most, g .hops m (ap (λ (p : Option (List Hop)). among m (stepNames p)) e ∙ i)))
+
+    pub steps-there : pathIn ws (start + 4 + kindCount ws start + 2) ≡ stepNames (d .path)
+    unfolding pathIn
+    steps-there = ap (stepsIn ws (start + 4 + kindCount ws start + 2 + 1)) (ap repeats path-count ∙ steps-again (d .path) (g .steps)) ∙ steps-of (d .path) refl
 
     -- by its kinds and its path
     pub slots-at : slotsPlace ws start ≡ start + 7 + length ks + 3 * hops (d .path)

@@ -1,3 +1,5 @@
-pub mod SourceLaws
+pub mod LeanLaws
+pub mod EdgeLaws
+pub mod SearchLaws
 pub mod PartLaws
 pub mod OperationLaws

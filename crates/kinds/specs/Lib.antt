@@ -1,2 +1,3 @@
 pub mod KindsPromises
-pub mod Sources
+pub mod Edges
+pub mod Search

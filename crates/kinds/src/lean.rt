@@ -1,20 +1,22 @@
 // Lean: whether a name leans on another.
-use crate::sources::leads;
+use crate::search::leads;
 use chains::unknown::unknown_name;
 use checking::check::answer;
 use checking::check::check_directory;
 use checking::check::names_said;
 use definitions::answer::Answer;
+use pack::kinds::Pack;
 use records::directory::Directory;
 use records::directory::Laid;
 ghost use mathlib.Core.Path.{_≡_};
-ghost use Rattle.records.specs.Directory.{Clear};
-ghost use Rattle.checking.specs.CheckPromises.{namesSaid};
+ghost use Prim.Native.Nat.{_≤_};
+ghost use lib.ListN.{length};
+ghost use Rattle.chains.specs.PackDirectory.{DirectoryRoom};
 ghost use Rattle.definitions.specs.Operations.{leanAnswer};
 
-// Whether a name leans on another, by a directory that is lent.
-fn lean_in(pack: &[u32], a: u32, b: u32, dir: &mut [u32]) -> Answer
-    requires { ⌜ Clear (namesSaid (now pack)) (now dir) ⌝ }
+// Whether a name leans on another, by a directory, marks and a queue that are lent.
+fn lean_in(pack: &[u32], a: u32, b: u32, dir: &mut [u32], marks: &mut [u8], queue: &mut [u32]) -> Answer
+    requires { ⌜ DirectoryRoom (now pack) (now dir) (now marks) × (length (now marks) ≤ length (now queue)) ⌝ }
     ensures { λ r. ⌜ r ≡ leanAnswer (now (pack .entry)) a b ⌝ }
 {
     let r = check_directory(pack, dir);
@@ -27,8 +29,7 @@ fn lean_in(pack: &[u32], a: u32, b: u32, dir: &mut [u32]) -> Answer
     if l.names <= b {
         return unknown_name(b);
     }
-    let most = l.relations as usize;
-    if leads(pack, dir, a as usize, b as usize, most) {
+    if leads(pack, dir, a as usize, b as usize, marks, queue) {
         return Answer::Given(1, 0);
     }
     Answer::Given(0, 0)
@@ -40,13 +41,19 @@ pub fn lean(pack: &[u32], a: u32, b: u32) -> Answer
 {
     let n = names_said(pack);
     if n <= Directory::FEW {
-        let mut few = [0u32; Directory::NAMES + Directory::FEW];
-        return lean_in(pack, a, b, &mut few);
+        let mut dir = [0u32; Directory::NAMES + Directory::FEW];
+        let mut marks = [0u8; Directory::FEW];
+        let mut queue = [0u32; Directory::FEW];
+        return lean_in(pack, a, b, &mut dir, &mut marks, &mut queue);
     }
     if n <= Directory::SOME {
-        let mut some = [0u32; Directory::NAMES + Directory::SOME];
-        return lean_in(pack, a, b, &mut some);
+        let mut dir = [0u32; Directory::NAMES + Directory::SOME];
+        let mut marks = [0u8; Directory::SOME];
+        let mut queue = [0u32; Directory::SOME];
+        return lean_in(pack, a, b, &mut dir, &mut marks, &mut queue);
     }
-    let mut all = [0u32; Directory::WORDS];
-    lean_in(pack, a, b, &mut all)
+    let mut dir = [0u32; Directory::WORDS];
+    let mut marks = [0u8; Pack::MOST_NAMES as usize];
+    let mut queue = [0u32; Pack::MOST_NAMES as usize];
+    lean_in(pack, a, b, &mut dir, &mut marks, &mut queue)
 }

@@ -1,6 +1,6 @@
-// The operations on chains: the kinds of all relations (all_kinds) and of one name (kinds_of), and where sources lead (lean,
-// which goes along the sources of relations).
+// The operations on chains: the kinds of all relations (all_kinds) and of one name (kinds_of); and whether a name leans on another
+// (lean), by a search along sources and paths (search).
 pub mod all_kinds;
 pub mod kinds_of;
 pub mod lean;
-mod sources;
+mod search;

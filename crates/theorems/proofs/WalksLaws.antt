@@ -10,8 +10,8 @@ use Rattle.definitions.specs.Filtered.{upTo, innerStep}
 use Rattle.chains.proofs.ChainLaws.{own-means, own-only}
 use Rattle.chains.proofs.KindLaws.{kind-leads}
 use Rattle.filtered.proofs.FilteredLaws.{inner-leads}
+use Rattle.kinds.proofs.LeanLaws.{leans-computes}
 use Rattle.theorems.specs.Walks.{KindsMean, InnermostMeans, LeanMeans}
-use Rattle.theorems.proofs.LeanDealt.{leans-computes}
 
 pub kinds-mean : (rs : List Relation) (n : ℕ) → KindsMean rs n
 kinds-mean rs n =
