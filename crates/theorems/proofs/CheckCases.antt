@@ -1,4 +1,4 @@
--- Worked cases of Check, by computing the definitions: packs to which it answers yes, and one for each refusal.
+-- ChecksWorked cases of Check, by computing the definitions: packs to which it answers yes, and one for each refusal.
 use Prim.Native.Nat.{ℕ}
 use mathlib.Core.Path.{_≡_, refl}
 use mathlib.Core.List.{List, [], _∷_, _++_}
@@ -68,7 +68,7 @@ nested total depth =
 abbrev refusal : ℕ → ℕ → ℕ → ℕ → Answer
 refusal number place name other = Refused (record { number = number; place = place; name = name; other = other })
 
-pub record Worked : Type 0 where
+pub record ChecksWorked : Type 0 where
   pub smallest-yes : read smallest ≡ yes (record { edition = undated; names = 1; defaulted = []; relations = []; rules = []; blocks = [] })
   pub full-yes : checkAnswer full ≡ Given 1 0
   -- "Depth 32 passes."
@@ -90,7 +90,7 @@ pub record Worked : Type 0 where
   -- "8 words left over (place the first)"
   pub left-over : checkAnswer (w 1 7 ∷ w 2 1 ∷ w 3 0 ∷ w 5 0 ∷ w 22 0 ∷ w 28 0 ∷ w 28 0 ∷ []) ≡ refusal 8 6 0 0
 
-pub worked : Worked
+pub worked : ChecksWorked
 unfolding checkAnswer read layout inner records defaulted defaultedName relations relation newName relationTail nameList optionalDerivation derivation chain path hop member root tree follow heads fields rules rule bodies body blocks block blockItems item readBy allowedHere entryOf table fieldsOf childrenOf says whole
 worked =
     record {

@@ -22,3 +22,5 @@ pub mod WalksLaws
 pub mod RoundTripLaws
 pub mod OutputPlacesLaws
 pub mod PlacesCases
+pub mod LeaningLaws
+pub mod LeanCases

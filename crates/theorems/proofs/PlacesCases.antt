@@ -1,4 +1,4 @@
--- Worked cases of document 02, Job 2: where the records of small packs begin, and where they come out.
+-- PlacesWorked cases of document 02, Job 2: where the records of small packs begin, and where they come out.
 use mathlib.Core.Path.{_≡_, refl}
 use mathlib.Core.List.{[], _∷_}
 use mathlib.Core.Option.{none}
@@ -27,12 +27,12 @@ nothing = packed [] [] []
 abbrev chained : Pack
 chained = packed [] (withoutDerivation 5 (1 ∷ 2 ∷ []) ∷ withSource 6 5 none [] [] ∷ []) (ruled 2 (counting 0 1))
 
-pub record Worked : Type 0 where
+pub record PlacesWorked : Type 0 where
   pub empty : beginnings 0 (piecesOf nothing) ≡ 0 ∷ 4 ∷ 5 ∷ []
   pub before : beginnings 0 (piecesOf chained) ≡ 0 ∷ 4 ∷ 11 ∷ 24 ∷ 25 ∷ 35 ∷ []
   -- 6 comes out with both lists, four words longer: what stands behind it moves on by four
   pub after : mapDone (λ q. beginnings 0 (piecesOf q)) (resolved chained) ≡ done (0 ∷ 4 ∷ 11 ∷ 28 ∷ 29 ∷ 39 ∷ [])
 
-pub worked : Worked
+pub worked : PlacesWorked
 unfolding entryOf table fieldsOf childrenOf wordsBy count items tree root follow fields size defaultedName defaulted relation newName relationTail nameList optionalDerivation derivation chain path hop member rule bodies body block total walk own walksFrom find kindStep kindsOf startOf taken direct tables turn nodeStep resolveTree defaultedEqual resolveBodies ruleBy resolveRules predicateBy resolveRelation resolveRelations holds atomNames stamp resolved sums otherPieces
 worked = record { empty = refl; before = refl; after = refl }

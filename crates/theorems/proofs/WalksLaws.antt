@@ -10,8 +10,7 @@ use Rattle.definitions.specs.Filtered.{upTo, innerStep}
 use Rattle.chains.proofs.ChainLaws.{own-means, own-only}
 use Rattle.chains.proofs.KindLaws.{kind-leads}
 use Rattle.filtered.proofs.FilteredLaws.{inner-leads}
-use Rattle.kinds.proofs.LeanLaws.{leans-computes}
-use Rattle.theorems.specs.Walks.{KindsMean, InnermostMeans, LeanMeans}
+use Rattle.theorems.specs.Walks.{KindsMean, InnermostMeans}
 
 pub kinds-mean : (rs : List Relation) (n : ℕ) → KindsMean rs n
 kinds-mean rs n =
@@ -26,6 +25,3 @@ innermost-means direct names n =
       means = own-means none same refl (innerStep names direct) (upTo names) (inner-leads direct names) n;
       only = own-only none same refl (innerStep names direct) (upTo names) (inner-leads direct names) n;
     }
-
-pub lean-means : (rs : List Relation) (a b : ℕ) → LeanMeans rs a b
-lean-means rs a b = record { means = leans-computes rs a b .sound; only = leans-computes rs a b .complete }

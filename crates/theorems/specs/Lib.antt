@@ -4,3 +4,4 @@ pub mod Refusing
 pub mod Walks
 pub mod RoundTrips
 pub mod OutputPlaces
+pub mod Leaning

@@ -1,13 +1,11 @@
 -- What walks mean. The definitions compute with fuel; here stands that they answer what chains say without, and nothing else.
 use Prim.Native.Nat.{ℕ, _<_}
 use mathlib.Core.Path.{_≡_}
-use mathlib.Core.Bool.{true}
 use mathlib.Core.List.{List}
 use mathlib.Core.Option.{Option, none, some}
 use Rattle.definitions.specs.Records.{Relation}
 use Rattle.definitions.specs.Chain.{same, ChainAnswer, own}
 use Rattle.definitions.specs.Kinds.{KindsFound, kindStep, ownAnswer}
-use Rattle.definitions.specs.Lean.{Leads, edges, leans}
 use Rattle.definitions.specs.Filtered.{upTo, innerStep}
 
 -- "A relation's own walk starts at it with nothing settled before": it ends with the list that its chain of declarations comes to, and gives none
@@ -20,8 +18,3 @@ pub record KindsMean (rs : List Relation) (n : ℕ) : Type 0 where
 pub record InnermostMeans (direct : ℕ → Option ℕ) (names n : ℕ) : Type 0 where
   pub means : (a : Option ℕ) → own none same (innerStep names direct) (upTo names) n ≡ a → ChainAnswer same (innerStep names direct) none n a
   pub only : (a : Option ℕ) → ChainAnswer same (innerStep names direct) none n a → own none same (innerStep names direct) (upTo names) n ≡ a
-
--- "A leans on B if one or more source fields (12) lead from A to B"; "Lean now follows field 12 and every step's 14, to any depth."
-pub record LeanMeans (rs : List Relation) (a b : ℕ) : Type 0 where
-  pub means : leans rs a b ≡ true → Leads (edges rs) a b
-  pub only : Leads (edges rs) a b → leans rs a b ≡ true
