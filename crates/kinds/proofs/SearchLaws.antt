@@ -351,7 +351,7 @@ module _ (ws dir : List ℕ) (a b : ℕ) where
         let o = all-onward (edges a) s₀ all-asked in
         record {
           sound = all-sound edges a (edges a) s₀ all-asked (λ m i. straight i)
-          (record { leads = λ m h. absurd (h (asked .clear m)); listed = λ m h. absurd (h (asked .clear m)); queued = λ j h. absurd (omega arith) });
+              (record { leads = λ m h. absurd (h (asked .clear m)); listed = λ m h. absurd (h (asked .clear m)); queued = λ j h. absurd (omega arith) });
           most = omega (arith, unmarked-clear marks₀ (asked .clear), o .room);
           room = asked .room;
           marks = o .marks;

@@ -15,7 +15,14 @@ ghost use Rattle.chains.specs.PackDirectory.{DirectoryRoom};
 ghost use Rattle.definitions.specs.Operations.{leanAnswer};
 
 // Whether a name leans on another, by a directory, marks and a queue that are lent.
-fn lean_in(pack: &[u32], a: u32, b: u32, dir: &mut [u32], marks: &mut [u8], queue: &mut [u32]) -> Answer
+fn lean_in(
+    pack: &[u32],
+    a: u32,
+    b: u32,
+    dir: &mut [u32],
+    marks: &mut [u8],
+    queue: &mut [u32],
+) -> Answer
     requires { ⌜ DirectoryRoom (now pack) (now dir) (now marks) × (length (now marks) ≤ length (now queue)) ⌝ }
     ensures { λ r. ⌜ r ≡ leanAnswer (now (pack .entry)) a b ⌝ }
 {

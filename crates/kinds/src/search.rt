@@ -76,7 +76,14 @@ fn enter(pack: &[u32], start: usize, marks: &mut [u8], queue: &mut [u32], count:
 }
 
 // Whether one or more edges lead from a name to another.
-pub fn leads(pack: &[u32], dir: &[u32], a: usize, b: usize, marks: &mut [u8], queue: &mut [u32]) -> bool
+pub fn leads(
+    pack: &[u32],
+    dir: &[u32],
+    a: usize,
+    b: usize,
+    marks: &mut [u8],
+    queue: &mut [u32],
+) -> bool
     requires { ⌜ Searchable (now pack) (now dir) a b (now marks) (now queue) ⌝ }
     ensures { λ r. ⌜ Computes r (edgesBy (now (pack .entry)) (now (dir .entry))) a b ⌝ }
 {

@@ -12,14 +12,14 @@ use Rattle.definitions.specs.declared.table.Values.{Values}
 use Rattle.definitions.specs.declared.table.Values.the-variants.{Unused, Any, AtMost, FromOne, AtMostOrNone, Total, Name, NameOrNone}
 use Rattle.definitions.specs.Table.{pick, kindOf, valueOf, wordOf, allowed, entryOf, table}
 use Rattle.definitions.specs.Form.{allowedHere}
-use Rattle.pack.specs.Packed.{ruleFrom, entryFrom, plain, EndsBy, Ended, boundOf, mayBegin}
+use Rattle.pack.specs.Packed.{ruleFrom, entryFrom, headRule, EndsBy, Ended, boundOf, mayBegin}
 use Rattle.pack.proofs.Listed.{in-range}
 
 -- a kind with which a tree begins has one of the three rules
-pub heads-plain : (k : ℕ) → k < 256 → entryOf k .sort < 2 → plain (entryOf k .values) ≡ true
+pub head-rules : (k : ℕ) → k < 256 → entryOf k .sort < 2 → headRule (entryOf k .values) ≡ true
 unfolding entryOf table
-heads-plain k h s =
-    let e : pick (ltb (entryOf k .sort) 2) (plain (entryOf k .values)) true ≡ true = in-range (λ (k : ℕ). pick (ltb (entryOf k .sort) 2) (plain (entryOf k .values)) true) true 0 256 refl k (omega arith) h in
+head-rules k h s =
+    let e : pick (ltb (entryOf k .sort) 2) (headRule (entryOf k .values)) true ≡ true = in-range (λ (k : ℕ). pick (ltb (entryOf k .sort) 2) (headRule (entryOf k .values)) true) true 0 256 refl k (omega arith) h in
     rw (lt-ltb (entryOf k .sort) 2 s) at e
 
 -- it is among the 32 of its sort
@@ -39,7 +39,7 @@ no e = let z : _≡_ {A = ℕ} 0 1 = cc in absurd (omega arith)
 
 -- a rule's number that is neither any value's nor a name's
 third : (b2 b3 b4 b5 b7 : Bool) (l n v : ℕ)
-    → plain (pick b2 (AtMost l) (pick b3 (FromOne l) (pick b4 (AtMostOrNone l) (pick b5 Total (pick b7 NameOrNone Unused))))) ≡ true
+    → headRule (pick b2 (AtMost l) (pick b3 (FromOne l) (pick b4 (AtMostOrNone l) (pick b5 Total (pick b7 NameOrNone Unused))))) ≡ true
     → leb v l ≡ allowed (pick b2 (AtMost l) (pick b3 (FromOne l) (pick b4 (AtMostOrNone l) (pick b5 Total (pick b7 NameOrNone Unused))))) n v
 third true b3 b4 b5 b7 l n v p = refl
 third false true b4 b5 b7 l n v p = no p
@@ -83,7 +83,7 @@ module _ (x kind : ℕ) where
       let r : ℕ = x % 8 in
       let a : eqb (x % 8) 1 ≡ false = ne-eqb _ _ y in
       let d : eqb (x % 8) 6 ≡ false = ne-eqb _ _ z in
-      let q : plain (ruleFrom x) ≡ true = p s in
+      let q : headRule (ruleFrom x) ≡ true = p s in
       rw (lt-ltb (x / 65536 % 4) 2 s)
       (below-most kind (x / 8 % 8192) v ∙ rw (a, d) (third (eqb r 2) (eqb r 3) (eqb r 4) (eqb r 5) (eqb r 7) (x / 8 % 8192) n v (rw (a, d) at q)))
 

@@ -94,20 +94,20 @@ unfoldable pub mayBegin : ℕ → ℕ → ℕ → Bool
 mayBegin n sort w = eqb (entryOf (kindOf w) .sort) sort && allowedHere n (kindOf w) (valueOf w)
 
 -- the three rules of words that begin trees
-abbrev pub plain : Values → Bool
-plain Unused = false
-plain Any = true
-plain (AtMost m) = true
-plain (FromOne m) = false
-plain (AtMostOrNone m) = false
-plain Total = false
-plain Name = true
-plain NameOrNone = false
+abbrev pub headRule : Values → Bool
+headRule Unused = false
+headRule Any = true
+headRule (AtMost m) = true
+headRule (FromOne m) = false
+headRule (AtMostOrNone m) = false
+headRule Total = false
+headRule Name = true
+headRule NameOrNone = false
 
 -- by the number of a kind's entry: the words of the kind that may begin a tree are those below an end
 unfoldable pub EndsBy : ℕ → ℕ → ℕ → Type 0
 EndsBy x kind end =
-    (n v : ℕ) → v < 16777216 → (x % 8 ≡ 6 → x / 8 % 8192 ≡ n) → (entryFrom x .sort < 2 → plain (entryFrom x .values) ≡ true)
+    (n v : ℕ) → v < 16777216 → (x % 8 ≡ 6 → x / 8 % 8192 ≡ n) → (entryFrom x .sort < 2 → headRule (entryFrom x .values) ≡ true)
     → ltb (wordOf kind v) end ≡ (ltb (entryFrom x .sort) 2 && allowed (entryFrom x .values) n v)
 
 -- In an operation's table these ends stand 128 behind the kinds of trees.

@@ -4,6 +4,8 @@ pub struct Pack {}
 
 // A word is its kind, and its value below VALUES.
 impl Pack {
+    pub const KINDS: usize = 256;
+
     pub const VALUES: u32 = 16777216;
 
     pub const NONE: u32 = 16777215;
@@ -22,8 +24,8 @@ impl Pack {
     pub const CODES: usize = 65536;
 }
 
-// Notes: how many there are at most. A note's number has LOST more where membership is lost, and INSIDE times the number of the note
-// inside which it stands.
+// Notes: how many there are at most. A note's number is the place after its word, below LOST, with LOST more where membership is lost,
+// and INSIDE times the number of the note inside which it stands.
 impl Pack {
     pub const MOST_NOTES: u32 = 8192;
 

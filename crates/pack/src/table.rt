@@ -72,7 +72,7 @@ const ATOM: u32 = 13;
 
 const EXISTS: u32 = 14;
 
-const TABLE: [u32; 256] = [
+const TABLE: [u32; Pack::KINDS] = [
     UNUSED,
     WORD + TOTAL, // 1 total
     WORD + FROM_ONE + LIMIT * Pack::MOST_NAMES, // 2 N
@@ -370,14 +370,14 @@ fn follows_from(x: u32) -> Follows
 }
 
 // The table. A constant is copied wherever it is used, so an operation lends its own (`table_for`) to the functions that read by it.
-fn table() -> [u32; 256]
+fn table() -> [u32; Pack::KINDS]
     ensures { λ r. ⌜ Whole r ⌝ }
 {
     TABLE
 }
 
 // The entry of a kind.
-pub fn entry_of(t: &[u32; 256], kind: u32) -> Entry
+pub fn entry_of(t: &[u32; Pack::KINDS], kind: u32) -> Entry
     requires { ⌜ (kind < 128) × Tabled (now t) ⌝ }
     ensures { λ r. ⌜ r ≡ entryOf kind ⌝ }
 {
@@ -390,7 +390,7 @@ pub fn entry_of(t: &[u32; 256], kind: u32) -> Entry
 }
 
 // The sort of tree that begins with a word of this kind, or NO_TREE.
-pub fn sort_of(t: &[u32; 256], kind: u32) -> u32
+pub fn sort_of(t: &[u32; Pack::KINDS], kind: u32) -> u32
     requires { ⌜ (kind < 256) × Tabled (now t) ⌝ }
     ensures { λ r. ⌜ r ≡ entryOf kind .sort ⌝ }
 {
@@ -433,7 +433,7 @@ fn end_of(x: u32, kind: u32) -> u32
 
 // The table for a pack of so many names: the entries of the kinds below ENTRIES, of which those of names have N as their limit
 // among the kinds of trees; and ENTRIES behind each kind of trees where its words that may begin a tree end.
-pub fn table_for(n: u32) -> [u32; 256]
+pub fn table_for(n: u32) -> [u32; Pack::KINDS]
     requires { ⌜ n < 8192 ⌝ }
     ensures { λ r. ⌜ Tabled r × (boundOf r ≡ n) × Ended n r ⌝ }
 {
@@ -449,14 +449,14 @@ pub fn table_for(n: u32) -> [u32; 256]
 }
 
 // The N of such a table.
-pub fn bound(t: &[u32; 256]) -> u32
+pub fn bound(t: &[u32; Pack::KINDS]) -> u32
     ensures { λ r. ⌜ r ≡ boundOf (now (t .entry)) ⌝ }
 {
     t[Pack::DERIVED as usize] / LIMIT % LIMITS
 }
 
 // Whether a word may begin a tree of a sort. Of the kinds of trees, those of each sort stand among KINDS_OF_A_SORT.
-pub fn begins(t: &[u32; 256], sort: u32, w: u32) -> bool
+pub fn begins(t: &[u32; Pack::KINDS], sort: u32, w: u32) -> bool
     requires { ⌜ (sort < 2) × Ended (boundOf (now t)) (now t) ⌝ }
     ensures { λ r. ⌜ r ≡ mayBegin (boundOf (now (t .entry))) sort w ⌝ }
 {
@@ -503,7 +503,7 @@ pub fn how_many(follows: Follows, v: u32) -> u32
 }
 
 // How many children follow a word of this kind and the value v, where they are one, two or as many as the value says.
-pub fn children(t: &[u32; 256], kind: u32, v: u32) -> u32
+pub fn children(t: &[u32; Pack::KINDS], kind: u32, v: u32) -> u32
     requires { ⌜ (kind < 128) × Tabled (now t) × (inRow (entryOf kind .follows) ≡ true) ⌝ }
     ensures { λ r. ⌜ r ≡ howMany (entryOf kind .follows) v ⌝ }
 {

@@ -36,7 +36,7 @@ fn refused(number: u32, at: usize) -> usize
 }
 
 // The word that begins a tree of the sort, where so many levels are left: 0, or a refusal's code.
-fn head(s: &[u32], t: &[u32; 256], at: usize, sort: u32, left: u32) -> usize
+fn head(s: &[u32], t: &[u32; Pack::KINDS], at: usize, sort: u32, left: u32) -> usize
     requires { ⌜ Ready (now s) (now t) × (at ≤ length (now s)) × (sort < 2) ⌝ }
     ensures { λ r. ⌜ r ≡ fault (skipOver (word (heads sort left) (boundOf (now (t .entry)))) (now (s .entry)) at) ⌝ }
 {
@@ -107,7 +107,7 @@ fn atom(s: &[u32], at: usize) -> usize
 }
 
 // The slots of an OnlyRelated, and its input's or derived name.
-fn only_related(s: &[u32], t: &[u32; 256], at: usize) -> usize
+fn only_related(s: &[u32], t: &[u32; Pack::KINDS], at: usize) -> usize
     requires { ⌜ (length (now s) ≤ 8192) × (at ≤ length (now s)) ⌝ }
     ensures { λ r. ⌜ r ≡ codedStep (skipOver (fields (boundOf (now (t .entry))) (fieldsOf OnlyRelated)) (now (s .entry)) at) ⌝ }
 {
@@ -180,7 +180,7 @@ fn compares(s: &[u32], at: usize, left: u32) -> bool
 }
 
 // How many follow a word, by the table.
-fn by_table(t: &[u32; 256], kind: u32, v: u32) -> u32
+fn by_table(t: &[u32; Pack::KINDS], kind: u32, v: u32) -> u32
     requires { ⌜ (kind < 128) × Tabled (now t) × (v < 16777216) ⌝ }
     ensures { λ r. ⌜ r ≡ howMany (entryOf kind .follows) v ⌝ }
 {
@@ -237,7 +237,7 @@ fn lost(context: u32) -> u32
 // A row of scalars. The last one's own row, where it has one, takes the place of the row that ends with it.
 fn scalars(
     s: &[u32],
-    t: &[u32; 256],
+    t: &[u32; Pack::KINDS],
     start: usize,
     count: u32,
     levels: u32,
@@ -279,7 +279,7 @@ fn scalars(
 // A row of judgments, in the same way.
 fn judgments(
     s: &[u32],
-    t: &[u32; 256],
+    t: &[u32; Pack::KINDS],
     start: usize,
     count: u32,
     levels: u32,
@@ -319,7 +319,14 @@ fn judgments(
 }
 
 // The condition and the two cases of an If.
-fn choice(s: &[u32], t: &[u32; 256], at: usize, left: u32, context: u32, notes: &mut [u32]) -> usize
+fn choice(
+    s: &[u32],
+    t: &[u32; Pack::KINDS],
+    at: usize,
+    left: u32,
+    context: u32,
+    notes: &mut [u32],
+) -> usize
     requires { ⌜ Ready (now s) (now t) × (at ≤ length (now s)) × Based (now s) context ⌝ }
     ensures { λ r. ⌜ Sorted (boundOf (now (t .entry))) left (judgment ∷ scalar ∷ scalar ∷ []) context context (now (s .entry)) at (now (notes .entry)) r (now (notes .exit)) ⌝ }
 {
@@ -333,7 +340,7 @@ fn choice(s: &[u32], t: &[u32; 256], at: usize, left: u32, context: u32, notes: 
 // The subject of a NoMatch, and so many patterns, which lose the membership.
 fn patterns(
     s: &[u32],
-    t: &[u32; 256],
+    t: &[u32; Pack::KINDS],
     at: usize,
     count: u32,
     left: u32,
@@ -355,7 +362,7 @@ fn patterns(
 // that is the base of its context, and places in the part count on from there. Of a Comparison the two scalars are walked at once.
 fn aggregate(
     s: &[u32],
-    t: &[u32; 256],
+    t: &[u32; Pack::KINDS],
     at: usize,
     left: u32,
     context: u32,
@@ -380,7 +387,14 @@ fn aggregate(
 }
 
 // The arguments of an Exists, which is noted, and its body.
-fn exists(s: &[u32], t: &[u32; 256], at: usize, left: u32, context: u32, notes: &mut [u32]) -> usize
+fn exists(
+    s: &[u32],
+    t: &[u32; Pack::KINDS],
+    at: usize,
+    left: u32,
+    context: u32,
+    notes: &mut [u32],
+) -> usize
     requires { ⌜ Ready (now s) (now t) × (at ≤ length (now s)) × Based (now s) context ⌝ }
     ensures { λ r. ⌜ Shape (boundOf (now (t .entry))) left true Exists 0 context (now (s .entry)) at (now (notes .entry)) r (now (notes .exit)) ⌝ }
 {
@@ -395,7 +409,7 @@ fn exists(s: &[u32], t: &[u32; 256], at: usize, left: u32, context: u32, notes: 
 // What follows the head word of a scalar at a place.
 fn after_scalar(
     s: &[u32],
-    t: &[u32; 256],
+    t: &[u32; Pack::KINDS],
     at: usize,
     left: u32,
     context: u32,
@@ -420,7 +434,7 @@ fn after_scalar(
 // The same of one that is neither an aggregate nor a row of scalars. Aggregates, which are most, are told first.
 fn after_other(
     s: &[u32],
-    t: &[u32; 256],
+    t: &[u32; Pack::KINDS],
     at: usize,
     left: u32,
     context: u32,
@@ -455,7 +469,7 @@ fn after_other(
 // What follows the head word of a judgment at a place.
 fn after_judgment(
     s: &[u32],
-    t: &[u32; 256],
+    t: &[u32; Pack::KINDS],
     at: usize,
     left: u32,
     context: u32,
@@ -506,14 +520,20 @@ fn step_of(code: usize) -> Step
 }
 
 // The tree of a body or predicate in a context.
-pub fn scalar(s: &[u32], t: &[u32; 256], c: Cursor, context: u32, notes: &mut [u32]) -> Step
+pub fn scalar(s: &[u32], t: &[u32; Pack::KINDS], c: Cursor, context: u32, notes: &mut [u32]) -> Step
     requires { ⌜ Ready (now s) (now t) × (c .at ≤ length (now s)) × Context context ⌝ }
     ensures { λ r. ⌜ NotedStep (root (boundOf (now (t .entry))) scalar) (λ u. noteTree context u) (now (s .entry)) (c .at) (now (notes .entry)) r (now (notes .exit)) ⌝ }
 {
     step_of(scalars(s, t, c.at, 1, Pack::DEPTH, context, notes))
 }
 
-pub fn judgment(s: &[u32], t: &[u32; 256], c: Cursor, context: u32, notes: &mut [u32]) -> Step
+pub fn judgment(
+    s: &[u32],
+    t: &[u32; Pack::KINDS],
+    c: Cursor,
+    context: u32,
+    notes: &mut [u32],
+) -> Step
     requires { ⌜ Ready (now s) (now t) × (c .at ≤ length (now s)) × Context context ⌝ }
     ensures { λ r. ⌜ NotedStep (root (boundOf (now (t .entry))) judgment) (λ u. noteTree context u) (now (s .entry)) (c .at) (now (notes .entry)) r (now (notes .exit)) ⌝ }
 {

@@ -8,6 +8,7 @@ use crate::rule::rules;
 use definitions::answer::Refusal;
 use pack::cursor::Cursor;
 use pack::cursor::Step;
+use pack::kinds::Pack;
 use reading::tree::count;
 ghost use mathlib.Core.Path.{_≡_};
 ghost use Prim.Native.Nat.{_≤_};
@@ -34,7 +35,7 @@ pub fn refused(f: Step) -> Laid
 pub fn records(
     from: Cursor,
     s: &[u32],
-    t: &[u32; 256],
+    t: &[u32; Pack::KINDS],
     n: u32,
     dir: &mut [u32],
     notes: &mut [u32],

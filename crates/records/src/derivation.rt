@@ -154,7 +154,7 @@ fn derived(front: Front, many: u32) -> u32
 fn member(
     from: Cursor,
     s: &[u32],
-    t: &[u32; 256],
+    t: &[u32; Pack::KINDS],
     n: u32,
     front: Front,
     context: u32,
@@ -187,7 +187,7 @@ fn member(
 fn derivation(
     from: Cursor,
     s: &[u32],
-    t: &[u32; 256],
+    t: &[u32; Pack::KINDS],
     n: u32,
     kinds: u32,
     start: usize,
@@ -211,7 +211,7 @@ fn derivation(
 pub fn optional_derivation(
     from: Cursor,
     s: &[u32],
-    t: &[u32; 256],
+    t: &[u32; Pack::KINDS],
     n: u32,
     kinds: u32,
     start: usize,

@@ -20,8 +20,6 @@ impl Directory {
     pub const PLACES: u32 = Pack::MOST_WORDS as u32;
 }
 
-pub type Words = [u32; Directory::WORDS];
-
 // What is noted of a relation: how far behind its place the count of the list stands that settles it, 0 if no list does;
 // and, times OFFSETS, its link: 0 without a derivation, how far behind its place its slots stand, or OFFSETS and the name
 // that it leads on to.

@@ -22,7 +22,7 @@ ghost use Rattle.records.specs.Notes.{noteTail, noteBoth, noteAll};
 fn relation_tail(
     from: Cursor,
     s: &[u32],
-    t: &[u32; 256],
+    t: &[u32; Pack::KINDS],
     n: u32,
     start: usize,
     notes: &mut [u32],
@@ -70,7 +70,7 @@ fn new_name(from: Cursor, s: &[u32], n: u32, dir: &[u32]) -> Step
 fn relation(
     from: Cursor,
     s: &[u32],
-    t: &[u32; 256],
+    t: &[u32; Pack::KINDS],
     n: u32,
     dir: &mut [u32],
     i: usize,
@@ -97,7 +97,7 @@ fn relation(
 pub fn relations(
     from: Cursor,
     s: &[u32],
-    t: &[u32; 256],
+    t: &[u32; Pack::KINDS],
     n: u32,
     dir: &mut [u32],
     notes: &mut [u32],

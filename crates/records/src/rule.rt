@@ -14,7 +14,14 @@ ghost use Rattle.records.specs.Directory.{Noted};
 ghost use Rattle.records.specs.Notes.{noteBody, noteBodies, noteRule, noteRules};
 
 // A body: the sort of its tree, and the tree.
-fn body(from: Cursor, s: &[u32], t: &[u32; 256], n: u32, context: u32, notes: &mut [u32]) -> Step
+fn body(
+    from: Cursor,
+    s: &[u32],
+    t: &[u32; Pack::KINDS],
+    n: u32,
+    context: u32,
+    notes: &mut [u32],
+) -> Step
     requires { ⌜ ReadyFor (now s) (now t) n × Context context ⌝ }
     ensures { λ r. ⌜ Noted (λ b. 0) (body n) (noteBody context (from .at)) (now (s .entry)) (from .at) (now (notes .entry)) r (now (notes .exit)) ⌝ }
 {
@@ -30,7 +37,14 @@ fn body(from: Cursor, s: &[u32], t: &[u32; 256], n: u32, context: u32, notes: &m
 }
 
 // The semantics and the versions.
-fn bodies(from: Cursor, s: &[u32], t: &[u32; 256], n: u32, context: u32, notes: &mut [u32]) -> Step
+fn bodies(
+    from: Cursor,
+    s: &[u32],
+    t: &[u32; Pack::KINDS],
+    n: u32,
+    context: u32,
+    notes: &mut [u32],
+) -> Step
     requires { ⌜ ReadyFor (now s) (now t) n × Context context ⌝ }
     ensures { λ r. ⌜ Noted (λ b. 0) (bodies n) (noteBodies n context (from .at)) (now (s .entry)) (from .at) (now (notes .entry)) r (now (notes .exit)) ⌝ }
 {
@@ -55,7 +69,7 @@ fn bodies(from: Cursor, s: &[u32], t: &[u32; 256], n: u32, context: u32, notes: 
     Step::On(0, c)
 }
 
-fn rule(from: Cursor, s: &[u32], t: &[u32; 256], n: u32, notes: &mut [u32]) -> Step
+fn rule(from: Cursor, s: &[u32], t: &[u32; Pack::KINDS], n: u32, notes: &mut [u32]) -> Step
     requires { ⌜ ReadyFor (now s) (now t) n ⌝ }
     ensures { λ r. ⌜ ((i : ℕ) → Noted (λ b. 0) (rule n) (noteRule n i (from .at)) (now (s .entry)) (from .at) (now (notes .entry)) r (now (notes .exit))) ⌝ }
 {
@@ -77,7 +91,7 @@ fn rule(from: Cursor, s: &[u32], t: &[u32; 256], n: u32, notes: &mut [u32]) -> S
 }
 
 // The rules: how many.
-pub fn rules(from: Cursor, s: &[u32], t: &[u32; 256], n: u32, notes: &mut [u32]) -> Step
+pub fn rules(from: Cursor, s: &[u32], t: &[u32; Pack::KINDS], n: u32, notes: &mut [u32]) -> Step
     requires { ⌜ ReadyFor (now s) (now t) n ⌝ }
     ensures { λ r. ⌜ Noted (count list) (rules n) (noteRules n (from .at)) (now (s .entry)) (from .at) (now (notes .entry)) r (now (notes .exit)) ⌝ }
 {

@@ -6,7 +6,6 @@ use chains::entry::start;
 use chains::record::value_at;
 use inputs::inputs::after_block;
 use pack::kinds::Pack;
-use turning::turns::NoteCode;
 ghost use mathlib.Core.Path.{_≡_};
 ghost use Prim.Native.Nat.{_+_, _≤_};
 ghost use lib.ListN.{length};
@@ -58,10 +57,10 @@ fn order_rules(notes: &[u32], from: usize, all: usize, places: &mut [u32])
     while i <= all {
         let note = notes[i];
         i += 1;
-        if note / NoteCode::INSIDES != 0 {
+        if note / Pack::INSIDE != 0 {
             continue;
         }
-        places[k] = note % NoteCode::FIELDS - 1;
+        places[k] = note % Pack::LOST - 1;
         k += 1;
     }
 }

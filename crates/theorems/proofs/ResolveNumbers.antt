@@ -24,7 +24,7 @@ use Rattle.directions.proofs.Numbers.{refused-number}
 use Rattle.resolve.proofs.RefusalNames.{Told, resolved-told}
 
 -- a refusal of a checked pack: its place is a word's, its name and other are names of the pack
-pub record OfPack (ws : List ℕ) (r : Refusal) : Type 0 where
+pub record WithinPack (ws : List ℕ) (r : Refusal) : Type 0 where
   pub pack : Pack
   pub reads : read ws ≡ yes pack
   pub place : r .place < length ws
@@ -34,8 +34,8 @@ pub record OfPack (ws : List ℕ) (r : Refusal) : Type 0 where
 -- "Check's refusals, then 9 ..; 10 ..; 11 to 15. Then 16"
 pub data ResolveRefuses (ws : List ℕ) (r : Refusal) : Type 0 where
   checks : CheckRefuses ws r → ResolveRefuses ws r
-  equal-kinds : r .number ≡ 9 → OfPack ws r → ResolveRefuses ws r
-  open-direction : InRange (r .number) → OfPack ws r → ResolveRefuses ws r
+  equal-kinds : r .number ≡ 9 → WithinPack ws r → ResolveRefuses ws r
+  open-direction : InRange (r .number) → WithinPack ws r → ResolveRefuses ws r
   no-room : Refused r ≡ noRoom → ResolveRefuses ws r
 
 pub resolve-numbers : (ws : List ℕ) (room : ℕ) (r : Refusal) → resolveAnswer ws room ≡ Refused r → ResolveRefuses ws r
@@ -45,10 +45,10 @@ resolve-numbers ws room r e = go (read ws) refl e
     long : (p : Pack) → read ws ≡ yes p → total p ≡ length ws
     long p h = sym (words-length p) ∙ ap length (words-read ws p h .same)
 
-    told : (p : Pack) → read ws ≡ yes p → Told {A = Pack} (p .names) (total p) (refused r) → OfPack ws r
+    told : (p : Pack) → read ws ≡ yes p → Told {A = Pack} (p .names) (total p) (refused r) → WithinPack ws r
     told p h t = record { pack = p; reads = h; place = rw (← long p h) (t .0 .place); name = t .1; other = t .0 .other }
 
-    numbered : (9 ≤ r .number) × (r .number ≤ 15) → OfPack ws r → (b : Bool) → eqb (r .number) 9 ≡ b → ResolveRefuses ws r
+    numbered : (9 ≤ r .number) × (r .number ≤ 15) → WithinPack ws r → (b : Bool) → eqb (r .number) 9 ≡ b → ResolveRefuses ws r
     numbered n o true q = equal-kinds (eqb-true (r .number) 9 q) o
     numbered n o false q = let z = eqb-false (r .number) 9 q in open-direction (omega (arith, n .0), n .1) o
 

@@ -1,5 +1,4 @@
 // What stamping asks for, from the notes: which relations atoms and Exists name, and which predicates hold judgments of roles.
-use crate::turns::NoteCode;
 use pack::kinds::Pack;
 ghost use mathlib.Core.Path.{_≡_};
 ghost use lib.ListN.{set};
@@ -21,10 +20,10 @@ fn ask_note(pack: &[u32], note: u32, current: u32, table: &mut [u8]) -> u32
     requires { ⌜ MarkAsked (now pack) note ⌝ }
     ensures { λ r. ⌜ NoteMarked (now (pack .entry)) note current (now (table .entry)) r (now (table .exit)) ⌝ }
 {
-    let at = (note % NoteCode::FIELDS) as usize - 1;
+    let at = (note % Pack::LOST) as usize - 1;
     let word = pack[at];
     let kind = word / Pack::VALUES;
-    if note / NoteCode::INSIDES == 0 {
+    if note / Pack::INSIDE == 0 {
         if kind == Pack::RELATION {
             return word % Pack::VALUES;
         }

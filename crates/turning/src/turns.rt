@@ -21,15 +21,6 @@ ghost use Rattle.turning.specs.Notes.{Note, noteCode};
 ghost use Rattle.turning.specs.Turns.{held, insideOf};
 ghost use Rattle.turning.specs.TurnPromises.{NoteAsked, NoteTurned, TurnsAsked, NotesTurned, PackAsked, PackTurned};
 
-// A note's number: the place after its word below FIELDS, FIELDS where membership is lost, and INSIDES times what it stands inside.
-pub struct NoteCode {}
-
-impl NoteCode {
-    pub const FIELDS: u32 = Pack::MOST_WORDS as u32;
-
-    pub const INSIDES: u32 = 2 * NoteCode::FIELDS;
-}
-
 // A note, by its number, in a pack with these blocks.
 pub struct Here {
     pub i: usize,
@@ -75,7 +66,7 @@ fn set_slots(work: &mut [u32], at: usize, current: u32, related: u32)
 fn kept(note: u32, own: u32) -> u32
     ensures { λ r. ⌜ ((n : Note) → note ≡ noteCode n → n .place + 1 < 8192 → (ws : List ℕ) → memberIn ws r ≡ held (n .lost) (memberIn ws own)) ⌝ }
 {
-    if note / NoteCode::FIELDS % 2 == 0 {
+    if note / Pack::LOST % 2 == 0 {
         return own;
     }
     0
@@ -96,8 +87,8 @@ fn turn_node(
 {
     let i = here.i;
     let note = notes[i];
-    let at = (note % NoteCode::FIELDS) as usize - 1;
-    let entity = notes[(note / NoteCode::INSIDES) as usize];
+    let at = (note % Pack::LOST) as usize - 1;
+    let entity = notes[(note / Pack::INSIDE) as usize];
     let own = kept(note, root.own);
     let blocks = here.blocks;
     let origin = root.origin;
@@ -132,10 +123,10 @@ fn turn_note(
 {
     let i = here.i;
     let note = notes[i];
-    if note / NoteCode::INSIDES != 0 {
+    if note / Pack::INSIDE != 0 {
         return turn_node(pack, acts, taken, root, work, notes, here);
     }
-    let r = opened(pack, acts, (note % NoteCode::FIELDS) as usize - 1);
+    let r = opened(pack, acts, (note % Pack::LOST) as usize - 1);
     notes[i] = r.entity;
     Next::On(r)
 }

@@ -43,9 +43,10 @@ reach-path-requires : tie.Need-reach-path-requires
 reach-path-requires c κs =
     let at-source = c .before .before .before .before .before .before in let at-value = at-source .before .before .before in
     let at-count = at-value .before in let at-if2 = at-count .before in
-    let at-flag = at-if2 .before in let at-if1 = at-flag .before in let start = at-if1 .before .before .before .before in
-    (omega (arith, start .pre .0, at-count .kind-count .ensures .1),
-    path-then _ _ _ (derived _ _ (at-if1 .if1 .left) (at-flag .flag-at .ensures) (at-if2 .if2 .left) (at-count .kind-count .ensures .0)) (at-value .value-at .ensures .0) (start .pre .1) (at-source .reach-source .ensures))
+    let at-flag = at-if2 .before in let at-if1 = at-flag .before in let start = at-if1 .before .before .before .before in (
+      omega (arith, start .pre .0, at-count .kind-count .ensures .1),
+      path-then _ _ _ (derived _ _ (at-if1 .if1 .left) (at-flag .flag-at .ensures) (at-if2 .if2 .left) (at-count .kind-count .ensures .0)) (at-value .value-at .ensures .0) (start .pre .1) (at-source .reach-source .ensures),
+    )
 
 same-length : tie.Need-same-length
 same-length c = search needs

@@ -51,9 +51,10 @@ start-requires-2 c κs =
 
 enter-requires-2 : tie.Need-enter-requires-2 Inv-loop μ-loop
 enter-requires-2 c κs =
-    let at-start = c .before .before in let at-name = at-start .before in let at-if2 = at-name .before .before in
-    (omega (arith, at-start .start2 .ensures .1),
-    asked-next _ _ _ _ (at-if2 .before .before .before .loop .inv) (omega (arith, at-if2 .if2 .left)) (at-name .name-at .ensures) (at-start .start2 .ensures .0))
+    let at-start = c .before .before in let at-name = at-start .before in let at-if2 = at-name .before .before in (
+      omega (arith, at-start .start2 .ensures .1),
+      asked-next _ _ _ _ (at-if2 .before .before .before .loop .inv) (omega (arith, at-if2 .if2 .left)) (at-name .name-at .ensures) (at-start .start2 .ensures .0),
+    )
 
 add-i : tie.Need-add-i Inv-loop μ-loop
 add-i c =

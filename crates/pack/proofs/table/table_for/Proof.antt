@@ -14,9 +14,9 @@ use Rattle.definitions.specs.declared.table.Values.{Values}
 use Rattle.definitions.specs.declared.table.Values.the-variants.{Unused, Any, AtMost, FromOne, AtMostOrNone, Total, Name, NameOrNone}
 use Rattle.definitions.specs.Table.{table, allowed, wordOf, entryOf}
 use Rattle.definitions.specs.Form.{allowedHere}
-use Rattle.pack.specs.Packed.{ruleFrom, entryFrom, Entries, Whole, Tabled, lastOfTrees, boundOf, plain, EndsBy, Ended}
+use Rattle.pack.specs.Packed.{ruleFrom, entryFrom, Entries, Whole, Tabled, lastOfTrees, boundOf, headRule, EndsBy, Ended}
 use Rattle.pack.proofs.Listed.{in-range}
-use Rattle.pack.proofs.HeadLaws.{heads-plain, names-six}
+use Rattle.pack.proofs.HeadLaws.{head-rules, names-six}
 use Rattle.pack.proofs.table.table_for.Statement.{statement}
 use Rattle.pack.proofs.table.table_for.Tie as tie
 
@@ -82,8 +82,8 @@ module _ (n kind x end : ℕ) (t : List ℕ) (f : Filled n kind t) (last : kind 
           rw (k, here) (bound (names-six x m))
       go false e = ap (λ (y : ℕ). y / 8 % 8192) (elsewhere 84 (eqb-false 84 kind e) (λ q. omega arith)) ∙ f .bounds (omega (arith, eqb-false 84 kind e))
 
-  heads : entryFrom x .sort < 2 → plain (entryFrom x .values) ≡ true
-  heads = subst (λ (e : Entry). e .sort < 2 → plain (e .values) ≡ true) (sym entry) (heads-plain kind (omega arith))
+  heads : entryFrom x .sort < 2 → headRule (entryFrom x .values) ≡ true
+  heads = subst (λ (e : Entry). e .sort < 2 → headRule (e .values) ≡ true) (sym entry) (head-rules kind (omega arith))
 
   ends′ : EndedTo n (kind + 1) t′
   unfolding EndsBy allowedHere
