@@ -16,6 +16,7 @@ use Rattle.chains.specs.Record.{valueAt, stepsIn, pathIn}
 use Rattle.chains.proofs.Names.{apart, among-append, or-left, or-right, or-false}
 use Rattle.chains.specs.DirectoryWord.{Reaches, startsIn}
 use Rattle.kinds.specs.Edges.{derivedEdges, edgesIn, edgesBy}
+use Rattle.kinds.proofs.EdgeLaws.{at-none}
 use Rattle.kinds.specs.Search.{Search, searched, reached, reachedAll, unmarked, Reachable, Searchable, Computes}
 
 -- ---- marks that are clear
@@ -324,6 +325,16 @@ by-start ws dir n e = ap (edgesIn ws) e
 module _ (ws dir : List ℕ) (a b : ℕ) where
   abbrev edges : ℕ → List ℕ
   edges = edgesBy ws dir
+
+  pub undeclared : {start : ℕ} → start ≡ getD (startsIn dir) a 0 → start ≡ 0 → Computes false edges a b
+  undeclared {start} p z = record { sound = λ e. apart e refl; complete = λ l. absurd (leaves l) }
+    where
+      none-there : edges a ≡ []
+      none-there = sym (by-start ws dir a p) ∙ at-none ws start z
+
+      leaves : Leads edges a b → ⊥
+      leaves (straight e) = apart (sym (ap (among b) none-there) ∙ e) refl
+      leaves (onward {m = m} e l) = apart (sym (ap (among m) none-there) ∙ e) refl
 
   -- so many names of the queue are entered; there are marks and a queue for so many names
   pub record Searching (names long i : ℕ) (s : Search) : Type 0 where

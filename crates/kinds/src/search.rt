@@ -75,7 +75,7 @@ fn enter(pack: &[u32], start: usize, marks: &mut [u8], queue: &mut [u32], count:
     reach_path(pack, at + 2, marks, queue, found)
 }
 
-// Whether one or more edges lead from a name to another.
+// Whether one or more edges lead from a name to another. An undeclared name leads to none, and others may lead to it.
 pub fn leads(
     pack: &[u32],
     dir: &[u32],
@@ -87,6 +87,9 @@ pub fn leads(
     requires { ⌜ Searchable (now pack) (now dir) a b (now marks) (now queue) ⌝ }
     ensures { λ r. ⌜ Computes r (edgesBy (now (pack .entry)) (now (dir .entry))) a b ⌝ }
 {
+    if start(dir, a) == 0 {
+        return false;
+    }
     let mut count = enter(pack, start(dir, a), marks, queue, 0);
     let mut i: usize = 0;
     while marks[b] == 0 {
