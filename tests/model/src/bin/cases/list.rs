@@ -187,11 +187,13 @@ impl Case {
         &self.reading.as_ref().unwrap().pack
     }
 
-    /// The names of relations and of their sources.
+    /// The names of relations, of their sources and of the steps of their paths.
     pub fn met(&self) -> Vec<u32> {
         let Pack { n, relations, .. } = self.pack();
-        let sources = relations.iter().filter_map(|relation| relation.derived.as_ref()).map(|d| d.source);
-        let mut names: Vec<u32> = relations.iter().map(|r| r.name).chain(sources).filter(|name| name < n).collect();
+        let derived = || relations.iter().filter_map(|relation| relation.derived.as_ref());
+        let steps = derived().flat_map(|d| d.path.iter().flatten()).map(|step| step[0]);
+        let named = relations.iter().map(|r| r.name).chain(derived().map(|d| d.source)).chain(steps);
+        let mut names: Vec<u32> = named.filter(|name| name < n).collect();
         names.sort();
         names.dedup();
         names
