@@ -40,8 +40,7 @@ fn both_ways(list: &mut List, name: &str, pack: &Pack) {
 /// The same at the edges of rooms and names, for all names and all pairs of those that relations, sources and steps have.
 fn graph_edges(list: &mut List, name: &str, n: u32, relations: &[Relation]) {
     let case = list.ok(name, &of(n, relations).words());
-    let met = case.met();
-    let pairs: Vec<(u32, u32)> = met.iter().flat_map(|&a| met.iter().map(move |&b| (a, b))).collect();
+    let pairs = square(&case.pack().met());
     case.ask_edges(&(0..n).collect::<Vec<_>>(), &pairs);
 }
 
@@ -111,7 +110,7 @@ fn leans(list: &mut List, name: &str, n: u32, relations: &[Relation], wanted: &[
     let orders = [(format!("leaning-{name}"), relations), (format!("leaning-{name}-reversed"), &reversed)];
     for (name, relations) in orders.into_iter().take(relations.len()) {
         let case = list.ok(&name, &of(n, relations).words());
-        let pairs = square(&case.met());
+        let pairs = square(&case.pack().met());
         pairs.iter().for_each(|&(a, b)| case.call("lean", &[a, b]));
         let reading = case.reading.as_ref().unwrap();
         let leaning: Vec<_> = pairs.into_iter().filter(|&(a, b)| reading.lean(a, b).unwrap()).collect();
