@@ -173,7 +173,7 @@ impl Making<'_> {
     /// paths of none to eight steps, with a source and without one, with lists and without; relations where the way ends.
     pub fn paths(&mut self, names: Vec<u32>) -> Vec<Relation> {
         // How often a way ends and how often it leads elsewhere than on, in hundredths; how far on it leads at most.
-        let (ends, astray, far) = (20 + self.r.below(60), self.r.below(12), 1 + self.r.below(6));
+        let (ends, astray, far) = (2 + self.r.below(40), self.r.below(12), 1 + self.r.below(6));
         let mut out: Vec<Relation> = vec![];
         for (i, &name) in names.iter().enumerate() {
             let next = |m: &mut Self| {
