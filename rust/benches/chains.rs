@@ -79,13 +79,16 @@ fn tables() {
 
 const WORDS: [usize; 3] = [500, 2000, 8000];
 
+/// Makes so many relations.
+type Shape<'s> = &'s dyn Fn(u32) -> Vec<Relation>;
+
 /// From the first name on to the last one, and to a name that nothing leads to, for which each relation is entered.
 fn leaning() {
     headed(&["copy", "check", "lean, yes", "lean, no"]);
     let sources = |count| row(count, named(count - 1).kinds(&[1, 2]));
     // Eight ways from each relation to the next.
     let paths = |count: u32| (0..count).map(|name| named(name).path_over(name + 1, 8)).collect();
-    let shapes: [(&str, u32, &dyn Fn(u32) -> Vec<Relation>); 4] = [
+    let shapes: [(&str, u32, Shape); 4] = [
         ("sources", 13, &sources),
         ("eight steps", 37, &paths),
         ("layers", 37, &|count| layered(count, 4, 8)),
