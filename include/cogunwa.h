@@ -39,7 +39,7 @@
 /* The version of this header and of the library beside it. It is set here alone: tests/package holds the
  * other places to it. COGUNWA_VERSION is the text, "MAJOR.MINOR.PATCH". */
 #define COGUNWA_VERSION_MAJOR 0
-#define COGUNWA_VERSION_MINOR 1
+#define COGUNWA_VERSION_MINOR 2
 #define COGUNWA_VERSION_PATCH 0
 #define COGUNWA_VERSION COGUNWA_DOTTED_(COGUNWA_VERSION_MAJOR, COGUNWA_VERSION_MINOR, COGUNWA_VERSION_PATCH)
 #define COGUNWA_DOTTED_(major, minor, patch) COGUNWA_TEXT_(major) "." COGUNWA_TEXT_(minor) "." COGUNWA_TEXT_(patch)
@@ -153,10 +153,10 @@ COGUNWA_MUST_USE uint64_t cogunwa_resolve(const uint8_t *pack, size_t pack_len, 
  * or Check's refusal; or 17 where the name is not below N. */
 COGUNWA_MUST_USE uint64_t cogunwa_kinds_of(const uint8_t *pack, size_t pack_len, uint32_t name);
 
-/* Lean: value 1 where one or more source fields lead from the name `a` to the name `b`, otherwise 0;
- * lists and paths do not matter. A name leans on itself where its sources lead back to it. A name
- * that no relation has leans on nothing. Or Check's refusal; or 17 where a name is not below N, for
- * `a` before `b`. */
+/* Lean: value 1 where one or more sources (12) and steps of paths (14) lead from the name `a` to the
+ * name `b`, in any mixture, otherwise 0; lists of kinds do not matter. A name leans on itself only
+ * round a ring. A name that no relation has can be leant on, and leans on nothing. Or Check's
+ * refusal; or 17 where a name is not below N, for `a` before `b`. */
 COGUNWA_MUST_USE uint64_t cogunwa_lean(const uint8_t *pack, size_t pack_len, uint32_t a, uint32_t b);
 
 /* The filtered tables: each writes to `out` N words, one for each name e from 0 on, what it says of e

@@ -22,7 +22,7 @@ import os
 import struct
 from typing import Iterable, List, NamedTuple, Optional, Sequence, Union
 
-__version__ = "0.1.0"
+__version__ = "0.2.0"
 
 MIN_WORDS = 6
 MAX_WORDS = 8192
@@ -214,7 +214,7 @@ def kinds_of(pack: Pack, name: int) -> Optional[int]:
 
 
 def lean(pack: Pack, a: int, b: int) -> bool:
-    """Whether one or more source fields lead from the name a to the name b."""
+    """Whether one or more sources and steps of paths lead from the name a to the name b."""
     data = _bytes(pack)
     return _given(_library.cogunwa_lean(data, len(data), _name(a), _name(b)))[0] == 1
 

@@ -48,6 +48,13 @@ class Operations(unittest.TestCase):
     def test_lean(self):
         self.assertIs(cogunwa.lean(self.sample, 7, 9), True)
         self.assertIs(cogunwa.lean(self.sample, 9, 7), False)
+        # No source and a path: a step over 9, and one over 3, which no relation has.
+        steps = [cogunwa.word(kind, value) for name in (9, 3) for kind, value in ((14, name), (15, 0), (16, 1))]
+        path = self.sample[:17] + [cogunwa.word(12, cogunwa.NONE), cogunwa.word(13, 2)] + steps + self.sample[19:]
+        path[0] = cogunwa.word(1, len(path))
+        self.assertEqual([cogunwa.lean(path, 7, name) for name in (9, 3, 2, 7)], [True, True, False, False])
+        self.assertIs(cogunwa.lean(path, 3, 9), False)
+        self.assertIsNone(cogunwa.kinds_of(path, 7))
 
     def test_tables(self):
         self.assertEqual(cogunwa.direct(self.sample), [None] * 10)

@@ -5,9 +5,12 @@
 //!
 //! Check of the same pack, which each of them starts with, and a plain copy of the pack's bytes are measured beside them,
 //! in the same rounds. A pack without relations shows what a call takes however small the pack is.
+//!
+//! Then Lean on packs of about 500, 2,000 and 8,000 words, most of them with paths of eight steps. Eight steps take 24 words of
+//! a relation's 37, so that a pack has room for 221 such relations; of 512 relations 510 have room for one step.
 mod timed;
 
-use cogunwa_model::packs::{graph, named};
+use cogunwa_model::packs::{forked, graph, layered, named};
 use cogunwa_model::records::Relation;
 use std::hint::black_box;
 use timed::{ROUND, ROUNDS, Timed, median};
@@ -23,6 +26,10 @@ fn main() {
     kinds();
     println!();
     tables();
+    println!();
+    println!("Lean along sources and paths: nanoseconds a call, and for each word in brackets.");
+    println!();
+    leaning();
 }
 
 /// Relations in a row, each inheriting from the next, and one at the end.
@@ -68,6 +75,51 @@ fn tables() {
         let entities: Vec<Relation> = chain.into_iter().zip(0..).map(|(link, name)| link.entity(name)).collect();
         measure_tables("one chain", count, &graph(4096, &entities));
     }
+}
+
+const WORDS: [usize; 3] = [500, 2000, 8000];
+
+/// Makes so many relations.
+type Shape<'s> = &'s dyn Fn(u32) -> Vec<Relation>;
+
+/// From the first name on to the last one, and to a name that nothing leads to, for which each relation is entered.
+fn leaning() {
+    headed(&["copy", "check", "lean, yes", "lean, no"]);
+    let sources = |count| row(count, named(count - 1).kinds(&[1, 2]));
+    // Eight ways from each relation to the next.
+    let paths = |count: u32| (0..count).map(|name| named(name).path_over(name + 1, 8)).collect();
+    let shapes: [(&str, u32, Shape); 4] = [
+        ("sources", 13, &sources),
+        ("eight steps", 37, &paths),
+        ("layers", 37, &|count| layered(count, 4, 8)),
+        ("forks", 16, &|count| forked(count)),
+    ];
+    for (shape, each, relations) in shapes {
+        for words in WORDS {
+            let count = (words as u32 / each).min(512);
+            measure_leaning(shape, count, &graph(4096, &relations(count)));
+        }
+    }
+    measure_leaning("layers, most", 221, &graph(4096, &layered(221, 4, 8)));
+    measure_leaning("forks, most", 512, &graph(4096, &forked(512)));
+}
+
+fn measure_leaning(shape: &str, count: u32, words: &[u32]) {
+    let pack = &cogunwa::bytes_of(words);
+    let mut copy = vec![0u8; pack.len()];
+    let last = count - 1;
+    assert_eq!([last, 4095].map(|name| cogunwa::lean(pack, 0, name)), [Ok(true), Ok(false)]);
+    let times = times(&mut [
+        Box::new(|| black_box(&mut copy).copy_from_slice(black_box(pack))),
+        Box::new(|| seen(cogunwa::check(black_box(pack)))),
+        Box::new(|| seen(cogunwa::lean(black_box(pack), black_box(0), black_box(last)))),
+        Box::new(|| seen(cogunwa::lean(black_box(pack), black_box(0), black_box(4095)))),
+    ]);
+    print!("{shape:13} {count:>9} {:>6}", words.len());
+    for time in times {
+        print!(" {:>14}", format!("{time:.0} ({:.2})", time / words.len() as f64));
+    }
+    println!();
 }
 
 fn headed(columns: &[&str]) {

@@ -312,8 +312,9 @@ pub fn kinds_of(pack: &[u8], name: u32) -> Result<Option<usize>, Refusal> {
     take_apart(answer).map(|given| place_of(given.value))
 }
 
-/// Whether the name `a` leans on the name `b`: whether one or more source fields lead from `a` to `b`, whatever lists and
-/// paths stand beside them. A name in a ring of sources leans on itself; one that no relation has leans on nothing.
+/// Whether the name `a` leans on the name `b`: whether one or more sources and steps of paths lead from `a` to `b`, in any
+/// mixture, whatever lists of kinds stand beside them. A name leans on itself only round a ring; one that no relation has can
+/// be leant on, and leans on nothing. Kinds, unlike this, never pass through a path.
 ///
 /// # Errors
 ///
@@ -322,6 +323,7 @@ pub fn kinds_of(pack: &[u8], name: u32) -> Result<Option<usize>, Refusal> {
 /// ```
 /// # let hex = include_str!(concat!(env!("CARGO_MANIFEST_DIR"), "/../examples/household.hex"));
 /// # let pack = cogunwa::bytes_of(&cogunwa::words_of_hex(hex).unwrap());
+/// // 9 is the source of 7.
 /// assert_eq!(cogunwa::lean(&pack, 7, 9), Ok(true));
 /// assert_eq!(cogunwa::lean(&pack, 9, 7), Ok(false));
 /// ```

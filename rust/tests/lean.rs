@@ -3,11 +3,15 @@ mod beside;
 
 use cogunwa::{Refusal, bytes_of, lean};
 use cogunwa_model::damage::damaged;
+use cogunwa_model::dealt::dealt;
 use cogunwa_model::generate::Form;
-use cogunwa_model::packs::{self, graph, named};
+use cogunwa_model::packs::{self, forked, graph, layered, named};
 use cogunwa_model::records::Relation;
 use cogunwa_model::replay::by_chance;
-use cogunwa_model::{Chance, read, read_bytes};
+use cogunwa_model::{Chance, MOST_WORDS, read, read_bytes};
+use std::sync::mpsc;
+use std::thread;
+use std::time::Duration;
 
 fn unknown(name: u32) -> Result<bool, Refusal> {
     Err(Refusal { number: 17, place: 0, name, other: 0 })
@@ -30,7 +34,7 @@ fn worked_cases() {
     assert_eq!(leaning(9, &[named(1).source(2), named(2).source(3), named(3)]), [(1, 2), (1, 3), (2, 3)]);
     // An undeclared name is leant on and leans on nothing.
     assert_eq!(leaning(9, &[named(5).source(8)]), [(5, 8)]);
-    assert_eq!(leaning(9, &[named(5), named(6).derived(), named(7).path(2)]), []);
+    assert_eq!(leaning(9, &[named(5), named(6).derived(), named(7).path(0)]), []);
     // Rings, also of one, and what leads into them.
     assert_eq!(leaning(9, &[named(5).source(5)]), [(5, 5)]);
     assert_eq!(leaning(9, &[named(5).source(6), named(6).source(5)]), [(5, 5), (5, 6), (6, 5), (6, 6)]);
@@ -39,22 +43,41 @@ fn worked_cases() {
 }
 
 #[test]
-fn lists_and_paths_do_not_matter() {
-    let plain = [named(1).source(2), named(2).source(3), named(3).source(1)];
-    let all = leaning(5, &plain);
+fn steps_of_paths() {
+    assert_eq!(leaning(9, &[named(5).steps(&[6])]), [(5, 6)]);
+    assert_eq!(leaning(9, &[named(5).source(6).steps(&[7, 8]), named(7)]), [(5, 6), (5, 7), (5, 8)]);
+    // Every step counts, declared or not, and what it leads to.
+    let eight: Vec<u32> = (1..9).collect();
+    assert_eq!(leaning(9, &[named(0).steps(&eight)]), eight.iter().map(|&step| (0, step)).collect::<Vec<_>>());
+    assert_eq!(leaning(4, &[named(0).steps(&[2, 1]), named(1).source(3)]), [(0, 1), (0, 2), (0, 3), (1, 3)]);
+    assert_eq!(leaning(4, &[named(0).source(1), named(1).steps(&[2, 3])]), [(0, 1), (0, 2), (0, 3), (1, 2), (1, 3)]);
+    // A path without steps hides no source.
+    assert_eq!(leaning(4, &[named(1).source(2).path(0)]), [(1, 2)]);
+    // Rings, also of one, and what leads into them.
+    assert_eq!(leaning(9, &[named(7).path(2)]), [(7, 7)]);
+    assert_eq!(leaning(9, &[named(5).steps(&[6]), named(6).steps(&[5])]), [(5, 5), (5, 6), (6, 5), (6, 6)]);
+    let feeder = [named(0).steps(&[3, 1]), named(1).source(2), named(2).steps(&[1])];
+    assert_eq!(leaning(4, &feeder), [(0, 1), (0, 2), (0, 3), (1, 1), (1, 2), (2, 1), (2, 2)]);
+}
+
+#[test]
+fn nothing_else_matters() {
+    let plain = [named(1).source(2), named(2).steps(&[3]), named(3).source(1)];
+    let all = leaning(6, &plain);
     assert_eq!(all.len(), 9);
     for (i, relation) in plain.iter().enumerate() {
         let changes = [
-            relation.clone().kinds(&[1, 2]),
-            relation.clone().entities(&[2]),
-            relation.clone().path(0),
-            relation.clone().path(8),
-            relation.clone().entity(4).current_slot(7),
+            relation.clone().kinds(&[1, 5]),
+            relation.clone().entities(&[5]),
+            relation.clone().entity(5).current_slot(7),
+            relation.clone().member(5),
+            relation.clone().origin(5),
+            relation.clone().predicate(packs::same(packs::count(5, (0, 1), None), packs::leaf())),
         ];
         for changed in changes {
             let mut relations = plain.clone();
             relations[i] = changed;
-            assert_eq!(leaning(5, &relations), all);
+            assert_eq!(leaning(6, &relations), all);
         }
     }
 }
@@ -66,6 +89,10 @@ fn names_around_n() {
         let pack = bytes_of(&graph(names, &[named(last).source(0)]));
         assert_eq!(lean(&pack, last, 0), Ok(true));
         assert_eq!(lean(&pack, 0, last), Ok(false));
+        let steps = bytes_of(&graph(names, &[named(0).steps(&[0, last])]));
+        assert_eq!(lean(&steps, 0, last), Ok(true));
+        assert_eq!(lean(&steps, last, 0), Ok(false));
+        assert_eq!(lean(&steps, 0, names), unknown(names));
         for name in [names, names + 1, 4096, 65_536 + last, 0xFF_FFFF, (1 << 24) + last, u32::MAX - 1, u32::MAX] {
             assert_eq!(lean(&pack, name, 0), unknown(name), "{name} of {names}");
             assert_eq!(lean(&pack, last, name), unknown(name), "{name} of {names}");
@@ -105,6 +132,41 @@ fn long_chains_and_rings() {
     }
 }
 
+/// What is answered within a minute; without marks a search along so many ways would not end.
+fn soon<T: Send + 'static>(run: impl FnOnce() -> T + Send + 'static) -> T {
+    let (sender, receiver) = mpsc::channel();
+    thread::spawn(move || sender.send(run()));
+    receiver.recv_timeout(Duration::from_secs(60)).expect("an answer within a minute")
+}
+
+/// Relations in layers with eight steps each over all of the next two layers, as many as fit; and 512 with a source and a step
+/// each, which is as many steps as 512 relations have room for.
+#[test]
+fn many_ways() {
+    let layers = graph(4096, &layered(221, 4, 8));
+    assert!((MOST_WORDS - 37..=MOST_WORDS).contains(&layers.len()), "{}", layers.len());
+    leaning_far(layers, 234, |a, b| a < 221 && b >= (a / 4 + 1) * 4 && b < 232);
+    let forks = graph(4096, &forked(512));
+    assert_eq!(forks.len(), MOST_WORDS);
+    leaning_far(forks, 514, |a, b| a < b && b < 513);
+}
+
+/// Asks for some of so many names whether they lean on each, in the order of records and dealt out again.
+/// Asks for some first names with all second ones up to a number of names, in the order of records and dealt out again.
+fn leaning_far(words: Vec<u32>, names: u32, leans: impl Fn(u32, u32) -> bool + Send + 'static) {
+    soon(move || {
+        let pack = read(&words).unwrap().pack;
+        for pack in [&pack, &dealt(&mut Chance::new(4_242), &pack)] {
+            let bytes = bytes_of(&pack.words());
+            for a in (0..names).step_by(31).chain([1, names - 14, names - 13, names - 2, names - 1]) {
+                for b in 0..names {
+                    assert_eq!(lean(&bytes, a, b), Ok(leans(a, b)), "{a} on {b}");
+                }
+            }
+        }
+    });
+}
+
 #[test]
 fn bytes_that_are_no_pack() {
     let household = bytes_of(&packs::household());
@@ -128,7 +190,7 @@ fn bytes_that_are_no_pack() {
 #[test]
 fn packs_made_by_chance() {
     let mut counts = [0; 2];
-    let all = by_chance(14_142, 1500, &[Form::Mixed, Form::Tangled, Form::Tangled], |words, chance| {
+    let all = by_chance(14_142, 1500, &[Form::Mixed, Form::Tangled, Form::Paths], |words, chance| {
         let pack = bytes_of(words);
         let reading = read(words);
         let model = &reading.as_ref().unwrap().pack;

@@ -6,7 +6,7 @@ use cogunwa_model::records::Relation;
 use cogunwa_model::replay::by_chance;
 use cogunwa_model::{NONE, Reading, Refusal, word};
 
-const FORMS: [Form; 5] = [Form::Program, Form::Turning, Form::Mixed, Form::Tangled, Form::Entities];
+const FORMS: [Form; 6] = [Form::Program, Form::Turning, Form::Mixed, Form::Tangled, Form::Entities, Form::Paths];
 
 fn read(names: u32, relations: &[Relation]) -> Reading {
     cogunwa_model::read(&graph(names, relations)).unwrap()
@@ -20,7 +20,7 @@ fn takes(name: u32, entity: u32, kind: u32) -> Relation {
 #[test]
 fn all_kinds_own_walks_and_steps() {
     let (mut longest, mut rings, mut kinds) = (0, 0, 0);
-    let all = by_chance(27_182, 1500, &[Form::Tangled], |words, _| {
+    let all = by_chance(27_182, 1500, &[Form::Tangled, Form::Paths], |words, _| {
         let reading = cogunwa_model::read(words).unwrap();
         let (places, steps) = reading.all_kinds(8192).unwrap();
         assert_eq!(steps, reading.steps_by_sources());
@@ -66,7 +66,7 @@ fn places() {
 
 #[test]
 fn lean() {
-    // Sources lead on whatever lists and paths stand beside them, onto an undeclared name and no further.
+    // Sources lead on whatever lists stand beside them, onto an undeclared name and no further.
     let chain = [named(1).source(2), named(2).source(3).kinds(&[1]), named(3).source(4).path(0).entities(&[1])];
     let pack = read(9, &chain);
     for (a, b, leans) in [(1, 2, true), (1, 4, true), (2, 1, false), (1, 1, false), (4, 1, false), (3, 4, true)] {
@@ -75,6 +75,12 @@ fn lean() {
     let ring = read(9, &[named(1).source(2), named(2).source(1), named(3).source(1), named(4).derived()]);
     for (a, b, leans) in [(1, 1, true), (2, 2, true), (3, 2, true), (3, 3, false), (1, 3, false), (4, 4, false)] {
         assert_eq!(ring.lean(a, b), Ok(leans), "{a} on {b}");
+    }
+    // So do the steps of paths, each of them, beside a source and without one.
+    let steps =
+        read(9, &[named(1).steps(&[8, 2]), named(2).source(3).steps(&[4]), named(4).steps(&[5, 4]).kinds(&[1])]);
+    for (a, b, leans) in [(1, 8, true), (1, 3, true), (1, 5, true), (2, 8, false), (4, 4, true), (2, 2, false)] {
+        assert_eq!(steps.lean(a, b), Ok(leans), "{a} on {b}");
     }
     // The first name comes first.
     let unknown = |name| Err(Refusal { number: 17, place: 0, name, other: 0 });

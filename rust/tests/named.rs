@@ -30,5 +30,5 @@ fn large_packs() {
     }
     // All but one large pack, and of each deep tree the one that is not too deep.
     let all = large::all().len();
-    assert_eq!(accepted, 11 + (all - 12) / 2);
+    assert_eq!(accepted, 13 + (all - 14) / 2);
 }

@@ -12,7 +12,7 @@ use crate::rows::rows;
 use crate::trouble::{Outcome, Trouble, disagreement, refused, unusable};
 use crate::why::{Becomes, Reason};
 use crate::words::nearest;
-use crate::{say, tell};
+use crate::{leaning, say, tell};
 use std::collections::BTreeSet;
 use std::fmt::Write;
 
@@ -170,33 +170,54 @@ pub fn leans(args: &Args) -> Outcome<Done> {
             Ok(Done::text(if lines.is_empty() { none() } else { lines }))
         }
         [name] => {
-            let from = name_asked(&accepted, name);
+            let asked = name_asked(&accepted, name);
             // Lean refuses a name that the pack does not have, whatever the other one is.
-            cogunwa::lean(&accepted.input.bytes, from, 0).map_err(|r| no_name(&accepted, name, r))?;
-            Ok(Done::text(format!("{} leans on {}\n", accepted.show(from), leant_on(&accepted, from)?.1)))
+            cogunwa::lean(&accepted.input.bytes, asked, 0).map_err(|r| no_name(&accepted, name, r))?;
+            let on = format!("{} leans on {}\n", accepted.show(asked), leant_on(&accepted, asked)?.1);
+            Ok(Done::text(on + &leaning_on(&accepted, asked)?))
         }
         [a, b, ..] => {
             let [from, to] = [a, b].map(|name| name_asked(&accepted, name));
             let asked = if from >= accepted.pack.names { a } else { b };
             let leans = cogunwa::lean(&accepted.input.bytes, from, to).map_err(|r| no_name(&accepted, asked, r))?;
+            let way = leaning::find(&accepted.pack, from, to, leans)?;
             let [from, to] = [from, to].map(|name| accepted.show(name));
-            Ok(Done::text(if leans {
-                format!("yes: {from} leans on {to}\n")
-            } else {
-                format!("no: {from} does not lean on {to}\n")
+            Ok(Done::text(match way {
+                Some(way) => format!("yes: {from} leans on {to}: {}\n", leaning::told(&accepted, &way)),
+                None => format!("no: {from} does not lean on {to}\n"),
             }))
         }
     }
+}
+
+/// Whether the library says that a name of the pack leans on another.
+fn leans_on(accepted: &Accepted, name: u32, on: u32) -> Outcome<bool> {
+    let refused = |refusal| disagreement(format!("Lean refuses a name of the pack: {refusal}"));
+    cogunwa::lean(&accepted.input.bytes, name, on).map_err(refused)
+}
+
+/// The other relations that lean on a name, in words.
+fn leaning_on(accepted: &Accepted, name: u32) -> Outcome<String> {
+    let mut found = vec![];
+    for relation in accepted.pack.relations.iter().filter(|r| r.name != name && r.derivation.is_some()) {
+        if leans_on(accepted, relation.name, name)? {
+            found.push(relation.name);
+        }
+    }
+    let lean = match found.len() {
+        0 => "no other relation leans on".into(),
+        1 => format!("{} leans on", accepted.show(found[0])),
+        _ => format!("{} lean on", accepted.input.naming.joined(&found)),
+    };
+    Ok(format!("{lean} {}\n", accepted.show(name)))
 }
 
 /// The names that a relation leans on, asked of the library one by one; and the same in words.
 fn leant_on(accepted: &Accepted, name: u32) -> Outcome<(Vec<u32>, String)> {
     let mut found = vec![];
     for candidate in candidates(&accepted.pack) {
-        match cogunwa::lean(&accepted.input.bytes, name, candidate) {
-            Ok(true) => found.push(candidate),
-            Ok(false) => {}
-            Err(refusal) => return Err(disagreement(format!("Lean refuses a name of the pack: {refusal}"))),
+        if leans_on(accepted, name, candidate)? {
+            found.push(candidate);
         }
     }
     let itself = if found.contains(&name) { "; it stands in a ring" } else { "" };
@@ -204,10 +225,9 @@ fn leant_on(accepted: &Accepted, name: u32) -> Outcome<(Vec<u32>, String)> {
     Ok((found, said))
 }
 
-/// The names that any relation can lean on: those that derivations name.
+/// The names that any relation can lean on: those that derivations lead to.
 fn candidates(pack: &Pack) -> BTreeSet<u32> {
-    let derivations = pack.relations.iter().filter_map(|r| r.derivation.as_ref());
-    derivations.flat_map(|d| d.source.into_iter().chain(d.path.iter().flatten().map(|step| step.relation))).collect()
+    pack.relations.iter().flat_map(leaning::moves).map(|link| link.to).collect()
 }
 
 /// A row for each relation that leans on something. Large packs take many questions, so several threads ask them.

@@ -117,7 +117,10 @@ pub const COMMANDS: &[Command] = &[
         count: (1, 3),
         options: &[NAMES],
         summary: "which relations lean on which",
-        about: "Says on which names each relation leans, on which one relation leans, or whether it leans on one other.",
+        about: "Says on which names each relation leans: on its source, on the relations of its path's steps, and on all that\n\
+                these lean on. Of one relation it says also what leans on it: one that nothing leans on can be withdrawn. Of\n\
+                two it says whether the first leans on the second, and the way that leads there.\n\n\
+                The way is worked out from the pack and held to what the library answers.",
         run: answers::leans,
     },
     Command {

@@ -10,6 +10,7 @@ pub mod graph;
 pub mod held;
 pub mod input;
 pub mod layout;
+pub mod leaning;
 pub mod lex;
 pub mod limits;
 pub mod make;

@@ -33,7 +33,7 @@ fn page(accepted: &Accepted, found: &Findings) -> Outcome<String> {
     why_table(&mut out, accepted, found);
     section(&mut out, "The page", "Each relation with its slots and kinds, in record order, and whose kinds they are.");
     page_table(&mut out, accepted, found);
-    section(&mut out, "Leans", "Which relations lean on which names.");
+    section(&mut out, "Leans", "Which relations lean on which names, by sources and by the steps of paths.");
     table(&mut out, &["relation", "", "on"], &leans_rows(accepted)?);
     section(&mut out, "Entities", "What each entity that derivations name stands for.");
     table(&mut out, &TABLES, &tables_rows(accepted, found.facts, false));

@@ -2,7 +2,7 @@
 
 use crate::faults::{Fault::*, mistaken};
 use crate::read::Reading;
-use crate::records::NONE;
+use crate::records::{Derivation, NONE};
 use crate::{Outcome, fits};
 use std::collections::{BTreeSet, HashMap};
 
@@ -107,22 +107,52 @@ impl Reading {
         (self.pack.relations.len() + undeclared.len()) as u32
     }
 
+    /// Whether one or more sources and steps of paths lead from `a` to `b`. Each name is entered once.
     pub fn lean(&self, a: u32, b: u32) -> Outcome<bool> {
-        self.known(a)?;
-        self.known(b)?;
-        let mut passed = BTreeSet::new();
-        let mut at = a;
-        while let Some(source) = self.source(at).filter(|&source| passed.insert(source)) {
-            if source == b {
-                return Ok(true);
+        let [first, second] = if mistaken(SecondNameFirst) { [b, a] } else { [a, b] };
+        self.known(first)?;
+        self.known(second)?;
+        let mut reached = BTreeSet::new();
+        let mut open = vec![a];
+        while let Some(name) = open.pop() {
+            for next in self.edges(name) {
+                let by_step = self.derivation(name).is_some_and(|d| d.source != next);
+                if reached.insert(next) && !(by_step && mistaken(StepLeadsNoFurther)) {
+                    open.push(next);
+                }
             }
-            at = source;
         }
-        Ok(false)
+        Ok(reached.contains(&b) || mistaken(LeansOnItself) && a == b)
     }
 
-    fn source(&self, name: u32) -> Option<u32> {
-        let d = self.pack.relations[self.declared(name)?].derived.as_ref()?;
-        (d.source != NONE).then_some(d.source)
+    fn derivation(&self, name: u32) -> Option<&Derivation> {
+        self.pack.relations[self.declared(name)?].derived.as_ref()
+    }
+
+    /// What a name leans on at once: the source of its derivation, if it has one, then each step's relation. Lists do not
+    /// matter here. A name that no relation has leans on nothing.
+    fn edges(&self, name: u32) -> Vec<u32> {
+        let Some(d) = self.derivation(name) else { return vec![] };
+        if mistaken(ListEndsLeaning) && matches!(self.step(name), Step::Settles(Some(_))) {
+            return vec![];
+        }
+        let mut steps: Vec<u32> = d.path.iter().flatten().map(|step| step[0]).collect();
+        if mistaken(PathsNotFollowed) {
+            steps.clear();
+        }
+        if mistaken(FirstStepAlone) {
+            steps.truncate(1);
+        }
+        if mistaken(LastStepLost) {
+            steps.pop();
+        }
+        if mistaken(UndeclaredStepLost) {
+            steps.retain(|&step| self.declared(step).is_some());
+        }
+        if mistaken(MemberLeantOn) {
+            steps.push(d.member);
+        }
+        let source = [d.source].into_iter().filter(|_| !(mistaken(PathHidesSource) && d.path.is_some()));
+        source.chain(steps).filter(|&name| name != NONE).collect()
     }
 }

@@ -10,11 +10,12 @@ macro_rules! faults {
     };
 }
 
-/// Where a mistake shows: in Check, in the tables, in Resolve.
+/// Where a mistake shows: in Check, in the tables, in Lean, in Resolve.
 #[derive(Clone, Copy, Debug, PartialEq)]
 pub enum Of {
     Check,
     Tables,
+    Lean,
     Resolve,
 }
 
@@ -49,6 +50,16 @@ faults! {
     RelatedTaken Tables "entities take the kind at the related slot",
     AliasOfSelf Tables "an alias wherever a kind is taken",
     UnresolvedConflict Tables "unresolved where kinds disagree",
+    PathsNotFollowed Lean "leaning along sources alone",
+    FirstStepAlone Lean "leaning along the first step of a path alone",
+    LastStepLost Lean "leaning along all steps of a path but the last",
+    PathHidesSource Lean "no leaning on the source where there is a path",
+    UndeclaredStepLost Lean "no leaning on a step's relation that is not declared",
+    StepLeadsNoFurther Lean "leaning no further than a step's relation",
+    ListEndsLeaning Lean "leaning ended by a list of kinds",
+    LeansOnItself Lean "every name leaning on itself",
+    MemberLeantOn Lean "leaning on the member relation",
+    SecondNameFirst Lean "17 of Lean's second name first",
     InnermostForDirect Resolve "innermost where direct is meant",
     EntityAlone Resolve "the entity where direct is meant",
     PatternMembership Resolve "membership carried into patterns",

@@ -1,6 +1,6 @@
 //! Packs that go as far as they can in one way or another.
 
-use crate::packs::{self, Words, graph, named};
+use crate::packs::{self, Words, forked, graph, layered, named};
 use crate::records::NONE;
 
 /// All of them, with what they are; one has a word too many, and half of the deep trees a level.
@@ -11,6 +11,8 @@ pub fn all() -> Vec<(&'static str, Vec<u32>)> {
         ("512 sources in a row", sources(|name| name + 1)),
         ("512 sources in a row, back", sources(|name| (name + 513) % 514)),
         ("512 sources in a ring", sources(|name| (name + 1) % 512)),
+        ("221 paths of eight steps in layers", graph(4096, &layered(221, 4, 8))),
+        ("512 sources and 510 steps", graph(4096, &forked(512))),
         ("512 direct kinds in a row", kinds_in_a_row()),
         ("1,024 rules", rules(1024, &[(64, 0)])),
         ("4,000 atoms", atoms()),

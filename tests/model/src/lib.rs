@@ -1,5 +1,5 @@
-//! Document 01 in plain Rust, and packs to try it on: what the tests of the wrapper, the comparison with the original and the
-//! list of cases hold the library to. It shares no code with the library, the wrapper or the original.
+//! Document 01 in plain Rust, as document 02 changes it, and packs to try it on: what the tests of the wrapper, the comparison
+//! with the original and the list of cases hold the library to. It shares no code with the library, the wrapper or the original.
 //!
 //! - `records`: the records of a pack, and the words that they are written with
 //! - `read`: Check, from words to records; and Rewrite

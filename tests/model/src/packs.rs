@@ -124,7 +124,12 @@ impl Relation {
 
     /// A path of so many steps, each over a relation.
     pub fn path_over(self, relation: u32, steps: u32) -> Relation {
-        self.derive(|d| d.path = Some(vec![[relation, 0, 1]; steps as usize]))
+        self.steps(&vec![relation; steps as usize])
+    }
+
+    /// A path of steps over these relations.
+    pub fn steps(self, relations: &[u32]) -> Relation {
+        self.derive(|d| d.path = Some(relations.iter().map(|&relation| [relation, 0, 1]).collect()))
     }
 
     /// List 21.
@@ -152,11 +157,30 @@ impl Relation {
     pub fn entity(self, entity: u32) -> Relation {
         self.derive(|d| d.entity = entity)
     }
+
+    pub fn member(self, member: u32) -> Relation {
+        self.derive(|d| d.member = member)
+    }
 }
 
 /// A pack of these relations and nothing else. The first of them starts at word 4.
 pub fn graph(n: u32, relations: &[Relation]) -> Vec<u32> {
     Pack { n, relations: relations.to_vec(), ..Pack::default() }.words()
+}
+
+/// Relations from 0 on in layers of so many, each with so many steps over the names that follow its layer: with twice as many
+/// steps as a layer has relations, over all of the next two layers. The ways from the first name to the last are as many as
+/// a power of the layers; the last steps are over names that no relation has.
+pub fn layered(count: u32, layer: u32, steps: u32) -> Vec<Relation> {
+    let next = |name: u32| (name / layer + 1) * layer;
+    (0..count).map(|name| named(name).steps(&(next(name)..next(name) + steps).collect::<Vec<_>>())).collect()
+}
+
+/// Relations from 0 on, each with the next name for a source and a step over the one after that; the last two have no path, so
+/// that 512 of them fit.
+pub fn forked(count: u32) -> Vec<Relation> {
+    let forks = |name: u32| if name + 2 < count { named(name).path_over(name + 2, 1) } else { named(name) };
+    (0..count).map(|name| forks(name).source(name + 1)).collect()
 }
 
 // ---- packs of few words, and of many

@@ -1,5 +1,7 @@
 //! The records of a pack, and the words that document 01 gives them.
 
+use std::collections::BTreeSet;
+
 /// "None", where a name, a path count or an item count may be none.
 pub const NONE: u32 = 0xFF_FFFF;
 
@@ -206,6 +208,15 @@ impl Pack {
 
     pub fn words(&self) -> Vec<u32> {
         self.written().0
+    }
+
+    /// The names of relations, of their sources and of the steps of their paths, rising.
+    pub fn met(&self) -> Vec<u32> {
+        let derived = || self.relations.iter().filter_map(|relation| relation.derived.as_ref());
+        let sources = derived().map(|d| d.source).filter(|&source| source != NONE);
+        let steps = derived().flat_map(|d| d.path.iter().flatten()).map(|step| step[0]);
+        let names: BTreeSet<u32> = self.relations.iter().map(|r| r.name).chain(sources).chain(steps).collect();
+        names.into_iter().collect()
     }
 
     /// The node that stands at a place.

@@ -147,12 +147,23 @@ pub fn library_differs(words: &[u32], room: usize) -> Option<String> {
         if library::kinds_of(&bytes, name) != kinds.map(|place| place.unwrap_or(0)) {
             return Some(format!("kinds of {name}"));
         }
-        let other = (name * 7 + room as u32) % (n + 2);
-        if library::lean(&bytes, name, other) != reading.and_then(|reading| reading.lean(name, other)) {
-            return Some(format!("lean {name} {other}"));
-        }
+    }
+    let pairs = lean_pairs(reading.ok(), room as u32);
+    let differs = |&(a, b): &(u32, u32)| library::lean(&bytes, a, b) != reading.and_then(|reading| reading.lean(a, b));
+    if let Some((a, b)) = pairs.into_iter().find(differs) {
+        return Some(format!("lean {a} {b}"));
     }
     floor::differs(&bytes, room)
+}
+
+/// The pairs of names for which Lean is compared: of up to 41 names each with another, be it none of the pack's, and all pairs of up
+/// to eight that relations have or derivations lead to.
+pub fn lean_pairs(reading: Option<&Reading>, room: u32) -> Vec<(u32, u32)> {
+    let n = reading.map_or(3, |reading| reading.pack.n);
+    let met = reading.map_or(vec![], |reading| reading.pack.met());
+    let some: Vec<u32> = met.iter().copied().step_by(met.len().div_ceil(8).max(1)).collect();
+    let others = (0..=n.min(40)).map(|name| (name, (name * 7 + room) % (n + 2)));
+    others.chain(some.iter().flat_map(|&a| some.iter().map(move |&b| (a, b)))).collect()
 }
 
 /// The room for an operation that needs so many words: Resolve's own, and about as many for the others.

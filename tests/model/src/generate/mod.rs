@@ -23,6 +23,15 @@ pub enum Form {
     Tangled,
     /// Many derivations with an entity, whose kinds lead on, stay and go round.
     Entities,
+    /// Many derivations with paths, whose steps lead on beside their sources.
+    Paths,
+}
+
+impl Form {
+    /// Whether its packs have relations, many of them, and no other records.
+    fn is_graph(self) -> bool {
+        matches!(self, Form::Tangled | Form::Entities | Form::Paths)
+    }
 }
 
 /// A pack and the texts of its names; none where names are but numbers.
@@ -147,7 +156,7 @@ fn first_form(r: &mut Chance, form: Form) -> Made {
         }
         Form::Turning => (Names::numbers(r, form), 1 + r.below(18)),
         Form::Mixed => (Names::numbers(r, form), 1 + r.below(20)),
-        Form::Tangled | Form::Entities => (Names::numbers(r, form), 512),
+        Form::Tangled | Form::Entities | Form::Paths => (Names::numbers(r, form), 512),
     };
     let Names { n, used, origins, texts } = names;
     let few_kinds = matches!(form, Form::Program | Form::Turning);
@@ -164,19 +173,22 @@ fn first_form(r: &mut Chance, form: Form) -> Made {
     let mut m =
         Making { r, form, n, used, kinds, relations: relation_names.clone(), inputs, origins, busy, only, twins };
     let mut declared = relation_names;
-    match form {
-        Form::Tangled | Form::Entities => {
-            let often = 10 + m.r.below(91);
-            declared.retain(|_| m.r.often(often));
-        }
-        _ => declared.retain(|_| !m.r.once(8)),
+    if form.is_graph() {
+        let often = 10 + m.r.below(91);
+        declared.retain(|_| m.r.often(often));
+    } else {
+        declared.retain(|_| !m.r.once(8));
     }
-    let mut relations = if form == Form::Entities { m.entities(declared) } else { m.graph(declared) };
+    let mut relations = match form {
+        Form::Entities => m.entities(declared),
+        Form::Paths => m.paths(declared),
+        _ => m.graph(declared),
+    };
     if few_kinds && m.r.once(3) {
         m.filters(&mut relations);
     }
     m.r.mix(&mut relations);
-    if matches!(form, Form::Tangled | Form::Entities) {
+    if form.is_graph() {
         return Made { pack: Pack { n, relations, ..Pack::default() }, texts };
     }
     let rules = m.r.one(&[0, 1, 1, 2, 3, 5]);

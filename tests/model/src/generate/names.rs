@@ -37,18 +37,14 @@ impl Names {
             _ => 1 + r.below(40),
         };
         let n = if r.often(if form == Form::Turning { 95 } else { 90 }) { few } else { 4096 };
-        let most = match form {
-            Form::Tangled | Form::Entities => 2 + r.below(300),
-            _ => 60,
-        };
+        let most = if form.is_graph() { 2 + r.below(300) } else { 60 };
         let mut used: Vec<u32> = (0..n).collect();
-        match form {
+        if form.is_graph() {
             // The last names, which lead from one to the next.
-            Form::Tangled | Form::Entities => drop(used.drain(..n.saturating_sub(most) as usize)),
-            _ => {
-                r.mix(&mut used);
-                used.truncate(most as usize);
-            }
+            used.drain(..n.saturating_sub(most) as usize);
+        } else {
+            r.mix(&mut used);
+            used.truncate(most as usize);
         }
         let origins = match form {
             Form::Turning => vec![used[0], used[1], used[2], NONE, NONE],

@@ -169,6 +169,37 @@ impl Making<'_> {
         }
     }
 
+    /// Derivations for Lean: sources and steps of paths that lead on to names near by, now and then back or to any name;
+    /// paths of none to eight steps, with a source and without one, with lists and without; relations where the way ends.
+    pub fn paths(&mut self, names: Vec<u32>) -> Vec<Relation> {
+        // How often a way ends and how often it leads elsewhere than on, in hundredths; how far on it leads at most.
+        let (ends, astray, far) = (2 + self.r.below(40), self.r.below(12), 1 + self.r.below(6));
+        let mut out: Vec<Relation> = vec![];
+        for (i, &name) in names.iter().enumerate() {
+            let next = |m: &mut Self| {
+                let on = i + 1 + m.r.below(far) as usize;
+                if m.r.often(astray) { m.name() } else { names.get(on).copied().unwrap_or_else(|| m.name()) }
+            };
+            if self.r.often(ends) {
+                let kinds = self.list();
+                let relation = self.relation(name, kinds, None);
+                out.push(relation);
+                continue;
+            }
+            let source = if self.r.once(2) { next(self) } else { NONE };
+            let mut d = self.derivation(source);
+            if !self.r.once(3) {
+                let steps = self.r.one(&[0, 1, 1, 2, 2, 3, 8]);
+                d.path = Some((0..steps).map(|_| [next(self), self.slot(), self.slot()]).collect());
+            }
+            d.kinds = if self.r.once(4) { self.list() } else { vec![] };
+            let kinds = if self.r.once(5) { self.list() } else { vec![] };
+            let relation = self.relation(name, kinds, Some(d));
+            out.push(relation);
+        }
+        out
+    }
+
     /// Derivations for the filtered tables: entities that take no kind, one, one more than once and several; kinds that lead
     /// on, stay and go round; slots in and out of range; derivations without an entity.
     pub fn entities(&mut self, names: Vec<u32>) -> Vec<Relation> {

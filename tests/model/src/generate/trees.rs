@@ -170,7 +170,7 @@ impl Making<'_> {
     }
 
     pub fn predicate(&mut self) -> Tree {
-        if matches!(self.form, Form::Tangled | Form::Entities) {
+        if self.form.is_graph() {
             return Tree::leaf(self.r.one(&[104, 106]), 0);
         }
         match self.r.below(12) {

@@ -8,12 +8,13 @@ use cogunwa_model::records::Pack;
 use cogunwa_model::{Chance, Reading, read};
 
 /// The forms, how many packs of each and of how many words at most.
-const FORMS: [(Form, usize, usize); 5] = [
+const FORMS: [(Form, usize, usize); 6] = [
     (Form::Program, 86, 110),
     (Form::Turning, 73, 125),
     (Form::Mixed, 16, 220),
     (Form::Tangled, 20, 180),
     (Form::Entities, 20, 160),
+    (Form::Paths, 24, 200),
 ];
 
 fn reading(pack: &Pack) -> Reading {

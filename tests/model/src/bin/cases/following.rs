@@ -2,12 +2,14 @@
 
 use crate::list::{List, TABLES};
 use crate::make::*;
-use cogunwa_model::packs::{named, typed, with_total};
+use cogunwa_model::packs::{forked, layered, named, typed, with_total};
 use cogunwa_model::records::{NONE, Pack, Relation, Rule};
 use cogunwa_model::{packs, word};
 
 pub fn sections(list: &mut List) {
     worked(list);
+    leaning(list);
+    leaning_far(list);
     graphs(list);
     lists(list);
     many(list);
@@ -35,11 +37,10 @@ fn both_ways(list: &mut List, name: &str, pack: &Pack) {
     }
 }
 
-/// The same at the edges of rooms and names, for all names and all pairs of those that relations and sources have.
+/// The same at the edges of rooms and names, for all names and all pairs of those that relations, sources and steps have.
 fn graph_edges(list: &mut List, name: &str, n: u32, relations: &[Relation]) {
     let case = list.ok(name, &of(n, relations).words());
-    let met = case.met();
-    let pairs: Vec<(u32, u32)> = met.iter().flat_map(|&a| met.iter().map(move |&b| (a, b))).collect();
+    let pairs = square(&case.pack().met());
     case.ask_edges(&(0..n).collect::<Vec<_>>(), &pairs);
 }
 
@@ -101,6 +102,124 @@ fn worked(list: &mut List) {
         &[follows(0, 1), follows(1, 0), follows(2, 0), follows(3, 2), follows(4, 4)],
     );
     assert!(lean(list, 0, 0) && lean(list, 3, 1) && lean(list, 4, 4) && !lean(list, 2, 2) && !lean(list, 0, 2));
+}
+
+/// Lean for all pairs of names that a pack of these relations meets, of which just these lean; and the same reversed.
+fn leans(list: &mut List, name: &str, n: u32, relations: &[Relation], wanted: &[(u32, u32)]) {
+    let reversed: Vec<Relation> = relations.iter().rev().cloned().collect();
+    let orders = [(format!("leaning-{name}"), relations), (format!("leaning-{name}-reversed"), &reversed)];
+    for (name, relations) in orders.into_iter().take(relations.len()) {
+        let case = list.ok(&name, &of(n, relations).words());
+        let pairs = square(&case.pack().met());
+        pairs.iter().for_each(|&(a, b)| case.call("lean", &[a, b]));
+        let reading = case.reading.as_ref().unwrap();
+        let leaning: Vec<_> = pairs.into_iter().filter(|&(a, b)| reading.lean(a, b).unwrap()).collect();
+        assert_eq!(leaning, wanted, "{name}");
+    }
+}
+
+/// All pairs of these names.
+fn square(names: &[u32]) -> Vec<(u32, u32)> {
+    names.iter().flat_map(|&a| names.iter().map(move |&b| (a, b))).collect()
+}
+
+/// All pairs of a name and a later one, of so many.
+fn rising(count: u32) -> Vec<(u32, u32)> {
+    (0..count).flat_map(|a| (a + 1..count).map(move |b| (a, b))).collect()
+}
+
+fn leaning(list: &mut List) {
+    list.section("chains: what leans on what by steps of paths and by sources; the pairs were found by hand");
+    leans(list, "step", 4, &[named(1).steps(&[2]), named(2)], &[(1, 2)]);
+    leans(list, "source-and-step", 5, &[follows(1, 2).steps(&[3]), named(2), named(3)], &[(1, 2), (1, 3)]);
+    let eight: Vec<u32> = (1..9).collect();
+    let on_each: Vec<(u32, u32)> = eight.iter().map(|&step| (0, step)).collect();
+    leans(list, "eight-steps", 9, &[named(0).steps(&eight)], &on_each);
+    leans(list, "eight-steps-one-declared", 9, &[follows(0, 8).steps(&eight), named(5)], &on_each);
+    leans(list, "steps-of-one-relation", 3, &[named(0).path_over(2, 8), follows(2, 1)], &[(0, 1), (0, 2), (2, 1)]);
+    leans(list, "no-steps", 3, &[follows(1, 2).path(0), named(2)], &[(1, 2)]);
+    leans(list, "no-steps-and-no-source", 3, &[named(1).path(0), named(2).derived()], &[]);
+    // Names stand in other fields too, and nothing leans on these.
+    let elsewhere = named(1).origin(2).kinds(&[2]).entities(&[2]).entity(2).member(2).predicate(exists(2, atom(2)));
+    leans(list, "other-fields", 4, &[elsewhere.clone(), named(2)], &[]);
+    leans(list, "other-fields-and-a-step", 5, &[elsewhere.steps(&[3]), named(2), named(3)], &[(1, 3)]);
+    // Steps of one path do not lean on each other.
+    let diamond = [named(0).steps(&[1, 2]), follows(1, 3), named(2).steps(&[3]), named(3)];
+    leans(list, "diamond", 4, &diamond, &[(0, 1), (0, 2), (0, 3), (1, 3), (2, 3)]);
+    // Rings by a step, and by a source and a step; of one name; what leads in, and what a ring leads to.
+    leans(list, "ring-of-steps", 3, &[named(1).steps(&[2]), named(2).steps(&[1])], &square(&[1, 2]));
+    leans(list, "ring-by-a-last-step", 4, &[follows(1, 2), follows(2, 0).steps(&[0, 0, 1])], &{
+        [(1, 0), (1, 1), (1, 2), (2, 0), (2, 1), (2, 2)]
+    });
+    leans(list, "step-over-itself", 3, &[named(1).steps(&[1])], &[(1, 1)]);
+    leans(list, "last-step-over-itself", 3, &[follows(1, 2).steps(&[2, 2, 1]), named(2)], &[(1, 1), (1, 2)]);
+    let fed = [named(0).steps(&[1]), follows(1, 2), named(2).steps(&[4, 3]), named(3).steps(&[1]), follows(4, 5)];
+    let into = [1, 2, 3, 4, 5].map(|b| (0, b));
+    let round = [1, 2, 3].into_iter().flat_map(|a| (1..6).map(move |b| (a, b)));
+    leans(list, "ring-fed", 6, &fed, &into.into_iter().chain(round).chain([(4, 5)]).collect::<Vec<_>>());
+    let two = [named(0).steps(&[1, 0]), named(1).steps(&[2]), follows(2, 1), named(3).steps(&[3])];
+    leans(list, "rings-apart", 4, &two, &[(0, 0), (0, 1), (0, 2), (1, 1), (1, 2), (2, 1), (2, 2), (3, 3)]);
+    // Undeclared names are leant on, by any step, and lean on nothing.
+    let lost = [named(1).steps(&[5, 2, 6]), named(2), follows(3, 1), named(0).steps(&[3])];
+    let of_lost = [2, 5, 6].map(|b| (1, b)).into_iter().chain([1, 2, 5, 6].map(|b| (3, b)));
+    leans(
+        list,
+        "undeclared-steps",
+        7,
+        &lost,
+        &[1, 2, 3, 5, 6].map(|b| (0, b)).into_iter().chain(of_lost).collect::<Vec<_>>(),
+    );
+    // A source and a step in turn; lists settle nothing here.
+    let turns = |kinds: &[u32]| {
+        let link = |name: u32| if name % 2 == 0 { follows(name, name + 1) } else { named(name).steps(&[name + 1]) };
+        let listed = |name: u32| if name % 3 == 0 { link(name).kinds(kinds) } else { link(name).entities(kinds) };
+        (0..6).map(listed).collect::<Vec<Relation>>()
+    };
+    leans(list, "in-turn", 7, &turns(&[]), &rising(7));
+    leans(list, "in-turn-lists", 7, &turns(&[1, 2]), &rising(7));
+    let mut cut = turns(&[]);
+    cut[3] = typed(3, &[4, 5]);
+    let until_three: Vec<_> = rising(7).into_iter().filter(|&(a, b)| a < 3 && b < 4 || a > 3).collect();
+    leans(list, "in-turn-cut", 7, &cut, &until_three);
+    // Each over all of the next two layers, the last two over names that are not declared.
+    let layers: Vec<_> = (0..8).flat_map(|a| (a / 2 * 2 + 2..12).map(move |b| (a, b))).collect();
+    leans(list, "in-layers", 12, &layered(8, 2, 4), &layers);
+}
+
+fn leaning_far(list: &mut List) {
+    list.section("chains: leaning along many steps, and of names about N");
+    for n in [2, 4096] {
+        let last = n - 1;
+        let about = [(0, last), (last, 0), (0, 0), (last, last), (0, n), (n, 0), (last, n), (n, n + 1), (u32::MAX, 0)];
+        for (name, relation) in [("to", named(0).steps(&[last])), ("from", named(last).steps(&[0, last]))] {
+            let case = list.ok(&format!("leaning-{name}-{last}"), &of(n, &[relation]).words());
+            about.iter().for_each(|&(a, b)| case.call("lean", &[a, b]));
+        }
+    }
+    // As many as fit: paths of eight steps in layers, a source and a step each, a ring of steps.
+    let ring: Vec<Relation> = (0..511).map(|name| named(name).steps(&[(name + 1) % 511])).collect();
+    let dealt = |relations: &[Relation]| {
+        let (even, odd): (Vec<_>, Vec<_>) = relations.iter().cloned().partition(|relation| relation.name % 2 == 0);
+        [even, odd].concat()
+    };
+    for (name, relations, round) in [
+        ("layers", layered(221, 4, 8), false),
+        ("layers-dealt", dealt(&layered(221, 4, 8)), false),
+        ("forks", forked(512), false),
+        ("forks-dealt", dealt(&forked(512)), false),
+        ("ring", ring, true),
+    ] {
+        let last = relations.len() as u32 - 1;
+        let case = list.ok(&format!("leaning-far-{name}"), &of(4096, &relations).words());
+        for at in [0, 1, 5, 100, last - 1, last] {
+            [(0, at), (at, last), (at, at), (last, at), (at, 4095)]
+                .iter()
+                .for_each(|&(a, b)| case.call("lean", &[a, b]));
+        }
+        let reading = case.reading.as_ref().unwrap();
+        let found = [(0, last), (last, 0), (last, last), (0, 4095)].map(|(a, b)| reading.lean(a, b).unwrap());
+        assert_eq!(found, [true, round, round, false], "{name}");
+    }
 }
 
 fn graphs(list: &mut List) {

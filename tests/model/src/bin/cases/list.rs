@@ -183,24 +183,14 @@ impl Case {
         }
     }
 
-    fn pack(&self) -> &Pack {
+    pub fn pack(&self) -> &Pack {
         &self.reading.as_ref().unwrap().pack
-    }
-
-    /// The names of relations and of their sources.
-    pub fn met(&self) -> Vec<u32> {
-        let Pack { n, relations, .. } = self.pack();
-        let sources = relations.iter().filter_map(|relation| relation.derived.as_ref()).map(|d| d.source);
-        let mut names: Vec<u32> = relations.iter().map(|r| r.name).chain(sources).filter(|name| name < n).collect();
-        names.sort();
-        names.dedup();
-        names
     }
 
     /// Pairs of names, some that lean and as many that do not: the first, one between and the last.
     pub fn pairs(&self) -> Vec<(u32, u32)> {
         let reading = self.reading.as_ref().unwrap();
-        let met = self.met();
+        let met = self.pack().met();
         let pairs = met.iter().flat_map(|&a| met.iter().map(move |&b| (a, b)));
         let (yes, no): (Vec<_>, Vec<_>) = pairs.partition(|&(a, b)| reading.lean(a, b) == Ok(true));
         let some = |all: Vec<(u32, u32)>| {
@@ -229,7 +219,7 @@ impl Case {
     }
 
     pub fn ask(&mut self) {
-        self.ask_of(&self.met(), &self.pairs());
+        self.ask_of(&self.pack().met(), &self.pairs());
     }
 
     /// The same at the edges of rooms, for these names and for numbers that are none; of a refused pack too.
