@@ -1,12 +1,13 @@
 -- PlacesWorked cases of document 02, Job 2: where the records of small packs begin, and where they come out.
 use mathlib.Core.Path.{_≡_, refl}
 use mathlib.Core.List.{[], _∷_}
-use mathlib.Core.Option.{none}
+use mathlib.Core.Option.{none, some}
+use Rattle.definitions.specs.Table as table
 use Rattle.definitions.specs.Table.{table, entryOf, fieldsOf, childrenOf}
 use Rattle.definitions.specs.Form.{wordsBy, count, items}
 use Rattle.definitions.specs.Tree.{tree, root, follow, fields, size}
-use Rattle.definitions.specs.Records.{Pack}
-use Rattle.definitions.specs.Pack.{defaultedName, defaulted, relation, newName, relationTail, nameList, optionalDerivation, derivation, chain, path, hop, member, rule, bodies, body, block, total}
+use Rattle.definitions.specs.Records.{Pack, undated}
+use Rattle.definitions.specs.Pack.{defaultedName, defaulted, relation, newName, relationTail, nameList, optionalDerivation, derivation, chain, path, hop, member, rule, bodies, body, item, blockItems, block, total}
 use Rattle.definitions.specs.Chain.{walk, own, walksFrom}
 use Rattle.definitions.specs.Kinds.{find, kindStep, kindsOf}
 use Rattle.definitions.specs.Places.{startOf}
@@ -27,12 +28,31 @@ nothing = packed [] [] []
 abbrev chained : Pack
 chained = packed [] (withoutDerivation 5 (1 ∷ 2 ∷ []) ∷ withSource 6 5 none [] [] ∷ []) (ruled 2 (counting 0 1))
 
+-- a defaulted name in front, 5[1,2], and two blocks: one with an item, of five words, and one that is no sequence, of two
+abbrev blocked : Pack
+blocked =
+    record {
+      edition = undated;
+      names = 10;
+      defaulted = 5 ∷ [];
+      relations = withoutDerivation 5 (1 ∷ 2 ∷ []) ∷ [];
+      rules = [];
+      blocks = record { origin = table.none; items = some (record { name = 3; boolean = 1; entity = 2 } ∷ []) } ∷ record { origin = table.none; items = none } ∷ [];
+    }
+
+-- a derived relation of 15 words that has list 9 alone
+abbrev listed : Pack
+listed = packed [] (withSource 6 table.none none (1 ∷ 2 ∷ []) [] ∷ []) []
+
 pub record PlacesWorked : Type 0 where
   pub empty : beginnings 0 (piecesOf nothing) ≡ 0 ∷ 4 ∷ 5 ∷ []
   pub before : beginnings 0 (piecesOf chained) ≡ 0 ∷ 4 ∷ 11 ∷ 24 ∷ 25 ∷ 35 ∷ []
+  pub with-blocks : beginnings 0 (piecesOf blocked) ≡ 0 ∷ 5 ∷ 12 ∷ 13 ∷ 14 ∷ 19 ∷ []
+  -- list 21 is stamped alone: two words more
+  pub one-list : mapDone (λ q. beginnings 0 (piecesOf q)) (resolved listed) ≡ done (0 ∷ 4 ∷ 21 ∷ 22 ∷ [])
   -- 6 comes out with both lists, four words longer: what stands behind it moves on by four
   pub after : mapDone (λ q. beginnings 0 (piecesOf q)) (resolved chained) ≡ done (0 ∷ 4 ∷ 11 ∷ 28 ∷ 29 ∷ 39 ∷ [])
 
 pub worked : PlacesWorked
-unfolding entryOf table fieldsOf childrenOf wordsBy count items tree root follow fields size defaultedName defaulted relation newName relationTail nameList optionalDerivation derivation chain path hop member rule bodies body block total walk own walksFrom find kindStep kindsOf startOf taken direct tables turn nodeStep resolveTree defaultedEqual resolveBodies ruleBy resolveRules predicateBy resolveRelation resolveRelations holds atomNames stamp resolved sums otherPieces
-worked = record { empty = refl; before = refl; after = refl }
+unfolding entryOf table fieldsOf childrenOf wordsBy count items tree root follow fields size defaultedName defaulted relation newName relationTail nameList optionalDerivation derivation chain path hop member rule bodies body item blockItems block total walk own walksFrom find kindStep kindsOf startOf taken direct tables turn nodeStep resolveTree defaultedEqual resolveBodies ruleBy resolveRules predicateBy resolveRelation resolveRelations holds atomNames stamp resolved sums otherPieces
+worked = record { empty = refl; before = refl; with-blocks = refl; one-list = refl; after = refl }

@@ -15,7 +15,7 @@ const MOST_WORDS: usize = 100;
 const HEAD: &str = "\
 # The original's answers: `bash tests/oracle/run list FILE` writes these lines.
 # Resolve's words and its refusals' number, name and other, the four tables and the steps are the original's. Places, which it
-# does not give, and so the words that all_kinds writes, are those of the tests' own reading; at each stand the original's kinds.
+# does not give, and so the words that all_kinds writes, are the model's; at each stand the original's kinds.
 ";
 
 /// How many packs of each outcome.
