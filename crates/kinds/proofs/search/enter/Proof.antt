@@ -56,8 +56,8 @@ same-length-2 c = search needs
 
 returns-3 : tie.Need-returns-3
 returns-3 c =
-    let at-path = c .before .before .before .before in
-    let at-source = at-path .before .before .before .before .before .before .before in let at-value = at-source .before .before .before in
+    let at-path = c .before .before .before .before in let at-marks = at-path .before .before .before in
+    let at-source = at-marks .before .before .before .before in let at-value = at-source .before .before .before in
     let at-count = at-value .before in let at-if2 = at-count .before in
     let at-flag = at-if2 .before in let at-if1 = at-flag .before in let start = at-if1 .before .before .before .before in
     both-entered _ _ _ (derived _ _ (at-if1 .if1 .left) (at-flag .flag-at .ensures) (at-if2 .if2 .left) (at-count .kind-count .ensures .0)) (at-value .value-at .ensures .0) (start .pre .1) (at-source .reach-source .ensures)

@@ -27,12 +27,12 @@ start-requires-2 c κs = let begin = c .before .before .before .before .before .
 
 enter-requires : tie.Need-enter-requires Inv-loop μ-loop
 enter-requires c κs =
-    let at-start = c .before .before in let begin = at-start .before .before .before .before .before .before .before in
+    let at-start = c .before .before in let at-if1 = at-start .before in let begin = at-if1 .before .before .before .before .before .before in
     (omega (arith, at-start .start2 .ensures .1), asked-first _ _ _ _ (begin .pre) (at-start .start2 .ensures .0))
 
 loop-holds : tie.Need-loop-holds Inv-loop μ-loop
 loop-holds c =
-    let at-enter = c .before .before .before .before in let at-start = at-enter .before .before .before in let begin = at-start .before .before .before .before .before .before .before in
+    let at-enter = c .before .before .before .before in let at-start = at-enter .before .before .before in let at-if1 = at-start .before in let begin = at-if1 .before .before .before .before .before .before in
     begun _ _ _ _ (begin .pre) (at-start .start2 .ensures .0) (at-enter .enter .ensures)
 
 slice-read-if2 : tie.Need-slice-read-if2 Inv-loop μ-loop
@@ -64,12 +64,12 @@ enter-requires-2 c κs =
 
 add-i : tie.Need-add-i Inv-loop μ-loop
 add-i c =
-    let at-name = c .before .before .before .before .before .before .before .before in let at-if3 = at-name .before .before in let f = at-if3 .before .before .before .loop .inv in
+    let at-enter = c .before .before .before .before in let at-name = at-enter .before .before .before .before in let at-if3 = at-name .before .before in let f = at-if3 .before .before .before .loop .inv in
     omega (arith, at-if3 .if3 .left, f .most, f .reaches .most)
 
 loop-less : tie.Need-loop-less Inv-loop μ-loop
 loop-less c =
-    let at-name = c .before .before .before .before .before .before .before .before in let at-if3 = at-name .before .before in let f = at-if3 .before .before .before .loop .inv in
+    let at-enter = c .before .before .before .before in let at-name = at-enter .before .before .before .before in let at-if3 = at-name .before .before in let f = at-if3 .before .before .before .loop .inv in
     omega (arith, at-if3 .if3 .left, f .most, f .room)
 
 loop-again : tie.Need-loop-again Inv-loop μ-loop

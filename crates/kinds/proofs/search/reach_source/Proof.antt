@@ -17,7 +17,7 @@ same-length-2 : tie.Need-same-length-2
 same-length-2 c = search needs
 
 returns-2 : tie.Need-returns-2
-returns-2 c = a-source _ (c .before .before .before .before .before .before .before .if1 .left) (c .before .before .before .before .reach .ensures)
+returns-2 c = let at-reach = c .before .before .before .before in a-source _ (at-reach .before .before .before .if1 .left) (at-reach .reach .ensures)
 
 pub reach-source-spec : {M : Type 1} → statement M
 reach-source-spec = tie.close (tie.spec returns reach-requires same-length same-length-2 returns-2)
