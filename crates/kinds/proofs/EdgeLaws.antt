@@ -124,8 +124,4 @@ module _ {ws dir : List ℕ} {l : Layout} (d : IsDirectory ws l dir) where
   its-leaning {a} {b} {r} c =
       let g = subst (λ (e : ℕ → List ℕ). Computes r e a b) edges-are c in
       let o = leans-computes (its .relations) a b in
-      record {
-        says = λ q h.
-            both-ways r (leans (its .relations) a b) (λ e. o .complete (g .sound e)) (λ e. g .complete (o .sound e))
-            ∙ ap (λ (p : Pack). leans (p .relations) a b) (same-pack ws (d .checked .reads) h);
-      }
+      λ q h. both-ways r (leans (its .relations) a b) (λ e. o .complete (g .sound e)) (λ e. g .complete (o .sound e)) ∙ ap (λ (p : Pack). leans (p .relations) a b) (same-pack ws (d .checked .reads) h)

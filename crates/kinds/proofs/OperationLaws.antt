@@ -59,7 +59,7 @@ module _ (ws : List ℕ) (name : ℕ) where
 
     pub name-place : name < n → {place : ℕ} → OwnPlace ws name place → Given place 0 ≡ kindsOfAnswer ws name
     unfolding kindsOfAnswer
-    name-place h o = sym (simp (c .reads, ← k (c .pack) (c .reads), lt-ltb name n h, ← o .says (c .pack) (c .reads)))
+    name-place h o = sym (simp (c .reads, ← k (c .pack) (c .reads), lt-ltb name n h, ← o (c .pack) (c .reads)))
 
 -- ---- Lean
 
@@ -82,4 +82,4 @@ module _ (ws : List ℕ) (a b : ℕ) where
 
     pub leans-or-not : a < n → b < n → {r : Bool} → Leaning ws a b r → Given (yesNo r) 0 ≡ leanAnswer ws a b
     unfolding leanAnswer
-    leans-or-not h l o = sym (simp (c .reads, ← k (c .pack) (c .reads), lt-ltb a n h, lt-ltb b n l, ← o .says (c .pack) (c .reads)))
+    leans-or-not h l o = sym (simp (c .reads, ← k (c .pack) (c .reads), lt-ltb a n h, lt-ltb b n l, ← o (c .pack) (c .reads)))

@@ -37,7 +37,7 @@ module _ {ws : List ℕ} {l : Layout} {dir : List ℕ} (d : IsDirectory ws l dir
   own-place {name} {r} {marks₀ = marks₀} lent w =
       let e : r ≡ placeOf p (ownAnswer (p .relations) name) =
       w .answers [] (settleable d lent .idle) ∙ rw (its-fuel d) (own-found p table (its-index d) marks₀ (lent .clear) name) in
-      record { says = λ q h. e ∙ ap (λ (p : Pack). placeOf p (ownAnswer (p .relations) name)) (same-pack ws (d .checked .reads) h) }
+      λ q h. e ∙ ap (λ (p : Pack). placeOf p (ownAnswer (p .relations) name)) (same-pack ws (d .checked .reads) h)
 
 -- ---- the places of all relations
 

@@ -9,6 +9,7 @@ use Rattle.definitions.specs.Pack.{yes, read}
 use Rattle.definitions.specs.Kinds.{allKinds, ownAnswer}
 use Rattle.definitions.specs.Lean.{leans}
 use Rattle.definitions.specs.Places.{placeOf, allKindsWords}
+use Rattle.chains.specs.PackDirectory.{OfPack}
 
 -- the settled place of the relation with a number
 unfoldable pub placeAt : List ℕ → List ℕ → ℕ → ℕ
@@ -20,9 +21,9 @@ pub record KindsLeft (ws : List ℕ) (steps : ℕ) (out : List ℕ) : Type 0 whe
   pub holds : (p : Pack) → read ws ≡ yes p → out ≡ allKindsWords p
 
 -- the place of the list that settles a name
-pub record OwnPlace (ws : List ℕ) (name place : ℕ) : Type 0 where
-  pub says : (p : Pack) → read ws ≡ yes p → place ≡ placeOf p (ownAnswer (p .relations) name)
+abbrev pub OwnPlace : List ℕ → ℕ → ℕ → Type 0
+OwnPlace ws name place = OfPack ws (λ p. place ≡ placeOf p (ownAnswer (p .relations) name))
 
--- whether sources lead from a name to another
-pub record Leaning (ws : List ℕ) (a b : ℕ) (r : Bool) : Type 0 where
-  pub says : (p : Pack) → read ws ≡ yes p → r ≡ leans (p .relations) a b
+-- whether a name leans on another
+abbrev pub Leaning : List ℕ → ℕ → ℕ → Bool → Type 0
+Leaning ws a b r = OfPack ws (λ p. r ≡ leans (p .relations) a b)
