@@ -9,7 +9,7 @@ use cogunwa_model::packs::{self, forked, graph, layered, named};
 use cogunwa_model::records::Relation;
 use cogunwa_model::replay::by_chance;
 use cogunwa_model::{Chance, MOST_WORDS, read, read_bytes};
-use std::sync::mpsc;
+use std::sync::mpsc::{self, RecvTimeoutError};
 use std::thread;
 use std::time::Duration;
 
@@ -126,17 +126,22 @@ fn long_chains_and_rings() {
             assert_eq!(lean(&ring, name, 599), Ok(false));
             assert_eq!(lean(&ring, 599, name), Ok(false));
         }
-        // The last step leads to an undeclared name.
+        // The last source is not declared.
         *relations.last_mut().unwrap() = named(last).source(599);
         assert_eq!(lean(&bytes_of(&graph(600, &relations)), 0, 599), Ok(true));
     }
 }
 
-/// What is answered within a minute; without marks a search along so many ways would not end.
-fn soon<T: Send + 'static>(run: impl FnOnce() -> T + Send + 'static) -> T {
-    let (sender, receiver) = mpsc::channel();
-    thread::spawn(move || sender.send(run()));
-    receiver.recv_timeout(Duration::from_secs(60)).expect("an answer within a minute")
+/// Runs what must end within a minute; a search along so many ways would not end without marks.
+fn soon(run: impl FnOnce() + Send + 'static) {
+    let (sender, receiver) = mpsc::channel::<()>();
+    let thread = thread::spawn(move || {
+        // Dropped at the end, however the run ends.
+        let _sender = sender;
+        run();
+    });
+    assert_ne!(receiver.recv_timeout(Duration::from_secs(60)), Err(RecvTimeoutError::Timeout), "no answer in a minute");
+    thread.join().unwrap();
 }
 
 /// Relations in layers with eight steps each over all of the next two layers, as many as fit; and 512 with a source and a step
@@ -152,7 +157,6 @@ fn many_ways() {
 }
 
 /// Asks for some of so many names whether they lean on each, in the order of records and dealt out again.
-/// Asks for some first names with all second ones up to a number of names, in the order of records and dealt out again.
 fn leaning_far(words: Vec<u32>, names: u32, leans: impl Fn(u32, u32) -> bool + Send + 'static) {
     soon(move || {
         let pack = read(&words).unwrap().pack;

@@ -148,9 +148,8 @@ fn leaning(list: &mut List) {
     leans(list, "diamond", 4, &diamond, &[(0, 1), (0, 2), (0, 3), (1, 3), (2, 3)]);
     // Rings by a step, and by a source and a step; of one name; what leads in, and what a ring leads to.
     leans(list, "ring-of-steps", 3, &[named(1).steps(&[2]), named(2).steps(&[1])], &square(&[1, 2]));
-    leans(list, "ring-by-a-last-step", 4, &[follows(1, 2), follows(2, 0).steps(&[0, 0, 1])], &{
-        [(1, 0), (1, 1), (1, 2), (2, 0), (2, 1), (2, 2)]
-    });
+    let last = [follows(1, 2), follows(2, 0).steps(&[0, 0, 1])];
+    leans(list, "ring-by-a-last-step", 4, &last, &[(1, 0), (1, 1), (1, 2), (2, 0), (2, 1), (2, 2)]);
     leans(list, "step-over-itself", 3, &[named(1).steps(&[1])], &[(1, 1)]);
     leans(list, "last-step-over-itself", 3, &[follows(1, 2).steps(&[2, 2, 1]), named(2)], &[(1, 1), (1, 2)]);
     let fed = [named(0).steps(&[1]), follows(1, 2), named(2).steps(&[4, 3]), named(3).steps(&[1]), follows(4, 5)];
