@@ -55,21 +55,21 @@ pub record Row : Type 0 where
   pub last : ℕ
   pub entry : Entry
 
-abbrev entry : ℕ → Values → Follows → Entry
-entry s r f = record { sort = s; values = r; follows = f }
+abbrev entryBy : ℕ → Values → Follows → Entry
+entryBy s r f = record { sort = s; values = r; follows = f }
 
 abbrev rows : ℕ → ℕ → ℕ → Values → Follows → Row
-rows s a b r f = record { first = a; last = b; entry = entry s r f }
+rows s a b r f = record { first = a; last = b; entry = entryBy s r f }
 
 -- a word of a record or of a node; the same where it counts what follows it
-abbrev word : ℕ → Values → Row
-word k r = rows noTree k k r Nothing
+abbrev wordRow : ℕ → Values → Row
+wordRow k r = rows noTree k k r Nothing
 
-abbrev words : ℕ → ℕ → Values → Row
-words a b r = rows noTree a b r Nothing
+abbrev wordRows : ℕ → ℕ → Values → Row
+wordRows a b r = rows noTree a b r Nothing
 
-abbrev count : ℕ → Values → Row
-count k r = rows noTree k k r Counted
+abbrev countRow : ℕ → Values → Row
+countRow k r = rows noTree k k r Counted
 
 abbrev flag : Values
 flag = AtMost 1
@@ -77,40 +77,40 @@ flag = AtMost 1
 unfoldable pub table : List Row
 table =
     -- "1 total words (= slice length, else 4); 2 N, 1 to 4,096; 3 count to 512 of defaulted names, each a 4, rising."
-    word 1 Total
-    ∷ word 2 (FromOne 4096)
-    ∷ count 3 (AtMost 512)
-    ∷ word 4 Name
+    wordRow 1 Total
+    ∷ wordRow 2 (FromOne 4096)
+    ∷ countRow 3 (AtMost 512)
+    ∷ wordRow 4 Name
     -- "5 count to 512 of relations, each: 6 name; 7 origin°; 8 arity; 9 count to 8 of slot kinds, each a 10 (name); 11 flag 0 or 1 for a derivation"
-    ∷ count 5 (AtMost 512)
-    ∷ word 6 Name
-    ∷ word 7 NameOrNone
-    ∷ word 8 Any
-    ∷ count 9 (AtMost 8)
-    ∷ word 10 Name
-    ∷ count 11 flag
+    ∷ countRow 5 (AtMost 512)
+    ∷ wordRow 6 Name
+    ∷ wordRow 7 NameOrNone
+    ∷ wordRow 8 Any
+    ∷ countRow 9 (AtMost 8)
+    ∷ wordRow 10 Name
+    ∷ countRow 11 flag
     -- "which is: 12 source°; 13 path count 0 to 8 or none, each step 14 relation, 15 and 16 slots; 17 current slot; 18 related slot; 19 entity°;
     -- 20 member relation°; 21 count to 8, each a 10; a judgment tree."
-    ∷ word 12 NameOrNone
-    ∷ count 13 (AtMostOrNone 8)
-    ∷ word 14 Name
-    ∷ words 15 18 Any
-    ∷ words 19 20 NameOrNone
-    ∷ count 21 (AtMost 8)
+    ∷ wordRow 12 NameOrNone
+    ∷ countRow 13 (AtMostOrNone 8)
+    ∷ wordRow 14 Name
+    ∷ wordRows 15 18 Any
+    ∷ wordRows 19 20 NameOrNone
+    ∷ countRow 21 (AtMost 8)
     -- "22 count to 1,024 of rules: 23 citing name; 24 origin°; 25 entity; 26 bodies, 1 to 64, each 27 (0 scalar, 1 judgment) and a tree."
-    ∷ count 22 (AtMost 1024)
-    ∷ word 23 Name
-    ∷ word 24 NameOrNone
-    ∷ word 25 Name
-    ∷ count 26 (FromOne 64)
-    ∷ word 27 flag
+    ∷ countRow 22 (AtMost 1024)
+    ∷ wordRow 23 Name
+    ∷ wordRow 24 NameOrNone
+    ∷ wordRow 25 Name
+    ∷ countRow 26 (FromOne 64)
+    ∷ wordRow 27 flag
     -- "28 count to 64 of blocks: 29 origin°; 30 count to 1,024, or none for "no sequence"; items 31 name°, 32 flag (1 = Boolean), 33 entity°."
-    ∷ count 28 (AtMost 64)
-    ∷ word 29 NameOrNone
-    ∷ count 30 (AtMostOrNone 1024)
-    ∷ word 31 NameOrNone
-    ∷ word 32 flag
-    ∷ word 33 NameOrNone
+    ∷ countRow 28 (AtMost 64)
+    ∷ wordRow 29 NameOrNone
+    ∷ countRow 30 (AtMostOrNone 1024)
+    ∷ wordRow 31 NameOrNone
+    ∷ wordRow 32 flag
+    ∷ wordRow 33 NameOrNone
     -- "Scalars: 64 opaque leaf; 65 Derived name; 66 one child and 67 two children (opaque value); 68 Add, 69 Min, 70 Max (child count);"
     ∷ rows scalar 64 64 Any Nothing
     ∷ rows scalar 65 65 Name Nothing
@@ -124,11 +124,11 @@ table =
     -- "74 Count, 75 Sum, 76 Extreme, 77 Single (relation; 80 current; 81 related; 86 opaque; 83 flag; judgment if 1); 78 OnlyRelated (relation; 80; 81; 82 input name or 84 derived name)."
     ∷ rows scalar 74 77 Name Aggregate
     ∷ rows scalar 78 78 Name OnlyRelated
-    ∷ words 80 81 Any
-    ∷ word 82 Name
-    ∷ word 83 flag
-    ∷ word 84 Name
-    ∷ words 85 86 Any
+    ∷ wordRows 80 81 Any
+    ∷ wordRow 82 Name
+    ∷ wordRow 83 flag
+    ∷ wordRow 84 Name
+    ∷ wordRows 85 86 Any
     -- "Judgments: 96 Comparison (opaque; two scalars); 97 And, 98 Or, 99 ExactlyOne (count); 100 Not (0);"
     ∷ rows judgment 96 96 Any TwoScalars
     ∷ rows judgment 97 99 Any Judgments
@@ -143,14 +143,14 @@ table =
     ∷ rows judgment 106 106 Any Nothing
     ∷ []
 
-abbrev find : ℕ → List Row → Entry
-find k [] = entry noTree Unused Nothing
-find k (r ∷ rs) = pick (leb (r .first) k && leb k (r .last)) (r .entry) (find k rs)
+abbrev entryIn : ℕ → List Row → Entry
+entryIn k [] = entryBy noTree Unused Nothing
+entryIn k (r ∷ rs) = pick (leb (r .first) k && leb k (r .last)) (r .entry) (entryIn k rs)
 
 -- the entry of a kind; a kind that no row has is unused
 unfoldable pub entryOf : ℕ → Entry
 unfolding table
-entryOf k = find k table
+entryOf k = entryIn k table
 
 -- how many follow a word of the value v, where they are of one sort
 abbrev pub howMany : Follows → ℕ → ℕ

@@ -22,6 +22,7 @@ use Rattle.theorems.proofs.LeanDealt.{leans-dealt}
 use Rattle.filtered.proofs.FilteredLaws.{filtered-dealt}
 use Rattle.chains.proofs.ListAt.{place-holds}
 use Rattle.chains.proofs.KindLaws.{kinds-dealt, kinds-steps, distinct-names, words-count}
+use Rattle.theorems.specs.ChainsDealt.{DealtAlike}
 
 -- the steps are an exact sum: the relations, and the undeclared sources that inheriting relations name, each once
 pub all-kinds-steps : (ws : List ℕ) (p : Pack) → read ws ≡ yes p → (room : ℕ) → length (p .relations) ≤ room
@@ -35,16 +36,6 @@ filter-alike p q u d Direct e = rw (filtered-dealt (d .relations) u .directs e) 
 filter-alike p q u d Innermost e = rw (d .names, filtered-dealt (d .relations) u .innermosts (q .names) e) refl
 filter-alike p q u d Alias e = rw (filtered-dealt (d .relations) u .aliases e) refl
 filter-alike p q u d Unresolved e = rw (filtered-dealt (d .relations) u .unresolveds e) refl
-
--- what a pack and one dealt out of it have alike
-pub record DealtAlike (ws vs : List ℕ) (p q : Pack) : Type 0 where
-  -- All kinds: the answer with its steps; the places are those of the owners' records, and at them stand the same names
-  pub all-kinds : (room : ℕ) → allKindsAnswer ws room ≡ allKindsAnswer vs room
-  pub own-kinds : (n : ℕ) → namesAt ws (placeOf p (ownAnswer (p .relations) n)) ≡ namesAt vs (placeOf q (ownAnswer (q .relations) n))
-  pub owners : (n : ℕ) → ownAnswer (p .relations) n ≡ ownAnswer (q .relations) n
-  pub lean : (a b : ℕ) → leanAnswer ws a b ≡ leanAnswer vs a b
-  pub filters : (f : Filter) (room : ℕ) → filterAnswer f ws room ≡ filterAnswer f vs room
-  pub tables : (f : Filter) (lent : List ℕ) → filterBuffer f ws lent ≡ filterBuffer f vs lent
 
 pub chains-dealt : (ws vs : List ℕ) (p q : Pack) → read ws ≡ yes p → read vs ≡ yes q → Dealt p q → DealtAlike ws vs p q
 unfolding allKindsAnswer leanAnswer filterAnswer filterBuffer

@@ -4,7 +4,7 @@ pub mod KindsNumbers
 pub mod BytesCases
 pub mod RefusingLaws
 pub mod DealtLaws
-pub mod CheckCases
+pub mod CheckCasesHold
 pub mod ComingOut
 pub mod DealtChains
 pub mod DealtResolving
@@ -14,13 +14,13 @@ pub mod OutcomeLaws
 pub mod PlaceFree
 pub mod ResolveNumbers
 pub mod StarredLaws
-pub mod WrongResolves
+pub mod WrongResolvesRefuted
 pub mod TurningCases
 pub mod WireCases
 pub mod Faithful
 pub mod WalksLaws
 pub mod RoundTripLaws
 pub mod OutputPlacesLaws
-pub mod PlacesCases
+pub mod PlacesCasesHold
 pub mod LeaningLaws
-pub mod LeanCases
+pub mod LeanCasesHold

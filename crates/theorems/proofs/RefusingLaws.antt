@@ -27,7 +27,8 @@ use Rattle.theorems.proofs.KindsNumbers.{all-kinds-numbers, kinds-of-nu
 use Rattle.definitions.specs.Filtered.{filterWords}
 use Rattle.filtered.proofs.FilterLaws.{filter-numbers}
 use Rattle.definitions.specs.Resolving.{resolved}
-use Rattle.theorems.proofs.ResolveNumbers.{ResolveRefuses, checks, equal-kinds, open-direction, no-room, resolve-numbers}
+use Rattle.theorems.specs.ResolveRefusing.{ResolveRefuses, checks, equal-kinds, open-direction, no-room}
+use Rattle.theorems.proofs.ResolveNumbers.{resolve-numbers}
 use Rattle.definitions.specs.Bytes.{wordsOf, encode, numberField, areWords, notWords, overBytes, outAfter, inRoom}
 use Rattle.definitions.specs.declared.operation.Question.{Question}
 use Rattle.definitions.specs.declared.operation.Question.the-variants.{Check, KindsOf, Lean}

@@ -1,5 +1,5 @@
 -- Resolve refuses by 01's numbers for it alone, at a word of the pack and by names of the pack.
-use Prim.Native.Nat.{ℕ, _<_, _≤_}
+use Prim.Native.Nat.{ℕ, _≤_}
 use native.Mathlib.Omega.{arith}
 use mathlib.Core.Path.{_≡_, refl, ap, sym, _∙_}
 use mathlib.Core.List.{List}
@@ -14,29 +14,14 @@ use Rattle.definitions.specs.Records.{Pack}
 use Rattle.definitions.specs.Pack.{Reading, yes, refuse, read, total}
 use Rattle.definitions.specs.Answers.{answer, noRoom, Outcome, done, refused}
 use Rattle.pack.proofs.PackLaws.{words-length, words-read}
-use Rattle.pack.proofs.Refusals.{CheckRefuses, read-numbers}
+use Rattle.pack.proofs.Refusals.{read-numbers}
 use Rattle.definitions.specs.Kinds.{allKinds}
-use Rattle.definitions.specs.ResolvingTrees.{InRange}
 use Rattle.definitions.specs.Resolving.{resolved}
 use Rattle.definitions.specs.Operations.{resolveAnswer}
 use Rattle.resolve.specs.Finish.{givenOut}
 use Rattle.directions.proofs.Numbers.{refused-number}
 use Rattle.resolve.proofs.RefusalNames.{Told, resolved-told}
-
--- a refusal of a checked pack: its place is a word's, its name and other are names of the pack
-pub record WithinPack (ws : List ℕ) (r : Refusal) : Type 0 where
-  pub pack : Pack
-  pub reads : read ws ≡ yes pack
-  pub place : r .place < length ws
-  pub name : r .name < pack .names
-  pub other : r .other < pack .names
-
--- "Check's refusals, then 9 ..; 10 ..; 11 to 15. Then 16"
-pub data ResolveRefuses (ws : List ℕ) (r : Refusal) : Type 0 where
-  checks : CheckRefuses ws r → ResolveRefuses ws r
-  equal-kinds : r .number ≡ 9 → WithinPack ws r → ResolveRefuses ws r
-  open-direction : InRange (r .number) → WithinPack ws r → ResolveRefuses ws r
-  no-room : Refused r ≡ noRoom → ResolveRefuses ws r
+use Rattle.theorems.specs.ResolveRefusing.{WithinPack, ResolveRefuses, checks, equal-kinds, open-direction, no-room}
 
 pub resolve-numbers : (ws : List ℕ) (room : ℕ) (r : Refusal) → resolveAnswer ws room ≡ Refused r → ResolveRefuses ws r
 unfolding resolveAnswer

@@ -5,3 +5,9 @@ pub mod Walks
 pub mod RoundTrips
 pub mod OutputPlaces
 pub mod Leaning
+pub mod ResolveRefusing
+pub mod ChainsDealt
+pub mod WrongResolves
+pub mod CheckCases
+pub mod PlacesCases
+pub mod LeanCases

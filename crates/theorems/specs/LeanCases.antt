@@ -1,29 +1,28 @@
--- LeansWorked cases of document 02, Job 4: what relations with paths lean on.
+-- Worked cases of document 02, Job 4: what relations with paths lean on.
 use Prim.Native.Nat.{ℕ}
-use mathlib.Core.Path.{_≡_, refl}
+use mathlib.Core.Path.{_≡_}
 use mathlib.Core.List.{List, [], _∷_, map}
 use mathlib.Core.Bool.{true, false}
 use mathlib.Core.Option.{none, some}
 use Rattle.definitions.specs.Table as table
 use Rattle.definitions.specs.Records.{Hop, Relation}
-use Rattle.definitions.specs.Chain.{walk, own}
-use Rattle.definitions.specs.Kinds.{find, kindStep, kindsOf}
-use Rattle.definitions.specs.Lean.{leadsWithin, edges, leans}
+use Rattle.definitions.specs.Kinds.{kindsOf}
+use Rattle.definitions.specs.Lean.{leans}
 use Rattle.theorems.specs.Starred.{withoutDerivation, withSource}
 
 -- a step over a relation, and a relation with a source and a path over some
-abbrev over : ℕ → Hop
+abbrev pub over : ℕ → Hop
 over n = record { relation = n; current = 0; related = 1 }
 
-abbrev along : ℕ → ℕ → List ℕ → Relation
+abbrev pub along : ℕ → ℕ → List ℕ → Relation
 along n source ns = withSource n source (some (map over ns)) [] []
 
 -- 5[1,2]; 6 has no source and a path over 5; 7<6 with a path over 4, which is undeclared, and 5
-abbrev paths : List Relation
+abbrev pub paths : List Relation
 paths = withoutDerivation 5 (1 ∷ 2 ∷ []) ∷ along 6 table.none (5 ∷ []) ∷ along 7 6 (4 ∷ 5 ∷ []) ∷ []
 
 -- 5<6 with a path of no steps, 6 with a path over 5: a ring; 7 leads into it, 8 has a list and a path over 8 itself
-abbrev ring : List Relation
+abbrev pub ring : List Relation
 ring = along 5 6 [] ∷ along 6 table.none (5 ∷ []) ∷ along 7 table.none (3 ∷ 6 ∷ []) ∷ withSource 8 table.none (some (over 8 ∷ [])) (1 ∷ 2 ∷ []) [] ∷ []
 
 pub record LeansWorked : Type 0 where
@@ -39,21 +38,3 @@ pub record LeansWorked : Type 0 where
   pub not-out-of-it : leans ring 5 7 ≡ false
   pub settled-and-leaning : leans ring 8 8 ≡ true
   pub no-kinds-through-it : kindsOf paths 6 ≡ none
-
-pub worked : LeansWorked
-unfolding walk own find kindStep kindsOf leadsWithin edges leans
-worked =
-    record {
-      a-step = refl;
-      a-source-beside-a-path = refl;
-      an-undeclared-step = refl;
-      the-second-step = refl;
-      not-back = refl;
-      not-itself = refl;
-      undeclared-on-nothing = refl;
-      round-the-ring = refl;
-      into-the-ring = refl;
-      not-out-of-it = refl;
-      settled-and-leaning = refl;
-      no-kinds-through-it = refl;
-    }

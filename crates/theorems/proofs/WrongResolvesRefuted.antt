@@ -1,19 +1,17 @@
--- What demand 3 says is left in the buffer of a pack that resolves is what resolving gives and nothing else. Four wrong Resolves that are blind to order, each
--- refuted on a small pack: the input copied; lists stamped, but slots left as they stood; blocks dropped; and one that never gives 9.
+-- What demand 3 says is left in the buffer of a pack that resolves is what resolving gives and nothing else; so the four wrong Resolves do not meet it.
 use Prim.Native.Nat.{ℕ}
 use native.Mathlib.Omega.{arith}
 use mathlib.Core.Path.{_≡_, refl, ap, sym, _∙_, subst}
 use mathlib.Core.List.{List, [], _∷_, _++_}
 use mathlib.Core.Option.{none, some}
 use lib.ListN.{drop, getD}
-use Rattle.definitions.specs.declared.answer.Refusal.{Refusal}
 use Rattle.definitions.specs.declared.answer.Answer.{Answer}
-use Rattle.definitions.specs.declared.answer.Answer.the-variants.{Given, Refused}
+use Rattle.definitions.specs.declared.answer.Answer.the-variants.{Given}
 use Rattle.definitions.specs.Table.{wordOf, entryOf, table, fieldsOf, childrenOf}
 use Rattle.definitions.specs.Table as tables256
 use Rattle.definitions.specs.Form.{wordsBy, count, items}
 use Rattle.definitions.specs.Tree.{tree, root, follow, fields, heads, size}
-use Rattle.definitions.specs.Records.{Relation, Rule, Block, Pack}
+use Rattle.definitions.specs.Records.{Pack}
 use Rattle.definitions.specs.Pack.{words, total, layout, inner, records, defaulted, defaultedName, relations, relation, newName, relationTail, nameList, optionalDerivation, derivation, chain, path, hop, member, rules, rule, bodies, body, blocks, block, blockItems, item}
 use Rattle.definitions.specs.Answers.{wordsAndSteps, done}
 use Rattle.definitions.specs.Chain.{walk, own}
@@ -26,9 +24,10 @@ use Rattle.definitions.specs.Direction as direction
 use Rattle.definitions.specs.Inputs.{input}
 use Rattle.definitions.specs.ResolvingTrees.{nodeStep, resolveTree}
 use Rattle.definitions.specs.Resolving.{defaultedEqual, resolveBodies, ruleBy, resolveRules, predicateBy, resolveRelation, resolveRelations, holds, atomNames, stamp, resolved}
-use Rattle.theorems.specs.Demand3.{Left, ResolveAlike, bothResolve, bothEqual, bothRoom, bothOpen, DerivedRelation, KindsUsed}
-use Rattle.theorems.specs.Starred.{withoutDerivation, saysNothing, counting, withDerivation, ruled, packed}
+use Rattle.theorems.specs.Demand3.{Left, ResolveAlike, bothResolve, bothEqual, bothRoom, bothOpen, DerivedRelation}
+use Rattle.theorems.specs.Starred.{saysNothing, withDerivation, packed}
 use Rattle.theorems.proofs.ComingOut.{comes-out, comes-one}
+use Rattle.theorems.specs.WrongResolves.{ofTwoKinds, turnedRule, withBlocks, copied, notStamped, onlyStamped, withABlock, dropped, bothAtOne, equalKindsDefaulted, WrongOnes}
 
 -- ---- nothing else is left
 
@@ -50,62 +49,18 @@ module _ (p right wrong : Pack) (h : resolved p ≡ done right) (at is should : 
       → {q : Pack} {lent lent′ after′ : List ℕ} {b : Answer} {steps : ℕ} → ResolveAlike p q lent lent′ (wordsAndSteps (total wrong) steps) (words wrong ++ drop (total wrong) lent) b after′ → ⊥
   refuted w r differs {lent = lent} alike = differs (sym (w lent) ∙ ap (λ (l : List ℕ). getD l at 0) (left-is p right h (left-where-given alike refl)) ∙ r lent)
 
--- ---- the four
-
--- A1, and with a derived relation that is stamped, and with a block
-abbrev membership : Relation
-membership = withoutDerivation 5 (1 ∷ 2 ∷ [])
-
-abbrev turnedRule : ℕ → ℕ → List Rule
-turnedRule c r = ruled 2 (counting c r)
-
-abbrev withBlocks : Pack → List Block → Pack
-withBlocks p bs = record { edition = p .edition; names = p .names; defaulted = p .defaulted; relations = p .relations; rules = p .rules; blocks = bs }
-
-abbrev Refuted : Pack → Pack → Type 0
-Refuted p wrong = (q : Pack) (lent lent′ after′ : List ℕ) (b : Answer) (steps : ℕ) → ResolveAlike p q lent lent′ (wordsAndSteps (total wrong) steps) (words wrong ++ drop (total wrong) lent) b after′ → ⊥
-
--- the input copied
-abbrev copied : Pack
-copied = packed [] (membership ∷ []) (turnedRule 7 9)
-
--- lists stamped, slots left
-abbrev unstamped : Pack
-unstamped = packed [] (membership ∷ withDerivation 6 (1 ∷ 2 ∷ []) [] 0 5 3 saysNothing ∷ []) (turnedRule 7 9)
-
-abbrev onlyStamped : Pack
-onlyStamped = packed [] (membership ∷ withDerivation 6 (1 ∷ 2 ∷ []) (1 ∷ 2 ∷ []) 0 5 3 saysNothing ∷ []) (turnedRule 7 9)
-
--- blocks dropped
-abbrev blocked : Pack
-blocked = withBlocks copied (record { origin = tables256.none; items = some [] } ∷ [])
-
-abbrev dropped : Pack
-dropped = packed [] (membership ∷ []) (turnedRule 1 0)
-
--- never 9: a defaulted relation has equal kinds, as in G1
-abbrev bothAtOne : Relation
-bothAtOne = withDerivation 6 [] (1 ∷ 2 ∷ []) 0 0 3 saysNothing
-
-abbrev equal : Pack
-equal = packed (6 ∷ []) (bothAtOne ∷ []) []
-
-pub record WrongOnes : Type 0 where
-  pub input-copied : Refuted copied copied
-  pub slots-left : Refuted unstamped onlyStamped
-  pub blocks-dropped : Refuted blocked dropped
-  pub never-9 : (answers : ℕ → Answer) → ((room : ℕ) (r : Refusal) → answers room ≡ Refused r → r .number ≡ 9 → ⊥) → KindsUsed equal answers → ⊥
+-- ---- the four wrong ones
 
 pub wrong-ones : WrongOnes
 unfolding entryOf table fieldsOf childrenOf heads wordsBy count items tree root follow fields words total layout inner records defaulted defaultedName relations relation newName relationTail nameList optionalDerivation derivation chain path hop member rules rule bodies body blocks block blockItems item walk own find kindStep kindsOf taken direct startOf tables turn direction.memberDirection input nodeStep size resolveTree defaultedEqual resolveBodies ruleBy resolveRules predicateBy resolveRelation resolveRelations holds atomNames stamp resolved
 wrong-ones =
     record {
-      input-copied = λ q lent lent′ after′ b steps a. refuted copied (packed [] (membership ∷ []) (turnedRule 1 0)) copied refl 18 (wordOf 80 7) (wordOf 80 1) (λ lent. refl) (λ lent. refl) (λ e. omega arith) a;
+      input-copied = λ q lent lent′ after′ b steps a. refuted copied (packed [] (ofTwoKinds ∷ []) (turnedRule 1 0)) copied refl 18 (wordOf 80 7) (wordOf 80 1) (λ lent. refl) (λ lent. refl) (λ e. omega arith) a;
       slots-left = λ q lent lent′ after′ b steps a.
-          refuted unstamped (packed [] (membership ∷ withDerivation 6 (1 ∷ 2 ∷ []) (1 ∷ 2 ∷ []) 0 5 3 saysNothing ∷ []) (turnedRule 1 0)) onlyStamped refl 35 (wordOf 80 7) (wordOf 80 1) (λ lent. refl) (λ lent. refl) (λ e. omega arith) a;
-      blocks-dropped = λ q lent lent′ after′ b steps a. refuted blocked (withBlocks dropped (record { origin = tables256.none; items = some [] } ∷ [])) dropped refl 0 (wordOf 1 23) (wordOf 1 25) (λ lent. refl) (λ lent. refl) (λ e. omega arith) a;
+          refuted notStamped (packed [] (ofTwoKinds ∷ withDerivation 6 (1 ∷ 2 ∷ []) (1 ∷ 2 ∷ []) 0 5 3 saysNothing ∷ []) (turnedRule 1 0)) onlyStamped refl 35 (wordOf 80 7) (wordOf 80 1) (λ lent. refl) (λ lent. refl) (λ e. omega arith) a;
+      blocks-dropped = λ q lent lent′ after′ b steps a. refuted withABlock (withBlocks dropped (record { origin = tables256.none; items = some [] } ∷ [])) dropped refl 0 (wordOf 1 23) (wordOf 1 25) (λ lent. refl) (λ lent. refl) (λ e. omega arith) a;
       never-9 = λ answers never used.
-          (let by : DerivedRelation equal 6 = record { relation = bothAtOne; declared = refl; derivation = record { source = tables256.none; path = none; current = 0; related = 0; entity = 3; member = tables256.none; slotEntities = 1 ∷ 2 ∷ []; predicate = saysNothing }; derived = refl } in
+          (let by : DerivedRelation equalKindsDefaulted 6 = record { relation = bothAtOne; declared = refl; derivation = record { source = tables256.none; path = none; current = 0; related = 0; entity = 3; member = tables256.none; slotEntities = 1 ∷ 2 ∷ []; predicate = saysNothing }; derived = refl } in
           let r = used .refused-by-9-back 0 6 refl (record { by = by; kind = 1; current = refl; related = refl }) in
           never 0 (r .0) (r .1) (r .2));
     }

@@ -1,26 +1,24 @@
--- ChecksWorked cases of Check, by computing the definitions: packs to which it answers yes, and one for each refusal.
+-- Worked cases of Check: packs to which it answers yes, and one for each refusal.
 use Prim.Native.Nat.{ℕ}
-use mathlib.Core.Path.{_≡_, refl}
+use mathlib.Core.Path.{_≡_}
 use mathlib.Core.List.{List, [], _∷_, _++_}
 use lib.ListN.{replicate}
 use Rattle.definitions.specs.declared.answer.Answer.{Answer}
 use Rattle.definitions.specs.declared.answer.Answer.the-variants.{Given, Refused}
-use Rattle.definitions.specs.Table.{wordOf, none, table, entryOf, fieldsOf, childrenOf}
-use Rattle.definitions.specs.Form.{allowedHere, says, whole, readBy}
-use Rattle.definitions.specs.Tree.{heads, fields, follow, tree, root}
+use Rattle.definitions.specs.Table.{wordOf, none}
 use Rattle.definitions.specs.Records.{undated}
-use Rattle.definitions.specs.Pack.{defaultedName, defaulted, nameList, hop, path, chain, member, derivation, optionalDerivation, relationTail, newName, relation, relations, body, bodies, rule, rules, item, block, blockItems, blocks, records, inner, layout, yes, read}
+use Rattle.definitions.specs.Pack.{yes, read}
 use Rattle.definitions.specs.Checking.{checkAnswer}
 
-abbrev w : ℕ → ℕ → ℕ
+abbrev pub w : ℕ → ℕ → ℕ
 w kind value = wordOf kind value
 
 -- 01: "For 01000006 02000001 03000000 05000000 16000000 1C000000 (hexadecimal)"
-abbrev smallest : List ℕ
+abbrev pub smallest : List ℕ
 smallest = 0x01000006 ∷ 0x02000001 ∷ 0x03000000 ∷ 0x05000000 ∷ 0x16000000 ∷ 0x1C000000 ∷ []
 
 -- a pack with a word of each kind
-abbrev full : List ℕ
+abbrev pub full : List ℕ
 full =
     -- ten names, of which 1 and 3 are defaulted
     w 1 125 ∷ w 2 10 ∷ w 3 2 ∷ w 4 1 ∷ w 4 3
@@ -60,13 +58,13 @@ full =
     ∷ []
 
 -- a pack of one rule whose body nests so many Not around a Derived
-abbrev nested : ℕ → ℕ → List ℕ
+abbrev pub nested : ℕ → ℕ → List ℕ
 nested total depth =
     w 1 total ∷ w 2 1 ∷ w 3 0 ∷ w 5 0 ∷ w 22 1 ∷ w 23 0 ∷ w 24 none ∷ w 25 0 ∷ w 26 1 ∷ w 27 1
     ∷ replicate depth (w 100 0) ++ (w 105 0 ∷ w 28 0 ∷ [])
 
-abbrev refusal : ℕ → ℕ → ℕ → ℕ → Answer
-refusal number place name other = Refused (record { number = number; place = place; name = name; other = other })
+abbrev pub refusedBy : ℕ → ℕ → ℕ → ℕ → Answer
+refusedBy number place name other = Refused (record { number = number; place = place; name = name; other = other })
 
 pub record ChecksWorked : Type 0 where
   pub smallest-yes : read smallest ≡ yes (record { edition = undated; names = 1; defaulted = []; relations = []; rules = []; blocks = [] })
@@ -74,35 +72,18 @@ pub record ChecksWorked : Type 0 where
   -- "Depth 32 passes."
   pub depth-32-yes : checkAnswer (nested 43 31) ≡ Given 1 0
   -- "1 the slice has under 6 or over 8,192 words."
-  pub too-short : checkAnswer (w 1 5 ∷ w 2 1 ∷ w 3 0 ∷ w 5 0 ∷ w 22 0 ∷ []) ≡ refusal 1 0 0 0
+  pub too-short : checkAnswer (w 1 5 ∷ w 2 1 ∷ w 3 0 ∷ w 5 0 ∷ w 22 0 ∷ []) ≡ refusedBy 1 0 0 0
   -- "2 wrong kind": a count of defaulted names where N must stand
-  pub wrong-kind : checkAnswer (w 1 6 ∷ w 3 0 ∷ w 3 0 ∷ w 5 0 ∷ w 22 0 ∷ w 28 0 ∷ []) ≡ refusal 2 1 0 0
+  pub wrong-kind : checkAnswer (w 1 6 ∷ w 3 0 ∷ w 3 0 ∷ w 5 0 ∷ w 22 0 ∷ w 28 0 ∷ []) ≡ refusedBy 2 1 0 0
   -- "3 the pack has ended (place = its length)": behind a rule's citing name
-  pub ended : checkAnswer (w 1 6 ∷ w 2 1 ∷ w 3 0 ∷ w 5 0 ∷ w 22 1 ∷ w 23 0 ∷ []) ≡ refusal 3 6 0 0
+  pub ended : checkAnswer (w 1 6 ∷ w 2 1 ∷ w 3 0 ∷ w 5 0 ∷ w 22 1 ∷ w 23 0 ∷ []) ≡ refusedBy 3 6 0 0
   -- "4 value not allowed": a total that is not the slice's length
-  pub not-allowed : checkAnswer (w 1 7 ∷ w 2 1 ∷ w 3 0 ∷ w 5 0 ∷ w 22 0 ∷ w 28 0 ∷ []) ≡ refusal 4 0 0 0
+  pub not-allowed : checkAnswer (w 1 7 ∷ w 2 1 ∷ w 3 0 ∷ w 5 0 ∷ w 22 0 ∷ w 28 0 ∷ []) ≡ refusedBy 4 0 0 0
   -- "5 a tree node at depth 33"
-  pub too-deep : checkAnswer (nested 44 32) ≡ refusal 5 42 0 0
+  pub too-deep : checkAnswer (nested 44 32) ≡ refusedBy 5 42 0 0
   -- "6 a defaulted name not above the one before": 1 twice
-  pub not-rising : checkAnswer (w 1 8 ∷ w 2 2 ∷ w 3 2 ∷ w 4 1 ∷ w 4 1 ∷ w 5 0 ∷ w 22 0 ∷ w 28 0 ∷ []) ≡ refusal 6 4 0 0
+  pub not-rising : checkAnswer (w 1 8 ∷ w 2 2 ∷ w 3 2 ∷ w 4 1 ∷ w 4 1 ∷ w 5 0 ∷ w 22 0 ∷ w 28 0 ∷ []) ≡ refusedBy 6 4 0 0
   -- "7 a relation name used before (name = it)": 1 twice
-  pub used-before : checkAnswer (w 1 16 ∷ w 2 2 ∷ w 3 0 ∷ w 5 2 ∷ w 6 1 ∷ w 7 0 ∷ w 8 0 ∷ w 9 0 ∷ w 11 0 ∷ w 6 1 ∷ w 7 0 ∷ w 8 0 ∷ w 9 0 ∷ w 11 0 ∷ w 22 0 ∷ w 28 0 ∷ []) ≡ refusal 7 9 1 0
+  pub used-before : checkAnswer (w 1 16 ∷ w 2 2 ∷ w 3 0 ∷ w 5 2 ∷ w 6 1 ∷ w 7 0 ∷ w 8 0 ∷ w 9 0 ∷ w 11 0 ∷ w 6 1 ∷ w 7 0 ∷ w 8 0 ∷ w 9 0 ∷ w 11 0 ∷ w 22 0 ∷ w 28 0 ∷ []) ≡ refusedBy 7 9 1 0
   -- "8 words left over (place the first)"
-  pub left-over : checkAnswer (w 1 7 ∷ w 2 1 ∷ w 3 0 ∷ w 5 0 ∷ w 22 0 ∷ w 28 0 ∷ w 28 0 ∷ []) ≡ refusal 8 6 0 0
-
-pub worked : ChecksWorked
-unfolding checkAnswer read layout inner records defaulted defaultedName relations relation newName relationTail nameList optionalDerivation derivation chain path hop member root tree follow heads fields rules rule bodies body blocks block blockItems item readBy allowedHere entryOf table fieldsOf childrenOf says whole
-worked =
-    record {
-      smallest-yes = refl;
-      full-yes = refl;
-      depth-32-yes = refl;
-      too-short = refl;
-      wrong-kind = refl;
-      ended = refl;
-      not-allowed = refl;
-      too-deep = refl;
-      not-rising = refl;
-      used-before = refl;
-      left-over = refl;
-    }
+  pub left-over : checkAnswer (w 1 7 ∷ w 2 1 ∷ w 3 0 ∷ w 5 0 ∷ w 22 0 ∷ w 28 0 ∷ w 28 0 ∷ []) ≡ refusedBy 8 6 0 0
