@@ -5,7 +5,7 @@ use definitions::answer::{Answer, Refusal};
 pub const MARK: u32 = 0xDEAD0000;
 
 // What came of a call: an answer or a word of the buffer may be another than the one expected, which stands before it.
-#[derive(Drop)]
+#[derive(Clone, Copy)]
 pub enum Found {
     Same,
     OtherAnswer(Refusal, Refusal),

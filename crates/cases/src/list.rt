@@ -5,7 +5,7 @@ use definitions::answer::Refusal;
 // The words of all entries stand in one row: an entry leaves the first `kept`, puts `count` that follow it after these, and after
 // those `word`, `times` over. Of an answer that is given the number and the place are 0, the name is the value and the other the
 // steps.
-#[derive(Drop)]
+#[derive(Clone, Copy)]
 pub struct ListEntry {
     pub operation: u32,
     pub room: u32,

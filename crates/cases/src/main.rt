@@ -1,6 +1,8 @@
 // Replays a list of packs, of calls on them and of the answers that document 01 gives: Check, Rewrite, All kinds, Kinds of one
 // name, Lean, the tables of direct and innermost kinds, of aliases and of entities that are unresolved, and Resolve.
 // It reads the list, which tests/model/src/bin/cases makes and describes, from standard input.
+#![tactic(auto)]
+
 mod call;
 mod compare;
 mod list;

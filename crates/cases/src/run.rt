@@ -6,7 +6,7 @@ use crate::{compare, list, operation, report};
 
 // What was run so far: how many cases, how many words the pack of the last of them has, and the calls on it; and whether the
 // list has ended.
-#[derive(Drop)]
+#[derive(Clone, Copy)]
 pub struct Totals {
     pub cases: u64,
     pub length: usize,

@@ -5,7 +5,7 @@ ghost use Rattle.chains.specs.DirectoryWord.{Reaches, starts_in, slots_in, decla
 use records::directory::Directory;
 
 // A declaration in one number: the place of the count word of the list that settles it, 0 for no kinds, or LEADS and the name that it leads on to.
-#[derive(Drop)]
+#[derive(Clone, Copy)]
 pub struct Declaration {}
 
 impl Declaration {

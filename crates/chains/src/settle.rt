@@ -6,7 +6,7 @@ ghost use Rattle.chains.specs.Settle.{Leading, ReadOne, marked_path, Walkable, W
 
 use crate::entry::{Declaration, declared, name_at};
 
-#[derive(Drop)]
+#[derive(Clone, Copy)]
 pub struct Mark {}
 
 impl Mark {

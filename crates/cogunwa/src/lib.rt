@@ -1,4 +1,6 @@
 // The host's functions: a pack and an output as bytes, each answer as one number.
+#![tactic(auto)]
+
 ghost use Rattle.std.specs.Prelude.{◌≡◌};
 ghost use Rattle.definitions.specs.Checking.{check_answer, rewrite_answer, rewrite_buffer};
 ghost use Rattle.definitions.specs.Operations.{all_kinds_answer, all_kinds_buffer, kinds_of_answer, lean_answer, filter_answer, filter_buffer, resolve_answer, resolve_buffer};

@@ -1,7 +1,7 @@
 // What an operation answers.
 
 // 01's number with its place, name and other; fields that 01 does not mention are 0.
-#[derive(Drop)]
+#[derive(Clone, Copy)]
 pub struct Refusal {
     pub number: u32,
     pub place: usize,
@@ -11,7 +11,7 @@ pub struct Refusal {
 
 // The numbers of refusals, named as include/cogunwa.h names them; first those of Check, which every operation gives for what is
 // no pack.
-#[derive(Drop)]
+#[derive(Clone, Copy)]
 pub struct Number {}
 
 impl Number {
@@ -74,7 +74,7 @@ impl Number {
 }
 
 // A value and a number of steps, each 0 where an operation has none; or a refusal. Of a yes the value is 1, of a no it is 0.
-#[derive(Drop)]
+#[derive(Clone, Copy)]
 pub enum Answer {
     Given(u32, u32),
     Refused(Refusal),

@@ -1,7 +1,7 @@
 // The operations.
 
 // The filtered tables.
-#[derive(Drop)]
+#[derive(Clone, Copy)]
 pub enum Filter {
     Direct,
     Innermost,
@@ -10,7 +10,7 @@ pub enum Filter {
 }
 
 // The operations that only answer.
-#[derive(Drop)]
+#[derive(Clone, Copy)]
 pub enum Question {
     Check,
     KindsOf(u32),
@@ -18,7 +18,7 @@ pub enum Question {
 }
 
 // The operations that write words.
-#[derive(Drop)]
+#[derive(Clone, Copy)]
 pub enum Writing {
     Rewrite,
     AllKinds,

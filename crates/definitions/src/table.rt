@@ -1,7 +1,7 @@
 // What the table says of a kind of word: what its value may be, whether a tree begins with it, and what follows it.
 
 // What a word's value may be.
-#[derive(Drop)]
+#[derive(Clone, Copy)]
 pub enum Values {
     // No word has the kind.
     Unused,
@@ -17,7 +17,7 @@ pub enum Values {
 }
 
 // What follows a word.
-#[derive(Drop)]
+#[derive(Clone, Copy)]
 pub enum Follows {
     // Nothing that the word itself decides.
     Nothing,
@@ -47,7 +47,7 @@ pub enum Follows {
     Exists,
 }
 
-#[derive(Drop)]
+#[derive(Clone, Copy)]
 pub struct Entry {
     // The sort of tree that begins with the word, or NO_TREE.
     pub sort: u32,

@@ -14,7 +14,7 @@ use filtered::taking::{Kind, kind_at};
 use pack::kinds::Pack;
 
 // The current and the related kind of a membership, where both are known.
-#[derive(Drop)]
+#[derive(Clone, Copy)]
 pub enum Membership {
     Kinds(u32, u32),
     Unknown,

@@ -7,7 +7,7 @@ use chains::settle::Mark;
 
 // A part, and the mark of the list that settles the name. At NEITHER the relation is neither typed nor derived, and at TYPED it is
 // typed by the two names of its list; else the part is the place of its slots.
-#[derive(Drop)]
+#[derive(Clone, Copy)]
 pub struct Act {}
 
 impl Act {

@@ -14,14 +14,14 @@ use pack::kinds::Pack;
 use records::directory::Layout;
 
 // A relation's kind at a slot, where it is known.
-#[derive(Drop)]
+#[derive(Clone, Copy)]
 pub enum Kind {
     Is(u32),
     Unknown,
 }
 
 // What is known of an entity in one number: 0, NAMED, ONE and the kind, or SEVERAL.
-#[derive(Drop)]
+#[derive(Clone, Copy)]
 pub struct Taken {}
 
 impl Taken {

@@ -7,7 +7,7 @@ use definitions::answer::Number;
 use pack::kinds::Pack;
 
 // The declarations of a name, as one number: 0, the place of the only one, or SEVERAL; LACKING where a block has no sequence.
-#[derive(Drop)]
+#[derive(Clone, Copy)]
 pub struct Seen {}
 
 impl Seen {

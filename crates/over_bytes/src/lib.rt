@@ -1,2 +1,4 @@
 // The operations over bytes.
+#![tactic(auto)]
+
 pub mod operations;

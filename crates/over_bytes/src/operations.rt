@@ -21,7 +21,7 @@ use wire::answer::{encode, give};
 use wire::bytes::{load, room};
 
 // Those of them that leave their slice alone where they refuse.
-#[derive(Drop)]
+#[derive(Clone, Copy)]
 pub enum Plain {
     Rewrite,
     AllKinds,
@@ -29,7 +29,7 @@ pub enum Plain {
 }
 
 // How many words small packs have, and how many most of what they give has.
-#[derive(Drop)]
+#[derive(Clone, Copy)]
 pub struct Short {}
 
 impl Short {

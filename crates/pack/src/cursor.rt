@@ -10,13 +10,13 @@ use definitions::answer::{Number, Refusal};
 use definitions::table::Values;
 
 // A place of the pack. It starts at word 0 and moves on by whole words.
-#[derive(Drop)]
+#[derive(Clone, Copy)]
 pub struct Cursor {
     pub at: usize,
 }
 
 // What a reading step finds: a value and the place after it, or a refusal.
-#[derive(Drop)]
+#[derive(Clone, Copy)]
 pub enum Step {
     On(u32, Cursor),
     Refused(Refusal),

@@ -1,6 +1,6 @@
 // The kinds of words, the limits and "none": each number stands here once. The table adds what follows a kind.
 
-#[derive(Drop)]
+#[derive(Clone, Copy)]
 pub struct Pack {}
 
 // A word is its kind, and its value below VALUES.

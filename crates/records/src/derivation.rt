@@ -114,7 +114,7 @@ fn chain(from: Cursor, s: &[u32], n: u32) -> Step
 
 // What is known of a derivation before its 19: how many kinds its relation has, how far behind the relation's place its slots
 // stand, and where it leads.
-#[derive(Drop)]
+#[derive(Clone, Copy)]
 struct Front {
     kinds: u32,
     slots: u32,

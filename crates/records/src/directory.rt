@@ -4,7 +4,7 @@ use pack::kinds::Pack;
 
 // First the names of the relations in record order. Then a word for each name, 0 where no relation has it: the place of
 // its relation, and what is noted of the relation, times PLACES.
-#[derive(Drop)]
+#[derive(Clone, Copy)]
 pub struct Directory {}
 
 impl Directory {
@@ -39,7 +39,7 @@ impl Directory {
 
 // Where the sorts of records stand: N, the number of relations, the places of the counts of rules and blocks, and the
 // place after all; and how many notes the relations have, and how many there are in all.
-#[derive(Drop)]
+#[derive(Clone, Copy)]
 pub struct Layout {
     pub names: u32,
     pub relations: u32,
@@ -50,7 +50,7 @@ pub struct Layout {
     pub all: u32,
 }
 
-#[derive(Drop)]
+#[derive(Clone, Copy)]
 pub enum Laid {
     Yes(Layout),
     No(Refusal),

@@ -11,7 +11,7 @@ use turning::turns::Counts;
 
 // Of a checked pack: its relations, the place of its count of rules, its notes, and the declarations that were read for its
 // kinds; and how many words there is room for.
-#[derive(Drop)]
+#[derive(Clone, Copy)]
 pub struct Figures {
     pub relations: usize,
     pub rules: usize,

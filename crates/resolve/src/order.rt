@@ -11,7 +11,7 @@ use inputs::inputs::after_block;
 use pack::kinds::Pack;
 
 // How many pieces are neither relations nor rules nor blocks, how many small packs have, and how many there are at most.
-#[derive(Drop)]
+#[derive(Clone, Copy)]
 pub struct Places {}
 
 impl Places {

@@ -23,7 +23,7 @@ use turning::step::Blocks;
 use turning::turns::{Counts, Ended, turn_pack};
 
 // A checked pack's layout, and how many words there is room for.
-#[derive(Drop)]
+#[derive(Clone, Copy)]
 pub struct Wanted {
     pub layout: Layout,
     pub room: usize,

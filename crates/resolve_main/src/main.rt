@@ -1,5 +1,7 @@
 // Resolves the pack that standard input holds as bytes, four a word, low byte first, and writes what comes of it:
 // `ok LENGTH STEPS` and then the words, or `refused NUMBER PLACE NAME OTHER`.
+#![tactic(auto)]
+
 mod report;
 
 use libc::{STDIN_FILENO, STDOUT_FILENO};

@@ -11,7 +11,7 @@ use wire::answer::decode;
 use wire::bytes::room;
 
 // How many bytes a text has at most.
-#[derive(Drop)]
+#[derive(Clone, Copy)]
 pub struct Text {}
 
 impl Text {

@@ -8,7 +8,7 @@ use filtered::act::act_of;
 use pack::kinds::Pack;
 
 // Its name, its origin, the entity of its trees, and the number of the relation in whose predicate they stand, 0 for a rule.
-#[derive(Drop)]
+#[derive(Clone, Copy)]
 pub struct Root {
     pub name: u32,
     pub origin: u32,

@@ -15,7 +15,7 @@ use pack::kinds::Pack;
 
 // Its slots and the entity of what stands inside it; its slots, where nothing stands inside it; nothing, where it has no slots;
 // or the number and the other of a refusal.
-#[derive(Drop)]
+#[derive(Clone, Copy)]
 pub enum Out {
     Opens(u32, u32, u32),
     Sets(u32, u32),
@@ -24,21 +24,21 @@ pub enum Out {
 }
 
 // The blocks of a pack: where the first stands, and how many they are.
-#[derive(Drop)]
+#[derive(Clone, Copy)]
 pub struct Blocks {
     pub at: usize,
     pub count: usize,
 }
 
 // With the origin of the citing rule or relation.
-#[derive(Drop)]
+#[derive(Clone, Copy)]
 pub struct Cited {
     pub blocks: Blocks,
     pub origin: u32,
 }
 
 // A node: where it stands, with which entity, and in the predicate of the relation with which number.
-#[derive(Drop)]
+#[derive(Clone, Copy)]
 pub struct Node {
     pub at: usize,
     pub entity: u32,

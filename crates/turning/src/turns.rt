@@ -13,14 +13,14 @@ use definitions::answer::Refusal;
 use pack::kinds::Pack;
 
 // A note, by its number, in a pack with these blocks.
-#[derive(Drop)]
+#[derive(Clone, Copy)]
 pub struct Here {
     pub i: usize,
     pub blocks: Blocks,
 }
 
 // Notes from one number to another, likewise.
-#[derive(Drop)]
+#[derive(Clone, Copy)]
 pub struct Span {
     pub from: usize,
     pub to: usize,
@@ -28,7 +28,7 @@ pub struct Span {
 }
 
 // The notes of a pack, likewise: so many of relations, which come first, and so many in all.
-#[derive(Drop)]
+#[derive(Clone, Copy)]
 pub struct Counts {
     pub noted: usize,
     pub all: usize,
@@ -36,14 +36,14 @@ pub struct Counts {
 }
 
 // The rule or relation in which turning is after a note; or a refusal.
-#[derive(Drop)]
+#[derive(Clone, Copy)]
 pub enum Next {
     On(Root),
     Refused(Refusal),
 }
 
 // That all were turned; or a refusal.
-#[derive(Drop)]
+#[derive(Clone, Copy)]
 pub enum Ended {
     All,
     Refused(Refusal),

@@ -7,7 +7,7 @@ use crate::bytes::store;
 use definitions::answer::{Answer, Refusal};
 
 // The fields of an answer's number, the lowest first: how many values each has, and what one of it counts.
-#[derive(Drop)]
+#[derive(Clone, Copy)]
 pub struct Field {}
 
 impl Field {

@@ -6,7 +6,7 @@ ghost use Rattle.wire.specs.Loading.{Holds, Loaded};
 use pack::kinds::Pack;
 
 // How many values a byte has, and what one of each byte of a word but the first counts.
-#[derive(Drop)]
+#[derive(Clone, Copy)]
 struct Byte {}
 
 impl Byte {

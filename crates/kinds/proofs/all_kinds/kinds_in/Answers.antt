@@ -1,0 +1,41 @@
+-- `kinds::all_kinds::kinds_in` meets its contract.
+use native.Mathlib.Omega.{arith}
+use mathlib.Core.Path.{◌∙◌, ap}
+use Rattle.checking.specs.CheckPromises.{answer_in}
+use Rattle.chains.proofs.CheckedLaws.{few-relations, settleable, kinds-marked, placeable}
+use Rattle.chains.proofs.AnswerLaws.{front_length}
+use Rattle.chains.proofs.EntryLaws.{directed, lent-said, reaches_kept}
+use Rattle.kinds.proofs.PartLaws.{kinds_left}
+use Rattle.kinds.proofs.OperationLaws.{kinds-refused, kinds-room, kinds-done}
+use Rattle.kinds.proofs.all_kinds.kinds_in.Goals as goal
+
+pub check_directory-r-requires : goal.check_directory-r-requires
+check_directory-r-requires c = c.requires.clear
+
+pub returns-in_default : goal.returns-in_default
+returns-in_default c = kinds-refused _ _ (c.answer.ensures ∙ c.check_directory-r.ensures.answers) (c.answer.ensures ∙ ap answer_in c.in_default.is)
+
+pub returns-then-out-count : goal.returns-then-out-count
+returns-then-out-count c =
+            let d = directed c.requires.clear c.check_directory-r.ensures c.in-Yes.is in kinds-room _ _ d.checked d.counted (omega arith) c.refuse.ensures
+
+pub settle_all-steps-requires : goal.settle_all-steps-requires
+settle_all-steps-requires c =
+            let d = directed c.requires.clear c.check_directory-r.ensures c.in-Yes.is in
+    (few-relations d, settleable d (lent-said d c.requires.lent), reaches_kept c.check_directory-r.auto.1.0 c.requires.reaches)
+
+pub places-requires : goal.places-requires
+places-requires c =
+            let d = directed c.requires.clear c.check_directory-r.ensures c.in-Yes.is in let t = lent-said d c.requires.lent in let l = front_length
+    c.args.out.now c.in-Yes.l.relations (omega arith) in (
+      omega (arith, few-relations d),
+      omega (arith, d.reaches.long),
+      rw l
+          (placeable d.checked (kinds-marked d t c.settle_all-steps.ensures) d.named (omega (arith, t.long, c.settle_all-steps.ensures.long))),
+    )
+
+pub returns : goal.returns
+returns c =
+                let d = directed c.requires.clear c.check_directory-r.ensures c.in-Yes.is in kinds-done _ _ d.checked d.counted (omega arith)
+    (kinds_left _ _ (kinds-marked d (lent-said d c.requires.lent) c.settle_all-steps.ensures) (front_length c.args.out.now _ (omega arith))
+    c.places.ensures)

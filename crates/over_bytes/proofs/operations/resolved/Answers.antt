@@ -1,0 +1,28 @@
+-- `over_bytes::operations::resolved` meets its contract.
+use mathlib.Core.Path.{refl, ap, ◌∙◌}
+use mathlib.Core.Logic.{⊎_elim}
+use native.Mathlib.Omega.{arith}
+use lib.ListN.{length}
+use Rattle.definitions.specs.declared.operation.Writing.TheVariants.{Resolve}
+use Rattle.over_bytes.proofs.Writes.{writes}
+use Rattle.over_bytes.proofs.IntoBytes.{made_room}
+use Rattle.wire.proofs.OverBytes.{given-short, given-long, kept_out}
+use borrow.Author.Rules.{rules}
+use Rattle.over_bytes.proofs.operations.resolved.Goals as goal
+
+pub resolve_in-given-requires : goal.resolve_in-given-requires
+resolve_in-given-requires c = (search rules, made_room 256 1024 (omega arith))
+
+pub returns-then-given-ne-NO_ROOM : goal.returns-then-given-ne-NO_ROOM
+returns-then-given-ne-NO_ROOM c = given-short (writes Resolve) c.resolve_in-given.ensures c.if-given-ne-NO_ROOM.true
+
+pub resolve_in-requires : goal.resolve_in-requires
+resolve_in-requires c = (search rules, made_room 8192 8192 (omega arith))
+
+pub shape_of-out : goal.shape_of-out
+shape_of-out c =
+        c.resolve_in.auto.1.1.1.1.0 ∙ ap length (⊎_elim (λ w. w.10 ∙ kept_out (writes Resolve) w.4.ensures w.9.left) (λ w. w.1) c.if-pack-le-BYTES.branch)
+
+pub returns : goal.returns
+returns c =
+        given-long (writes Resolve) c.resolve_in.ensures _ (⊎_elim (λ w. w.10 ∙ kept_out (writes Resolve) w.4.ensures w.9.left) (λ w. w.1) c.if-pack-le-BYTES.branch) refl

@@ -1,0 +1,22 @@
+-- `over_bytes::operations::written` meets its contract: 16 in the short slice leaves the output as it was, and any other answer is the same with more room.
+use mathlib.Core.Path.{refl, ap, ◌∙◌}
+use mathlib.Core.Logic.{⊎_elim}
+use lib.ListN.{length}
+use Rattle.over_bytes.specs.BytesPromises.{as_writing}
+use Rattle.over_bytes.proofs.Writes.{writes}
+use Rattle.wire.proofs.OverBytes.{given-short, given-long, kept_out}
+use Rattle.over_bytes.proofs.operations.written.Goals as goal
+
+pub returns-then-r-ne-NO_ROOM : goal.returns-then-r-ne-NO_ROOM
+returns-then-r-ne-NO_ROOM c =
+            given-short (writes (as_writing c.args.w)) c.write_in-r.ensures c.if-r-ne-NO_ROOM.true
+
+pub shape_of-out : goal.shape_of-out
+shape_of-out c =
+            c.write_in.auto.1.1.1.1.0 ∙ ap length
+    (⊎_elim (λ w. w.10 ∙ kept_out (writes (as_writing c.args.w)) w.4.ensures w.9.left) (λ w. w.1) c.if-pack-le-BYTES.branch)
+
+pub returns : goal.returns
+returns c =
+            given-long (writes (as_writing c.args.w)) c.write_in.ensures _
+    (⊎_elim (λ w. w.10 ∙ kept_out (writes (as_writing c.args.w)) w.4.ensures w.9.left) (λ w. w.1) c.if-pack-le-BYTES.branch) refl

@@ -1,0 +1,21 @@
+-- `resolve::write::write` meets its contract: the total is the running place at the end.
+use native.Mathlib.Omega.{arith}
+use Rattle.resolve.proofs.WrittenPack.{come_long, come_few, not_empty, writing_end}
+use Rattle.resolve.proofs.write.write.Goals as goal
+
+pub overflow_cast-out : goal.overflow_cast-out
+overflow_cast-out c =
+        omega (arith, (c.put_records-end.ensures c.requires).1, come_long c.requires, come_few c.requires)
+
+pub overflow_add-out : goal.overflow_add-out
+overflow_add-out c =
+        omega (arith, (c.put_records-end.ensures c.requires).1, come_long c.requires, come_few c.requires)
+
+pub bounds-out-0 : goal.bounds-out-0
+bounds-out-0 c =
+        not_empty c.requires c.put_records-end.auto.1.1.1.1.0
+
+pub returns : goal.returns
+returns c a =
+    let at-put-records = c.before.before in let w = at-put-records.put-records.ensures (goal.at.returns a).After-slice_known-2-1 in
+    writing_end (goal.at.returns a).After-slice_known-2-1 w.0 w.1 at-put-records.put-records.auto.1.1.1.1.0
