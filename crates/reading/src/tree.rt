@@ -225,7 +225,7 @@ fn lost(context: u32) -> u32
 }
 
 // A row of scalars. The last one's own row, where it has one, takes the place of the row that ends with it.
-#[cycle(after_judgment_after_other_after_scalar_aggregate_choice_exists_judgments_patterns_scalars)]
+#[cycle(walkers)]
 fn scalars(
     s: &[u32],
     t: &[u32; Pack::KINDS],
@@ -268,7 +268,7 @@ fn scalars(
 }
 
 // A row of judgments, in the same way.
-#[cycle(after_judgment_after_other_after_scalar_aggregate_choice_exists_judgments_patterns_scalars)]
+#[cycle(walkers)]
 fn judgments(
     s: &[u32],
     t: &[u32; Pack::KINDS],
@@ -311,7 +311,7 @@ fn judgments(
 }
 
 // The condition and the two cases of an If.
-#[cycle(after_judgment_after_other_after_scalar_aggregate_choice_exists_judgments_patterns_scalars)]
+#[cycle(walkers)]
 fn choice(
     s: &[u32],
     t: &[u32; Pack::KINDS],
@@ -331,7 +331,7 @@ fn choice(
 }
 
 // The subject of a NoMatch, and so many patterns, which lose the membership.
-#[cycle(after_judgment_after_other_after_scalar_aggregate_choice_exists_judgments_patterns_scalars)]
+#[cycle(walkers)]
 fn patterns(
     s: &[u32],
     t: &[u32; Pack::KINDS],
@@ -354,7 +354,7 @@ fn patterns(
 
 // The fields of an aggregate, which is noted, and its where tree, which is handed on as the part of the words that starts at its root:
 // that is the base of its context, and places in the part count on from there. Of a Comparison the two scalars are walked at once.
-#[cycle(after_judgment_after_other_after_scalar_aggregate_choice_exists_judgments_patterns_scalars)]
+#[cycle(walkers)]
 fn aggregate(
     s: &[u32],
     t: &[u32; Pack::KINDS],
@@ -382,7 +382,7 @@ fn aggregate(
 }
 
 // The arguments of an Exists, which is noted, and its body.
-#[cycle(after_judgment_after_other_after_scalar_aggregate_choice_exists_judgments_patterns_scalars)]
+#[cycle(walkers)]
 fn exists(
     s: &[u32],
     t: &[u32; Pack::KINDS],
@@ -403,7 +403,7 @@ fn exists(
 }
 
 // What follows the head word of a scalar at a place.
-#[cycle(after_judgment_after_other_after_scalar_aggregate_choice_exists_judgments_patterns_scalars)]
+#[cycle(walkers)]
 fn after_scalar(
     s: &[u32],
     t: &[u32; Pack::KINDS],
@@ -429,7 +429,7 @@ fn after_scalar(
 }
 
 // The same of one that is neither an aggregate nor a row of scalars. Aggregates, which are most, are told first.
-#[cycle(after_judgment_after_other_after_scalar_aggregate_choice_exists_judgments_patterns_scalars)]
+#[cycle(walkers)]
 fn after_other(
     s: &[u32],
     t: &[u32; Pack::KINDS],
@@ -465,7 +465,7 @@ fn after_other(
 }
 
 // What follows the head word of a judgment at a place.
-#[cycle(after_judgment_after_other_after_scalar_aggregate_choice_exists_judgments_patterns_scalars)]
+#[cycle(walkers)]
 fn after_judgment(
     s: &[u32],
     t: &[u32; Pack::KINDS],

@@ -6,6 +6,7 @@ use Rattle.definitions.specs.Operations.{answer_to}
 use Rattle.over_bytes.proofs.Writes.{asks_none}
 use Rattle.wire.proofs.OverBytes.{answered}
 use Rattle.over_bytes.proofs.operations.ask_in.Goals as goal
+use Rattle.over_bytes.proofs.operations.ask_in.Goals.{After-words-1}
 
 pub slice_bounds-answer_to-end : goal.slice_bounds-answer_to-end
 slice_bounds-answer_to-end c = search rules

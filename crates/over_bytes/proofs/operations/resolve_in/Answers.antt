@@ -4,6 +4,7 @@ use lib.Seq.{length-take-le}
 use Rattle.over_bytes.proofs.IntoBytes.{room_as, room_into, fits_into, tried_into}
 use borrow.Author.Rules.{rules}
 use Rattle.over_bytes.proofs.operations.resolve_in.Goals as goal
+use Rattle.over_bytes.proofs.operations.resolve_in.Goals.{After-slice_known-4-1}
 
 pub slice_bounds-resolve_into-end : goal.slice_bounds-resolve_into-end
 slice_bounds-resolve_into-end c = search rules

@@ -6,6 +6,7 @@ use Rattle.over_bytes.specs.BytesPromises.{as_writing}
 use Rattle.over_bytes.proofs.Writes.{writes}
 use Rattle.wire.proofs.OverBytes.{fits_out, tried}
 use Rattle.over_bytes.proofs.operations.write_in.Goals as goal
+use Rattle.over_bytes.proofs.operations.write_in.Goals.{After-room-m, After-slice_known-4-1}
 
 pub slice_bounds-run-end : goal.slice_bounds-run-end
 slice_bounds-run-end c = search rules

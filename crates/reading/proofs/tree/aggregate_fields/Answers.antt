@@ -12,5 +12,4 @@ up_to-requires c = (omega arith, omega arith, up_to-most 83 1 refl)
 
 pub returns : goal.returns
 returns c n =
-    let at-if4 = c.before in let at-if3 = at-if4.before.before in let at-if2 = at-if3.before.before in
-    c.up_to.ensures (goal.at.returns n).After-up_to ∙ flag_alone (goal.at.returns n).After-up_to _ _ (omega arith) at-if2.if2.false at-if3.if3.false at-if4.if4.false
+        c.up_to.ensures n ∙ flag_alone n _ _ (omega arith) c.if-s-at-ne-CURRENT.false c.if-s-at-ne-RELATED.false c.if-s-at-ne-VALUE.false

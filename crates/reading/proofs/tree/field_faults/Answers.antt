@@ -14,7 +14,7 @@ up_to-f1-requires c = (c.requires.0, c.requires.1, up_to-any 80 refl)
 
 pub returns-then-f1-ne0 : goal.returns-then-f1-ne0
 unfolding aggregate_fault
-returns-then-f1-ne0 c n = first-is _ _ (c.before.up_to.ensures (goal.at.returns-then-f1-ne0 n).Then-f1-ne0) c.if1.true
+returns-then-f1-ne0 c n = first-is _ _ (c.up_to-f1.ensures n) c.if-f1-ne0.true
 
 pub up_to-f2-requires : goal.up_to-f2-requires
 unfolding entry_of table
@@ -26,8 +26,7 @@ up_to-f2-requires c =
 pub returns-then-f2-ne0 : goal.returns-then-f2-ne0
 unfolding aggregate_fault
 returns-then-f2-ne0 c n =
-    let at-if1 = c.before.before in
-    first_passed _ _ (at-if1.before.up_to.ensures (goal.at.returns-then-f2-ne0 n).Then-f2-ne0) at-if1.if1.false (first-is _ _ (c.before.up-to2.ensures (goal.at.returns-then-f2-ne0 n).Then-f2-ne0) c.if2.true)
+        first_passed _ _ (c.up_to-f1.ensures n) c.if-f1-ne0.false (first-is _ _ (c.up_to-f2.ensures n) c.if-f2-ne0.true)
 
 pub up_to-f3-requires : goal.up_to-f3-requires
 unfolding entry_of table
@@ -40,9 +39,8 @@ up_to-f3-requires c =
 pub returns-then-f3-ne0 : goal.returns-then-f3-ne0
 unfolding aggregate_fault
 returns-then-f3-ne0 c n =
-    let at-if2 = c.before.before in let at-if1 = at-if2.before.before in
-    first_passed _ _ (at-if1.before.up_to.ensures (goal.at.returns-then-f3-ne0 n).Then-f3-ne0) at-if1.if1.false
-    (first_passed _ _ (at-if2.before.up-to2.ensures (goal.at.returns-then-f3-ne0 n).Then-f3-ne0) at-if2.if2.false (first-is _ _ (c.before.up-to3.ensures (goal.at.returns-then-f3-ne0 n).Then-f3-ne0) c.if3.true))
+        first_passed _ _ (c.up_to-f1.ensures n) c.if-f1-ne0.false
+    (first_passed _ _ (c.up_to-f2.ensures n) c.if-f2-ne0.false (first-is _ _ (c.up_to-f3.ensures n) c.if-f3-ne0.true))
 
 pub up_to-requires : goal.up_to-requires
 unfolding entry_of table
@@ -56,7 +54,6 @@ up_to-requires c =
 pub returns : goal.returns
 unfolding aggregate_fault
 returns c n =
-    let at-if3 = c.before in let at-if2 = at-if3.before.before in let at-if1 = at-if2.before.before in
-    first_passed _ _ (at-if1.before.up_to.ensures (goal.at.returns n).After-up_to) at-if1.if1.false
-    (first_passed _ _ (at-if2.before.up-to2.ensures (goal.at.returns n).After-up_to) at-if2.if2.false
-    (first_passed _ _ (at-if3.before.up-to3.ensures (goal.at.returns n).After-up_to) at-if3.if3.false (c.up-to4.ensures (goal.at.returns n).After-up_to)))
+        first_passed _ _ (c.up_to-f1.ensures n) c.if-f1-ne0.false
+    (first_passed _ _ (c.up_to-f2.ensures n) c.if-f2-ne0.false
+    (first_passed _ _ (c.up_to-f3.ensures n) c.if-f3-ne0.false (c.up_to.ensures n)))

@@ -10,6 +10,7 @@ use Rattle.reading.proofs.TreeLaws.{leaf_last}
 use Rattle.reading.proofs.NotingLaws.{plain-last}
 use Rattle.reading.proofs.RowLaws.{walking, begun, past_leaf, walked, step_noted}
 use Rattle.reading.proofs.PartLaws.{based_own}
+use borrow.Author.Rules.{rules}
 use Rattle.reading.proofs.tree.judgment.Goals as goal
 
 pub head-requires : goal.head-requires
@@ -49,4 +50,4 @@ step_of-requires c =
 pub returns : goal.returns
 unfolding root
 returns c =
-        step_noted _ _ _ _ _ _ c.requires.0.most c.requires.1 c.judgments.ensures c.BAD.step_of_lem.ensures
+        step_noted _ _ _ _ _ _ c.requires.0.most c.requires.1 c.judgments.ensures c.step_of.ensures

@@ -1,4 +1,5 @@
 use Rattle.reading.specs.Noting.{push}
+use borrow.Author.Rules.{rules}
 use Rattle.reading.proofs.tree.note.Goals as goal
 
 pub returns : goal.returns

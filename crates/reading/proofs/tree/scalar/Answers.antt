@@ -3,6 +3,7 @@ use Rattle.definitions.specs.Tree.{root}
 use Rattle.reading.proofs.CodeLaws.{tree_code}
 use Rattle.reading.proofs.RowLaws.{step_noted}
 use Rattle.reading.proofs.PartLaws.{based_own}
+use borrow.Author.Rules.{rules}
 use Rattle.reading.proofs.tree.scalar.Goals as goal
 
 pub scalars-requires : goal.scalars-requires
@@ -14,4 +15,4 @@ step_of-requires c = (tree_code _ _ _ _ _ c.requires.0.most c.requires.1 c.scala
 pub returns : goal.returns
 unfolding root
 returns c =
-        step_noted _ _ _ _ _ _ c.requires.0.most c.requires.1 c.scalars.ensures c.BAD.step_of_lem.ensures
+        step_noted _ _ _ _ _ _ c.requires.0.most c.requires.1 c.scalars.ensures c.step_of.ensures

@@ -31,8 +31,8 @@ overflow_add-slots-2 c =
 pub member-requires : goal.member-requires
 member-requires c =
             let r = chain-read _ _ _ c.chain-f1.ensures c.in-On.is in
-    (c.requires.0, rule_context c.args.notes.now (goal.at.member-requires c).After-open-context.«open».ensures.0, omega (arith, c.requires.0.ready.most), omega arith)
+    (c.requires.0, rule_context c.args.notes.now c.open-context.ensures.0, omega (arith, c.requires.0.ready.most), omega arith)
 
 pub returns : goal.returns
 returns c =
-            derivation-noted _ _ _ _ _ _ c.chain-f1.ensures c.in-On.is (goal.at.returns c).After-open-context.«open».ensures.0 (goal.at.returns c).After-open-context.«open».ensures.1 _ refl c.member.ensures
+            derivation-noted _ _ _ _ _ _ c.chain-f1.ensures c.in-On.is c.open-context.ensures.0 c.open-context.ensures.1 _ refl c.member.ensures

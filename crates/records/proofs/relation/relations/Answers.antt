@@ -1,9 +1,11 @@
 -- `records::relation::relations` meets its contract.
+use mathlib.Core.Path.{refl}
 use native.Mathlib.Omega.{arith}
 use Rattle.definitions.specs.Pack.{relations}
 use Rattle.definitions.specs.Form.{says}
+use Rattle.definitions.specs.Table.{entry_of, table}
 use Rattle.records.proofs.KeptLaws.{noted_no}
-use Rattle.records.proofs.LoopLaws.{turn-refused, noted-all}
+use Rattle.records.proofs.LoopLaws.{count-refused, turn-refused, noted-all}
 use Rattle.records.proofs.DirectoryLaws.{relating, its-turn, relating_on, count-read}
 use Rattle.records.proofs.relation.relations.Goals as goal
 
@@ -25,3 +27,11 @@ pub returns : goal.returns
 unfolding relations
 returns c =
         noted-all c.field-f.ensures c.in-On.is c.loop-left.invariant.work (omega arith)
+
+pub field-f-requires : goal.field-f-requires
+unfolding relations entry_of table
+field-f-requires c = refl
+
+pub returns-in_default : goal.returns-in_default
+unfolding relations entry_of table
+returns-in_default c = search (noted_no, count-refused)

@@ -40,9 +40,9 @@ open-context-requires c =
 
 pub bodies-requires : goal.bodies-requires
 bodies-requires c =
-            (c.requires, rule_context c.args.notes.now (goal.at.bodies-requires c).After-open-context.«open».ensures.0)
+            (c.requires, rule_context c.args.notes.now c.open-context.ensures.0)
 
 pub returns : goal.returns
 returns c =
                 λ i. rule-noted _ i _ _ _ c.skip-f1.ensures c.in-On.is c.skip-f2.ensures c.in-On-f2.is c.skip-f3.ensures c.in-On-f3.is
-    (goal.at.returns c).After-open-context.«open».ensures.0 (goal.at.returns c).After-open-context.«open».ensures.1 c.bodies.ensures
+    c.open-context.ensures.0 c.open-context.ensures.1 c.bodies.ensures

@@ -133,8 +133,5 @@ shape_of-places c =
 
 pub returns : goal.returns
 returns c a =
-    let at-order-blocks = c.before.before in let at-order-rules = at-order-blocks.before.before.before.before in
-    let at-order-relations = at-order-rules.before.before.before.before.before.before in let at-value-at = at-order-relations.before.before in
-    let on-the-way = at-value-at.before.before.before.before.before.before in let start = on-the-way.before.before in
-    all_ordered (goal.at.returns a).After-slice_known-4-1 at-value-at.value-at.result at-value-at.value-at.ensures.0 start.args.places.now refl _
-    at-order-relations.order-relations.ensures _ at-order-rules.order-rules.ensures _ at-order-blocks.order-blocks.ensures
+                all_ordered a c.value_at.result c.value_at.ensures.0 c.args.places.now refl _
+    c.order_relations.ensures _ c.order_rules.ensures _ c.order_blocks.ensures

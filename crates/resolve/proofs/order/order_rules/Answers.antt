@@ -56,4 +56,4 @@ pub shape_of-places : goal.shape_of-places
 shape_of-places c = (c.loop-i.invariant _ refl c.requires).long
 
 pub returns : goal.returns
-returns c a = roots_end (goal.at.returns a).After-loop-i (c.before.loop.invariant _ refl (goal.at.returns a).After-loop-i) c.loop-test.false
+returns c a = roots_end a (c.loop-i.invariant _ refl a) c.loop-i-test.false

@@ -7,6 +7,7 @@ use lib.ListN.{drop}
 use lib.Seq.{length-take-le}
 use Rattle.resolve.proofs.ResolveLaws.{room_made, count-within, copied-out}
 use Rattle.resolve.proofs.resolve.resolve.Goals as goal
+use Rattle.resolve.proofs.resolve.resolve.Goals.{After-made-3-1, After-written-count}
 
 pub resolve_into-a-requires : goal.resolve_into-a-requires
 resolve_into-a-requires c = room_made _ _ c.at_most.ensures

@@ -4,6 +4,7 @@ use mathlib.Core.Path.{refl, sym, ◌∙◌}
 use lib.Seq.{length-take-le}
 use Rattle.resolve.proofs.ResolveLaws.{turns-asked, placed_finish, placed-all, placed_stopped, into_part, into_refused}
 use Rattle.resolve.proofs.resolve.resolve_placed.Goals as goal
+use Rattle.resolve.proofs.resolve.resolve_placed.Goals.{In-All}
 
 pub copy-requires : goal.copy-requires
 copy-requires c =

@@ -39,4 +39,4 @@ shape_of-out c =
         (c.loop-i.invariant _ refl c.requires).size ∙ come_long c.requires
 
 pub returns : goal.returns
-returns c a = let w = all-put _ _ _ _ _ (c.before.loop.invariant _ refl (goal.at.returns a).After-loop-i) c.loop-test.false in (w, all-counted (goal.at.returns a).After-loop-i w)
+returns c a = let w = all-put _ _ _ _ _ (c.loop-i.invariant _ refl a) c.loop-i-test.false in (w, all-counted a w)

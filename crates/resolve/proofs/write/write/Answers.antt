@@ -17,5 +17,5 @@ bounds-out-0 c =
 
 pub returns : goal.returns
 returns c a =
-    let at-put-records = c.before.before in let w = at-put-records.put-records.ensures (goal.at.returns a).After-slice_known-2-1 in
-    writing_end (goal.at.returns a).After-slice_known-2-1 w.0 w.1 at-put-records.put-records.auto.1.1.1.1.0
+    let w = c.put_records-end.ensures a in
+    writing_end a w.0 w.1 c.put_records-end.auto.1.1.1.1.0
