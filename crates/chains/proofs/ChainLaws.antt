@@ -4,7 +4,7 @@ use native.Mathlib.Omega.{arith}
 use mathlib.Core.Path.{fun_ext, ◌≡◌, refl, sym, ap, ◌∙◌, subst}
 use mathlib.Core.Logic.{◌⊎◌, inl, inr}
 use mathlib.Core.List.{List, [], ◌++◌}
-use mathlib.Core.Bool.{Bool, true, false, ◌||◌, or_false}
+use mathlib.Core.Bool.{Bool, true, false, ◌||◌, or-false}
 use mathlib.Core.Option.{Option, none, some}
 use lib.ListN.{length, length-append}
 use Rattle.definitions.specs.Table.{pick}
@@ -72,7 +72,7 @@ module _ {R : Type 0} (stuck : R) (along : R → R) (back : along stuck ≡ stuc
   steps_of starts ns d k h only =
       (read starts).counts
       ∙ same_number (read starts).names ns (read starts).distinct d
-      (λ n. both_ways (among n (read starts).names) (among n ns) ((read starts).least (λ m. among m ns) k (λ m i. h m (sym (or_false (among m starts)) ∙ i)) n) (only n))
+      (λ n. both_ways (among n (read starts).names) (among n ns) ((read starts).least (λ m. among m ns) k (λ m i. h m (sym (or-false (among m starts)) ∙ i)) n) (only n))
 
   -- "relations + distinct undeclared sources that inheriting relations name": each declared name is read once, and each undeclared one they lead to
   pub steps-sum : Distinct declared → (all declared).steps ≡ length declared + length (outside step declared declared)

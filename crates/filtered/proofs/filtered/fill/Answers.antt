@@ -26,8 +26,8 @@ mark_inner-requires c =
 
 pub say_all-requires : goal.say_all-requires
 say_all-requires c =
-                let p = c.requires in let k = c.mark_inner.auto.1.1.1.0 in
-    (omega (arith, k, c.take_kinds.auto.1.1.1.1.0, p.3.long, p.4), omega (arith, k, p.0.reaches.most, p.4))
+                let p = c.requires in let k = c.mark_inner.auto.marks in
+    (omega (arith, k, c.take_kinds.auto.table, p.3.long, p.4), omega (arith, k, p.0.reaches.most, p.4))
 
 pub returns : goal.returns
 returns c =

@@ -22,7 +22,7 @@ fill-requires c =
             let d = directed c.requires.0.clear c.check_directory-r.ensures c.in-Yes.is in (
       d,
       lent-said d c.requires.0.lent,
-      reaches_kept c.check_directory-r.auto.1.0 c.requires.0.reaches,
+      reaches_kept c.check_directory-r.auto.dir c.requires.0.reaches,
       lent-said d c.requires.1,
       front_length
           c.args.out.now _ (omega arith),

@@ -22,7 +22,7 @@ returns-then-out-count c =
 pub settle_all-steps-requires : goal.settle_all-steps-requires
 settle_all-steps-requires c =
             let d = directed c.requires.clear c.check_directory-r.ensures c.in-Yes.is in
-    (few-relations d, settleable d (lent-said d c.requires.lent), reaches_kept c.check_directory-r.auto.1.0 c.requires.reaches)
+    (few-relations d, settleable d (lent-said d c.requires.lent), reaches_kept c.check_directory-r.auto.dir c.requires.reaches)
 
 pub places-requires : goal.places-requires
 places-requires c =

@@ -26,7 +26,7 @@ overflow_add-fuel c =
 pub walk-place-requires : goal.walk-place-requires
 walk-place-requires c =
             let d = directed c.requires.clear c.check_directory-r.ensures c.in-Yes.is in
-    (walkable_own d (omega arith) (lent-said d c.requires.lent), reaches_kept c.check_directory-r.auto.1.0 c.requires.reaches)
+    (walkable_own d (omega arith) (lent-said d c.requires.lent), reaches_kept c.check_directory-r.auto.dir c.requires.reaches)
 
 pub returns : goal.returns
 returns c =

@@ -25,7 +25,7 @@ returns-then-l-b c =
 pub leads-requires : goal.leads-requires
 leads-requires c =
                 let d = directed c.requires.0.clear c.check_directory-r.ensures c.in-Yes.is in
-    its_searchable d (reaches_kept c.check_directory-r.auto.1.0 c.requires.0.reaches) (lent-said d c.requires.0.lent) c.requires.1 c.if-l-a.false c.if-l-b.false
+    its_searchable d (reaches_kept c.check_directory-r.auto.dir c.requires.0.reaches) (lent-said d c.requires.0.lent) c.requires.1 c.if-l-a.false c.if-l-b.false
 
 pub returns-then-leads : goal.returns-then-leads
 returns-then-leads c =

@@ -27,10 +27,10 @@ pub bounds-marks-b : goal.bounds-marks-b
 bounds-marks-b c = at_length _ _ _ _ c.loop-marks.invariant
 
 pub shape_of-marks-then-count-i : goal.shape_of-marks-then-count-i
-shape_of-marks-then-count-i c = c.loop-marks.invariant.marks ∙ c.enter-count.auto.1.1.0
+shape_of-marks-then-count-i c = c.loop-marks.invariant.marks ∙ c.enter-count.auto.marks
 
 pub shape_of-queue-then-count-i : goal.shape_of-queue-then-count-i
-shape_of-queue-then-count-i c = c.loop-marks.invariant.queue ∙ c.enter-count.auto.1.1.1.0
+shape_of-queue-then-count-i c = c.loop-marks.invariant.queue ∙ c.enter-count.auto.queue
 
 pub returns-then-count-i : goal.returns-then-count-i
 returns-then-count-i c = not_there _ _ _ _ c.loop-marks.invariant c.if-count-i.true c.loop-marks-test.true
@@ -65,10 +65,10 @@ loop-marks-preserved c =
         entered_one _ _ _ _ c.loop-marks.invariant (omega (arith, c.if-count-i.false)) c.name_at-n.ensures c.start-in-loop-marks.ensures.0 c.enter-count-in-loop-marks.ensures
 
 pub shape_of-marks : goal.shape_of-marks
-shape_of-marks c = c.loop-marks.invariant.marks ∙ c.enter-count.auto.1.1.0
+shape_of-marks c = c.loop-marks.invariant.marks ∙ c.enter-count.auto.marks
 
 pub shape_of-queue : goal.shape_of-queue
-shape_of-queue c = c.loop-marks.invariant.queue ∙ c.enter-count.auto.1.1.1.0
+shape_of-queue c = c.loop-marks.invariant.queue ∙ c.enter-count.auto.queue
 
 pub returns : goal.returns
 returns c = arrived _ _ _ _ c.loop-marks.invariant c.loop-marks-test.false

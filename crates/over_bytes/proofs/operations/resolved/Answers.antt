@@ -21,7 +21,7 @@ resolve_in-requires c = (search rules, made_room 8192 8192 (omega arith))
 
 pub shape_of-out : goal.shape_of-out
 shape_of-out c =
-        c.resolve_in.auto.1.1.1.1.0 ∙ ap length (⊎_elim (λ w. w.10 ∙ kept_out (writes Resolve) w.4.ensures w.9.left) (λ w. w.1) c.if-pack-le-BYTES.branch)
+        c.resolve_in.auto.out ∙ ap length (⊎_elim (λ w. w.10 ∙ kept_out (writes Resolve) w.4.ensures w.9.left) (λ w. w.1) c.if-pack-le-BYTES.branch)
 
 pub returns : goal.returns
 returns c =

@@ -22,8 +22,8 @@ slice_bounds-run-end-4 c = sym (length-take-le _ _ (slice_bounds-run-end-3 (goal
 
 pub give-requires : goal.give-requires
 give-requires c =
-                    fits_out (writes (as_writing c.args.w)) _ _ c.run-a.new.1.1.0 _ _ c.room-m.ensures c.run-a.ensures.answers c.run-a.auto.1.1.0
+                    fits_out (writes (as_writing c.args.w)) _ _ c.run-a.new.out _ _ c.room-m.ensures c.run-a.ensures.answers c.run-a.auto.out
 
 pub returns : goal.returns
 returns c =
-                    tried (writes (as_writing c.args.w)) _ _ c.load-n.ensures c.room-m.ensures c.run-a.ensures.answers c.run-a.ensures.leaves c.run-a.auto.1.1.0 c.give.ensures
+                    tried (writes (as_writing c.args.w)) _ _ c.load-n.ensures c.room-m.ensures c.run-a.ensures.answers c.run-a.ensures.leaves c.run-a.auto.out c.give.ensures

@@ -13,7 +13,7 @@ returns-then-r-ne-NO_ROOM c =
 
 pub shape_of-out : goal.shape_of-out
 shape_of-out c =
-            c.write_in.auto.1.1.1.1.0 ∙ ap length
+            c.write_in.auto.out ∙ ap length
     (⊎_elim (λ w. w.10 ∙ kept_out (writes (as_writing c.args.w)) w.4.ensures w.9.left) (λ w. w.1) c.if-pack-le-BYTES.branch)
 
 pub returns : goal.returns

@@ -34,13 +34,13 @@ returns-then-out-len c =
 
 pub slice_bounds-write-end : goal.slice_bounds-write-end
 slice_bounds-write-end c =
-            found-room c.requires.0 c.requires.1 c.lists-more.new.1.1.1.1.1.0 c.lists-more.auto.1.1.1.1.1.0
+            found-room c.requires.0 c.requires.1 c.lists-more.new.table c.lists-more.auto.table
 
 pub write-requires : goal.write-requires
 write-requires c =
-            finish_asked c.requires.0 c.lists-more.ensures refl _ c.if-len-gt-MOST_WORDS.false c.if-out-len.false c.requires.1 refl c.lists-more.auto.1.1.1.1.1.0 refl
+            finish_asked c.requires.0 c.lists-more.ensures refl _ c.if-len-gt-MOST_WORDS.false c.if-out-len.false c.requires.1 refl c.lists-more.auto.table refl
 
 pub returns : goal.returns
 returns c =
-                finish_done c.requires.0 c.lists-more.ensures refl _ c.if-len-gt-MOST_WORDS.false c.if-out-len.false c.requires.1 refl c.lists-more.auto.1.1.1.1.1.0 refl
+                finish_done c.requires.0 c.lists-more.ensures refl _ c.if-len-gt-MOST_WORDS.false c.if-out-len.false c.requires.1 refl c.lists-more.auto.table refl
     c.write.ensures

@@ -15,7 +15,7 @@ resolve_into-a-requires c = room_made _ _ c.at_most.ensures
 pub slice_bounds-made-end : goal.slice_bounds-made-end
 slice_bounds-made-end c =
         let w = count-within _ c.args.out.now c.at_most.ensures c.resolve_into-a.ensures c.written-count.ensures in omega
-    (arith, w.1, c.resolve_into-a.auto.1.0)
+    (arith, w.1, c.resolve_into-a.auto.out)
 
 pub slice_bounds-copy-end : goal.slice_bounds-copy-end
 slice_bounds-copy-end c = sym (length-take-le _ _ (slice_bounds-made-end (goal.at.slice_bounds-copy-end c).After-written-count))

@@ -29,7 +29,7 @@ pub returns-in-All : goal.returns-in-All
 returns-in-All c =
                     into_part _ _ _ (length-take-le _ _ (slice_bounds-finish-end (goal.at.returns-in-All c).In-All))
     (placed-all c.requires c.turn_pack.ensures c.in-All.is c.finish.ensures)
-    (c.finish.auto.1.1.1.1.1.1.0 ∙ length-take-le _ _ (slice_bounds-finish-end (goal.at.returns-in-All c).In-All)) refl
+    (c.finish.auto.out ∙ length-take-le _ _ (slice_bounds-finish-end (goal.at.returns-in-All c).In-All)) refl
 
 pub returns-in-Refused : goal.returns-in-Refused
 returns-in-Refused c =

@@ -11,22 +11,22 @@ put_words-at-requires c = room-first _ _ c.requires.1
 
 pub bounds-out-at : goal.bounds-out-at
 bounds-out-at c =
-        omega (arith, list-room _ _ _ _ c.requires.1 c.put_words-at.ensures c.put_words-at.auto.1.0 c.names_at-names.ensures)
+        omega (arith, list-room _ _ _ _ c.requires.1 c.put_words-at.ensures c.put_words-at.auto.out c.names_at-names.ensures)
 
 pub slice_bounds-put_names-end : goal.slice_bounds-put_names-end
 slice_bounds-put_names-end c =
         omega (
       arith,
-      list-room _ _ _ _ c.requires.1 c.put_words-at.ensures c.put_words-at.auto.1.0 c.names_at-names.ensures,
+      list-room _ _ _ _ c.requires.1 c.put_words-at.ensures c.put_words-at.auto.out c.names_at-names.ensures,
       length-set
-          c.put_words-at.new.1.0 c.put_words-at.result (word_of c.args.kind c.names_at-names.result),
+          c.put_words-at.new.out c.put_words-at.result (word_of c.args.kind c.names_at-names.result),
     )
 
 pub shape_of-out : goal.shape_of-out
 shape_of-out c =
-            list-long _ _ _ _ c.requires.1 c.put_words-at.ensures c.put_words-at.auto.1.0 c.names_at-names.ensures c.put_names.ensures ∙
-    c.put_words-at.auto.1.0
+            list-long _ _ _ _ c.requires.1 c.put_words-at.ensures c.put_words-at.auto.out c.names_at-names.ensures c.put_names.ensures ∙
+    c.put_words-at.auto.out
 
 pub returns : goal.returns
 returns c =
-            list_put _ _ _ _ c.requires.1 c.put_words-at.ensures c.put_words-at.auto.1.0 c.names_at-names.ensures c.put_names.ensures
+            list_put _ _ _ _ c.requires.1 c.put_words-at.ensures c.put_words-at.auto.out c.names_at-names.ensures c.put_names.ensures

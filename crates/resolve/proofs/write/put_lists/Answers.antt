@@ -19,7 +19,7 @@ put_list-requires-2 c =
         (
       omega arith,
       room_then _ _ (rw (both_lists _ _ _ c.kind_count.ensures.0 c.if-kind_count-ne0.false) at c.requires.2) c.put_list-next.ensures
-          c.put_list-next.auto.1.1.1.1.0,
+          c.put_list-next.auto.out,
     )
 
 pub returns : goal.returns

@@ -31,7 +31,7 @@ slice_bounds-put_words-start c =
 pub put_words-requires-2 : goal.put_words-requires-2
 put_words-requires-2 c =
             room_then _ _ (rw (piece_stamped _ _ c.if-list-eq0.false (ap (λ (x : ℕ). x + 4) c.slots_place-place.ensures.0)) at c.requires.1) c.put_lists-next.ensures
-    c.put_lists-next.auto.1.1.1.1.0
+    c.put_lists-next.auto.out
 
 pub returns : goal.returns
 returns c =

@@ -32,7 +32,7 @@ put_record-next-requires c =
 pub loop-i-preserved : goal.loop-i-preserved
 loop-i-preserved c =
             λ room e a. part_put _ _ _ _ _ (c.loop-i.invariant room e a) c.loop-i-test.true c.place_at-end.ensures c.put_record-next.ensures
-    c.put_record-next.auto.1.1.1.0
+    c.put_record-next.auto.out
 
 pub shape_of-out : goal.shape_of-out
 shape_of-out c =

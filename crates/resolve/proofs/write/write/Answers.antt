@@ -13,9 +13,9 @@ overflow_add-out c =
 
 pub bounds-out-0 : goal.bounds-out-0
 bounds-out-0 c =
-        not_empty c.requires c.put_records-end.auto.1.1.1.1.0
+        not_empty c.requires c.put_records-end.auto.out
 
 pub returns : goal.returns
 returns c a =
     let w = c.put_records-end.ensures a in
-    writing_end a w.0 w.1 c.put_records-end.auto.1.1.1.1.0
+    writing_end a w.0 w.1 c.put_records-end.auto.out

@@ -9,9 +9,9 @@ use Rattle.resolve_main.specs.Printing.{Adds}
 use Rattle.resolve_main.proofs.report.lines.Given as goal
 
 pub record Printed (out : List ℕ) (count : ℕ) (before : List ℕ) (start : ℕ) (text : List ℕ) (at i : ℕ) : Type 0 where
-  within : i ≤ count
-  long : length text ≡ length before
-  adds : Adds (lines_of (take i (words_of out))) (9 * i) start before at text
+  pub within : i ≤ count
+  pub long : length text ≡ length before
+  pub adds : Adds (lines_of (take i (words_of out))) (9 * i) start before at text
 
 abbrev pub invariant-loop-i : goal.invariant-loop-i
 invariant-loop-i l = Printed l.out l.count l.initial.text l.from l.text l.at l.i

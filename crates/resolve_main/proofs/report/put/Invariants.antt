@@ -7,9 +7,9 @@ use lib.Seq.{paste}
 use Rattle.resolve_main.proofs.report.put.Given as goal
 
 pub record Copied (bytes before : List ℕ) (at : ℕ) (text : List ℕ) (i : ℕ) : Type 0 where
-  within : i ≤ length bytes
-  long : length text ≡ length before
-  there : text ≡ paste before at bytes i
+  pub within : i ≤ length bytes
+  pub long : length text ≡ length before
+  pub there : text ≡ paste before at bytes i
 
 abbrev pub invariant-loop-i : goal.invariant-loop-i
 invariant-loop-i l = Copied l.bytes l.initial.text l.at l.text l.i

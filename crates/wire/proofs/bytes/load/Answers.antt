@@ -3,15 +3,16 @@ use native.Mathlib.Omega.{arith}
 use Prim.Native.Nat.{◌-◌}
 use mathlib.Core.Path.{refl, sym, ◌∙◌}
 use lib.ListN.{length, length-set}
+use Rattle.std.proofs.lemmas.Bool.{not_from_false, not_from_true}
 use Rattle.wire.proofs.ByteLaws.{load_turn, load_done}
 use Rattle.wire.proofs.OverBytes.{few, none_loaded, all_loaded}
 use Rattle.wire.proofs.bytes.load.Goals as goal
 
 pub returns-then-not-are_words : goal.returns-then-not-are_words
-returns-then-not-are_words c = none_loaded _ _ c.are_words.ensures c.if-not-are_words.true
+returns-then-not-are_words c = none_loaded _ _ c.are_words.ensures (not_from_false _ c.if-not-are_words.true)
 
 pub loop-i-init : goal.loop-i-init
-loop-i-init c = record { within = omega arith; few = omega (arith, few (length c.args.bytes.now) c.are_words.ensures c.if-not-are_words.false); long = refl; rest = refl }
+loop-i-init c = record { within = omega arith; few = omega (arith, few (length c.args.bytes.now) c.are_words.ensures (not_from_true _ c.if-not-are_words.false)); long = refl; rest = refl }
 
 pub overflow_mul-at : goal.overflow_mul-at
 overflow_mul-at c = omega arith
@@ -65,4 +66,4 @@ shape_of-words c = c.loop-i.invariant.long
 pub returns : goal.returns
 returns c =
     let l = c.loop-i in
-            all_loaded c.args.bytes.now l.words c.are_words.ensures c.if-not-are_words.false refl (rw l.invariant.long c.requires) (sym (load_done _ l.words l.i (omega arith)) ∙ l.invariant.rest)
+            all_loaded c.args.bytes.now l.words c.are_words.ensures (not_from_true _ c.if-not-are_words.false) refl (rw l.invariant.long c.requires) (sym (load_done _ l.words l.i (omega arith)) ∙ l.invariant.rest)

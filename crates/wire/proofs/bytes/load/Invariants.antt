@@ -8,10 +8,10 @@ use Rattle.wire.proofs.OverBytes.{few}
 use Rattle.wire.proofs.bytes.load.Given as goal
 
 pub record Loading (bytes before : List ℕ) (n : ℕ) (words : List ℕ) (i : ℕ) : Type 0 where
-  within : i ≤ n
-  few : n ≤ length before
-  long : length words ≡ length before
-  rest : take i words ++ words_of (drop (4 * i) bytes) ≡ words_of bytes
+  pub within : i ≤ n
+  pub few : n ≤ length before
+  pub long : length words ≡ length before
+  pub rest : take i words ++ words_of (drop (4 * i) bytes) ≡ words_of bytes
 
 abbrev pub invariant-loop-i : goal.invariant-loop-i
 invariant-loop-i l = Loading l.bytes l.initial.words l.count l.words l.i

@@ -33,7 +33,7 @@ loop-i-preserved c =
     let l = c.loop-i in
     record {
       within = omega arith;
-      long = c.store_word.auto.1.0 ∙ l.invariant.long;
+      long = c.store_word.auto.out ∙ l.invariant.long;
       there = c.store_word.ensures ∙ store_turn _ _ l.out l.i (omega arith) (omega arith) l.invariant.there;
     }
 

@@ -7,9 +7,9 @@ use Rattle.definitions.specs.Bytes.{bytes_of}
 use Rattle.wire.proofs.bytes.store.Given as goal
 
 pub record Stored (words : List ℕ) (n : ℕ) (before out : List ℕ) (i : ℕ) : Type 0 where
-  within : i ≤ n
-  long : length out ≡ length before
-  there : out ≡ bytes_of (take i words) ++ drop (4 * i) before
+  pub within : i ≤ n
+  pub long : length out ≡ length before
+  pub there : out ≡ bytes_of (take i words) ++ drop (4 * i) before
 
 abbrev pub invariant-loop-i : goal.invariant-loop-i
 invariant-loop-i l = Stored l.words l.n l.initial.out l.out l.i
