@@ -62,21 +62,21 @@ module _ (edges : ℕ → List ℕ) where
       go ns r d true i = cut a r d i
       go ns r d false o = (a ∷ ns, then e r, (o, d))
 
-  route_within : {a b : ℕ} {ns : List ℕ} → Route b a ns → (k : ℕ) → length ns ≤ k → leads_within edges k a b ≡ true
+  route_within : {b a : ℕ} {ns : List ℕ} → Route b a ns → (k : ℕ) → length ns ≤ k → leads_within edges k a b ≡ true
   unfolding leads_within
   route_within (last e) zero h = absurd (omega arith)
-  route_within {a} {b} (last e) (suc k) h = any_of (passes k b) b (edges a) e (or_left (leads_within edges k b b) (eq-eqb b b refl))
+  route_within {b} {a} (last e) (suc k) h = any_of (passes k b) b (edges a) e (or_left (leads_within edges k b b) (eq-eqb b b refl))
   route_within (then e r) zero h = absurd (omega arith)
-  route_within {a} {b} (then {m = m} e r) (suc k) h = any_of (passes k b) m (edges a) e (or_right (eqb m b) (route_within r k (omega arith)))
+  route_within {b} {a} (then {m = m} e r) (suc k) h = any_of (passes k b) m (edges a) e (or_right (eqb m b) (route_within r k (omega arith)))
 
   module _ (ds : List ℕ) (only : (a m : ℕ) → among m (edges a) ≡ true → among a ds ≡ true) where
-    route_in : {a b : ℕ} {ns : List ℕ} → Route b a ns → (n : ℕ) → among n ns ≡ true → among n ds ≡ true
-    route_in {a} {b} (last e) n i = go (eqb n a) refl i
+    route_in : {b a : ℕ} {ns : List ℕ} → Route b a ns → (n : ℕ) → among n ns ≡ true → among n ds ≡ true
+    route_in {b} {a} (last e) n i = go (eqb n a) refl i
       where
         go : (t : Bool) → eqb n a ≡ t → (t || false) ≡ true → among n ds ≡ true
         go true q j = subst (λ x. among x ds ≡ true) (sym (eqb-true n a q)) (only a b e)
         go false q j = apart j refl
-    route_in {a} (then {m = m} {ns = ns} e r) n i = go (eqb n a) refl i (route_in r n)
+    route_in {a = a} (then {m = m} {ns = ns} e r) n i = go (eqb n a) refl i (route_in r n)
       where
         go : (t : Bool) → eqb n a ≡ t → (t || among n ns) ≡ true → (among n ns ≡ true → among n ds ≡ true) → among n ds ≡ true
         go true q j rest = subst (λ x. among x ds ≡ true) (sym (eqb-true n a q)) (only a m e)

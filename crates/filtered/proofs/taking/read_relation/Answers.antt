@@ -4,7 +4,7 @@ use Rattle.filtered.proofs.TakingLaws.{plain-read, derived-read}
 use Rattle.filtered.proofs.taking.read_relation.Goals as goal
 
 pub returns-then-at-eq0 : goal.returns-then-at-eq0
-returns-then-at-eq0 c = plain-read _ _ _ _ _ _ c.slots-at.ensures.0 refl c.if-at-eq0.true c.start.ensures.0 c.BAD.type-inv.ensures.0 refl
+returns-then-at-eq0 c = plain-read _ _ _ _ _ _ c.slots-at.ensures.0 refl c.if-at-eq0.true c.start.ensures.0 c.typed.ensures.0 refl
 
 pub returns : goal.returns
 returns c =

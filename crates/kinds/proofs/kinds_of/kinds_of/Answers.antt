@@ -7,7 +7,7 @@ pub place_in-requires : goal.place_in-requires
 place_in-requires c = room_for 128 c.names_said-n.ensures (omega arith) (omega arith)
 
 pub returns-then-n-le-FEW : goal.returns-then-n-le-FEW
-returns-then-n-le-FEW c = c.BAD.IsPlace-in.ensures
+returns-then-n-le-FEW c = c.place_in.ensures
 
 pub place_in-requires-then-n-le-SOME : goal.place_in-requires-then-n-le-SOME
 place_in-requires-then-n-le-SOME c = room_for 1024 c.names_said-n.ensures (omega arith) (omega arith)
