@@ -197,12 +197,16 @@ module _ (C : Citing) (fit : TablesFit C.tables) (n : ℕ) where
   unfolding fields_of children_of
   step_fine (slotless w e) h = (h, refl)
   step_fine {entity} {m} {v} {fs} (aggregates c r kind e) h =
-      let q = subst (λ (d : Direction). DirectionFits d) e (turned_fits v entity _ fs h) in (slots-fine n _ fs c r h q.0 q.1, ap (children_of Aggregate v) (last_kept n _ _ fs c r h))
-  step_fine {entity} {m} {v} {fs} (relates c r owner e) h = let q = subst (λ (d : Direction). DirectionFits d) e (turned_fits v entity _ fs h) in (slots-fine n _ fs c r h q.0 q.1, refl)
+      let rest : List (List ℕ) = (86 ∷ []) ∷ (83 ∷ []) ∷ [] in
+      let q = subst (λ (d : Direction). DirectionFits d) e (turned_fits v entity rest fs h) in
+      (slots-fine n rest fs c r h q.0 q.1, ap (children_of Aggregate v) (last_kept n (86 ∷ []) ((83 ∷ []) ∷ []) fs c r h))
+  step_fine {entity} {m} {v} {fs} (relates c r owner e) h =
+      let rest : List (List ℕ) = (82 ∷ 84 ∷ []) ∷ [] in
+      let q = subst (λ (d : Direction). DirectionFits d) e (turned_fits v entity rest fs h) in (slots-fine n rest fs c r h q.0 q.1, refl)
   step_fine {entity} {m} {v} {fs} (tests c r kind e) h =
-      let s = slots_fit n _ fs h in
+      let s = slots_fit n [] fs h in
       let q = subst (λ (d : Direction). DirectionFits d) e (member-fits C.tables fit v m (current_of fs) (related_of fs) s.0 s.1) in
-      (slots-fine n _ fs c r h q.0 q.1, refl)
+      (slots-fine n [] fs c r h q.0 q.1, refl)
   step_fine (undirected w kind e) h = tt
   step_fine (test_undirected kind e) h = tt
   step_fine derived h = tt

@@ -19,7 +19,7 @@ use Rattle.chains.proofs.PackParts.{parts}
 use Rattle.definitions.specs.Answers.{Outcome, and_then, map_done}
 use Rattle.definitions.specs.Resolving.{rule_words, resolve_rule, resolve_rules, resolve_relation, resolve_relations, first_rule}
 use Rattle.directions.specs.RecordRuns.{run_words, run_by, EachKeeps, Many, RelationKeeps, with_records}
-use Rattle.inputs.proofs.BlocksStand.{first_kind}
+use Rattle.inputs.proofs.BlocksStand.{first_kind_lem}
 
 -- ---- its words
 
@@ -57,7 +57,7 @@ front p = word_of 1 (total p) ∷ opened p
 
 pub pack-words : (p : Pack) → words p ≡ front p ++ (run_words (relation_words p.names) p.relations ++ (word_of 22 (length p.rules) ∷ rules_on p))
 unfolding words layout words_by
-pack-words p = rw (first_kind p.edition) (ap (λ (l : List ℕ). word_of 1 (total p) ∷ l) (inner-words p))
+pack-words p = rw (first_kind_lem p.edition) (ap (λ (l : List ℕ). word_of 1 (total p) ∷ l) (inner-words p))
 
 names-many : (n low : ℕ) (ds : List ℕ) → length (words_all above (λ low v. words_by (defaulted_name n low) v) low ds) ≡ length ds
 unfolding defaulted_name words_by
