@@ -52,7 +52,7 @@ two_slots n rest (a ∷ b ∷ fs) h = (only_one a.0 80 h.0.0, only_one b.0 81 h.
 
 slot_fields : (n : ℕ) (w : Follows) (fs : Fields) → (look_by w).slots ≡ true → FieldsFine n (fields_of w) fs → SlotFields fs
 unfolding look_by fields_of
-slot_fields n w fs = where_true (λ w. (look_by w).slots) (λ w. FieldsFine n (fields_of w) fs → SlotFields fs) (two_slots n _ fs, (two_slots n _ fs, (two_slots n _ fs, tt))) w
+slot_fields n w fs = where_true (λ w. (look_by w).slots) (λ w. FieldsFine n (fields_of w) fs → SlotFields fs) (two_slots n ((86 ∷ []) ∷ (83 ∷ []) ∷ []) fs, (two_slots n ((82 ∷ 84 ∷ []) ∷ []) fs, (two_slots n [] fs, tt))) w
 
 values_small : (n : ℕ) (kss : List (List ℕ)) (a b : ℕ × ℕ) (fs : Fields) → FieldsFine n kss (a ∷ b ∷ fs) → (a.1 < 16777216) × (b.1 < 16777216)
 unfolding Fine

@@ -12,7 +12,7 @@ bounds-pack-at-in-101-2 c =
 
 pub turned-d-requires : goal.turned-d-requires
 turned-d-requires c =
-        (c.requires.0, turned_slots _ c.if-kind-lt74.false (omega (arith, c.in-74-to-78.if-kind-lt79-own.true)))
+        (c.requires.0, turned_slots _ (omega arith) (omega arith))
 
 pub bounds-pack-at-then-kind-eq-ONLY_RELATED : goal.bounds-pack-at-then-kind-eq-ONLY_RELATED
 bounds-pack-at-then-kind-eq-ONLY_RELATED c =
@@ -28,12 +28,12 @@ returns-in-101 c =
 
 pub returns-else-kind-eq-ONLY_RELATED : goal.returns-else-kind-eq-ONLY_RELATED
 returns-else-kind-eq-ONLY_RELATED c =
-            went_taken c.requires.0 (aggregates _ c.if-kind-lt74.false (omega (arith, c.in-74-to-78.if-kind-lt79-own.true, c.if-kind-eq-ONLY_RELATED.false))) c.turned-d.ensures.0 c.turned-d.ensures.1
+            went_taken c.requires.0 (aggregates _ (omega arith) (omega (arith, c.if-kind-eq-ONLY_RELATED.false))) c.turned-d.ensures.0 c.turned-d.ensures.1
     c.went.ensures
 
 pub returns-in_default : goal.returns-in_default
-returns-in_default c = none-taken c.requires.0 (no_slots _ (omega (arith, c.shared_slice_known-4-1.given c.args.node.at)) c.in_default-1.rest.1 (λ l. omega arith))
+returns-in_default c = none-taken c.requires.0 (no_slots _ (omega (arith, c.type_inv.pack c.args.node.at)) (λ e. omega arith) (λ l. omega arith))
 
 pub returns-in_default-2 : goal.returns-in_default-2
 returns-in_default-2 c =
-            none-taken c.requires.0 (no_slots _ (omega (arith, c.shared_slice_known-4-1.given c.args.node.at)) c.in_default-1.rest.1 (λ l. omega arith))
+            none-taken c.requires.0 (no_slots _ (omega (arith, c.type_inv.pack c.args.node.at)) (λ e. omega arith) (λ l. omega arith))
