@@ -118,11 +118,11 @@ module _ (p : Pack) (w : WellFormed p) (rels : List Relation) (rls : List Rule) 
 
   others_same : lengths (other_pieces p) ≡ lengths (other_pieces q)
   unfolding other_pieces
-  others_same = rw (map-append, map-append, rules-same) refl
+  others_same = simp (map-append, rules-same)
 
   pieces_same : beginnings 0 (pieces_of p) ≡ beginnings 0 (pieces_of q)
   pieces_same =
-      ap (sums 0) (rw (map-append, map-append, relations-same, others_same) (ap (λ (x : ℕ). x ∷ (lengths (map (relation_words n) rels) ++ lengths (other_pieces q))) (front_long p ∙ sym (front_long q))))
+      ap (sums 0) (rw (map-append (λ (w : List ℕ). length w), map-append (λ (w : List ℕ). length w), relations-same, others_same) (ap (λ (x : ℕ). x ∷ (lengths (map (relation_words n) rels) ++ lengths (other_pieces q))) (front_long p ∙ sym (front_long q))))
 
   module _ {ws starts acts taken : List ℕ} {steps : ℕ} (a : TablesFilled ws starts acts taken steps) (h : read ws ≡ yes p) {asked work order lists : List ℕ} {added : ℕ} (asks : AskedOf p asked)
       (stands : work ≡ words q) (places : order ≡ places_in p) (listed : Listed ws work acts asked order lists added) where

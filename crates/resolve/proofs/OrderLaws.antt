@@ -26,7 +26,7 @@ use Rattle.chains.proofs.EntryLaws.{reaches_one}
 use Rattle.filtered.proofs.TakingLaws.{name-low}
 use Rattle.definitions.specs.Inputs.{sequence}
 use Rattle.inputs.proofs.InputRead.{items_words, blocks_words, BlockFits, BlocksFit, items_again, items-long}
-use Rattle.inputs.proofs.BlocksStand.{Stands, blocks_stand, block_words, blocks-words}
+use Rattle.inputs.proofs.BlocksStand.{Stands, blocks_stand, block_words_lem, blocks-words}
 use Rattle.kinds.proofs.PartLaws.{map-names, table-mapped}
 use Rattle.definitions.specs.Resolving.{rule_words, first_rule}
 use Rattle.directions.specs.RecordRuns.{places_from, places_in, run_words, body_words, TablesFilled}
@@ -142,9 +142,9 @@ block-next : (ws : List ℕ) (n : ℕ) (pre rest : List ℕ) (b : Block) → ws 
 block-next ws n pre rest b e f =
     let one : List ℕ = word_of 29 b.origin ∷ [] in
     let more : List ℕ = word_of 30 (count list_or_none b.items) ∷ (items_words (sequence b.items) ++ rest) in
-    let there : ws ≡ (pre ++ one) ++ more = e ∙ ap (λ (l : List ℕ). pre ++ (l ++ rest)) (block_words n b) ∙ sym (append_assoc pre one more) in
+    let there : ws ≡ (pre ++ one) ++ more = e ∙ ap (λ (l : List ℕ). pre ++ (l ++ rest)) (block_words_lem n b) ∙ sym (append_assoc pre one more) in
     rw (value_there ws (pre ++ one) (items_words (sequence b.items) ++ rest) 30 (count list_or_none b.items) (length pre + 1) there (length-append pre one) f.counts, items_again b.items f.short)
-    (omega (arith, length-append pre (block_piece n b), ap length (block_words n b), items-long (sequence b.items)))
+    (omega (arith, length-append pre (block_piece n b), ap length (block_words_lem n b), items-long (sequence b.items)))
 
 run_blocks : (ws : List ℕ) (n : ℕ) (pre : List ℕ) (bs : List Block) (rest : List ℕ) → ws ≡ pre ++ (joined (map (block_piece n) bs) ++ rest) → BlocksFit bs → block_places ws (length pre) (length bs) ≡ beginnings (length pre) (map (block_piece n) bs)
 unfolding block_places sums

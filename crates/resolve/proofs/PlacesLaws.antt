@@ -15,6 +15,7 @@ use Rattle.pack.proofs.PackLaws.{words-read, words-length}
 use Rattle.definitions.specs.Places.{relation_words}
 use Rattle.chains.specs.DirectoryWord.{starts_in, names_in}
 use Rattle.chains.specs.Record.{value_at}
+use Rattle.definitions.specs.Form.{repeats}
 use Rattle.chains.proofs.FillLaws.{table-length}
 use Rattle.chains.proofs.PackParts.{parts}
 use Rattle.chains.proofs.RecordLaws.{value_there}
@@ -312,7 +313,7 @@ module _ {ws dir notes : List ℕ} {f : Figures} {room : ℕ} (o : OrderAsked ws
           B_long : (at k : ℕ) → length (block_places ws at k) ≡ k
           unfolding block_places
           B_long at zero = refl
-          B_long at (suc k) = ap suc (B_long _ k)
+          B_long at (suc k) = ap suc (B_long (at + 2 + 3 * repeats (value_at ws (at + 1))) k)
 
           pub blocks_in : Filled places ((((((0 ∷ []) ++ order_in dir f.relations) ++ (f.rules ∷ [])) ++ roots_of (rules_noted p)) ++ ((f.notes.blocks.at - 1) ∷ [])) ++ block_places ws f.notes.blocks.at (length p.blocks)) six (length five)
           blocks_in = fill_part places block-count_in (omega (arith, B_long f.notes.blocks.at (length p.blocks), block-count_in.long, table-long, blocks-many)) (omega (arith, block-count_in.long)) (u ∙ ap (block_places ws f.notes.blocks.at) blocks-long)
