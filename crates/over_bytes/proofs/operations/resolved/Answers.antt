@@ -1,6 +1,5 @@
 -- `over_bytes::operations::resolved` meets its contract.
 use mathlib.Core.Path.{refl, ap, ◌∙◌}
-use mathlib.Core.Logic.{⊎_elim}
 use native.Mathlib.Omega.{arith}
 use lib.ListN.{length}
 use Rattle.definitions.specs.declared.operation.Writing.TheVariants.{Resolve}
@@ -9,6 +8,7 @@ use Rattle.over_bytes.proofs.IntoBytes.{made_room}
 use Rattle.wire.proofs.OverBytes.{given-short, given-long, kept_out}
 use borrow.Author.Rules.{rules}
 use Rattle.over_bytes.proofs.operations.resolved.Goals as goal
+use Rattle.over_bytes.proofs.operations.resolved.Goals.{then-pack-le-BYTES+else-given-ne-NO_ROOM, else-pack-le-BYTES}
 
 pub resolve_in-given-requires : goal.resolve_in-given-requires
 resolve_in-given-requires c = (search rules, made_room 256 1024 (omega arith))
@@ -21,8 +21,16 @@ resolve_in-requires c = (search rules, made_room 8192 8192 (omega arith))
 
 pub shape_of-out : goal.shape_of-out
 shape_of-out c =
-        c.resolve_in.auto.out ∙ ap length (⊎_elim (λ w. w.10 ∙ kept_out (writes Resolve) w.4.ensures w.9.left) (λ w. w.1) c.if-pack-le-BYTES.branch)
+    c.resolve_in.auto.out ∙ ap length
+    (elim c.if-pack-le-BYTES.branch [
+      then-pack-le-BYTES+else-given-ne-NO_ROOM w ↦ w.out-is ∙ kept_out (writes Resolve) w.resolve_in-given.ensures w.if-given-ne-NO_ROOM.false
+      | else-pack-le-BYTES w ↦ w.out-is
+    ])
 
 pub returns : goal.returns
 returns c =
-        given-long (writes Resolve) c.resolve_in.ensures _ (⊎_elim (λ w. w.10 ∙ kept_out (writes Resolve) w.4.ensures w.9.left) (λ w. w.1) c.if-pack-le-BYTES.branch) refl
+    given-long (writes Resolve) c.resolve_in.ensures _
+    (elim c.if-pack-le-BYTES.branch [
+      then-pack-le-BYTES+else-given-ne-NO_ROOM w ↦ w.out-is ∙ kept_out (writes Resolve) w.resolve_in-given.ensures w.if-given-ne-NO_ROOM.false
+      | else-pack-le-BYTES w ↦ w.out-is
+    ]) refl
