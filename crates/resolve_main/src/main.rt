@@ -4,13 +4,17 @@
 
 mod report;
 
-use libc::{STDIN_FILENO, STDOUT_FILENO};
 use report::{Text, resolved_text};
+
+// The standard streams.
+const STDIN: i32 = 0;
+
+const STDOUT: i32 = 1;
 
 fn main() {
     let mut pack = io::large_buffer();
     let mut text = [0u8; Text::ALL];
-    let n = io::read_full(STDIN_FILENO, &mut pack);
+    let n = io::read_full(STDIN, &mut pack);
     let count = resolved_text(&pack[..n], &mut text);
-    io::write_all(STDOUT_FILENO, &text[..count]);
+    io::write_all(STDOUT, &text[..count]);
 }

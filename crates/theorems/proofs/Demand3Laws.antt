@@ -56,6 +56,8 @@ module _ (p q : Pack) (w : WellFormed p) (d : Dealt p q) (steps : ℕ) (lent len
   resolve_alike (done r) (done s) h k (both_done a) = both_come r s h k a
   resolve_alike (refused r) (refused s) h k (dealing.both_equal a b n) = both_equal a b n
   resolve_alike (refused r) (refused s) h k (both_refused a b) = both_open a b
+  resolve_alike (done r) (refused s) h k a = elim a [ ]
+  resolve_alike (refused r) (done s) h k a = elim a [ ]
 
 -- ---- kinds and steps
 

@@ -42,10 +42,14 @@ named_dealt n (trans p q) = trans (named_dealt n p) (named_dealt n q)
 items_dealt : (n : ℕ) (x y : Option (List Item)) → SameItems x y → InAnyOrder (named n (sequence x)) (named n (sequence y))
 items_dealt n none none dealt.both_none = nil
 items_dealt n (some l) (some m) (dealt.both_some p) = named_dealt n p
+items_dealt n none (some m) p = elim p [ ]
+items_dealt n (some l) none p = elim p [ ]
 
 sequence_alike : (x y : Option (List Item)) → SameItems x y → no_sequence x ≡ no_sequence y
 sequence_alike none none dealt.both_none = refl
 sequence_alike (some l) (some m) (dealt.both_some p) = refl
+sequence_alike none (some m) p = elim p [ ]
+sequence_alike (some l) none p = elim p [ ]
 
 -- the blocks of an origin
 module _ (o : ℕ) where

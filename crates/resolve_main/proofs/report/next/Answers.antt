@@ -8,17 +8,14 @@ use Rattle.resolve_main.proofs.DecimalLaws.{as_written, few_digits}
 use Rattle.resolve_main.proofs.PrintingLaws.{and_then, adds_as}
 use Rattle.resolve_main.proofs.report.next.Goals as goal
 
--- NONEED slice-aggregate-put-2 : tie.Need-slice-aggregate-put-2
--- slice-aggregate-put-2 c = search rules
-
 pub put-requires : goal.put-requires
 put-requires c =
             let written = c.decimal-count in
-    omega (arith, written.ensures.0.1, few_digits c.args.n written.result (omega arith) written.ensures.1.0)
+    omega (arith, written.ensures.in_bounds.1, few_digits c.args.n written.result (omega arith) written.ensures.len)
 
 pub returns : goal.returns
 returns c =
                 let written = c.decimal-count in
-    let text = written.ensures.1.1 ∙ as_written c.args.n written.result written.ensures.1.0 in
+    let text = written.ensures.digits ∙ as_written c.args.n written.result written.ensures.len in
     adds_as (and_then c.put-from.ensures (omega arith) c.put.ensures) (ap (λ (t : List ℕ). 32 ∷ t) text)
-    (omega (arith, written.ensures.0.1, few_digits c.args.n written.result (omega arith) written.ensures.1.0))
+    (omega (arith, written.ensures.in_bounds.1, few_digits c.args.n written.result (omega arith) written.ensures.len))

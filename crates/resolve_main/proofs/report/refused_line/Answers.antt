@@ -5,12 +5,6 @@ use mathlib.Core.Path.{refl}
 use Rattle.resolve_main.proofs.PrintingLaws.{and_then, adds_as}
 use Rattle.resolve_main.proofs.report.refused_line.Goals as goal
 
--- NONEED slice-aggregate-put : tie.Need-slice-aggregate-put
--- slice-aggregate-put c = search rules
-
--- NONEED slice-aggregate-put-2 : tie.Need-slice-aggregate-put-2
--- slice-aggregate-put-2 c = search rules
-
 pub returns : goal.returns
 returns c =
                 adds_as (and_then (and_then (and_then (and_then (and_then c.put-number.ensures (omega arith) c.next-place.ensures) (omega arith) c.next-name.ensures) (omega arith)
