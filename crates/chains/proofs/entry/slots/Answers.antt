@@ -12,18 +12,16 @@ returns-then-link-eq0 c = (sym (whole_at (slot_in c.args.dir.now) 4096 c.args.na
 
 pub returns-then-link-lt-OFFSETS : goal.returns-then-link-lt-OFFSETS
 unfolding slot_in slots_in
-returns-then-link-lt-OFFSETS c =
-    (
-      sym (whole_at (slot_in c.args.dir.now) 4096 c.args.name (omega (arith, c.requires.most)) ∙ rw
-          (← c.link-link.ensures.0, ne_eqb _ _ c.if-link-eq0.false, lt-ltb _ _ c.if-link-lt-OFFSETS.true) refl),
-      omega (arith, c.if-link-lt-OFFSETS.true),
-    )
+returns-then-link-lt-OFFSETS c = (
+  sym (whole_at (slot_in c.args.dir.now) 4096 c.args.name (omega (arith, c.requires.most)) ∙ rw
+      (← c.link-link.ensures.0, ne_eqb _ _ c.if-link-eq0.false, lt-ltb _ _ c.if-link-lt-OFFSETS.true) refl),
+  omega (arith, c.if-link-lt-OFFSETS.true),
+)
 
 pub returns : goal.returns
 unfolding slot_in slots_in
-returns c =
-    (
-      sym (whole_at (slot_in c.args.dir.now) 4096 c.args.name (omega (arith, c.requires.most)) ∙ rw
-          (← c.link-link.ensures.0, ne_eqb _ _ c.if-link-eq0.false, le-ltb _ _ c.if-link-lt-OFFSETS.false) refl),
-      omega arith,
-    )
+returns c = (
+  sym (whole_at (slot_in c.args.dir.now) 4096 c.args.name (omega (arith, c.requires.most)) ∙ rw
+      (← c.link-link.ensures.0, ne_eqb _ _ c.if-link-eq0.false, le-ltb _ _ c.if-link-lt-OFFSETS.false) refl),
+  omega arith,
+)

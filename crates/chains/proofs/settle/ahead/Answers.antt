@@ -27,21 +27,21 @@ bounds-marks-n-in-loop-left c = c.loop-left.invariant.walkable.name
 
 pub read_name-x-requires : goal.read_name-x-requires
 read_name-x-requires c =
-        let w = c.loop-left.invariant.walkable in (reaches_one c.requires.1 (omega (arith, w.name, c.loop-left.invariant.long)), omega (arith, w.room))
+    let w = c.loop-left.invariant.walkable in (reaches_one c.requires.1 (omega (arith, w.name, c.loop-left.invariant.long)), omega (arith, w.room))
 
 pub shape_of-marks-then-x-lt-LEADS : goal.shape_of-marks-then-x-lt-LEADS
 shape_of-marks-then-x-lt-LEADS c =
-            (stops_end _ _ _ _ _ c.loop-left.invariant (omega arith) c.if-m-ge-SETTLED.false c.if-m-eq-ON_PATH.false c.read_name-x.ensures.says c.read_name-x.ensures.counts
+    (stops_end _ _ _ _ _ c.loop-left.invariant (omega arith) c.if-m-ge-SETTLED.false c.if-m-eq-ON_PATH.false c.read_name-x.ensures.says c.read_name-x.ensures.counts
     c.if-x-lt-LEADS.true).long
 
 pub returns-then-x-lt-LEADS : goal.returns-then-x-lt-LEADS
 returns-then-x-lt-LEADS c =
-            stops_end _ _ _ _ _ c.loop-left.invariant (omega arith) c.if-m-ge-SETTLED.false c.if-m-eq-ON_PATH.false c.read_name-x.ensures.says c.read_name-x.ensures.counts
+    stops_end _ _ _ _ _ c.loop-left.invariant (omega arith) c.if-m-ge-SETTLED.false c.if-m-eq-ON_PATH.false c.read_name-x.ensures.says c.read_name-x.ensures.counts
     c.if-x-lt-LEADS.true
 
 pub loop-left-preserved : goal.loop-left-preserved
 loop-left-preserved c =
-            goes_on _ _ _ _ _ c.loop-left.invariant (omega arith) c.if-m-ge-SETTLED.false c.if-m-eq-ON_PATH.false c.read_name-x.ensures.says c.read_name-x.ensures.counts
+    goes_on _ _ _ _ _ c.loop-left.invariant (omega arith) c.if-m-ge-SETTLED.false c.if-m-eq-ON_PATH.false c.read_name-x.ensures.says c.read_name-x.ensures.counts
     c.if-x-lt-LEADS.false c.next_name-n.ensures
 
 pub shape_of-marks : goal.shape_of-marks

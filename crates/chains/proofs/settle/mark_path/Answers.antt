@@ -15,7 +15,7 @@ declared-requires c = reaches_one c.requires.2 (omega (arith, c.loop-left.invari
 
 pub loop-left-preserved : goal.loop-left-preserved
 loop-left-preserved c =
-        path-next _ _ _ _ _ c.loop-left.invariant c.requires.1 (omega arith)
+    path-next _ _ _ _ _ c.loop-left.invariant c.requires.1 (omega arith)
     (read_one _ {steps = 0} (reaches_one c.requires.2 (omega (arith, c.loop-left.invariant.low, c.loop-left.invariant.long))) c.declared.ensures).says c.next_name-n.ensures
 
 pub shape_of-marks : goal.shape_of-marks

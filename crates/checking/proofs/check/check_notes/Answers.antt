@@ -16,8 +16,8 @@ returns-in_default c = checked_refused (omega arith) (omega arith) c.layout-r.en
 
 pub returns-then-end-len : goal.returns-then-end-len
 returns-then-end-len c =
-        checked_no c.no-then-end-len.ensures (check_left _ (omega arith) (omega arith) c.layout-r.ensures.answers (ap step_in c.in-Yes.is) (omega arith))
+    checked_no c.no-then-end-len.ensures (check_left _ (omega arith) (omega arith) c.layout-r.ensures.answers (ap step_in c.in-Yes.is) (omega arith))
 
 pub returns : goal.returns
 returns c =
-        checked-yes (omega arith) (omega arith) c.layout-r.ensures c.in-Yes.is (omega arith)
+    checked-yes (omega arith) (omega arith) c.layout-r.ensures c.in-Yes.is (omega arith)

@@ -23,21 +23,20 @@ field-f2-requires c = refl
 pub returns-in_default-f2 : goal.returns-in_default-f2
 unfolding layout inner
 returns-in_default-f2 c =
-            whole_no _ _ _ _ (from_start _ _ c.start-c.ensures (search walks depth 12)) c.in_default-f2.is c.refused-in_default-f2.ensures
+    whole_no _ _ _ _ (from_start _ _ c.start-c.ensures (search walks depth 12)) c.in_default-f2.is c.refused-in_default-f2.ensures
 
 pub table_for-t-requires : goal.table_for-t-requires
 table_for-t-requires c = omega (arith, names-most _ _ _ c.field-f2.ensures c.in-On-f2.is)
 
 pub records-requires : goal.records-requires
-records-requires c =
-            (
-      names-most _ _ _ c.field-f2.ensures c.in-On-f2.is,
-      ready_for _ _ _ c.requires.0 c.table_for-t.ensures.0
-          c.table_for-t.ensures.1 c.table_for-t.ensures.2,
-      clear-read _ _ c.start-c.ensures c.skip-f1.ensures c.in-On.is c.field-f2.ensures c.in-On-f2.is
-          c.requires.1,
-    )
+records-requires c = (
+  names-most _ _ _ c.field-f2.ensures c.in-On-f2.is,
+  ready_for _ _ _ c.requires.0 c.table_for-t.ensures.0
+      c.table_for-t.ensures.1 c.table_for-t.ensures.2,
+  clear-read _ _ c.start-c.ensures c.skip-f1.ensures c.in-On.is c.field-f2.ensures c.in-On-f2.is
+      c.requires.1,
+)
 
 pub returns : goal.returns
 returns c =
-                whole_on _ _ _ _ c.start-c.ensures c.skip-f1.ensures c.in-On.is c.field-f2.ensures c.in-On-f2.is c.records.ensures
+    whole_on _ _ _ _ c.start-c.ensures c.skip-f1.ensures c.in-On.is c.field-f2.ensures c.in-On-f2.is c.records.ensures

@@ -8,5 +8,5 @@ write_again-requires c = let w = by_answer _ c.args.out.now c.written-count.ensu
 
 pub returns : goal.returns
 returns c =
-            let w = by_answer _ c.args.out.now c.written-count.ensures
+    let w = by_answer _ c.args.out.now c.written-count.ensures
     c.answer_for-a.ensures in record { answers = c.answer_for-a.ensures; leaves = c.write_again.ensures ∙ w.leaves }

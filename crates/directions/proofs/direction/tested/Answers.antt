@@ -7,5 +7,5 @@ returns-in_default c = no_membership _ _ _ _ c.slot_kinds.ensures.0 c.in_default
 
 pub returns : goal.returns
 returns c =
-            is-tested _ _ c.requires c.list-at.ensures.0 c.value_at-a.ensures.0 c.value_at-b.ensures.0 _ _ c.slot_kinds.ensures.0
+    is-tested _ _ c.requires c.list-at.ensures.0 c.value_at-a.ensures.0 c.value_at-b.ensures.0 _ _ c.slot_kinds.ensures.0
     c.in-Kinds.is c.between.ensures

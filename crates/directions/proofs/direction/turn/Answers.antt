@@ -14,5 +14,5 @@ returns-then-part-eq-TYPED c = is-typed _ _ _ _ _ _ _ c.act_of-x.ensures c.part-
 
 pub returns : goal.returns
 returns c =
-            is-derived _ _ _ _ _ _ _ c.act_of-x.ensures c.part-part.ensures.0 c.if-part-eq-NEITHER.false c.if-part-eq-TYPED.false c.value_at-c.ensures.0
+    is-derived _ _ _ _ _ _ _ c.act_of-x.ensures c.part-part.ensures.0 c.if-part-eq-NEITHER.false c.if-part-eq-TYPED.false c.value_at-c.ensures.0
     c.value_at-r.ensures.0 c.list.ensures.0 c.kind_or_zero.ensures

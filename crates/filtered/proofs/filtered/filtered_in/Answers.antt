@@ -15,11 +15,11 @@ returns-in_default c = filter-refused _ _ _ (c.answer.ensures ∙ c.check_direct
 
 pub returns-then-out-count : goal.returns-then-out-count
 returns-then-out-count c =
-            let d = directed c.requires.0.clear c.check_directory-r.ensures c.in-Yes.is in filter-room _ _ _ d.checked d.named (omega arith) c.refuse.ensures
+    let d = directed c.requires.0.clear c.check_directory-r.ensures c.in-Yes.is in filter-room _ _ _ d.checked d.named (omega arith) c.refuse.ensures
 
 pub fill-requires : goal.fill-requires
 fill-requires c =
-            let d = directed c.requires.0.clear c.check_directory-r.ensures c.in-Yes.is in (
+    let d = directed c.requires.0.clear c.check_directory-r.ensures c.in-Yes.is in (
       d,
       lent-said d c.requires.0.lent,
       reaches_kept c.check_directory-r.auto.dir c.requires.0.reaches,
@@ -30,5 +30,5 @@ fill-requires c =
 
 pub returns : goal.returns
 returns c =
-                    let d = directed c.requires.0.clear c.check_directory-r.ensures c.in-Yes.is in
+    let d = directed c.requires.0.clear c.check_directory-r.ensures c.in-Yes.is in
     filter-done _ _ _ d.checked d.named c.if-out-count.false c.fill.ensures

@@ -3,14 +3,14 @@ use Rattle.filtered.proofs.filtered.mark_inner.Goals as goal
 
 pub walk_inner-requires : goal.walk_inner-requires
 walk_inner-requires c =
-        c.requires
+    c.requires
 
 pub returns-in-Direct : goal.returns-in-Direct
 returns-in-Direct c = rw c.in-Direct.is tt
 
 pub returns-in-Innermost : goal.returns-in-Innermost
 returns-in-Innermost c =
-        rw c.in-Innermost.is c.walk_inner.ensures
+    rw c.in-Innermost.is c.walk_inner.ensures
 
 pub returns-in-Alias : goal.returns-in-Alias
 returns-in-Alias c = rw c.in-Alias.is tt

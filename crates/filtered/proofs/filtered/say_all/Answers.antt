@@ -25,7 +25,7 @@ loop-j-smaller c = omega (arith, c.loop-j.invariant.long)
 pub loop-j-preserved : goal.loop-j-preserved
 unfolding said_in
 loop-j-preserved c =
-        next _ _ c.loop-j.invariant (omega (arith, c.loop-j.invariant.long))
+    next _ _ c.loop-j.invariant (omega (arith, c.loop-j.invariant.long))
     (c.say.ensures ∙ ap (λ m. said c.args.filter (get_or c.args.taken.now c.loop-j.j 0) m c.loop-j.j) (left_there _ _ c.loop-j.invariant))
 
 pub shape_of-out : goal.shape_of-out

@@ -20,16 +20,15 @@ pub loop-j-init : goal.loop-j-init
 loop-j-init c = begin _ _ _ _ _ c.requires.settleable
 
 pub walk-requires : goal.walk-requires
-walk-requires c =
-    (
-      name_walkable c.requires c.loop-j.invariant (omega (arith, c.loop-j.invariant.long)),
-      subst (Reaches c.args.dir.now) (sym c.loop-j.invariant.long)
-          c.requires.reaches,
-    )
+walk-requires c = (
+  name_walkable c.requires c.loop-j.invariant (omega (arith, c.loop-j.invariant.long)),
+  subst (Reaches c.args.dir.now) (sym c.loop-j.invariant.long)
+      c.requires.reaches,
+)
 
 pub loop-j-preserved : goal.loop-j-preserved
 loop-j-preserved c =
-        name-walked c.requires c.loop-j.invariant (omega arith) c.walk.ensures
+    name-walked c.requires c.loop-j.invariant (omega arith) c.walk.ensures
 
 pub shape_of-marks : goal.shape_of-marks
 shape_of-marks c = c.loop-j.invariant.long

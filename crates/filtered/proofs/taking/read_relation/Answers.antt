@@ -8,5 +8,5 @@ returns-then-at-eq0 c = plain-read _ _ _ _ _ _ c.slots-at.ensures.0 refl c.if-at
 
 pub returns : goal.returns
 returns c =
-                derived-read _ _ _ _ _ _ c.slots-at.ensures.0 refl c.if-at-eq0.false c.list.ensures.0 c.value_at.ensures.0 c.kind_at-kind.ensures
+    derived-read _ _ _ _ _ _ c.slots-at.ensures.0 refl c.if-at-eq0.false c.list.ensures.0 c.value_at.ensures.0 c.kind_at-kind.ensures
     c.value_at-2.ensures.0 c.take_at.ensures refl

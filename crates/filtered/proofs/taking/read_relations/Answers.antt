@@ -11,19 +11,18 @@ loop-j-init c = (begin _ _ _ _ _ _, refl)
 
 pub name_at-requires : goal.name_at-requires
 name_at-requires c =
-        omega (arith, c.requires.0, c.requires.2.long)
+    omega (arith, c.requires.0, c.requires.2.long)
 
 pub read_relation-requires : goal.read_relation-requires
 read_relation-requires c =
-        let low = name-low _ _ _ _ c.requires.1 (omega arith) c.name_at.ensures in (omega (arith, low, c.loop-j.invariant.0.long), reaches_one c.requires.2 low)
+    let low = name-low _ _ _ _ c.requires.1 (omega arith) c.name_at.ensures in (omega (arith, low, c.loop-j.invariant.0.long), reaches_one c.requires.2 low)
 
 pub loop-j-preserved : goal.loop-j-preserved
-loop-j-preserved c =
-        (
-      read_next _ _ _ _ _ _ c.loop-j.invariant.0 (omega (arith, names-long c.args.dir.now c.args.count))
-          (rw (c.name_at.ensures ∙ sym (name-here c.args.dir.now c.args.count c.loop-j.j (omega arith))) at c.read_relation.ensures),
-      c.taken-1.given ∙ c.loop-j.invariant.1,
-    )
+loop-j-preserved c = (
+  read_next _ _ _ _ _ _ c.loop-j.invariant.0 (omega (arith, names-long c.args.dir.now c.args.count))
+      (rw (c.name_at.ensures ∙ sym (name-here c.args.dir.now c.args.count c.loop-j.j (omega arith))) at c.read_relation.ensures),
+  c.taken-1.given ∙ c.loop-j.invariant.1,
+)
 
 pub shape_of-acts : goal.shape_of-acts
 shape_of-acts c = c.loop-j.invariant.0.long

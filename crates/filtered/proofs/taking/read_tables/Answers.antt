@@ -11,11 +11,11 @@ settle_all-steps-requires c = let d = c.requires.0 in (few-relations d, settleab
 
 pub read_relations-requires : goal.read_relations-requires
 read_relations-requires c =
-            let d = c.requires.0 in
+    let d = c.requires.0 in
     let s = c.settle_all-steps.ensures in
     (few-relations d, takeable d (kinds-marked d c.requires.1 s) s.marked (omega (arith, c.requires.1.long, s.long)), subst (Reaches c.args.dir.now) (sym s.long) c.requires.2)
 
 pub returns : goal.returns
 returns c =
-                let s = c.settle_all-steps.ensures in
+    let s = c.settle_all-steps.ensures in
     filled c.requires.0 (kinds-marked c.requires.0 c.requires.1 s) s.marked (omega (arith, c.requires.1.long, s.long)) c.requires.3 c.read_relations.ensures

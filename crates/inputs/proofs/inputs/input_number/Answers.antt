@@ -19,10 +19,10 @@ returns-then-owner-eq0 c = number_15 _ _ _ c.if-seen-eq-LACKING.false c.if-seen-
 
 pub returns-then-value_at-owner : goal.returns-then-value_at-owner
 returns-then-value_at-owner c =
-            number_15_again _ _ _ c.if-seen-eq-LACKING.false c.if-seen-eq0.false c.if-seen-eq-SEVERAL.false c.value_at.ensures.0 c.if-value_at-ne1.false c.if-owner-eq0.false
+    number_15_again _ _ _ c.if-seen-eq-LACKING.false c.if-seen-eq0.false c.if-seen-eq-SEVERAL.false c.value_at.ensures.0 c.if-value_at-ne1.false c.if-owner-eq0.false
     c.value_at-2.ensures.0 c.if-value_at-owner.true
 
 pub returns : goal.returns
 returns c =
-            number_0 _ _ _ c.if-seen-eq-LACKING.false c.if-seen-eq0.false c.if-seen-eq-SEVERAL.false c.value_at.ensures.0 c.if-value_at-ne1.false c.if-owner-eq0.false
+    number_0 _ _ _ c.if-seen-eq-LACKING.false c.if-seen-eq0.false c.if-seen-eq-SEVERAL.false c.value_at.ensures.0 c.if-value_at-ne1.false c.if-owner-eq0.false
     c.value_at-2.ensures.0 c.if-value_at-owner.false

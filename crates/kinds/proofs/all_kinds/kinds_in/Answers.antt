@@ -17,16 +17,16 @@ returns-in_default c = kinds-refused _ _ (c.answer.ensures ∙ c.check_directory
 
 pub returns-then-out-count : goal.returns-then-out-count
 returns-then-out-count c =
-            let d = directed c.requires.clear c.check_directory-r.ensures c.in-Yes.is in kinds-room _ _ d.checked d.counted (omega arith) c.refuse.ensures
+    let d = directed c.requires.clear c.check_directory-r.ensures c.in-Yes.is in kinds-room _ _ d.checked d.counted (omega arith) c.refuse.ensures
 
 pub settle_all-steps-requires : goal.settle_all-steps-requires
 settle_all-steps-requires c =
-            let d = directed c.requires.clear c.check_directory-r.ensures c.in-Yes.is in
+    let d = directed c.requires.clear c.check_directory-r.ensures c.in-Yes.is in
     (few-relations d, settleable d (lent-said d c.requires.lent), reaches_kept c.check_directory-r.auto.dir c.requires.reaches)
 
 pub places-requires : goal.places-requires
 places-requires c =
-            let d = directed c.requires.clear c.check_directory-r.ensures c.in-Yes.is in let t = lent-said d c.requires.lent in let l = front_length
+    let d = directed c.requires.clear c.check_directory-r.ensures c.in-Yes.is in let t = lent-said d c.requires.lent in let l = front_length
     c.args.out.now c.in-Yes.l.relations (omega arith) in (
       omega (arith, few-relations d),
       omega (arith, d.reaches.long),
@@ -36,6 +36,6 @@ places-requires c =
 
 pub returns : goal.returns
 returns c =
-                let d = directed c.requires.clear c.check_directory-r.ensures c.in-Yes.is in kinds-done _ _ d.checked d.counted (omega arith)
+    let d = directed c.requires.clear c.check_directory-r.ensures c.in-Yes.is in kinds-done _ _ d.checked d.counted (omega arith)
     (kinds_left _ _ (kinds-marked d (lent-said d c.requires.lent) c.settle_all-steps.ensures) (front_length c.args.out.now _ (omega arith))
     c.places.ensures)

@@ -18,11 +18,11 @@ offset_bounds-marks-n c = omega (arith, named-low _ _ _ c.requires.2 _ (omega (a
 
 pub bounds-marks-n : goal.bounds-marks-n
 bounds-marks-n c =
-        omega (arith, named-low _ _ _ c.requires.2 _ (omega (arith, c.loop-j.invariant.long)) c.name_at-n.ensures)
+    omega (arith, named-low _ _ _ c.requires.2 _ (omega (arith, c.loop-j.invariant.long)) c.name_at-n.ensures)
 
 pub overflow_sub-out : goal.overflow_sub-out
 overflow_sub-out c =
-        omega (arith, named-settled _ _ _ c.requires.2 _ (omega (arith, c.loop-j.invariant.long)) c.name_at-n.ensures)
+    omega (arith, named-settled _ _ _ c.requires.2 _ (omega (arith, c.loop-j.invariant.long)) c.name_at-n.ensures)
 
 pub loop-j-smaller : goal.loop-j-smaller
 loop-j-smaller c = omega (arith, c.loop-j.invariant.long)

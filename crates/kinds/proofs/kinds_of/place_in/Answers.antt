@@ -16,19 +16,19 @@ returns-in_default c = name-refused _ _ (c.answer.ensures ∙ c.check_directory-
 
 pub returns-then-l-name : goal.returns-then-l-name
 returns-then-l-name c =
-            let d = directed c.requires.clear c.check_directory-r.ensures c.in-Yes.is in c.unknown_name.ensures ∙ name-unknown _ _ d.checked d.named
+    let d = directed c.requires.clear c.check_directory-r.ensures c.in-Yes.is in c.unknown_name.ensures ∙ name-unknown _ _ d.checked d.named
     (omega arith)
 
 pub overflow_add-fuel : goal.overflow_add-fuel
 overflow_add-fuel c =
-            let d = directed c.requires.clear c.check_directory-r.ensures c.in-Yes.is in omega (arith, few-relations d)
+    let d = directed c.requires.clear c.check_directory-r.ensures c.in-Yes.is in omega (arith, few-relations d)
 
 pub walk-place-requires : goal.walk-place-requires
 walk-place-requires c =
-            let d = directed c.requires.clear c.check_directory-r.ensures c.in-Yes.is in
+    let d = directed c.requires.clear c.check_directory-r.ensures c.in-Yes.is in
     (walkable_own d (omega arith) (lent-said d c.requires.lent), reaches_kept c.check_directory-r.auto.dir c.requires.reaches)
 
 pub returns : goal.returns
 returns c =
-            let d = directed c.requires.clear c.check_directory-r.ensures c.in-Yes.is in
+    let d = directed c.requires.clear c.check_directory-r.ensures c.in-Yes.is in
     name-place _ _ d.checked d.named c.if-l-name.false (own-place d (lent-said d c.requires.lent) c.walk-place.ensures)

@@ -15,24 +15,24 @@ returns-in_default c = lean-refused _ _ _ (c.answer.ensures ∙ c.check_director
 
 pub returns-then-l-a : goal.returns-then-l-a
 returns-then-l-a c =
-            let d = directed c.requires.0.clear c.check_directory-r.ensures c.in-Yes.is in c.unknown_name.ensures ∙ first-unknown _ _ _ d.checked d.named (omega arith)
+    let d = directed c.requires.0.clear c.check_directory-r.ensures c.in-Yes.is in c.unknown_name.ensures ∙ first-unknown _ _ _ d.checked d.named (omega arith)
 
 pub returns-then-l-b : goal.returns-then-l-b
 returns-then-l-b c =
-            let d = directed c.requires.0.clear c.check_directory-r.ensures c.in-Yes.is in c.unknown_name-then-l-b.ensures ∙ second_unknown _ _ _ d.checked d.named
+    let d = directed c.requires.0.clear c.check_directory-r.ensures c.in-Yes.is in c.unknown_name-then-l-b.ensures ∙ second_unknown _ _ _ d.checked d.named
     (omega arith) (omega arith)
 
 pub leads-requires : goal.leads-requires
 leads-requires c =
-                let d = directed c.requires.0.clear c.check_directory-r.ensures c.in-Yes.is in
+    let d = directed c.requires.0.clear c.check_directory-r.ensures c.in-Yes.is in
     its_searchable d (reaches_kept c.check_directory-r.auto.dir c.requires.0.reaches) (lent-said d c.requires.0.lent) c.requires.1 c.if-l-a.false c.if-l-b.false
 
 pub returns-then-leads : goal.returns-then-leads
 returns-then-leads c =
-                let d = directed c.requires.0.clear c.check_directory-r.ensures c.in-Yes.is in
+    let d = directed c.requires.0.clear c.check_directory-r.ensures c.in-Yes.is in
     rw c.if-leads.true at (leans-or_not _ _ _ d.checked d.named c.if-l-a.false c.if-l-b.false (its_leaning d c.leads.ensures))
 
 pub returns : goal.returns
 returns c =
-                let d = directed c.requires.0.clear c.check_directory-r.ensures c.in-Yes.is in
+    let d = directed c.requires.0.clear c.check_directory-r.ensures c.in-Yes.is in
     rw c.if-leads.false at (leans-or_not _ _ _ d.checked d.named c.if-l-a.false c.if-l-b.false (its_leaning d c.leads.ensures))

@@ -12,16 +12,15 @@ returns-then-flag_at-ne1 c = nothing-there _ (underived _ _ c.if-start-eq0.false
 
 pub reach_source-found-requires : goal.reach_source-found-requires
 reach_source-found-requires c =
-            source_first _ _ _ (derived _ _ c.if-start-eq0.false c.flag_at.ensures c.if-flag_at-ne1.false c.kind_count.ensures.0) c.value_at.ensures.0 c.requires.1
+    source_first _ _ _ (derived _ _ c.if-start-eq0.false c.flag_at.ensures c.if-flag_at-ne1.false c.kind_count.ensures.0) c.value_at.ensures.0 c.requires.1
 
 pub reach_path-requires : goal.reach_path-requires
-reach_path-requires c =
-            (
-      omega (arith, c.requires.0, c.kind_count.ensures.1),
-      path_then _ _ _ (derived _ _ c.if-start-eq0.false c.flag_at.ensures c.if-flag_at-ne1.false c.kind_count.ensures.0) c.value_at.ensures.0 c.requires.1 c.reach_source-found.ensures,
-    )
+reach_path-requires c = (
+  omega (arith, c.requires.0, c.kind_count.ensures.1),
+  path_then _ _ _ (derived _ _ c.if-start-eq0.false c.flag_at.ensures c.if-flag_at-ne1.false c.kind_count.ensures.0) c.value_at.ensures.0 c.requires.1 c.reach_source-found.ensures,
+)
 
 pub returns : goal.returns
 returns c =
-                    both_entered _ _ _ (derived _ _ c.if-start-eq0.false c.flag_at.ensures c.if-flag_at-ne1.false c.kind_count.ensures.0) c.value_at.ensures.0 c.requires.1 c.reach_source-found.ensures
+    both_entered _ _ _ (derived _ _ c.if-start-eq0.false c.flag_at.ensures c.if-flag_at-ne1.false c.kind_count.ensures.0) c.value_at.ensures.0 c.requires.1 c.reach_source-found.ensures
     c.reach_path.ensures

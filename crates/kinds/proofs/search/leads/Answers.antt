@@ -17,11 +17,11 @@ start-requires-2 c = reaches_one c.requires.reaches c.requires.from
 
 pub enter-count-requires : goal.enter-count-requires
 enter-count-requires c =
-        (omega (arith, c.start-2.ensures.1), asked-first _ _ _ _ c.requires c.start-2.ensures.0)
+    (omega (arith, c.start-2.ensures.1), asked-first _ _ _ _ c.requires c.start-2.ensures.0)
 
 pub loop-marks-init : goal.loop-marks-init
 loop-marks-init c =
-        begun _ _ _ _ c.requires c.start-2.ensures.0 c.enter-count.ensures
+    begun _ _ _ _ c.requires c.start-2.ensures.0 c.enter-count.ensures
 
 pub bounds-marks-b : goal.bounds-marks-b
 bounds-marks-b c = at_length _ _ _ _ c.loop-marks.invariant
@@ -44,11 +44,10 @@ start-requires-in-loop-marks c =
     reaches_one f.reaches (queued_below _ _ _ _ f (omega (arith, c.if-count-i.false)) c.name_at-n.ensures)
 
 pub enter-count-requires-in-loop-marks : goal.enter-count-requires-in-loop-marks
-enter-count-requires-in-loop-marks c =
-    (
-      omega (arith, c.start-in-loop-marks.ensures.1),
-      asked-next _ _ _ _ c.loop-marks.invariant (omega (arith, c.if-count-i.false)) c.name_at-n.ensures c.start-in-loop-marks.ensures.0,
-    )
+enter-count-requires-in-loop-marks c = (
+  omega (arith, c.start-in-loop-marks.ensures.1),
+  asked-next _ _ _ _ c.loop-marks.invariant (omega (arith, c.if-count-i.false)) c.name_at-n.ensures c.start-in-loop-marks.ensures.0,
+)
 
 pub overflow_add-i : goal.overflow_add-i
 overflow_add-i c =
@@ -62,7 +61,7 @@ loop-marks-smaller c =
 
 pub loop-marks-preserved : goal.loop-marks-preserved
 loop-marks-preserved c =
-        entered_one _ _ _ _ c.loop-marks.invariant (omega (arith, c.if-count-i.false)) c.name_at-n.ensures c.start-in-loop-marks.ensures.0 c.enter-count-in-loop-marks.ensures
+    entered_one _ _ _ _ c.loop-marks.invariant (omega (arith, c.if-count-i.false)) c.name_at-n.ensures c.start-in-loop-marks.ensures.0 c.enter-count-in-loop-marks.ensures
 
 pub shape_of-marks : goal.shape_of-marks
 shape_of-marks c = c.loop-marks.invariant.marks ∙ c.enter-count.auto.marks

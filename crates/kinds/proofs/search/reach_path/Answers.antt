@@ -11,7 +11,7 @@ overflow_add-place c = omega (arith, c.requires.0)
 
 pub loop-left-init : goal.loop-left-init
 loop-left-init c =
-        path_begin _ _ _ c.value_at-steps.ensures.0 c.if-steps-eq-NONE.false c.value_at-steps.ensures.1 c.requires.0 c.requires.1
+    path_begin _ _ _ c.value_at-steps.ensures.0 c.if-steps-eq-NONE.false c.value_at-steps.ensures.1 c.requires.0 c.requires.1
 
 pub reach-found-requires : goal.reach-found-requires
 reach-found-requires c = step_asked _ _ _ c.loop-left.invariant (omega arith) c.value_at.ensures.0
@@ -21,7 +21,7 @@ overflow_add-place-in-loop-left c = omega (arith, c.loop-left.invariant.near)
 
 pub loop-left-preserved : goal.loop-left-preserved
 loop-left-preserved c =
-        step_reached _ _ _ c.loop-left.invariant (omega arith) c.value_at.ensures.0 c.reach-found.ensures
+    step_reached _ _ _ c.loop-left.invariant (omega arith) c.value_at.ensures.0 c.reach-found.ensures
 
 pub shape_of-marks : goal.shape_of-marks
 shape_of-marks c = c.loop-left.invariant.marks

@@ -5,13 +5,13 @@ use Rattle.over_bytes.proofs.operations.resolve_in.Goals as goal
 
 pub resolve_into-a-requires : goal.resolve_into-a-requires
 resolve_into-a-requires c =
-            room_into c.load-n.ensures (room_as c.requires.1 (search rules)) c.args.out.now c.room-m.ensures
+    room_into c.load-n.ensures (room_as c.requires.1 (search rules)) c.args.out.now c.room-m.ensures
 
 pub give-requires : goal.give-requires
 give-requires c =
-            fits_into c.load-n.ensures (room_as c.requires.1 (search rules)) c.args.out.now c.room-m.ensures c.resolve_into-a.ensures (search rules)
+    fits_into c.load-n.ensures (room_as c.requires.1 (search rules)) c.args.out.now c.room-m.ensures c.resolve_into-a.ensures (search rules)
 
 pub returns : goal.returns
 returns c =
-                tried_into c.load-n.ensures (room_as c.requires.1 (search rules)) c.args.out.now c.room-m.ensures c.resolve_into-a.ensures
+    tried_into c.load-n.ensures (room_as c.requires.1 (search rules)) c.args.out.now c.room-m.ensures c.resolve_into-a.ensures
     c.give.ensures

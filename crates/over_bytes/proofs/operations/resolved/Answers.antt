@@ -23,7 +23,7 @@ pub shape_of-out : goal.shape_of-out
 shape_of-out c =
     c.resolve_in.auto.out ∙ ap length
     (elim c.if-pack-le-BYTES.branch [
-      then-pack-le-BYTES+else-given-ne-NO_ROOM w ↦ w.out-is ∙ kept_out (writes Resolve) w.resolve_in-given.ensures w.if-given-ne-NO_ROOM.false
+      | then-pack-le-BYTES+else-given-ne-NO_ROOM w ↦ w.out-is ∙ kept_out (writes Resolve) w.resolve_in-given.ensures w.if-given-ne-NO_ROOM.false
       | else-pack-le-BYTES w ↦ w.out-is
     ])
 
@@ -31,6 +31,6 @@ pub returns : goal.returns
 returns c =
     given-long (writes Resolve) c.resolve_in.ensures _
     (elim c.if-pack-le-BYTES.branch [
-      then-pack-le-BYTES+else-given-ne-NO_ROOM w ↦ w.out-is ∙ kept_out (writes Resolve) w.resolve_in-given.ensures w.if-given-ne-NO_ROOM.false
+      | then-pack-le-BYTES+else-given-ne-NO_ROOM w ↦ w.out-is ∙ kept_out (writes Resolve) w.resolve_in-given.ensures w.if-given-ne-NO_ROOM.false
       | else-pack-le-BYTES w ↦ w.out-is
     ]) refl

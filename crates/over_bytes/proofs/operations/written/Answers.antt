@@ -9,13 +9,13 @@ use Rattle.over_bytes.proofs.operations.written.Goals.{then-pack-le-BYTES+else-r
 
 pub returns-then-r-ne-NO_ROOM : goal.returns-then-r-ne-NO_ROOM
 returns-then-r-ne-NO_ROOM c =
-            given-short (writes (as_writing c.args.w)) c.write_in-r.ensures c.if-r-ne-NO_ROOM.true
+    given-short (writes (as_writing c.args.w)) c.write_in-r.ensures c.if-r-ne-NO_ROOM.true
 
 pub shape_of-out : goal.shape_of-out
 shape_of-out c =
     c.write_in.auto.out ∙ ap length
     (elim c.if-pack-le-BYTES.branch [
-      then-pack-le-BYTES+else-r-ne-NO_ROOM w ↦ w.out-is ∙ kept_out (writes (as_writing c.args.w)) w.write_in-r.ensures w.if-r-ne-NO_ROOM.false
+      | then-pack-le-BYTES+else-r-ne-NO_ROOM w ↦ w.out-is ∙ kept_out (writes (as_writing c.args.w)) w.write_in-r.ensures w.if-r-ne-NO_ROOM.false
       | else-pack-le-BYTES w ↦ w.out-is
     ])
 
@@ -23,6 +23,6 @@ pub returns : goal.returns
 returns c =
     given-long (writes (as_writing c.args.w)) c.write_in.ensures _
     (elim c.if-pack-le-BYTES.branch [
-      then-pack-le-BYTES+else-r-ne-NO_ROOM w ↦ w.out-is ∙ kept_out (writes (as_writing c.args.w)) w.write_in-r.ensures w.if-r-ne-NO_ROOM.false
+      | then-pack-le-BYTES+else-r-ne-NO_ROOM w ↦ w.out-is ∙ kept_out (writes (as_writing c.args.w)) w.write_in-r.ensures w.if-r-ne-NO_ROOM.false
       | else-pack-le-BYTES w ↦ w.out-is
     ]) refl

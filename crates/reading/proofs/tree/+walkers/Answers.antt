@@ -24,7 +24,7 @@ use Rattle.reading.proofs.tree.+walkers.Goals.{after_judgment-in_default-via-the
 
 pub after_judgment-children-requires : goal.after_judgment-children-requires
 after_judgment-children-requires t c =
-            let k : ℕ = kind_of (get_or c.args.s.now c.args.at 0) in (
+    let k : ℕ = kind_of (get_or c.args.s.now c.args.at 0) in (
       omega (arith, c.type_inv.s c.args.at),
       c.requires.0.tabled,
       judgments_in_row k
@@ -33,66 +33,66 @@ after_judgment-children-requires t c =
 
 pub after_judgment-returns-in-96 : goal.after_judgment-returns-in-96
 after_judgment-returns-in-96 t c =
-        let k : ℕ = kind_of (get_or c.args.s.now c.args.at 0) in let e = c.in-96.is in after_row _ _ _ _ k
+    let k : ℕ = kind_of (get_or c.args.s.now c.args.at 0) in let e = c.in-96.is in after_row _ _ _ _ k
     (value_of (get_or c.args.s.now c.args.at 0)) _ scalar-sort (comparison_row (value_of (get_or c.args.s.now c.args.at 0)) k e)
     (compared k (value_of (get_or c.args.s.now c.args.at 0)) e) (steady_judgment k (omega (arith, e)) (omega (arith, e))) c.scalars.ensures
 
 pub after_judgment-returns-in-101 : goal.after_judgment-returns-in-101
 unfolding entry_of table fields_of children_of noted look_by
 after_judgment-returns-in-101 t c =
-        after-words _ _ _ _ (kind_of (get_or c.args.s.now c.args.at 0)) (value_of (get_or c.args.s.now c.args.at 0)) _ Slots
+    after-words _ _ _ _ (kind_of (get_or c.args.s.now c.args.at 0)) (value_of (get_or c.args.s.now c.args.at 0)) _ Slots
     (ap (λ (k : ℕ). (entry_of k).follows) c.in-101.is) (ap noted c.in-101.is) (λ last. refl) (c.slots.ensures _) c.note.ensures.1
 
 pub after_judgment-returns-in-102 : goal.after_judgment-returns-in-102
 unfolding entry_of table fields_of children_of noted look_by
 after_judgment-returns-in-102 t c =
-        after-words _ _ _ _ (kind_of (get_or c.args.s.now c.args.at 0)) (value_of (get_or c.args.s.now c.args.at 0)) _ Atom
+    after-words _ _ _ _ (kind_of (get_or c.args.s.now c.args.at 0)) (value_of (get_or c.args.s.now c.args.at 0)) _ Atom
     (ap (λ (k : ℕ). (entry_of k).follows) c.in-102.is) (ap noted c.in-102.is) (λ last. refl) (c.atom.ensures _) c.note-in-102.ensures.1
 
 pub after_judgment-returns-in-103 : goal.after_judgment-returns-in-103
 unfolding entry_of table fields_of children_of noted look_by follow
 after_judgment-returns-in-103 t c =
-        by_shape _ _ _ _ (kind_of (get_or c.args.s.now c.args.at 0)) (value_of (get_or c.args.s.now c.args.at 0)) _ true Exists
+    by_shape _ _ _ _ (kind_of (get_or c.args.s.now c.args.at 0)) (value_of (get_or c.args.s.now c.args.at 0)) _ true Exists
     (ap (λ (k : ℕ). (entry_of k).follows) c.in-103.is) (ap noted c.in-103.is) c.exists.ensures
 
 pub after_judgment-returns-in-104 : goal.after_judgment-returns-in-104
 unfolding entry_of table noted look_by
 after_judgment-returns-in-104 t c =
-        after_leaf _ _ _ _ (kind_of (get_or c.args.s.now c.args.at 0)) (value_of (get_or c.args.s.now c.args.at 0)) _
+    after_leaf _ _ _ _ (kind_of (get_or c.args.s.now c.args.at 0)) (value_of (get_or c.args.s.now c.args.at 0)) _
     (leaf_last (value_of (get_or c.args.s.now c.args.at 0)) (kind_of (get_or c.args.s.now c.args.at 0)) (omega (arith, c.in-104.is))
     (omega (arith, c.in-104.is))) true (ap noted c.in-104.is) _ c.note-in-104.ensures.1
 
 pub after_judgment-returns-in-97-to-100 : goal.after_judgment-returns-in-97-to-100
 after_judgment-returns-in-97-to-100 t c =
-            let k : ℕ = kind_of (get_or c.args.s.now c.args.at 0) in let lo : 97 ≤ k = omega arith in after_row _ _ _ _ k
+    let k : ℕ = kind_of (get_or c.args.s.now c.args.at 0) in let lo : 97 ≤ k = omega arith in after_row _ _ _ _ k
     (value_of (get_or c.args.s.now c.args.at 0)) _ judgment-sort
     (judgment_row (value_of (get_or c.args.s.now c.args.at 0)) k lo (omega arith)) c.children.ensures
     (steady_judgment k (omega arith) (omega arith)) c.judgments.ensures
 
 pub after_judgment-returns-in_default : goal.after_judgment-returns-in_default
 after_judgment-returns-in_default t c =
-        let k : ℕ = kind_of (get_or c.args.s.now c.args.at 0) in let lo : 104 < k =
-        elim c.in_default.branch [
-          after_judgment-in_default-via-then-kind-lt96 w ↦ absurd (omega (arith, c.requires.2))
-          | after_judgment-in_default-via-else-kind-lt96+else-kind-lt101 w ↦ omega arith
-        ] in let hi : k < 256 = omega (arith, c.type_inv.s c.args.at) in after_leaf _ _ _ _ k
+    let k : ℕ = kind_of (get_or c.args.s.now c.args.at 0) in let lo : 104 < k =
+    elim c.in_default.branch [
+      | after_judgment-in_default-via-then-kind-lt96 w ↦ absurd (omega (arith, c.requires.2))
+      | after_judgment-in_default-via-else-kind-lt96+else-kind-lt101 w ↦ omega arith
+    ] in let hi : k < 256 = omega (arith, c.type_inv.s c.args.at) in after_leaf _ _ _ _ k
     (value_of (get_or c.args.s.now c.args.at 0)) _ (leaf_last (value_of (get_or c.args.s.now c.args.at 0)) k (omega (arith, lo)) hi) false
     (plain-last k lo hi) _ refl
 
 pub after_other-scalars-requires : goal.after_other-scalars-requires
 after_other-scalars-requires t c =
-        (omega arith, (c.requires.0, omega (arith, c.requires.1), based_losing _ c.requires.3 c.lost.ensures))
+    (omega arith, (c.requires.0, omega (arith, c.requires.1), based_losing _ c.requires.3 c.lost.ensures))
 
 pub after_other-returns-in-72 : goal.after_other-returns-in-72
 unfolding entry_of table fields_of children_of noted look_by
 after_other-returns-in-72 t c =
-        after_bare _ _ _ _ (kind_of (get_or c.args.s.now c.args.at 0)) (value_of (get_or c.args.s.now c.args.at 0)) _ Patterns
+    after_bare _ _ _ _ (kind_of (get_or c.args.s.now c.args.at 0)) (value_of (get_or c.args.s.now c.args.at 0)) _ Patterns
     (ap (λ (k : ℕ). (entry_of k).follows) c.in-72.is) (ap noted c.in-72.is) refl c.patterns.ensures
 
 pub after_other-returns-in-73 : goal.after_other-returns-in-73
 unfolding entry_of table fields_of children_of noted look_by
 after_other-returns-in-73 t c =
-            after_bare _ _ _ _ (kind_of (get_or c.args.s.now c.args.at 0)) (value_of (get_or c.args.s.now c.args.at 0)) _ Periods
+    after_bare _ _ _ _ (kind_of (get_or c.args.s.now c.args.at 0)) (value_of (get_or c.args.s.now c.args.at 0)) _ Periods
     (ap (λ (k : ℕ). (entry_of k).follows) c.in-73.is) (ap noted c.in-73.is) refl
     (rows_as _ _ scalar-sort _ (c.by_table.ensures ∙ ap (λ (k : ℕ). how_many (entry_of k).follows (value_of (get_or c.args.s.now c.args.at 0)))
     c.in-73.is) c.lost.ensures c.scalars.ensures)
@@ -100,13 +100,13 @@ after_other-returns-in-73 t c =
 pub after_other-returns-in-71 : goal.after_other-returns-in-71
 unfolding entry_of table fields_of children_of noted look_by
 after_other-returns-in-71 t c =
-        after_bare _ _ _ _ (kind_of (get_or c.args.s.now c.args.at 0)) (value_of (get_or c.args.s.now c.args.at 0)) _ Choice
+    after_bare _ _ _ _ (kind_of (get_or c.args.s.now c.args.at 0)) (value_of (get_or c.args.s.now c.args.at 0)) _ Choice
     (ap (λ (k : ℕ). (entry_of k).follows) c.in-71.is) (ap noted c.in-71.is) refl c.choice.ensures
 
 pub after_other-returns-in-78 : goal.after_other-returns-in-78
 unfolding entry_of table fields_of children_of noted look_by
 after_other-returns-in-78 t c =
-        after-words _ _ _ _ (kind_of (get_or c.args.s.now c.args.at 0)) (value_of (get_or c.args.s.now c.args.at 0)) _ OnlyRelated
+    after-words _ _ _ _ (kind_of (get_or c.args.s.now c.args.at 0)) (value_of (get_or c.args.s.now c.args.at 0)) _ OnlyRelated
     (ap (λ (k : ℕ). (entry_of k).follows) c.in-78.is) (ap noted c.in-78.is) (λ last. refl) c.only_related.ensures c.note.ensures.1
 
 pub after_other-returns-in_default : goal.after_other-returns-in_default
@@ -124,7 +124,7 @@ after_scalar-children-count-requires t c =
 
 pub after_scalar-returns-in-66-to-70 : goal.after_scalar-returns-in-66-to-70
 after_scalar-returns-in-66-to-70 t c =
-            let k : ℕ = kind_of (get_or c.args.s.now c.args.at 0) in let lo : 66 ≤ k = omega arith in let hi : k < 71 = omega arith in after_row _ _ _ _ k
+    let k : ℕ = kind_of (get_or c.args.s.now c.args.at 0) in let lo : 66 ≤ k = omega arith in let hi : k < 71 = omega arith in after_row _ _ _ _ k
     (value_of (get_or c.args.s.now c.args.at 0)) _ scalar-sort
     (scalar_row (value_of (get_or c.args.s.now c.args.at 0)) k lo (omega (arith, hi)) (λ z. omega (arith, hi))) c.children-count.ensures
     (steady_scalar k lo hi) c.scalars.ensures
@@ -132,38 +132,38 @@ after_scalar-returns-in-66-to-70 t c =
 pub after_scalar-returns-in-74-to-77 : goal.after_scalar-returns-in-74-to-77
 unfolding follow children_of
 after_scalar-returns-in-74-to-77 t c =
-            let k : ℕ = kind_of (get_or c.args.s.now c.args.at 0) in by_shape _ _ _ _ k (value_of (get_or c.args.s.now c.args.at 0)) _ true Aggregate
+    let k : ℕ = kind_of (get_or c.args.s.now c.args.at 0) in by_shape _ _ _ _ k (value_of (get_or c.args.s.now c.args.at 0)) _ true Aggregate
     (aggregate-kind k (omega arith) (omega arith)) (noted-aggregate k (omega arith) (omega arith)) c.aggregate.ensures
 
 pub aggregate-returns-then-f-ne0 : goal.aggregate-returns-then-f-ne0
 aggregate-returns-then-f-ne0 t c =
-        aggregate-refused _ _ _ c.requires.0.most c.requires.1 (c.aggregate_fields-f.ensures _) c.if-f-ne0.true _ _
+    aggregate-refused _ _ _ c.requires.0.most c.requires.1 (c.aggregate_fields-f.ensures _) c.if-f-ne0.true _ _
 
 pub aggregate-bounds-s-at : goal.aggregate-bounds-s-at
 aggregate-bounds-s-at t c =
-        let f = fields_read (bound_of c.args.t.now) _ _ c.requires.0.most c.requires.1 (c.aggregate_fields-f.ensures _) c.if-f-ne0.false in
+    let f = fields_read (bound_of c.args.t.now) _ _ c.requires.0.most c.requires.1 (c.aggregate_fields-f.ensures _) c.if-f-ne0.false in
     omega (arith, f.flag.there)
 
 pub aggregate-returns-then-compares : goal.aggregate-returns-then-compares
 aggregate-returns-then-compares t c =
-                let f = fields_read (bound_of c.args.t.now) _ _ c.requires.0.most c.requires.1 (c.aggregate_fields-f.ensures _) c.if-f-ne0.false in
+    let f = fields_read (bound_of c.args.t.now) _ _ c.requires.0.most c.requires.1 (c.aggregate_fields-f.ensures _) c.if-f-ne0.false in
     where_rows _ _ c.args.context _ _ f
     (ap (λ (i : ℕ). i + c.args.context % 8192) c.note.ensures.0) c.note.ensures.1
     (compared_rows _ _ _ _ _ c.requires.0.most (c.compares.ensures c.if-compares.true) c.if-flag-eq1.true _ (omega arith) c.scalars.ensures)
 
 pub aggregate-slice_bounds-judgments-count : goal.aggregate-slice_bounds-judgments-count
 aggregate-slice_bounds-judgments-count t c =
-        let f = fields_read (bound_of c.args.t.now) _ _ c.requires.0.most c.requires.1 (c.aggregate_fields-f.ensures _) c.if-f-ne0.false in
+    let f = fields_read (bound_of c.args.t.now) _ _ c.requires.0.most c.requires.1 (c.aggregate_fields-f.ensures _) c.if-f-ne0.false in
     omega (arith, f.flag.there, c.requires.0.most)
 
 pub aggregate-slice_bounds-judgments-start : goal.aggregate-slice_bounds-judgments-start
 aggregate-slice_bounds-judgments-start t c =
-        let f = fields_read (bound_of c.args.t.now) _ _ c.requires.0.most c.requires.1 (c.aggregate_fields-f.ensures _) c.if-f-ne0.false in
+    let f = fields_read (bound_of c.args.t.now) _ _ c.requires.0.most c.requires.1 (c.aggregate_fields-f.ensures _) c.if-f-ne0.false in
     omega (arith, f.flag.there, c.requires.0.most)
 
 pub aggregate-overflow_add-result : goal.aggregate-overflow_add-result
 aggregate-overflow_add-result t c =
-            let f = fields_read (bound_of c.args.t.now) _ _ c.requires.0.most c.requires.1 (c.aggregate_fields-f.ensures _) c.if-f-ne0.false in
+    let f = fields_read (bound_of c.args.t.now) _ _ c.requires.0.most c.requires.1 (c.aggregate_fields-f.ensures _) c.if-f-ne0.false in
     let l = part_long c.args.s.now (c.args.at + 4) f.flag.there in omega (
       arith,
       row_small _ _ _ _ _ (omega (arith, l, c.requires.0.most)) (omega arith) c.judgments.ensures.answers,
@@ -173,7 +173,7 @@ aggregate-overflow_add-result t c =
 
 pub aggregate-returns : goal.aggregate-returns
 aggregate-returns t c =
-            let f = fields_read (bound_of c.args.t.now) _ _ c.requires.0.most c.requires.1 (c.aggregate_fields-f.ensures _) c.if-f-ne0.false in
+    let f = fields_read (bound_of c.args.t.now) _ _ c.requires.0.most c.requires.1 (c.aggregate_fields-f.ensures _) c.if-f-ne0.false in
     let i = ap (λ (i : ℕ). i + c.args.context % 8192) c.note.ensures.0 in
     let g = based_inside _ c.requires.2 c.args.notes.now c.note.ensures.0 in
     where_rows _ _ c.args.context _ _ f i c.note.ensures.1
@@ -182,15 +182,15 @@ aggregate-returns t c =
 
 pub choice-returns-then-next-ge-CODES : goal.choice-returns-then-next-ge-CODES
 choice-returns-then-next-ge-CODES t c =
-        first-refused _ _ _ _ _ judgment-sort _ c.judgments-next.ensures c.requires.0.most c.requires.1 c.if-next-ge-CODES.true _
+    first-refused _ _ _ _ _ judgment-sort _ c.judgments-next.ensures c.requires.0.most c.requires.1 c.if-next-ge-CODES.true _
 
 pub choice-scalars-requires : goal.choice-scalars-requires
 choice-scalars-requires t c =
-        (omega arith, (c.requires.0, code_within _ _ _ c.judgments-next.ensures.answers c.requires.1 c.if-next-ge-CODES.false, c.requires.2))
+    (omega arith, (c.requires.0, code_within _ _ _ c.judgments-next.ensures.answers c.requires.1 c.if-next-ge-CODES.false, c.requires.2))
 
 pub choice-returns : goal.choice-returns
 choice-returns t c =
-        first_then _ _ _ _ _ judgment-sort _ c.judgments-next.ensures c.if-next-ge-CODES.false _ c.scalars.ensures
+    first_then _ _ _ _ _ judgment-sort _ c.judgments-next.ensures c.if-next-ge-CODES.false _ c.scalars.ensures
 
 pub exists-up_to-f1-requires : goal.exists-up_to-f1-requires
 unfolding entry_of table
@@ -199,17 +199,17 @@ exists-up_to-f1-requires t c = (c.requires.0.most, c.requires.1, up_to-any 85 re
 pub exists-returns-then-f1-ne0 : goal.exists-returns-then-f1-ne0
 unfolding follow fields fields_of
 exists-returns-then-f1-ne0 t c =
-        let g = fault_large _ _ _ _ (c.up_to-f1.ensures (bound_of c.args.t.now)) c.if-f1-ne0.true in let q = fault_code _ _ _ _
+    let g = fault_large _ _ _ _ (c.up_to-f1.ensures (bound_of c.args.t.now)) c.if-f1-ne0.true in let q = fault_code _ _ _ _
     (c.up_to-f1.ensures (bound_of c.args.t.now)) c.if-f1-ne0.true in refuses _ (then_code _ _ _ _ (last_code _ _ _ _ q) c.requires.0.most c.requires.1 g) g
 
 pub exists-judgments-requires : goal.exists-judgments-requires
 exists-judgments-requires t c =
-        let m = passed _ _ _ _ (c.up_to-f1.ensures (bound_of c.args.t.now)) c.requires.0.most c.requires.1 c.if-f1-ne0.false
+    let m = passed _ _ _ _ (c.up_to-f1.ensures (bound_of c.args.t.now)) c.requires.0.most c.requires.1 c.if-f1-ne0.false
     (c.args.at + 1) refl in (omega arith, (c.requires.0, m.there, c.requires.2))
 
 pub exists-returns : goal.exists-returns
 exists-returns t c =
-            let m = passed _ _ _ _ (c.up_to-f1.ensures (bound_of c.args.t.now)) c.requires.0.most c.requires.1 c.if-f1-ne0.false
+    let m = passed _ _ _ _ (c.up_to-f1.ensures (bound_of c.args.t.now)) c.requires.0.most c.requires.1 c.if-f1-ne0.false
     (c.args.at + 1) refl in exists_rows _ _ _ _ _ m c.requires.1 c.note.ensures.1 c.judgments.ensures
 
 pub judgments-returns-then-f-ne0 : goal.judgments-returns-then-f-ne0
@@ -217,11 +217,11 @@ judgments-returns-then-f-ne0 t c = head_refused c.loop-k.invariant.0 c.requires.
 
 pub judgments-bounds-s-at : goal.judgments-bounds-s-at
 judgments-bounds-s-at t c =
-            (begun c.loop-k.invariant.0 c.requires.0.most (omega arith) c.head-f.ensures c.if-f-ne0.false).inside
+    (begun c.loop-k.invariant.0 c.requires.0.most (omega arith) c.head-f.ensures c.if-f-ne0.false).inside
 
 pub judgments-children-k-requires : goal.judgments-children-k-requires
 judgments-children-k-requires t c =
-            let k : ℕ = kind_of (get_or c.args.s.now c.loop-k.at 0) in (
+    let k : ℕ = kind_of (get_or c.args.s.now c.loop-k.at 0) in (
       omega arith,
       c.requires.0.tabled,
       judgments_in_row k (omega arith) (omega arith),
@@ -229,79 +229,75 @@ judgments-children-k-requires t c =
 
 pub judgments-overflow_sub-left : goal.judgments-overflow_sub-left
 judgments-overflow_sub-left t c =
-            (begun c.loop-k.invariant.0 c.requires.0.most (omega arith) c.head-f.ensures c.if-f-ne0.false).level
+    (begun c.loop-k.invariant.0 c.requires.0.most (omega arith) c.head-f.ensures c.if-f-ne0.false).level
 
 pub judgments-loop-k-preserved-then-kind-le-NOT : goal.judgments-loop-k-preserved-then-kind-le-NOT
-judgments-loop-k-preserved-then-kind-le-NOT t c =
-        (
-      let k : ℕ = kind_of (get_or c.args.s.now c.loop-k.at 0) in let lo : 97 ≤ k = omega arith in let hi : k < 101 = omega arith in
-          let one : c.loop-k.k ≡ 1 = omega arith in past-last c.loop-k.invariant.0 c.requires.0.most (omega arith)
-          c.head-f.ensures c.if-f-ne0.false one (judgment_row (value_of (get_or c.args.s.now c.loop-k.at 0)) k lo hi)
-          c.children-k.ensures (steady_judgment k (omega (arith, lo)) hi),
-      omega (arith, c.loop-k.invariant.1),
-    )
+judgments-loop-k-preserved-then-kind-le-NOT t c = (
+  let k : ℕ = kind_of (get_or c.args.s.now c.loop-k.at 0) in let lo : 97 ≤ k = omega arith in let hi : k < 101 = omega arith in
+      let one : c.loop-k.k ≡ 1 = omega arith in past-last c.loop-k.invariant.0 c.requires.0.most (omega arith)
+      c.head-f.ensures c.if-f-ne0.false one (judgment_row (value_of (get_or c.args.s.now c.loop-k.at 0)) k lo hi)
+      c.children-k.ensures (steady_judgment k (omega (arith, lo)) hi),
+  omega (arith, c.loop-k.invariant.1),
+)
 
 pub judgments-overflow_sub-left-else-k-eq0 : goal.judgments-overflow_sub-left-else-k-eq0
 judgments-overflow_sub-left-else-k-eq0 t c =
-            (begun c.loop-k.invariant.0 c.requires.0.most (omega arith) c.head-f.ensures c.if-f-ne0.false).level
+    (begun c.loop-k.invariant.0 c.requires.0.most (omega arith) c.head-f.ensures c.if-f-ne0.false).level
 
 pub judgments-after_judgment-at-requires : goal.judgments-after_judgment-at-requires
 judgments-after_judgment-at-requires t c =
-            let u = begun c.loop-k.invariant.0 c.requires.0.most (omega arith) c.head-f.ensures c.if-f-ne0.false in (
+    let u = begun c.loop-k.invariant.0 c.requires.0.most (omega arith) c.head-f.ensures c.if-f-ne0.false in (
       omega (arith, u.level, c.loop-k.invariant.0.deep),
       (c.requires.0, u.inside, judgment-kind (kind_of (get_or c.args.s.now c.loop-k.at 0)) u.kind, c.requires.2),
     )
 
 pub judgments-returns-then-at-ge-CODES : goal.judgments-returns-then-at-ge-CODES
 judgments-returns-then-at-ge-CODES t c =
-            node-refused c.loop-k.invariant.0 c.requires.0.most (omega arith) c.head-f.ensures c.if-f-ne0.false c.after_judgment-at.ensures c.if-at-ge-CODES.true
+    node-refused c.loop-k.invariant.0 c.requires.0.most (omega arith) c.head-f.ensures c.if-f-ne0.false c.after_judgment-at.ensures c.if-at-ge-CODES.true
 
 pub judgments-loop-k-smaller-else-at-ge-CODES : goal.judgments-loop-k-smaller-else-at-ge-CODES
 judgments-loop-k-smaller-else-at-ge-CODES t c =
-            let w = forward c.loop-k.invariant.0 c.requires.0.most (omega arith) c.head-f.ensures c.if-f-ne0.false c.after_judgment-at.ensures
+    let w = forward c.loop-k.invariant.0 c.requires.0.most (omega arith) c.head-f.ensures c.if-f-ne0.false c.after_judgment-at.ensures
     c.if-at-ge-CODES.false in omega (arith, w.0, w.1)
 
 pub judgments-loop-k-preserved-else-at-ge-CODES : goal.judgments-loop-k-preserved-else-at-ge-CODES
-judgments-loop-k-preserved-else-at-ge-CODES t c =
-        (
-      past-node c.loop-k.invariant.0 c.requires.0.most (omega arith) c.head-f.ensures c.if-f-ne0.false c.after_judgment-at.ensures
-          c.if-at-ge-CODES.false,
-      omega (arith, c.loop-k.invariant.1),
-    )
+judgments-loop-k-preserved-else-at-ge-CODES t c = (
+  past-node c.loop-k.invariant.0 c.requires.0.most (omega arith) c.head-f.ensures c.if-f-ne0.false c.after_judgment-at.ensures
+      c.if-at-ge-CODES.false,
+  omega (arith, c.loop-k.invariant.1),
+)
 
 pub judgments-loop-k-preserved : goal.judgments-loop-k-preserved
-judgments-loop-k-preserved t c =
-        (
-      let k : ℕ = kind_of (get_or c.args.s.now c.loop-k.at 0) in let lo : 104 < k = c.if-kind-le-SAME_ENTITY.false in let hi : k < 256 = omega
-          (arith, c.shared_slice_known-in-loop-k-1.given c.loop-k.at) in past_leaf c.loop-k.invariant.0 c.requires.0.most (omega arith)
-          c.head-f.ensures c.if-f-ne0.false (leaf_last (value_of (get_or c.args.s.now c.loop-k.at 0)) k (omega (arith, lo)) hi) (plain-last k lo hi),
-      omega
-          (arith, c.loop-k.invariant.1),
-    )
+judgments-loop-k-preserved t c = (
+  let k : ℕ = kind_of (get_or c.args.s.now c.loop-k.at 0) in let lo : 104 < k = c.if-kind-le-SAME_ENTITY.false in let hi : k < 256 = omega
+      (arith, c.shared_slice_known-in-loop-k-1.given c.loop-k.at) in past_leaf c.loop-k.invariant.0 c.requires.0.most (omega arith)
+      c.head-f.ensures c.if-f-ne0.false (leaf_last (value_of (get_or c.args.s.now c.loop-k.at 0)) k (omega (arith, lo)) hi) (plain-last k lo hi),
+  omega
+      (arith, c.loop-k.invariant.1),
+)
 
 pub judgments-returns : goal.judgments-returns
 judgments-returns t c = walked c.loop-k.invariant.0 (omega arith)
 
 pub patterns-returns-then-next-ge-CODES : goal.patterns-returns-then-next-ge-CODES
 patterns-returns-then-next-ge-CODES t c =
-        let z : c.args.count + 1 ≡ suc c.args.count = omega arith in rw z
+    let z : c.args.count + 1 ≡ suc c.args.count = omega arith in rw z
     (first-refused _ _ _ _ _ scalar-sort _ c.scalars-next.ensures c.requires.0.most c.requires.1 c.if-next-ge-CODES.true _)
 
 pub patterns-scalars-requires : goal.patterns-scalars-requires
-patterns-scalars-requires t c =
-        (
-      omega arith,
-      (
-        c.requires.0,
-        code_within _ _ _ c.scalars-next.ensures.answers c.requires.1 c.if-next-ge-CODES.false,
-        based_losing _ c.requires.2
-            c.lost-without.ensures,
-      ),
-    )
+patterns-scalars-requires t c = (
+  omega arith,
+  (
+    c.requires.0,
+    code_within _ _ _ c.scalars-next.ensures.answers c.requires.1 c.if-next-ge-CODES.false,
+    based_losing _ c.requires.2
+        c.lost-without.ensures,
+  ),
+)
 
 pub patterns-returns : goal.patterns-returns
 patterns-returns t c =
-            let z : c.args.count + 1 ≡ suc c.args.count = omega arith in rw z
+    let z : c.args.count + 1 ≡ suc c.args.count = omega arith in rw z
     (first_then _ _ _ _ _ scalar-sort _ c.scalars-next.ensures c.if-next-ge-CODES.false _
     (rows_as _ _ scalar-sort _ {m = c.args.count} refl c.lost-without.ensures c.scalars.ensures))
 
@@ -310,11 +306,11 @@ scalars-returns-then-f-ne0 t c = head_refused c.loop-k.invariant.0 c.requires.0.
 
 pub scalars-bounds-s-at : goal.scalars-bounds-s-at
 scalars-bounds-s-at t c =
-            (begun c.loop-k.invariant.0 c.requires.0.most (omega arith) c.head-f.ensures c.if-f-ne0.false).inside
+    (begun c.loop-k.invariant.0 c.requires.0.most (omega arith) c.head-f.ensures c.if-f-ne0.false).inside
 
 pub scalars-children-k-requires : goal.scalars-children-k-requires
 scalars-children-k-requires t c =
-            let k : ℕ = kind_of (get_or c.args.s.now c.loop-k.at 0) in (
+    let k : ℕ = kind_of (get_or c.args.s.now c.loop-k.at 0) in (
       omega arith,
       c.requires.0.tabled,
       scalars_in_row k c.if-kind-ge-ONE_CHILD.true
@@ -323,24 +319,23 @@ scalars-children-k-requires t c =
 
 pub scalars-overflow_sub-left : goal.scalars-overflow_sub-left
 scalars-overflow_sub-left t c =
-            (begun c.loop-k.invariant.0 c.requires.0.most (omega arith) c.head-f.ensures c.if-f-ne0.false).level
+    (begun c.loop-k.invariant.0 c.requires.0.most (omega arith) c.head-f.ensures c.if-f-ne0.false).level
 
 pub scalars-loop-k-preserved-then-kind-le-MAX : goal.scalars-loop-k-preserved-then-kind-le-MAX
-scalars-loop-k-preserved-then-kind-le-MAX t c =
-        (
-      let k : ℕ = kind_of (get_or c.args.s.now c.loop-k.at 0) in let lo : 66 ≤ k = c.if-kind-ge-ONE_CHILD.true in let hi : k < 71 = omega arith in let one : c.loop-k.k ≡ 1 = omega arith in past-last c.loop-k.invariant.0 c.requires.0.most (omega arith)
-          c.head-f.ensures c.if-f-ne0.false one (scalar_row (value_of (get_or c.args.s.now c.loop-k.at 0)) k lo (omega (arith, hi)) (λ z. omega (arith, hi)))
-          c.children-k.ensures (steady_scalar k lo hi),
-      omega (arith, c.loop-k.invariant.1),
-    )
+scalars-loop-k-preserved-then-kind-le-MAX t c = (
+  let k : ℕ = kind_of (get_or c.args.s.now c.loop-k.at 0) in let lo : 66 ≤ k = c.if-kind-ge-ONE_CHILD.true in let hi : k < 71 = omega arith in let one : c.loop-k.k ≡ 1 = omega arith in past-last c.loop-k.invariant.0 c.requires.0.most (omega arith)
+      c.head-f.ensures c.if-f-ne0.false one (scalar_row (value_of (get_or c.args.s.now c.loop-k.at 0)) k lo (omega (arith, hi)) (λ z. omega (arith, hi)))
+      c.children-k.ensures (steady_scalar k lo hi),
+  omega (arith, c.loop-k.invariant.1),
+)
 
 pub scalars-overflow_sub-left-else-k-eq0 : goal.scalars-overflow_sub-left-else-k-eq0
 scalars-overflow_sub-left-else-k-eq0 t c =
-            (begun c.loop-k.invariant.0 c.requires.0.most (omega arith) c.head-f.ensures c.if-f-ne0.false).level
+    (begun c.loop-k.invariant.0 c.requires.0.most (omega arith) c.head-f.ensures c.if-f-ne0.false).level
 
 pub scalars-after_scalar-at-requires : goal.scalars-after_scalar-at-requires
 scalars-after_scalar-at-requires t c =
-            let u = begun c.loop-k.invariant.0 c.requires.0.most (omega arith) c.head-f.ensures c.if-f-ne0.false in (
+    let u = begun c.loop-k.invariant.0 c.requires.0.most (omega arith) c.head-f.ensures c.if-f-ne0.false in (
       omega (arith, u.level, c.loop-k.invariant.0.deep),
       (
         c.requires.0,
@@ -353,33 +348,31 @@ scalars-after_scalar-at-requires t c =
 
 pub scalars-returns-then-at-ge-CODES : goal.scalars-returns-then-at-ge-CODES
 scalars-returns-then-at-ge-CODES t c =
-            node-refused c.loop-k.invariant.0 c.requires.0.most (omega arith) c.head-f.ensures c.if-f-ne0.false c.after_scalar-at.ensures c.if-at-ge-CODES.true
+    node-refused c.loop-k.invariant.0 c.requires.0.most (omega arith) c.head-f.ensures c.if-f-ne0.false c.after_scalar-at.ensures c.if-at-ge-CODES.true
 
 pub scalars-loop-k-smaller-else-at-ge-CODES : goal.scalars-loop-k-smaller-else-at-ge-CODES
 scalars-loop-k-smaller-else-at-ge-CODES t c =
-            let w = forward c.loop-k.invariant.0 c.requires.0.most (omega arith) c.head-f.ensures c.if-f-ne0.false c.after_scalar-at.ensures
+    let w = forward c.loop-k.invariant.0 c.requires.0.most (omega arith) c.head-f.ensures c.if-f-ne0.false c.after_scalar-at.ensures
     c.if-at-ge-CODES.false in omega (arith, w.0, w.1)
 
 pub scalars-loop-k-preserved-else-at-ge-CODES : goal.scalars-loop-k-preserved-else-at-ge-CODES
-scalars-loop-k-preserved-else-at-ge-CODES t c =
-        (
-      past-node c.loop-k.invariant.0 c.requires.0.most (omega arith) c.head-f.ensures c.if-f-ne0.false c.after_scalar-at.ensures
-          c.if-at-ge-CODES.false,
-      omega (arith, c.loop-k.invariant.1),
-    )
+scalars-loop-k-preserved-else-at-ge-CODES t c = (
+  past-node c.loop-k.invariant.0 c.requires.0.most (omega arith) c.head-f.ensures c.if-f-ne0.false c.after_scalar-at.ensures
+      c.if-at-ge-CODES.false,
+  omega (arith, c.loop-k.invariant.1),
+)
 
 pub scalars-loop-k-smaller : goal.scalars-loop-k-smaller
 scalars-loop-k-smaller t c =
-            omega (arith, (begun c.loop-k.invariant.0 c.requires.0.most (omega arith) c.head-f.ensures c.if-f-ne0.false).inside)
+    omega (arith, (begun c.loop-k.invariant.0 c.requires.0.most (omega arith) c.head-f.ensures c.if-f-ne0.false).inside)
 
 pub scalars-loop-k-preserved : goal.scalars-loop-k-preserved
-scalars-loop-k-preserved t c =
-        (
-      past_leaf c.loop-k.invariant.0 c.requires.0.most (omega arith) c.head-f.ensures c.if-f-ne0.false
-          (leaf_low (value_of (get_or c.args.s.now c.loop-k.at 0)) (kind_of (get_or c.args.s.now c.loop-k.at 0)) c.if-kind-ge-ONE_CHILD.false)
-          (plain-low (kind_of (get_or c.args.s.now c.loop-k.at 0)) c.if-kind-ge-ONE_CHILD.false),
-      omega (arith, c.loop-k.invariant.1),
-    )
+scalars-loop-k-preserved t c = (
+  past_leaf c.loop-k.invariant.0 c.requires.0.most (omega arith) c.head-f.ensures c.if-f-ne0.false
+      (leaf_low (value_of (get_or c.args.s.now c.loop-k.at 0)) (kind_of (get_or c.args.s.now c.loop-k.at 0)) c.if-kind-ge-ONE_CHILD.false)
+      (plain-low (kind_of (get_or c.args.s.now c.loop-k.at 0)) c.if-kind-ge-ONE_CHILD.false),
+  omega (arith, c.loop-k.invariant.1),
+)
 
 pub scalars-returns : goal.scalars-returns
 scalars-returns t c = walked c.loop-k.invariant.0 (omega arith)

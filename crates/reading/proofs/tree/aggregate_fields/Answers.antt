@@ -12,4 +12,4 @@ up_to-requires c = (omega arith, omega arith, up_to-most 83 1 refl)
 
 pub returns : goal.returns
 returns c n =
-        c.up_to.ensures n ∙ flag_alone n _ _ (omega arith) c.if-s-at-ne-CURRENT.false c.if-s-at-ne-RELATED.false c.if-s-at-ne-VALUE.false
+    c.up_to.ensures n ∙ flag_alone n _ _ (omega arith) c.if-s-at-ne-CURRENT.false c.if-s-at-ne-RELATED.false c.if-s-at-ne-VALUE.false

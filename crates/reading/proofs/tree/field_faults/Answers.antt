@@ -26,7 +26,7 @@ up_to-f2-requires c =
 pub returns-then-f2-ne0 : goal.returns-then-f2-ne0
 unfolding aggregate_fault
 returns-then-f2-ne0 c n =
-        first_passed _ _ (c.up_to-f1.ensures n) c.if-f1-ne0.false (first-is _ _ (c.up_to-f2.ensures n) c.if-f2-ne0.true)
+    first_passed _ _ (c.up_to-f1.ensures n) c.if-f1-ne0.false (first-is _ _ (c.up_to-f2.ensures n) c.if-f2-ne0.true)
 
 pub up_to-f3-requires : goal.up_to-f3-requires
 unfolding entry_of table
@@ -39,7 +39,7 @@ up_to-f3-requires c =
 pub returns-then-f3-ne0 : goal.returns-then-f3-ne0
 unfolding aggregate_fault
 returns-then-f3-ne0 c n =
-        first_passed _ _ (c.up_to-f1.ensures n) c.if-f1-ne0.false
+    first_passed _ _ (c.up_to-f1.ensures n) c.if-f1-ne0.false
     (first_passed _ _ (c.up_to-f2.ensures n) c.if-f2-ne0.false (first-is _ _ (c.up_to-f3.ensures n) c.if-f3-ne0.true))
 
 pub up_to-requires : goal.up_to-requires
@@ -54,6 +54,6 @@ up_to-requires c =
 pub returns : goal.returns
 unfolding aggregate_fault
 returns c n =
-        first_passed _ _ (c.up_to-f1.ensures n) c.if-f1-ne0.false
+    first_passed _ _ (c.up_to-f1.ensures n) c.if-f1-ne0.false
     (first_passed _ _ (c.up_to-f2.ensures n) c.if-f2-ne0.false
     (first_passed _ _ (c.up_to-f3.ensures n) c.if-f3-ne0.false (c.up_to.ensures n)))

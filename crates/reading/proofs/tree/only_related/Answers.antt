@@ -46,7 +46,7 @@ either-requires c = (refl, refl)
 
 pub refused-requires : goal.refused-requires
 refused-requires c =
-            let m1 = passed _ _ _ _ (c.up_to-f1.ensures 0) c.requires.0 c.requires.1 c.if-f1-ne0.false (c.args.at + 1) refl in
+    let m1 = passed _ _ _ _ (c.up_to-f1.ensures 0) c.requires.0 c.requires.1 c.if-f1-ne0.false (c.args.at + 1) refl in
     let m2 = passed _ _ _ _ (c.up_to-f2.ensures 0) c.requires.0 m1.there c.if-f2-ne0.false (c.args.at + 2) (omega arith) in
     let p : Plain (length c.args.s.now) c.in-Refused.r = either_plain (82 ∷ 84 ∷ []) _ _ _ m2.there c.either.ensures c.in-Refused.is in
     (p.number, omega (arith, p.place, c.requires.0))
@@ -54,7 +54,7 @@ refused-requires c =
 pub returns-in-On : goal.returns-in-On
 unfolding fields fields_of coded_step
 returns-in-On c =
-            let n = bound_of c.args.t.now in
+    let n = bound_of c.args.t.now in
     let m1 = passed _ _ _ _ (c.up_to-f1.ensures n) c.requires.0 c.requires.1 c.if-f1-ne0.false (c.args.at + 1) refl in
     let m2 = passed _ _ _ _ (c.up_to-f2.ensures n) c.requires.0 m1.there c.if-f2-ne0.false (c.args.at + 2) (omega arith) in
     let e = named _ _ c.bound.ensures c.either.ensures in
@@ -63,7 +63,7 @@ returns-in-On c =
 pub returns-in-Refused : goal.returns-in-Refused
 unfolding fields fields_of coded_step
 returns-in-Refused c =
-            let n = bound_of c.args.t.now in
+    let n = bound_of c.args.t.now in
     let m1 = passed _ _ _ _ (c.up_to-f1.ensures n) c.requires.0 c.requires.1 c.if-f1-ne0.false (c.args.at + 1) refl in
     let m2 = passed _ _ _ _ (c.up_to-f2.ensures n) c.requires.0 m1.there c.if-f2-ne0.false (c.args.at + 2) (omega arith) in
     let e = named _ _ c.bound.ensures c.either.ensures in

@@ -15,4 +15,4 @@ step_of-requires c = (tree_code _ _ _ _ _ c.requires.0.most c.requires.1 c.scala
 pub returns : goal.returns
 unfolding root
 returns c =
-        step_noted _ _ _ _ _ _ c.requires.0.most c.requires.1 c.scalars.ensures c.step_of.ensures
+    step_noted _ _ _ _ _ _ c.requires.0.most c.requires.1 c.scalars.ensures c.step_of.ensures

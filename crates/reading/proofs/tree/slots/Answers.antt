@@ -25,7 +25,7 @@ up_to-f2-requires c = let m1 = passed _ _ _ _ (c.up_to-f1.ensures 0) c.requires.
 pub returns-then-f2-ne0 : goal.returns-then-f2-ne0
 unfolding fields fields_of
 returns-then-f2-ne0 c =
-        λ n. let m1 = passed _ _ _ _ (c.up_to-f1.ensures n) c.requires.0 c.requires.1 c.if-f1-ne0.false (c.args.at + 1) refl in next_code _ _ _ _ _ m1.same
+    λ n. let m1 = passed _ _ _ _ (c.up_to-f1.ensures n) c.requires.0 c.requires.1 c.if-f1-ne0.false (c.args.at + 1) refl in next_code _ _ _ _ _ m1.same
     m1.small (last_code _ _ _ _ (fault_code _ _ _ _ (c.up_to-f2.ensures n) c.if-f2-ne0.true))
 
 pub overflow_add-result : goal.overflow_add-result
@@ -34,6 +34,6 @@ overflow_add-result c = omega arith
 pub returns : goal.returns
 unfolding fields fields_of
 returns c =
-        λ n. let m1 = passed _ _ _ _ (c.up_to-f1.ensures n) c.requires.0 c.requires.1 c.if-f1-ne0.false (c.args.at + 1) refl in let m2 = passed _ _ _ _
+    λ n. let m1 = passed _ _ _ _ (c.up_to-f1.ensures n) c.requires.0 c.requires.1 c.if-f1-ne0.false (c.args.at + 1) refl in let m2 = passed _ _ _ _
     (c.up_to-f2.ensures n) c.requires.0 m1.there c.if-f2-ne0.false (c.args.at + 2) (omega arith) in next_code _ _ _ _ _ m1.same m1.small
     (last_code _ _ _ _ m2.same)

@@ -14,7 +14,7 @@ overflow_add-low c = omega (arith, defaulted-small _ _ _ _ c.defaulted_name-g.en
 
 pub loop-left-preserved : goal.loop-left-preserved
 loop-left-preserved c =
-        read-turn c.loop-left.invariant (omega arith) _ c.defaulted_name-g.ensures c.in-On-g.is (λ _ e. ap (λ (v : ℕ). v + 1) e)
+    read-turn c.loop-left.invariant (omega arith) _ c.defaulted_name-g.ensures c.in-On-g.is (λ _ e. ap (λ (v : ℕ). v + 1) e)
 
 pub field-f-requires : goal.field-f-requires
 unfolding defaulted says entry_of table

@@ -27,7 +27,7 @@ skip-f3-requires c = refl
 pub returns-in_default-f3 : goal.returns-in_default-f3
 unfolding chain
 returns-in_default-f3 c =
-            last-stop (λ a. 0) _ _ _ (by_then _ _ _ _ c.field-f1.ensures _ _ c.in-On.is
+    last-stop (λ a. 0) _ _ _ (by_then _ _ _ _ c.field-f1.ensures _ _ c.in-On.is
     (λ _. by_then _ _ _ _ c.path-f2.ensures _ _ c.in-On-f2.is (λ _. then_stop _ _ _ _ c.skip-f3.ensures _ _ c.in_default-f3.is))) _ c.in_default-f3.is
 
 pub skip-f4-requires : goal.skip-f4-requires
@@ -37,18 +37,18 @@ skip-f4-requires c = refl
 pub returns-in_default-f4 : goal.returns-in_default-f4
 unfolding chain
 returns-in_default-f4 c =
-                last-stop (λ a. 0) _ _ _ (by_then _ _ _ _ c.field-f1.ensures _ _ c.in-On.is
+    last-stop (λ a. 0) _ _ _ (by_then _ _ _ _ c.field-f1.ensures _ _ c.in-On.is
     (λ _. by_then _ _ _ _ c.path-f2.ensures _ _ c.in-On-f2.is
     (λ _. by_then _ _ _ _ c.skip-f3.ensures _ _ c.in-On-f3.is (λ _. c.skip-f4.ensures)))) _ c.in_default-f4.is
 
 pub lead-requires : goal.lead-requires
 lead-requires c =
-                omega (arith, (field-fine _ _ _ _ c.field-f1.ensures c.in-On.is).0)
+    omega (arith, (field-fine _ _ _ _ c.field-f1.ensures c.in-On.is).0)
 
 pub returns : goal.returns
 unfolding chain
 returns c =
-                kept_then _ _ _ _ c.field-f1.ensures c.in-On.is _ _
+    kept_then _ _ _ _ c.field-f1.ensures c.in-On.is _ _
     (λ a. kept_then _ _ _ _ c.path-f2.ensures c.in-On-f2.is _ _
     (λ p. kept_then _ _ _ _ c.skip-f3.ensures c.in-On-f3.is _ _
     (λ _. kept_last _ _ _ _ c.skip-f4.ensures c.in-On-f4.is _ (λ _. chain-leads _ p.value p.fine a.kept p.kept c.lead.ensures))))

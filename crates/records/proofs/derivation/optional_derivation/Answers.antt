@@ -25,11 +25,11 @@ returns-then-flag-eq0 c = noted-none _ _ _ _ _ _ c.field-f.ensures c.in-On.is _ 
 
 pub derivation-requires : goal.derivation-requires
 derivation-requires c =
-        let on = flag_on _ _ _ c.field-f.ensures c.in-On.is in (c.requires.0, c.requires.1, c.requires.2, omega (arith, on, c.requires.3))
+    let on = flag_on _ _ _ c.field-f.ensures c.in-On.is in (c.requires.0, c.requires.1, c.requires.2, omega (arith, on, c.requires.3))
 
 pub returns : goal.returns
 unfolding optional_derivation entry_of table
 returns c =
-            noted_some _ _ _ _ _ _ c.field-f.ensures c.in-On.is _ _ _ c.if-flag-eq0.false
+    noted_some _ _ _ _ _ _ c.field-f.ensures c.in-On.is _ _ _ c.if-flag-eq0.false
     (noted_as c.derivation.ensures
     (λ d. ap (λ (i : ℕ). note_derivation c.args.start i d c.args.notes.now) (flag_on _ _ _ c.field-f.ensures c.in-On.is)))

@@ -35,11 +35,11 @@ returns-in_default-f3 c = noted_no (last-stop (λ a. 0) _ _ _ (search (by_then, 
 
 pub optional_derivation-requires : goal.optional_derivation-requires
 optional_derivation-requires c =
-                let a = field_on _ _ _ _ c.skip-f1.ensures c.in-On.is in let b = field_on _ _ _ _ c.skip-f2.ensures c.in-On-f2.is in let l = list_on _ _ _
+    let a = field_on _ _ _ _ c.skip-f1.ensures c.in-On.is in let b = field_on _ _ _ _ c.skip-f2.ensures c.in-On-f2.is in let l = list_on _ _ _
     c.name_list-f3.ensures c.in-On-f3.is in
     (c.requires.0, c.requires.1, list-few _ _ _ c.name_list-f3.ensures c.in-On-f3.is, omega (arith, a, b, l, c.requires.2))
 
 pub returns : goal.returns
 returns c =
-                tail_noted _ _ _ _ _ c.skip-f1.ensures c.in-On.is c.skip-f2.ensures c.in-On-f2.is c.name_list-f3.ensures c.in-On-f3.is
+    tail_noted _ _ _ _ _ c.skip-f1.ensures c.in-On.is c.skip-f2.ensures c.in-On-f2.is c.name_list-f3.ensures c.in-On-f3.is
     c.optional_derivation.ensures

@@ -11,7 +11,7 @@ use Rattle.records.proofs.relation.relations.Goals as goal
 
 pub loop-left-init : goal.loop-left-init
 loop-left-init c =
-        let r = count-read _ _ _ c.field-f.ensures c.in-On.is in relating _ _ c.requires.2 r.few r.late
+    let r = count-read _ _ _ c.field-f.ensures c.in-On.is in relating _ _ c.requires.2 r.few r.late
 
 pub returns-in_default-g : goal.returns-in_default-g
 unfolding relations says
@@ -21,12 +21,12 @@ returns-in_default-g c =
 
 pub loop-left-preserved : goal.loop-left-preserved
 loop-left-preserved c =
-            relating_on _ _ c.loop-left.invariant (omega arith) c.relation-g.ensures c.in-On-g.is (omega arith)
+    relating_on _ _ c.loop-left.invariant (omega arith) c.relation-g.ensures c.in-On-g.is (omega arith)
 
 pub returns : goal.returns
 unfolding relations
 returns c =
-        noted-all c.field-f.ensures c.in-On.is c.loop-left.invariant.work (omega arith)
+    noted-all c.field-f.ensures c.in-On.is c.loop-left.invariant.work (omega arith)
 
 pub field-f-requires : goal.field-f-requires
 unfolding relations entry_of table

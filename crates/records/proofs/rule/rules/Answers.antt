@@ -16,13 +16,13 @@ returns-in_default-g c =
 
 pub loop-left-preserved : goal.loop-left-preserved
 loop-left-preserved c =
-        let left = c.loop-left.invariant.0 in
+    let left = c.loop-left.invariant.0 in
     (left_turn left (omega arith) (c.rule-g.ensures left.i) c.in-On-g.is (λ _ _. refl), omega (arith, c.loop-left.invariant.1))
 
 pub returns : goal.returns
 unfolding rules
 returns c =
-        noted-all c.field-f.ensures c.in-On.is c.loop-left.invariant.0 (omega arith)
+    noted-all c.field-f.ensures c.in-On.is c.loop-left.invariant.0 (omega arith)
 
 pub field-f-requires : goal.field-f-requires
 unfolding rules entry_of table

@@ -6,19 +6,19 @@ use Rattle.resolve.proofs.order.order.Goals as goal
 
 pub overflow_add-rules : goal.overflow_add-rules
 overflow_add-rules c =
-        omega (arith, (numbers c.requires).0)
+    omega (arith, (numbers c.requires).0)
 
 pub overflow_add-last : goal.overflow_add-last
 overflow_add-last c =
-        omega (arith, (numbers c.requires).0)
+    omega (arith, (numbers c.requires).0)
 
 pub overflow_add-last-2 : goal.overflow_add-last-2
 overflow_add-last-2 c =
-        omega (arith, (numbers c.requires).0, c.value_at.ensures.1)
+    omega (arith, (numbers c.requires).0, c.value_at.ensures.1)
 
 pub slice_bounds-order_relations-end : goal.slice_bounds-order_relations-end
 slice_bounds-order_relations-end c =
-        omega (
+    omega (
       arith,
       (front_in c.requires c.value_at.result c.value_at.ensures.0 c.args.places.now refl).long,
       table-long c.requires c.value_at.result
@@ -27,19 +27,19 @@ slice_bounds-order_relations-end c =
 
 pub order_relations-requires : goal.order_relations-requires
 order_relations-requires c =
-            relations-asked c.requires c.value_at.result c.value_at.ensures.0 c.args.places.now refl
+    relations-asked c.requires c.value_at.result c.value_at.ensures.0 c.args.places.now refl
 
 pub overflow_cast-places : goal.overflow_cast-places
 overflow_cast-places c =
-            omega (arith, (numbers c.requires).2)
+    omega (arith, (numbers c.requires).2)
 
 pub offset_bounds-places-rules : goal.offset_bounds-places-rules
 offset_bounds-places-rules c =
-            omega (arith, (numbers c.requires).0)
+    omega (arith, (numbers c.requires).0)
 
 pub bounds-places-rules : goal.bounds-places-rules
 bounds-places-rules c =
-            omega (
+    omega (
       arith,
       (relations_in c.requires c.value_at.result c.value_at.ensures.0 c.args.places.now refl _
           c.order_relations.ensures).long,
@@ -48,19 +48,19 @@ bounds-places-rules c =
 
 pub overflow_add-counts : goal.overflow_add-counts
 overflow_add-counts c =
-            omega (arith, noted-near c.requires)
+    omega (arith, noted-near c.requires)
 
 pub overflow_add-rules-2 : goal.overflow_add-rules-2
 overflow_add-rules-2 c =
-            omega (arith, (numbers c.requires).0)
+    omega (arith, (numbers c.requires).0)
 
 pub offset_bounds-places-rules-2 : goal.offset_bounds-places-rules-2
 offset_bounds-places-rules-2 c =
-            omega (arith, (numbers c.requires).0)
+    omega (arith, (numbers c.requires).0)
 
 pub slice_bounds-order_rules-end : goal.slice_bounds-order_rules-end
 slice_bounds-order_rules-end c =
-            omega (
+    omega (
       arith,
       (rule-count_in c.requires c.value_at.result c.value_at.ensures.0 c.args.places.now refl _
           c.order_relations.ensures).long,
@@ -69,23 +69,23 @@ slice_bounds-order_rules-end c =
 
 pub order_rules-requires : goal.order_rules-requires
 order_rules-requires c =
-            rules-asked c.requires c.value_at.result c.value_at.ensures.0 c.args.places.now refl _ c.order_relations.ensures
+    rules-asked c.requires c.value_at.result c.value_at.ensures.0 c.args.places.now refl _ c.order_relations.ensures
 
 pub overflow_sub-places : goal.overflow_sub-places
 overflow_sub-places c =
-                omega (arith, (first-near c.requires).0)
+    omega (arith, (first-near c.requires).0)
 
 pub overflow_cast-places-2 : goal.overflow_cast-places-2
 overflow_cast-places-2 c =
-                omega (arith, (first-near c.requires).1)
+    omega (arith, (first-near c.requires).1)
 
 pub offset_bounds-places-last : goal.offset_bounds-places-last
 offset_bounds-places-last c =
-            omega (arith, (numbers c.requires).0, c.value_at.ensures.1)
+    omega (arith, (numbers c.requires).0, c.value_at.ensures.1)
 
 pub bounds-places-last : goal.bounds-places-last
 bounds-places-last c =
-                omega (
+    omega (
       arith,
       (rules_in c.requires c.value_at.result c.value_at.ensures.0 c.args.places.now refl _
           c.order_relations.ensures _ c.order_rules.ensures).long,
@@ -95,15 +95,15 @@ bounds-places-last c =
 
 pub overflow_add-last-3 : goal.overflow_add-last-3
 overflow_add-last-3 c =
-            omega (arith, (numbers c.requires).0, c.value_at.ensures.1)
+    omega (arith, (numbers c.requires).0, c.value_at.ensures.1)
 
 pub offset_bounds-places-last-2 : goal.offset_bounds-places-last-2
 offset_bounds-places-last-2 c =
-            omega (arith, (numbers c.requires).0, c.value_at.ensures.1)
+    omega (arith, (numbers c.requires).0, c.value_at.ensures.1)
 
 pub slice_bounds-order_blocks-count : goal.slice_bounds-order_blocks-count
 slice_bounds-order_blocks-count c =
-                omega (
+    omega (
       arith,
       (block-count_in c.requires c.value_at.result c.value_at.ensures.0 c.args.places.now refl _
           c.order_relations.ensures _ c.order_rules.ensures).long,
@@ -113,7 +113,7 @@ slice_bounds-order_blocks-count c =
 
 pub slice_bounds-order_blocks-start : goal.slice_bounds-order_blocks-start
 slice_bounds-order_blocks-start c =
-                omega (
+    omega (
       arith,
       (block-count_in c.requires c.value_at.result c.value_at.ensures.0 c.args.places.now refl _
           c.order_relations.ensures _ c.order_rules.ensures).long,
@@ -123,15 +123,15 @@ slice_bounds-order_blocks-start c =
 
 pub order_blocks-requires : goal.order_blocks-requires
 order_blocks-requires c =
-                blocks-asked c.requires c.value_at.result c.value_at.ensures.0 c.args.places.now refl _ c.order_relations.ensures _
+    blocks-asked c.requires c.value_at.result c.value_at.ensures.0 c.args.places.now refl _ c.order_relations.ensures _
     c.order_rules.ensures
 
 pub shape_of-places : goal.shape_of-places
 shape_of-places c =
-                (blocks_in c.requires c.value_at.result c.value_at.ensures.0 c.args.places.now refl _ c.order_relations.ensures _
+    (blocks_in c.requires c.value_at.result c.value_at.ensures.0 c.args.places.now refl _ c.order_relations.ensures _
     c.order_rules.ensures _ c.order_blocks.ensures).long
 
 pub returns : goal.returns
 returns c a =
-                all_ordered a c.value_at.result c.value_at.ensures.0 c.args.places.now refl _
+    all_ordered a c.value_at.result c.value_at.ensures.0 c.args.places.now refl _
     c.order_relations.ensures _ c.order_rules.ensures _ c.order_blocks.ensures

@@ -25,7 +25,7 @@ overflow_sub-places c = omega (arith, some_root c.requires (c.loop-i.invariant _
 
 pub offset_bounds-places-k : goal.offset_bounds-places-k
 offset_bounds-places-k c =
-        omega (
+    omega (
       arith,
       c.requires.few,
       (c.loop-i.invariant _ refl c.requires).long,
@@ -38,7 +38,7 @@ bounds-places-k c = root-room c.requires (c.loop-i.invariant _ refl c.requires) 
 
 pub overflow_add-k : goal.overflow_add-k
 overflow_add-k c =
-        omega (
+    omega (
       arith,
       c.requires.few,
       (c.loop-i.invariant _ refl c.requires).long,

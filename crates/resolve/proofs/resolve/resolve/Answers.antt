@@ -14,7 +14,7 @@ resolve_into-a-requires c = room_made _ _ c.at_most.ensures
 
 pub slice_bounds-made-end : goal.slice_bounds-made-end
 slice_bounds-made-end c =
-        let w = count-within _ c.args.out.now c.at_most.ensures c.resolve_into-a.ensures c.written-count.ensures in omega
+    let w = count-within _ c.args.out.now c.at_most.ensures c.resolve_into-a.ensures c.written-count.ensures in omega
     (arith, w.1, c.resolve_into-a.auto.out)
 
 pub slice_bounds-copy-end : goal.slice_bounds-copy-end
@@ -22,7 +22,7 @@ slice_bounds-copy-end c = sym (length-take-le _ _ (slice_bounds-made-end (goal.a
 
 pub slice_bounds-copy-end-2 : goal.slice_bounds-copy-end-2
 slice_bounds-copy-end-2 c =
-            (count-within _ c.args.out.now c.at_most.ensures c.resolve_into-a.ensures c.written-count.ensures).0
+    (count-within _ c.args.out.now c.at_most.ensures c.resolve_into-a.ensures c.written-count.ensures).0
 
 pub slice_bounds-copy-end-3 : goal.slice_bounds-copy-end-3
 slice_bounds-copy-end-3 c = sym (length-take-le _ _ (slice_bounds-copy-end-2 (goal.at.slice_bounds-copy-end-3 c).After-made-3-1))
@@ -32,5 +32,5 @@ copy-requires c = length-take-le _ _ (slice_bounds-copy-end-2 (goal.at.copy-requ
 
 pub returns : goal.returns
 returns c =
-            copied-out _ _ c.at_most.ensures c.resolve_into-a.ensures c.written-count.ensures
+    copied-out _ _ c.at_most.ensures c.resolve_into-a.ensures c.written-count.ensures
     (ap (λ (l : List ℕ). l ++ drop c.written-count.result c.args.out.now) c.copy.ensures)

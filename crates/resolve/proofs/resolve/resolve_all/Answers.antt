@@ -6,4 +6,4 @@ use Rattle.resolve.proofs.resolve.resolve_all.Goals as goal
 
 pub resolve_by-requires : goal.resolve_by-requires
 resolve_by-requires c =
-        (c.requires.0, tables_for _ 4096 (omega arith) (said-most _), c.requires.1)
+    (c.requires.0, tables_for _ 4096 (omega arith) (said-most _), c.requires.1)

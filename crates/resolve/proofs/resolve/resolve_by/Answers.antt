@@ -8,22 +8,22 @@ use Rattle.resolve.proofs.resolve.resolve_by.Goals as goal
 
 pub check_notes-r-requires : goal.check_notes-r-requires
 check_notes-r-requires c =
-        c.requires.1.clear
+    c.requires.1.clear
 
 pub returns-in_default : goal.returns-in_default
 returns-in_default c =
-        into_refused _ _ (c.answer.ensures ∙ ap answer_in c.in_default.is)
+    into_refused _ _ (c.answer.ensures ∙ ap answer_in c.in_default.is)
     (λ lent. (resolve-refused _ lent (c.answer.ensures ∙ c.check_notes-r.ensures.answers)
     (c.answer.ensures ∙ ap answer_in c.in_default.is)).answers)
 
 pub slice_bounds-resolve_checked-end : goal.slice_bounds-resolve_checked-end
 slice_bounds-resolve_checked-end c =
-            let m = its-words c.requires.1.clear c.check_notes-r.ensures c.in-Yes.is in omega (arith, c.requires.2 m)
+    let m = its-words c.requires.1.clear c.check_notes-r.ensures c.in-Yes.is in omega (arith, c.requires.2 m)
 
 pub resolve_checked-requires : goal.resolve_checked-requires
 resolve_checked-requires c =
-                checked-asked c.requires.1.clear c.check_notes-r.ensures c.in-Yes.is c.requires.0 c.requires.1 (search rules) (search rules) (search rules)
+    checked-asked c.requires.1.clear c.check_notes-r.ensures c.in-Yes.is c.requires.0 c.requires.1 (search rules) (search rules) (search rules)
 
 pub returns : goal.returns
 returns c =
-        c.resolve_checked.ensures
+    c.resolve_checked.ensures

@@ -11,11 +11,11 @@ put_words-at-requires c = room-first _ _ c.requires.1
 
 pub bounds-out-at : goal.bounds-out-at
 bounds-out-at c =
-        omega (arith, list-room _ _ _ _ c.requires.1 c.put_words-at.ensures c.put_words-at.auto.out c.names_at-names.ensures)
+    omega (arith, list-room _ _ _ _ c.requires.1 c.put_words-at.ensures c.put_words-at.auto.out c.names_at-names.ensures)
 
 pub slice_bounds-put_names-end : goal.slice_bounds-put_names-end
 slice_bounds-put_names-end c =
-        omega (
+    omega (
       arith,
       list-room _ _ _ _ c.requires.1 c.put_words-at.ensures c.put_words-at.auto.out c.names_at-names.ensures,
       length-set
@@ -24,9 +24,9 @@ slice_bounds-put_names-end c =
 
 pub shape_of-out : goal.shape_of-out
 shape_of-out c =
-            list-long _ _ _ _ c.requires.1 c.put_words-at.ensures c.put_words-at.auto.out c.names_at-names.ensures c.put_names.ensures ∙
+    list-long _ _ _ _ c.requires.1 c.put_words-at.ensures c.put_words-at.auto.out c.names_at-names.ensures c.put_names.ensures ∙
     c.put_words-at.auto.out
 
 pub returns : goal.returns
 returns c =
-            list_put _ _ _ _ c.requires.1 c.put_words-at.ensures c.put_words-at.auto.out c.names_at-names.ensures c.put_names.ensures
+    list_put _ _ _ _ c.requires.1 c.put_words-at.ensures c.put_words-at.auto.out c.names_at-names.ensures c.put_names.ensures

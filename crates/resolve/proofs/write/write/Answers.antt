@@ -5,15 +5,15 @@ use Rattle.resolve.proofs.write.write.Goals as goal
 
 pub overflow_cast-out : goal.overflow_cast-out
 overflow_cast-out c =
-        omega (arith, (c.put_records-end.ensures c.requires).1, come_long c.requires, come_few c.requires)
+    omega (arith, (c.put_records-end.ensures c.requires).1, come_long c.requires, come_few c.requires)
 
 pub overflow_add-out : goal.overflow_add-out
 overflow_add-out c =
-        omega (arith, (c.put_records-end.ensures c.requires).1, come_long c.requires, come_few c.requires)
+    omega (arith, (c.put_records-end.ensures c.requires).1, come_long c.requires, come_few c.requires)
 
 pub bounds-out-0 : goal.bounds-out-0
 bounds-out-0 c =
-        not_empty c.requires c.put_records-end.auto.out
+    not_empty c.requires c.put_records-end.auto.out
 
 pub returns : goal.returns
 returns c a =

@@ -43,7 +43,7 @@ loop-i-smaller c = omega arith
 
 pub loop-i-preserved : goal.loop-i-preserved
 loop-i-preserved c =
-        let l = c.loop-i in     record {
+    let l = c.loop-i in record {
       within = omega arith;
       long = c.line-at.auto.text ∙ l.invariant.long;
       adds = lines_turn c.args.out.now c.args.text.now l.i c.args.from (omega arith) (omega arith) l.invariant.adds c.line-at.ensures;

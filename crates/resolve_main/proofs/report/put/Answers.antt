@@ -28,7 +28,7 @@ loop-i-smaller c = omega arith
 pub loop-i-preserved : goal.loop-i-preserved
 loop-i-preserved c =
     let l = c.loop-i in
-        record {
+    record {
       within = omega arith;
       long = simp length-set l.invariant.long;
       there = copy_turn c.args.bytes.now c.args.text.now l.text c.args.at l.i (omega arith) (omega arith) l.invariant.there;
@@ -43,4 +43,4 @@ shape_of-text c = c.loop-i.invariant.long
 pub returns : goal.returns
 returns c =
     let l = c.loop-i in
-        copied c.args.bytes.now c.args.text.now l.text c.args.at l.i (omega arith) l.invariant.there
+    copied c.args.bytes.now c.args.text.now l.text c.args.at l.i (omega arith) l.invariant.there

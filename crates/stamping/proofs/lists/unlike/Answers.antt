@@ -7,10 +7,10 @@ returns-in_default c = out_of_range _ _ _ _ c.value_at.ensures.0 c.kind_at.ensur
 
 pub returns-in_default-kind_at : goal.returns-in_default-kind_at
 returns-in_default-kind_at c =
-            related-out _ _ _ _ c.value_at.ensures.0 c.kind_at.ensures c.in-Is.is c.value_at-2.ensures.0 c.kind_at-2.ensures
+    related-out _ _ _ _ c.value_at.ensures.0 c.kind_at.ensures c.in-Is.is c.value_at-2.ensures.0 c.kind_at-2.ensures
     c.in_default-kind_at.is
 
 pub returns : goal.returns
 returns c =
-            both_there _ _ _ _ c.value_at.ensures.0 c.kind_at.ensures c.in-Is.is c.value_at-2.ensures.0 c.kind_at-2.ensures
+    both_there _ _ _ _ c.value_at.ensures.0 c.kind_at.ensures c.in-Is.is c.value_at-2.ensures.0 c.kind_at-2.ensures
     c.in-Is-kind_at.is

@@ -12,11 +12,11 @@ bounds-notes-i c = omega (arith, c.loop-i-test.true, c.requires.room)
 
 pub ask_note-current-requires : goal.ask_note-current-requires
 ask_note-current-requires c =
-        mark_asked _ _ _ _ c.loop-i.invariant c.loop-i-test.true c.requires
+    mark_asked _ _ _ _ c.loop-i.invariant c.loop-i-test.true c.requires
 
 pub overflow_add-i : goal.overflow_add-i
 overflow_add-i c =
-        omega (arith, c.loop-i-test.true, c.requires.room)
+    omega (arith, c.loop-i-test.true, c.requires.room)
 
 pub loop-i-smaller : goal.loop-i-smaller
 loop-i-smaller c = omega (arith, c.loop-i-test.true)

@@ -16,47 +16,45 @@ offset_bounds-notes-note c = let h = earlier c.requires.0 in search rules
 
 pub bounds-notes-note : goal.bounds-notes-note
 bounds-notes-note c =
-        omega (arith, earlier c.requires.0)
+    omega (arith, earlier c.requires.0)
 
 pub step-requires : goal.step-requires
 step-requires c =
-        (node-stands c.requires.0 c.requires.1, c.requires.0.low, c.requires.0.few)
+    (node-stands c.requires.0 c.requires.1, c.requires.0.low, c.requires.0.few)
 
 pub set_slots-requires : goal.set_slots-requires
-set_slots-requires c =
-        (
-      let h = c.requires.0.same in omega (arith, (node-stands c.requires.0 c.requires.1).short),
-      let h = c.requires.0.same in omega
-          (arith, three_words (node-stands c.requires.0 c.requires.1) (opens_some c.step.ensures c.in-Opens.is)),
-      (out-fits c.in-Opens.is
-          c.step.ensures.fits).0,
-      (out-fits c.in-Opens.is c.step.ensures.fits).1,
-    )
+set_slots-requires c = (
+  let h = c.requires.0.same in omega (arith, (node-stands c.requires.0 c.requires.1).short),
+  let h = c.requires.0.same in omega
+      (arith, three_words (node-stands c.requires.0 c.requires.1) (opens_some c.step.ensures c.in-Opens.is)),
+  (out-fits c.in-Opens.is
+      c.step.ensures.fits).0,
+  (out-fits c.in-Opens.is c.step.ensures.fits).1,
+)
 
 pub set_slots-requires-in-Sets : goal.set_slots-requires-in-Sets
-set_slots-requires-in-Sets c =
-        (
-      let h = c.requires.0.same in omega (arith, (node-stands c.requires.0 c.requires.1).short),
-      let h = c.requires.0.same in omega
-          (arith, three_words (node-stands c.requires.0 c.requires.1) (sets_some c.step.ensures c.in-Sets.is)),
-      (set-fits
-          c.in-Sets.is c.step.ensures.fits).0,
-      (set-fits c.in-Sets.is c.step.ensures.fits).1,
-    )
+set_slots-requires-in-Sets c = (
+  let h = c.requires.0.same in omega (arith, (node-stands c.requires.0 c.requires.1).short),
+  let h = c.requires.0.same in omega
+      (arith, three_words (node-stands c.requires.0 c.requires.1) (sets_some c.step.ensures c.in-Sets.is)),
+  (set-fits
+      c.in-Sets.is c.step.ensures.fits).0,
+  (set-fits c.in-Sets.is c.step.ensures.fits).1,
+)
 
 pub returns-in-Opens : goal.returns-in-Opens
 returns-in-Opens c =
-                note-opens _ _ _ _ _ _ _ _ _ c.requires.1 c.kept-own.result c.kept-own.ensures c.step.ensures c.in-Opens.is c.set_slots.ensures
+    note-opens _ _ _ _ _ _ _ _ _ c.requires.1 c.kept-own.result c.kept-own.ensures c.step.ensures c.in-Opens.is c.set_slots.ensures
 
 pub returns-in-Sets : goal.returns-in-Sets
 returns-in-Sets c =
-                note_sets _ _ _ _ _ _ _ _ _ c.requires.1 c.kept-own.result c.kept-own.ensures c.step.ensures c.in-Sets.is
+    note_sets _ _ _ _ _ _ _ _ _ c.requires.1 c.kept-own.result c.kept-own.ensures c.step.ensures c.in-Sets.is
     c.set_slots-in-Sets.ensures
 
 pub returns-in-Passes : goal.returns-in-Passes
 returns-in-Passes c =
-            note_passes _ _ _ _ _ _ _ _ _ c.requires.1 c.kept-own.result c.kept-own.ensures c.step.ensures c.in-Passes.is
+    note_passes _ _ _ _ _ _ _ _ _ c.requires.1 c.kept-own.result c.kept-own.ensures c.step.ensures c.in-Passes.is
 
 pub returns-in-Stops : goal.returns-in-Stops
 returns-in-Stops c =
-            rw c.refusal.ensures (note-stops _ _ _ _ _ _ _ _ _ c.requires.1 c.kept-own.result c.kept-own.ensures c.step.ensures c.in-Stops.is)
+    rw c.refusal.ensures (note-stops _ _ _ _ _ _ _ _ _ c.requires.1 c.kept-own.result c.kept-own.ensures c.step.ensures c.in-Stops.is)

@@ -66,4 +66,4 @@ shape_of-words c = c.loop-i.invariant.long
 pub returns : goal.returns
 returns c =
     let l = c.loop-i in
-            all_loaded c.args.bytes.now l.words c.are_words.ensures (not_from_true _ c.if-not-are_words.false) refl (rw l.invariant.long c.requires) (sym (load_done _ l.words l.i (omega arith)) ∙ l.invariant.rest)
+    all_loaded c.args.bytes.now l.words c.are_words.ensures (not_from_true _ c.if-not-are_words.false) refl (rw l.invariant.long c.requires) (sym (load_done _ l.words l.i (omega arith)) ∙ l.invariant.rest)

@@ -17,7 +17,7 @@ pub returns-then-allows : goal.returns-then-allows
 unfolding allowed_here
 returns-then-allows c =
     elim c.if-kind-a.branch [
-      then-kind-a+else-kind-b w ↦
+      | then-kind-a+else-kind-b w ↦
           word_on _ _ _ _ _ c.word-f.ensures c.in-On.is (either_second _ _ _ w.if-kind-b.false)
           (rw (w.if-kind-b.false, c.requires.1) (sym c.allows.ensures ∙ c.if-allows.true)) refl
       | else-kind-a w ↦
@@ -29,7 +29,7 @@ pub returns-else-allows : goal.returns-else-allows
 unfolding allowed_here
 returns-else-allows c =
     c.stop-else-allows.ensures ∙ elim c.if-kind-a.branch [
-      then-kind-a+else-kind-b w ↦
+      | then-kind-a+else-kind-b w ↦
           word_value _ _ _ _ _ c.word-f.ensures c.in-On.is (either_second _ _ _ w.if-kind-b.false)
           (rw (w.if-kind-b.false, c.requires.1) (sym c.allows.ensures ∙ c.if-allows.false))
       | else-kind-a w ↦

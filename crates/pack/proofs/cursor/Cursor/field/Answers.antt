@@ -15,11 +15,11 @@ returns-then-w-kind c = c.stop.ensures ∙ word_rejected _ _ _ _ _ c.word-f.ensu
 pub returns-then-allows : goal.returns-then-allows
 unfolding allowed_here
 returns-then-allows c =
-            word_on _ _ _ _ _ c.word-f.ensures c.in-On.is (only_same _ _ c.if-w-kind.false)
+    word_on _ _ _ _ _ c.word-f.ensures c.in-On.is (only_same _ _ c.if-w-kind.false)
     (rw (c.if-w-kind.false, c.requires) (sym c.allows.ensures ∙ c.if-allows.true)) refl ∙ field-word _ _ _ _ _
 
 pub returns-else-allows : goal.returns-else-allows
 unfolding allowed_here
 returns-else-allows c =
-            c.stop-else-allows.ensures ∙ word_value _ _ _ _ _ c.word-f.ensures c.in-On.is (only_same _ _ c.if-w-kind.false)
+    c.stop-else-allows.ensures ∙ word_value _ _ _ _ _ c.word-f.ensures c.in-On.is (only_same _ _ c.if-w-kind.false)
     (rw (c.if-w-kind.false, c.requires) (sym c.allows.ensures ∙ c.if-allows.false)) ∙ field-word _ _ _ _ _
