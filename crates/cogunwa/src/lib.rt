@@ -1,4 +1,4 @@
-// The host's functions: a pack and an output as bytes, each answer as one number.
+// The host's functions: a pack and an output as bytes, each answer as one number. The crate cogunwa_c exports them to C.
 #![tactic(auto)]
 
 ghost use Rattle.std.specs.Prelude.{◌≡◌};
@@ -11,80 +11,70 @@ use definitions::operation::{Filter, Question, Writing};
 use over_bytes::operations::{ask, write};
 
 // Check.
-#[unsafe(no_mangle)]
-pub extern "C" fn cogunwa_check(pack: &[u8]) -> u64
+pub fn cogunwa_check(pack: &[u8]) -> u64
     ensures { result ≡ encode (over_bytes check_answer pack.now) }
 {
     ask(Question::Check, pack)
 }
 
 // Rewrite.
-#[unsafe(no_mangle)]
-pub extern "C" fn cogunwa_rewrite(pack: &[u8], out: &mut [u8]) -> u64
+pub fn cogunwa_rewrite(pack: &[u8], out: &mut [u8]) -> u64
     ensures { Gives rewrite_answer rewrite_buffer pack.now out.old result out.new }
 {
     write(Writing::Rewrite, pack, out)
 }
 
 // All kinds.
-#[unsafe(no_mangle)]
-pub extern "C" fn cogunwa_all_kinds(pack: &[u8], out: &mut [u8]) -> u64
+pub fn cogunwa_all_kinds(pack: &[u8], out: &mut [u8]) -> u64
     ensures { Gives all_kinds_answer all_kinds_buffer pack.now out.old result out.new }
 {
     write(Writing::AllKinds, pack, out)
 }
 
 // Resolve.
-#[unsafe(no_mangle)]
-pub extern "C" fn cogunwa_resolve(pack: &[u8], out: &mut [u8]) -> u64
+pub fn cogunwa_resolve(pack: &[u8], out: &mut [u8]) -> u64
     ensures { Gives resolve_answer resolve_buffer pack.now out.old result out.new }
 {
     write(Writing::Resolve, pack, out)
 }
 
 // Kinds of one name.
-#[unsafe(no_mangle)]
-pub extern "C" fn cogunwa_kinds_of(pack: &[u8], name: u32) -> u64
+pub fn cogunwa_kinds_of(pack: &[u8], name: u32) -> u64
     ensures { result ≡ encode (over_bytes (λ ws. kinds_of_answer ws name) pack.now) }
 {
     ask(Question::KindsOf(name), pack)
 }
 
 // Lean.
-#[unsafe(no_mangle)]
-pub extern "C" fn cogunwa_lean(pack: &[u8], a: u32, b: u32) -> u64
+pub fn cogunwa_lean(pack: &[u8], a: u32, b: u32) -> u64
     ensures { result ≡ encode (over_bytes (λ ws. lean_answer ws a b) pack.now) }
 {
     ask(Question::Lean(a, b), pack)
 }
 
 // Of the filtered tables, direct.
-#[unsafe(no_mangle)]
-pub extern "C" fn cogunwa_direct(pack: &[u8], out: &mut [u8]) -> u64
+pub fn cogunwa_direct(pack: &[u8], out: &mut [u8]) -> u64
     ensures { Gives (filter_answer Direct) (filter_buffer Direct) pack.now out.old result out.new }
 {
     write(Writing::Filtered(Filter::Direct), pack, out)
 }
 
 // Innermost.
-#[unsafe(no_mangle)]
-pub extern "C" fn cogunwa_innermost(pack: &[u8], out: &mut [u8]) -> u64
+pub fn cogunwa_innermost(pack: &[u8], out: &mut [u8]) -> u64
     ensures { Gives (filter_answer Innermost) (filter_buffer Innermost) pack.now out.old result out.new }
 {
     write(Writing::Filtered(Filter::Innermost), pack, out)
 }
 
 // Alias.
-#[unsafe(no_mangle)]
-pub extern "C" fn cogunwa_alias(pack: &[u8], out: &mut [u8]) -> u64
+pub fn cogunwa_alias(pack: &[u8], out: &mut [u8]) -> u64
     ensures { Gives (filter_answer Alias) (filter_buffer Alias) pack.now out.old result out.new }
 {
     write(Writing::Filtered(Filter::Alias), pack, out)
 }
 
 // Unresolved.
-#[unsafe(no_mangle)]
-pub extern "C" fn cogunwa_unresolved(pack: &[u8], out: &mut [u8]) -> u64
+pub fn cogunwa_unresolved(pack: &[u8], out: &mut [u8]) -> u64
     ensures { Gives (filter_answer Unresolved) (filter_buffer Unresolved) pack.now out.old result out.new }
 {
     write(Writing::Filtered(Filter::Unresolved), pack, out)
