@@ -2,20 +2,22 @@
 use crate::compare::Found;
 use crate::run::Totals;
 use definitions::answer::Refusal;
-use libc::STDOUT_FILENO;
+
+// Standard output.
+const STDOUT: i32 = 1;
 
 fn text(bytes: &[u8]) {
-    io::write_all(STDOUT_FILENO, bytes);
+    io::write_all(STDOUT, bytes);
 }
 
 fn number(before: &[u8], n: u64) {
     text(before);
-    io::print_decimal(STDOUT_FILENO, n);
+    io::print_decimal(STDOUT, n);
 }
 
 fn word(before: &[u8], w: u32) {
     text(before);
-    io::print_hex(STDOUT_FILENO, w as u64, 8);
+    io::print_hex(STDOUT, w as u64, 8);
 }
 
 fn answer(a: Refusal) {
