@@ -6,8 +6,7 @@ use native.Mathlib.Numerals.{add-one}
 use mathlib.Core.Path.{◌≡◌, refl, ap, sym, ◌∙◌, subst}
 use mathlib.Core.List.{List, [], ◌∷◌, ◌++◌}
 use mathlib.Core.Bool.{true}
-use lib.ListN.{length, get_or, take, length-append, length-map}
-use lib.Seq.{get_or_at}
+use lib.ListN.{length, get_or, length-map}
 use lib.Dec.{eqb}
 use borrow.Author.Tests.{eq-eqb, le-leb}
 use Rattle.definitions.specs.Table.{word_of}
@@ -21,9 +20,9 @@ use Rattle.chains.specs.DirectoryWord.{declarations_in, names_in}
 use Rattle.chains.specs.Settle.{Leading, Marked, OnPath, Settleable, SettledAll, Placeable}
 use Rattle.records.specs.declared.directory.Layout.{Layout}
 use Rattle.checking.specs.CheckPromises.{names_said}
-use Rattle.chains.specs.PackDirectory.{IsPack, RelationsCounted, Named, IsDirectory, KindsMarked, ClearTable}
+use Rattle.chains.specs.PackDirectory.{IsPack, Named, IsDirectory, KindsMarked, ClearTable}
 use Rattle.chains.proofs.RelationForm.{RelationsFine, kept}
-use Rattle.chains.proofs.PackParts.{parts, split, opening, opening_length, relations_part}
+use Rattle.chains.proofs.PackParts.{parts, split, opening, relations_part}
 use Rattle.chains.proofs.Names.{or_left, or_right}
 use Rattle.chains.proofs.PlaceBounds.{Indexes, indexes}
 use Rattle.chains.proofs.AllKindsLaws.{KindsFound, kinds-found}

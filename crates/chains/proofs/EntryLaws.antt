@@ -18,8 +18,8 @@ use Rattle.definitions.specs.FieldRows.{to_row}
 use Rattle.definitions.specs.Pack.{WellFormed, yes, read, new_name, relation, relations, defaulted}
 use Rattle.records.specs.declared.directory.Layout.{Layout}
 use Rattle.records.specs.declared.directory.Laid.{Laid}
-use Rattle.records.specs.declared.directory.Laid.TheVariants.{Yes, No}
-use Rattle.records.specs.Directory.{notes_all, note_relation, note_relations, directory_of, layout_of, relations_at, rules_at, blocks_at, entry, derived_note, note_in, lead_of, Clear}
+use Rattle.records.specs.declared.directory.Laid.TheVariants.{Yes}
+use Rattle.records.specs.Directory.{notes_all, note_relation, directory_of, layout_of, relations_at, rules_at, blocks_at, entry, derived_note, note_in, lead_of, Clear}
 use Rattle.checking.specs.CheckPromises.{names_said, DirectoryChecked, answer_in}
 use Rattle.definitions.specs.Chain.{mapped, end, next}
 use Rattle.definitions.specs.Kinds.{list21, inherits, plain, derived, declares, declared, find, read_at, kind_step}

@@ -12,7 +12,7 @@ use borrow.Author.Tests.{eq-eqb, ne_eqb}
 use Rattle.definitions.specs.Table.{word_of, value_of}
 use Rattle.definitions.specs.Form.{among, list_or_none, count, items, repeats, words_all, words_by}
 use Rattle.definitions.specs.Records.{Hop, Derivation, Relation}
-use Rattle.definitions.specs.Pack.{relation, new_name, relation_tail, name_list, optional_derivation, hop, path, derivation, member}
+use Rattle.definitions.specs.Pack.{relation, new_name, relation_tail, name_list, optional_derivation, hop, path}
 use Rattle.definitions.specs.Places.{hops}
 use Rattle.definitions.specs.Lean.{step_names}
 use Rattle.chains.specs.Record.{value_at, kind_count, flag_at, slots_place, steps_in, path_in, entity_count}

@@ -4,7 +4,7 @@ use Rattle.std.proofs.Math.Option.{Option}
 use Rattle.definitions.specs.declared.answer.Refusal.{Refusal}
 use Rattle.definitions.specs.Table.{pick, judgment, table, entry_of}
 use Rattle.definitions.specs.Form.{Read, got, refused, Form, field, guarded, ◌▹◌, via, list, list_or_none, option, counted_from, counted, one_and_more, among, read_by, words_by, Fine}
-use Rattle.definitions.specs.Tree.{Tree, root}
+use Rattle.definitions.specs.Tree.{root}
 use Rattle.definitions.specs.Records.{Hop, Derivation, Relation, Body, Rule, Item, Block, Edition, undated, Pack}
 use Rattle.definitions.specs.FieldRows.{to_hop, of_hop, ChainRow, MemberRow, to_derivation, of_derivation, RelationTail, to_relation, of_relation, to_body, of_body, to_rule, of_rule, to_item, of_item, to_block, of_block, RecordsRow, of_row, to_row}
 

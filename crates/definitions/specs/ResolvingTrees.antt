@@ -1,10 +1,9 @@
 -- Resolving a tree: its slots are set from the kinds of relations, or it is refused at a node. 01, "Resolving".
-use Rattle.std.specs.Prelude.{ℕ, ◌+◌, ◌≤◌, List, [], ◌∷◌, ◌++◌, length, eqb}
+use Rattle.std.specs.Prelude.{ℕ, ◌+◌, ◌≤◌, [], ◌∷◌, length, eqb}
 use Rattle.std.proofs.Math.Option.{Option, none, some}
-use Rattle.definitions.specs.declared.answer.Refusal.{Refusal}
 use Rattle.definitions.specs.declared.table.Follows.{Follows}
 use Rattle.definitions.specs.declared.table.Follows.TheVariants.{Nothing, Counted, OneScalar, TwoScalars, Scalars, Patterns, Periods, OneJudgment, Judgments, Choice, Aggregate, OnlyRelated, Slots, Atom, Exists}
-use Rattle.definitions.specs.Table.{pick, word_of, entry_of}
+use Rattle.definitions.specs.Table.{pick, entry_of}
 use Rattle.definitions.specs.Tree.{Tree, Forest, node, more, Fields, size}
 use Rattle.definitions.specs.Tree as trees
 use Rattle.definitions.specs.declared.direction.Direction.{Direction}

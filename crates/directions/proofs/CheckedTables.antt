@@ -6,20 +6,18 @@ use mathlib.Core.List.{List, [], ◌∷◌}
 use mathlib.Core.Bool.{Bool, true, false}
 use mathlib.Core.Option.{Option, none, some}
 use lib.ListN.{length, get_or}
-use lib.Dec.{eqb, ltb}
+use lib.Dec.{eqb}
 use borrow.Author.Tests.{ne_eqb, lt-ltb, le-ltb}
 use Rattle.definitions.specs.Table.{pick}
 use Rattle.definitions.specs.Records.{Derivation, Relation, Pack}
 use Rattle.definitions.specs.Pack.{WellFormed, yes, read, words}
 use Rattle.pack.proofs.PackLaws.{words-read}
-use Rattle.definitions.specs.Chain.{Link, end, own, walk}
+use Rattle.definitions.specs.Chain.{own, walk}
 use Rattle.definitions.specs.Kinds.{list9, KindsFound, from, find, kind_step, kinds_of, own_answer}
 use Rattle.definitions.specs.Places.{start_of, first_relation, hops, place_of, names_at}
 use Rattle.chains.specs.PackDirectory.{slots_of}
 use Rattle.filtered.specs.Acts.{act_part, act_list, part_of, ActsOf}
-use Rattle.definitions.specs.Filtered.{direct}
 use Rattle.filtered.specs.Taking.{KnowsEntities}
-use Rattle.filtered.specs.Said.{direct_in}
 use Rattle.chains.proofs.PackParts.{parts, find-name}
 use Rattle.chains.proofs.ListAt.{InWords, in_pack, place-holds}
 use Rattle.filtered.proofs.ActLaws.{found_among}

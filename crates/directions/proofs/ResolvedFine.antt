@@ -10,7 +10,7 @@ use Rattle.definitions.specs.Table.{pick, judgment, table, entry_of}
 use Rattle.definitions.specs.Form.{among, allowed_here, FineAll, says, count, items, Fine}
 use Rattle.definitions.specs.Tree.{root, tree}
 use Rattle.definitions.specs.Records.{Derivation, Relation, Body, Rule, Pack}
-use Rattle.definitions.specs.Pack.{WellFormed, name_list, chain, member, derivation, optional_derivation, relation_tail, new_name, relation, body, bodies, rule, relations}
+use Rattle.definitions.specs.Pack.{WellFormed, name_list, chain, member, derivation, optional_derivation, relation_tail, new_name, relation, body, bodies, rule}
 use Rattle.definitions.specs.Kinds.{find, kinds_of, own_answer, names_of, list_in, Which, list9, list21}
 use Rattle.definitions.specs.Filtered.{kind_at}
 use Rattle.definitions.specs.Places.{relation_words}

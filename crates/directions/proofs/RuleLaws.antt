@@ -7,7 +7,7 @@ use lib.ListN.{length}
 use mathlib.Core.Option.{none}
 use Rattle.definitions.specs.Table.{word_of}
 use Rattle.definitions.specs.Form.{words_all, FineAll, words_by, Fine}
-use Rattle.definitions.specs.Tree.{root, tree, Tree, size}
+use Rattle.definitions.specs.Tree.{root, Tree, size}
 use Rattle.definitions.specs.Records.{Body, Rule, Pack}
 use Rattle.definitions.specs.Pack.{WellFormed, body, bodies, rule}
 use Rattle.definitions.specs.Answers.{Outcome, done, refused, and_then, map_done}

@@ -3,7 +3,7 @@ use Rattle.std.specs.Prelude.{ℕ, ◌+◌, ◌≡◌, List, [], ◌∷◌, ◌+
 use Rattle.definitions.specs.Table.{word_of}
 use Rattle.definitions.specs.Form.{among, Fine}
 use Rattle.definitions.specs.Records.{Relation, Body, Rule, Pack}
-use Rattle.definitions.specs.Pack.{yes, read, relation}
+use Rattle.definitions.specs.Pack.{relation}
 use Rattle.definitions.specs.Kinds.{declared, kinds_of}
 use Rattle.definitions.specs.Places.{relation_words, first_relation, names_at}
 use Rattle.chains.specs.PackDirectory.{OfPack, IsPack}

@@ -1,7 +1,7 @@
 -- After all relations of a checked pack the table says of every name what an aggregate over its relation does.
-use Prim.Native.Nat.{ℕ, suc, ◌+◌, ◌*◌, ◌/◌, ◌%◌, ◌<◌, ◌≤◌}
+use Prim.Native.Nat.{ℕ, suc, ◌<◌}
 use native.Mathlib.Omega.{arith}
-use mathlib.Core.Path.{◌≡◌, refl, ap, sym, ◌∙◌, subst}
+use mathlib.Core.Path.{◌≡◌, refl, ap, ◌∙◌, subst}
 use mathlib.Core.List.{List, [], ◌∷◌}
 use mathlib.Core.Bool.{Bool, true, false, ◌||◌}
 use mathlib.Core.Option.{Option, none, some}
@@ -15,15 +15,15 @@ use Rattle.definitions.specs.Records.{Relation, Pack}
 use Rattle.definitions.specs.Pack.{WellFormed, yes, read, words}
 use Rattle.pack.proofs.PackLaws.{words-read}
 use Rattle.definitions.specs.Kinds.{find, declared, own_answer}
-use Rattle.definitions.specs.Places.{start_of, first_relation, place_of}
+use Rattle.definitions.specs.Places.{place_of}
 use Rattle.chains.specs.Record.{kind_count}
 use Rattle.chains.specs.Settle.{Marked}
-use Rattle.chains.specs.PackDirectory.{slots_for, slots_of, RelationsNoted, KindsMarked}
+use Rattle.chains.specs.PackDirectory.{slots_of, RelationsNoted, KindsMarked}
 use Rattle.chains.proofs.PackParts.{parts}
 use Rattle.chains.proofs.ListAt.{InWords}
 use Rattle.chains.proofs.RecordLaws.{counted}
 use Rattle.chains.proofs.DeclarationLaws.{standing}
-use Rattle.filtered.specs.Acts.{act_part, act_list, part_for, act_for, acts_from, typed_part, part_of, ActsOf}
+use Rattle.filtered.specs.Acts.{act_part, act_list, part_for, act_for, acts_from, part_of}
 
 -- ---- the names of records
 

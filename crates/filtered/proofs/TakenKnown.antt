@@ -1,5 +1,5 @@
 -- After all relations of a checked pack the table says of every entity what is known of it: whether a derivation names it, and the kinds that it takes.
-use Prim.Native.Nat.{ℕ, suc, ◌+◌, ◌-◌, ◌*◌, ◌<◌, ◌≤◌}
+use Prim.Native.Nat.{ℕ, suc, ◌+◌, ◌*◌, ◌<◌, ◌≤◌}
 use native.Mathlib.Omega.{arith}
 use mathlib.Core.Path.{◌≡◌, refl, ap, sym, ◌∙◌, subst}
 use mathlib.Core.List.{List, [], ◌∷◌, ◌++◌, map, append-nil, append_assoc}
@@ -19,7 +19,7 @@ use Rattle.definitions.specs.Lean.{any}
 use Rattle.definitions.specs.Filtered as filtered
 use Rattle.definitions.specs.Filtered.{kind_at, listed, entity_is, taken_from, taken, names_entity}
 use Rattle.definitions.specs.Places.{start_of, first_relation, hops, place_of, names_at}
-use Rattle.chains.specs.Record.{value_at, slots_place}
+use Rattle.chains.specs.Record.{slots_place}
 use Rattle.records.specs.declared.directory.Layout.{Layout}
 use Rattle.chains.specs.DirectoryWord.{starts_in, slots_in, names_in}
 use Rattle.chains.specs.PackDirectory.{slots_of, RelationsNoted, ClearTable, IsDirectory, KindsMarked}

@@ -1,14 +1,14 @@
 -- Where the blocks of a checked pack stand: after their count.
-use Prim.Native.Nat.{ℕ, suc, ◌+◌, ◌-◌, ◌<◌, ◌≤◌}
+use Prim.Native.Nat.{ℕ, suc, ◌+◌, ◌<◌, ◌≤◌}
 use native.Mathlib.Omega.{arith}
 use mathlib.Core.Path.{◌≡◌, refl, ap, sym, ◌∙◌}
 use mathlib.Core.List.{List, [], ◌∷◌, ◌++◌, append_assoc, append-nil}
 use mathlib.Core.Bool.{Bool, true, false}
 use mathlib.Core.Option.{Option, none, some}
-use lib.ListN.{length, get_or, length-append}
+use lib.ListN.{length, length-append}
 use lib.Dec.{eqb}
 use borrow.Author.Tests.{leb-true, eqb-true, eqb-false}
-use Rattle.definitions.specs.Table.{pick, kind_of, word_of, table, entry_of}
+use Rattle.definitions.specs.Table.{pick, word_of, table, entry_of}
 use Rattle.definitions.specs.Form.{allowed_here, words_all, FineAll, says, count, items, list_or_none, words_by, Fine}
 use Rattle.definitions.specs.Records.{Item, Block, Pack, Edition, undated}
 use Rattle.definitions.specs.FieldRows.{to_row}

@@ -1,5 +1,5 @@
 -- What the code reads of blocks from the words of a pack.
-use Rattle.std.specs.Prelude.{ℕ, zero, suc, ◌+◌, ◌*◌, ◌^◌, ◌≤◌, ◌≡◌, List, [], ◌∷◌, Bool, ◌||◌, not, eqb}
+use Rattle.std.specs.Prelude.{ℕ, zero, suc, ◌+◌, ◌*◌, ◌^◌, ◌≤◌, ◌≡◌, List, Bool, ◌||◌, not, eqb}
 use Rattle.definitions.specs.Table.{pick, kind_of}
 use Rattle.definitions.specs.Table as table
 use Rattle.definitions.specs.Form.{repeats}

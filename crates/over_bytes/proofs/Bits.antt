@@ -19,7 +19,6 @@ use Rattle.definitions.specs.Checking.{check_answer, rewrite_answer}
 use Rattle.pack.proofs.PackLaws.{words-read}
 use Rattle.pack.proofs.Refusals.{read_numbers}
 use Rattle.definitions.specs.Chain.{Link, end, next, same, with_next, outside}
-use Rattle.definitions.specs.Kinds as kinds
 use Rattle.definitions.specs.Kinds.{kind_step, declared, own_answer, all_kinds}
 use Rattle.definitions.specs.Places.{place_of, all_kinds_words}
 use Rattle.definitions.specs.Operations.{all_kinds_answer, kinds_of_answer, lean_answer, filter_answer, resolve_answer}

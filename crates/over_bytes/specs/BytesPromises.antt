@@ -1,7 +1,7 @@
 -- What the parts of the operations over bytes promise each other.
 use Rattle.std.specs.Prelude.{ℕ, ◌<◌, ◌≤◌, ◌≡◌, List, length, get_or}
 use Rattle.definitions.specs.declared.operation.Writing.{Writing}
-use Rattle.definitions.specs.declared.operation.Writing.TheVariants.{Rewrite, AllKinds, Filtered, Resolve}
+use Rattle.definitions.specs.declared.operation.Writing.TheVariants.{Rewrite, AllKinds, Filtered}
 use Rattle.over_bytes.specs.declared.operations.Plain.{Plain}
 use Rattle.over_bytes.specs.declared.operations.Plain.TheVariants as plain
 

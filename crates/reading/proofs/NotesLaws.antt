@@ -1,5 +1,5 @@
 -- What the readers note are the codes of the list of notes, behind those that were there; and there is room for them.
-use Prim.Native.Nat.{ℕ, zero, suc, ◌+◌, ◌-◌, ◌*◌, ◌%◌, ◌≤◌, ◌<◌}
+use Prim.Native.Nat.{ℕ, zero, suc, ◌+◌, ◌%◌, ◌≤◌, ◌<◌}
 use native.Mathlib.Omega.{arith}
 use mathlib.Core.Path.{◌≡◌, refl, ap, sym, ◌∙◌}
 use mathlib.Core.List.{List, [], ◌∷◌, ◌++◌, map, map-append}
@@ -14,7 +14,7 @@ use Rattle.pack.proofs.FormLaws.{lawful}
 use Rattle.pack.proofs.EachFollows.{where_true}
 use Rattle.definitions.specs.Tree.{Tree, Forest, node, more, of_forest, heads, last_field, fields, follow, tree, size, sizes}
 use Rattle.definitions.specs.Tree as trees
-use Rattle.reading.specs.Notes.{look_by, look_of, noted, Note, note, within, context_of, note_code, notes_of, notes_in}
+use Rattle.reading.specs.Notes.{look_by, look_of, noted, Note, within, context_of, note_code, notes_of, notes_in}
 use Rattle.reading.specs.Noting.{State, losing, push, next_note, in_next, past, child_in, note_tree, note_forest, Came, push_all, NotesLeft}
 
 -- ---- numbers noted one after the other

@@ -18,8 +18,8 @@ use Rattle.pack.proofs.StepLaws.{went, by-each, each_last}
 use Rattle.pack.proofs.Listed.{in_range}
 use Rattle.pack.proofs.EachFollows.{alike}
 use Rattle.reading.specs.Notes.{look_by, noted}
-use Rattle.reading.specs.Noting.{losing, push, in_next, past, child_in, note_tree, note_forest, note_follow, Came, NotedCode, Sorted, Rows, Shape}
-use Rattle.reading.proofs.TreeLaws.{followed, no_fields, only-fields, Row, by_row, Leaf, by_leaf}
+use Rattle.reading.specs.Noting.{losing, push, in_next, past, child_in, note_tree, note_forest, note_follow, Came, Sorted, Rows, Shape}
+use Rattle.reading.proofs.TreeLaws.{no_fields, only-fields, Row, by_row, Leaf}
 use Rattle.reading.proofs.CodeLaws.{Stands, code_on, code_as, none_code, code_stands, kept}
 
 -- ---- what was read

@@ -1,5 +1,5 @@
 -- Laws of the walkers: a row of trees word by word, an aggregate with its where tree, a tree's step.
-use Prim.Native.Nat.{ℕ, suc, ◌+◌, ◌-◌, ◌%◌, ◌≤◌, ◌<◌}
+use Prim.Native.Nat.{ℕ, ◌+◌, ◌-◌, ◌%◌, ◌≤◌, ◌<◌}
 use native.Mathlib.Omega.{arith}
 use mathlib.Core.Path.{◌≡◌, refl, ap, sym, ◌∙◌, subst}
 use mathlib.Core.List.{List, [], ◌∷◌}
@@ -15,13 +15,13 @@ use Rattle.pack.specs.declared.cursor.Step.TheVariants.{On, Refused}
 use Rattle.definitions.specs.Table.{kind_of, value_of, entry_of, table, how_many, fields_of, children_of, scalar, judgment}
 use Rattle.pack.specs.Packed.{Compares}
 use Rattle.definitions.specs.Form.{Form, word, only, each, allowed_here}
-use Rattle.definitions.specs.Tree.{to_forest, heads, fields, follow, tree, root}
+use Rattle.definitions.specs.Tree.{heads, fields, follow, tree, root}
 use Rattle.pack.specs.Readers.{skip_over, coded_step, fault, decoded}
 use Rattle.reading.specs.Notes.{noted}
-use Rattle.reading.specs.Noting.{first_fault, aggregate_fault, State, push, in_next, note_tree, note_forest, Came, NotedCode, NotedStep, Sorted, Rows, Shape, After}
+use Rattle.reading.specs.Noting.{first_fault, aggregate_fault, State, push, in_next, note_tree, Came, NotedCode, NotedStep, Sorted, Rows, Shape, After}
 use Rattle.reading.proofs.TreeLaws.{heads_in, comparison_row, compared, Row, Leaf}
 use Rattle.reading.proofs.CodeLaws.{Turn, turn, Moved, passed, by_where, then_code, then_next, last_code, code_as, code_forward, code_within, code_stands, fault_code, fault_large, fault_on, fault-read, small-next, row_stop, row_leaf, row_last, node-stop, node_on, row_done, first_code, next_code, one_row, by_compared, tree_code, decode_on, decode-stop}
-use Rattle.reading.proofs.NotingLaws.{Rowed, Treed, rowed_end, rowed_next, rowed_turn, rowed_one, Followed, treed, row_followed, after_leaf, where_came, exists_came, Steady, steady_judgment}
+use Rattle.reading.proofs.NotingLaws.{Rowed, rowed_end, rowed_next, rowed_turn, rowed_one, Followed, treed, row_followed, after_leaf, where_came, exists_came, Steady, steady_judgment}
 
 -- of a refusal nothing is to be shown but the answer
 no_both : {r : ℕ} → r < 65536 → 65536 ≤ r → ⊥

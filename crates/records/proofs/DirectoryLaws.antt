@@ -14,7 +14,6 @@ use Rattle.pack.specs.declared.cursor.Cursor.{Cursor}
 use Rattle.pack.specs.declared.cursor.Step.{Step}
 use Rattle.pack.specs.declared.cursor.Step.TheVariants.{On, Refused}
 use Rattle.definitions.specs.Table.{pick, entry_of, table}
-use Rattle.definitions.specs.Table as tables
 use Rattle.definitions.specs.Form.{got, allowed_here, among, words_all, list, list_or_none, count, items, says, Form, field, Fine, words_by, read_by}
 use Rattle.records.specs.declared.directory.Laid.{Laid}
 use Rattle.records.specs.declared.directory.Laid.TheVariants.{Yes, No}

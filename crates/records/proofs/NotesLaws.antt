@@ -11,7 +11,7 @@ use Rattle.pack.specs.declared.cursor.Step.TheVariants.{On}
 use Rattle.definitions.specs.Form.{list, count, items, words_all, field, words_by}
 use Rattle.definitions.specs.Tree.{root}
 use Rattle.definitions.specs.FieldRows.{MemberRow, RelationTail, to_body, to_derivation, to_relation, to_rule}
-use Rattle.definitions.specs.Pack.{body, bodies, rule, name_list, chain, member, derivation, optional_derivation, relation_tail, relation}
+use Rattle.definitions.specs.Pack.{body, bodies, rule, name_list, chain, member, derivation, optional_derivation, relation_tail}
 use Rattle.definitions.specs.Places.{hops}
 use Rattle.pack.specs.Packed.{bound_of}
 use Rattle.pack.specs.Readers.{step_of, skip_over, itself, field_step}

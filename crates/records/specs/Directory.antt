@@ -1,5 +1,5 @@
 -- The directory that reading writes on its way: the relations in record order, and by name where each stands and what it declares.
-use Rattle.std.specs.Prelude.{ℕ, ◌+◌, ◌-◌, ◌*◌, ◌≤◌, ◌≡◌, List, [], ◌∷◌, Bool, false, length, get_or, set, drop, eqb, ltb}
+use Rattle.std.specs.Prelude.{ℕ, ◌+◌, ◌*◌, ◌≤◌, ◌≡◌, List, [], ◌∷◌, Bool, length, get_or, set, drop, eqb, ltb}
 use Rattle.std.proofs.Math.Option.{Option, none, some}
 use Rattle.pack.specs.declared.cursor.Step.{Step}
 use Rattle.pack.specs.declared.cursor.Step.TheVariants.{On, Refused}
@@ -8,10 +8,10 @@ use Rattle.records.specs.declared.directory.Laid.TheVariants.{Yes, No}
 use Rattle.records.specs.declared.directory.Layout.{Layout}
 use Rattle.definitions.specs.Table.{pick}
 use Rattle.definitions.specs.Table as table
-use Rattle.definitions.specs.Form.{Read, got, refused, Form, words_by, read_by}
+use Rattle.definitions.specs.Form.{got, Form, words_by, read_by}
 use Rattle.definitions.specs.Records.{Hop, Derivation, Relation}
 use Rattle.definitions.specs.FieldRows.{ChainRow, MemberRow, RelationTail, RecordsRow}
-use Rattle.definitions.specs.Pack.{defaulted, relation, relations, rules}
+use Rattle.definitions.specs.Pack.{defaulted, relations, rules}
 use Rattle.definitions.specs.Places.{hops, relation_words}
 use Rattle.pack.specs.Readers.{step_of}
 

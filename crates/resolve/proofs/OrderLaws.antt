@@ -20,7 +20,6 @@ use Rattle.chains.specs.DirectoryWord.{Reaches, starts_in, names_in}
 use Rattle.chains.specs.Record.{value_at}
 use Rattle.chains.proofs.RelationForm.{RelationsFine, kept}
 use Rattle.chains.proofs.PackParts.{EachFound, all_found, parts}
-use Rattle.chains.proofs.EntryLaws.{name-here}
 use Rattle.chains.proofs.RecordLaws.{value_there}
 use Rattle.chains.proofs.EntryLaws.{reaches_one}
 use Rattle.filtered.proofs.TakingLaws.{name-low}

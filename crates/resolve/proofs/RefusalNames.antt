@@ -11,7 +11,7 @@ use Rattle.definitions.specs.Table.{table, entry_of, judgment, word_of}
 use Rattle.definitions.specs.Form.{allowed_here, words_by, Fine}
 use Rattle.definitions.specs.Tree.{Tree, root, tree, tree_words, size}
 use Rattle.definitions.specs.Records.{Derivation, Relation, Body, Rule, Pack}
-use Rattle.definitions.specs.Pack.{WellFormed, words, total, relation_tail, body, rule, blocks}
+use Rattle.definitions.specs.Pack.{WellFormed, total, relation_tail, body, rule, blocks}
 use Rattle.pack.proofs.PackLaws.{words-length}
 use Rattle.definitions.specs.Kinds.{list9, find, kinds_of}
 use Rattle.definitions.specs.Filtered.{kind_at}

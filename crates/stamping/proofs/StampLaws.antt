@@ -11,7 +11,7 @@ use borrow.Author.Tests.{ne_eqb, lt-ltb, le-ltb}
 use Rattle.definitions.specs.Table.{pick}
 use Rattle.definitions.specs.Form.{words_by}
 use Rattle.definitions.specs.Records.{Derivation, Relation, Pack}
-use Rattle.definitions.specs.Pack.{new_name, relation, derivation}
+use Rattle.definitions.specs.Pack.{new_name, relation}
 use Rattle.definitions.specs.Kinds.{kinds_of}
 use Rattle.definitions.specs.Filtered.{kind_at}
 use Rattle.definitions.specs.Places.{names_at, hops}

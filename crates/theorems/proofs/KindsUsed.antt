@@ -2,7 +2,7 @@
 use Prim.Native.Nat.{ℕ, ◌<◌}
 use native.Mathlib.Omega.{arith}
 use mathlib.Core.Path.{◌≡◌, refl, ap, sym, ◌∙◌, subst}
-use mathlib.Core.List.{List, [], ◌∷◌, ◌++◌}
+use mathlib.Core.List.{List, [], ◌∷◌}
 use mathlib.Core.Bool.{Bool, true, false, not, ◌||◌, ◌&&◌}
 use mathlib.Core.Logic.{◌⊎◌, inl, inr}
 use mathlib.Core.Option.{Option, none, some, map}
@@ -19,7 +19,7 @@ use Rattle.definitions.specs.Tree.{Tree}
 use Rattle.definitions.specs.Answers.{out_of_room, Outcome, done, refused, and_then, map_done, result}
 use Rattle.pack.proofs.PackLaws.{words-read}
 use Rattle.definitions.specs.Chain.{end, same}
-use Rattle.definitions.specs.Kinds.{list9, list21, declares, list_of, find, kind_step, declared, all_kinds, own_answer, names_of, kinds_of}
+use Rattle.definitions.specs.Kinds.{list9, declares, find, kind_step, declared, all_kinds, own_answer, names_of, kinds_of}
 use Rattle.definitions.specs.Lean.{any}
 use Rattle.definitions.specs.Places.{first_relation}
 use Rattle.chains.proofs.Names.{apart, or_cases, or_left, or_right, among-append, any_of, of_any}
@@ -28,7 +28,7 @@ use Rattle.chains.proofs.KindLaws.{kind-leads}
 use Rattle.chains.proofs.PackParts.{parts, find-name, EachFound, all_found}
 use Rattle.definitions.specs.Filtered.{kind_at, listed, entity_is, takes, taken_from, taken, single, direct}
 use Rattle.definitions.specs.Tables.{Derived, Tables, derived_by, derived_at, pair, typed_by, typed_at, tables}
-use Rattle.definitions.specs.Resolving.{same_kind, equal_kinds, defaulted_equal, equal_refusal, resolve_rules, predicate_by, resolve_predicate, resolve_derivation, resolve_relation, with_predicate, resolve_relations, is_empty, unlike, passed_over, or_kinds, stamped_with, stamp_by, stamp_derived, stamp, first_rule, resolve_records, resolved}
+use Rattle.definitions.specs.Resolving.{same_kind, equal_kinds, defaulted_equal, equal_refusal, resolve_rules, predicate_by, resolve_predicate, resolve_derivation, resolve_relation, with_predicate, resolve_relations, is_empty, unlike, passed_over, stamped_with, stamp_by, stamp_derived, stamp, first_rule, resolve_records, resolved}
 use Rattle.directions.proofs.Numbers.{Numbered, rules_numbered, relations_numbered}
 use Rattle.definitions.specs.Operations.{resolve_answer}
 use Rattle.resolve.specs.Finish.{given_out}

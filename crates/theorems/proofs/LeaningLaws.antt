@@ -9,8 +9,8 @@ use borrow.Author.Tests.{lt-ltb}
 use Rattle.definitions.specs.Records.{Hop, Derivation, Relation, Pack}
 use Rattle.definitions.specs.Pack.{yes, read}
 use Rattle.definitions.specs.Chain.{Link, end, next}
-use Rattle.definitions.specs.Kinds.{KindsFound, inherits, derived, declares, find, read_at, kind_step}
-use Rattle.definitions.specs.Lean.{Leads, edges, leans}
+use Rattle.definitions.specs.Kinds.{KindsFound, inherits, derived, declares, read_at, kind_step}
+use Rattle.definitions.specs.Lean.{leans}
 use Rattle.definitions.specs.Answers.{yes_or_no}
 use Rattle.definitions.specs.Operations.{lean_answer}
 use Rattle.kinds.proofs.LeanLaws.{leans_computes}

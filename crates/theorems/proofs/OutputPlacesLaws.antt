@@ -7,15 +7,12 @@ use mathlib.Core.Bool.{Bool, true, false, ◌&&◌}
 use lib.ListN.{length, get_or, take, drop, length-append, length-map, get_or-eq_default}
 use lib.Seq.{get_or_at, drop_at, take_at}
 use lib.Dec.{leb}
-use Rattle.definitions.specs.declared.answer.Answer.{Answer}
-use Rattle.definitions.specs.Table.{pick}
 use Rattle.definitions.specs.Records.{Pack}
 use Rattle.definitions.specs.Pack.{yes, read, words, total}
-use Rattle.definitions.specs.Kinds.{all_kinds}
 use Rattle.definitions.specs.Answers.{done, out_of_room, words_and_steps}
 use Rattle.definitions.specs.Resolving.{resolved}
 use Rattle.definitions.specs.Operations.{resolve_answer, resolve_buffer}
-use Rattle.definitions.specs.WrittenRecords.{front_piece, pieces_of, joined, sums, lengths, beginnings, Carried}
+use Rattle.definitions.specs.WrittenRecords.{front_piece, pieces_of, joined, sums, lengths, beginnings}
 use Rattle.pack.proofs.PackLaws.{words-length}
 use Rattle.directions.proofs.TurnedPack.{pack-words}
 use Rattle.resolve.proofs.WriteLaws.{joined-append}

@@ -6,7 +6,7 @@ use Rattle.definitions.specs.Pack.{yes, read, total}
 use Rattle.definitions.specs.Answers.{done, words_and_steps}
 use Rattle.definitions.specs.Resolving.{resolved}
 use Rattle.definitions.specs.Operations.{resolve_answer, resolve_buffer}
-use Rattle.definitions.specs.WrittenRecords.{pieces_of, joined, beginnings, Carried}
+use Rattle.definitions.specs.WrittenRecords.{pieces_of, beginnings, Carried}
 
 -- the place of the record that so many are written before; past the last one the end
 abbrev pub place_of_record : Pack → ℕ → ℕ

@@ -1,6 +1,6 @@
 -- What the first demand says of refusals: "each operation .. refuses by document 01's numbers alone, and a refusal changes no lent word."
 -- It holds of every operation: `every_question` and `every_writing` (RefusingLaws).
-use Rattle.std.specs.Prelude.{ℕ, ◌%◌, ◌^◌, ◌≡◌, true, List, [], ◌∷◌, ◌++◌, ◌⊎◌, length}
+use Rattle.std.specs.Prelude.{ℕ, ◌≡◌, true, List, [], ◌∷◌, ◌++◌, ◌⊎◌, length}
 use Rattle.definitions.specs.declared.answer.Refusal.{Refusal}
 use Rattle.definitions.specs.declared.answer.Answer.TheVariants.{Refused}
 use Rattle.definitions.specs.Form.{among}

@@ -1,6 +1,5 @@
 -- Demand 2: "reading and writing again gives the same words."
 use Rattle.std.specs.Prelude.{ℕ, ◌%◌, ◌^◌, ◌<◌, ◌≡◌, List, [], ◌∷◌, ◌++◌, length, drop}
-use Rattle.definitions.specs.declared.answer.Answer.{Answer}
 use Rattle.definitions.specs.Records.{Pack}
 use Rattle.definitions.specs.Pack.{yes, read, words, WellFormed}
 use Rattle.definitions.specs.Answers.{words_and_steps}

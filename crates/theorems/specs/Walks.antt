@@ -1,6 +1,6 @@
 -- What walks mean. The definitions compute with fuel; here stands that they answer what chains say without, and nothing else.
-use Rattle.std.specs.Prelude.{ℕ, ◌<◌, ◌≡◌, List}
-use Rattle.std.proofs.Math.Option.{Option, none, some}
+use Rattle.std.specs.Prelude.{ℕ, ◌≡◌, List}
+use Rattle.std.proofs.Math.Option.{Option, none}
 use Rattle.definitions.specs.Records.{Relation}
 use Rattle.definitions.specs.Chain.{same, ChainAnswer, own}
 use Rattle.definitions.specs.Kinds.{KindsFound, kind_step, own_answer}

@@ -23,7 +23,7 @@ use Rattle.inputs.proofs.BlocksStand.{reads_inputs}
 use Rattle.directions.proofs.Numbers.{OfInput, input_numbered}
 use Rattle.directions.proofs.CheckedTables.{tables-are}
 use Rattle.turning.specs.Notes.{Note, notes_of_pack}
-use Rattle.turning.specs.Turns.{KnownTables, known_of}
+use Rattle.turning.specs.Turns.{known_of}
 use Rattle.turning.specs.TurnPromises.{or_not, known_in, Stands, Placed}
 use Rattle.turning.specs.Asked.{InWords}
 use Rattle.turning.proofs.PlacedLaws.{all_placed}

@@ -14,14 +14,14 @@ use Rattle.definitions.specs.Records.{Derivation, Relation, Body, Rule, Pack}
 use Rattle.definitions.specs.FieldRows.{to_row}
 use Rattle.definitions.specs.Pack.{WellFormed, yes, read, total, body, rule}
 use Rattle.pack.proofs.PackLaws.{words-read, words-length}
-use Rattle.reading.specs.Noting.{push, next_note, note_tree, push_all}
+use Rattle.reading.specs.Noting.{next_note, note_tree, push_all}
 use Rattle.reading.proofs.NotesLaws.{push-long, push-count, all-long, all-count, all_append, all_sets, shaped, noted-tree}
 use Rattle.records.specs.Directory.{notes_all, relations_at, rules_at, Clear, layout_of}
 use Rattle.records.specs.declared.directory.Layout.{Layout}
 use Rattle.records.specs.declared.directory.Laid.{Laid}
 use Rattle.records.specs.declared.directory.Laid.TheVariants.{Yes}
 use Rattle.checking.specs.CheckPromises.{CheckedNotes}
-use Rattle.records.specs.Notes.{opened, inside, note_body, body_at, note_bodies, note_rule, note_rules, note_optional, note_predicate, note_predicates, relations_left, notes_left}
+use Rattle.records.specs.Notes.{opened, inside, note_body, body_at, note_bodies, note_rule, note_optional, note_predicate, relations_left, notes_left}
 use Rattle.checking.proofs.CheckLaws.{clear-zeros}
 use Rattle.definitions.specs.Places.{relation_words, first_relation, hops}
 use Rattle.chains.proofs.PackParts.{parts}

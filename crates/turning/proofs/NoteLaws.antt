@@ -20,7 +20,7 @@ use Rattle.turning.specs.declared.step.Out.TheVariants.{Opens, Sets, Passes, Sto
 use Rattle.turning.specs.declared.root.Root as code
 use Rattle.turning.specs.declared.turns.Next.TheVariants as next
 use Rattle.turning.specs.Notes.{Note, look_of, note_code}
-use Rattle.turning.specs.Turns.{inside_of, KnownTables, Root, citing, Work, work, value_in, kind_here, rule_root, relation_root, held, fields_at, step_at, turned_by, open_root, turn_node, turn_note}
+use Rattle.turning.specs.Turns.{inside_of, KnownTables, citing, Work, work, value_in, kind_here, rule_root, relation_root, held, fields_at, step_at, turned_by, open_root, turn_node, turn_note}
 use Rattle.turning.specs.TurnPromises.{known_in, NodeStands, Stands, out_by, out_at, OutFits, StepTaken, root_in, RootStands, RootOpened, NextBy, NoteAsked, NoteTurned}
 use Rattle.turning.proofs.FlatLaws.{Leaves, look-leaves}
 use Rattle.turning.proofs.CodeLaws.{code_parts}

@@ -3,14 +3,13 @@ use Prim.Native.Nat.{ℕ, suc, ◌+◌, ◌<◌, ◌≤◌}
 use native.Mathlib.Omega.{arith}
 use mathlib.Core.Path.{◌≡◌, refl, ap, sym, ◌∙◌, subst}
 use mathlib.Core.List.{List, [], ◌∷◌, ◌++◌}
-use mathlib.Core.Bool.{Bool, true, false, ◌||◌}
+use mathlib.Core.Bool.{false}
 use mathlib.Core.Option.{Option, none, some}
 use lib.ListN.{length, get_or, length-append}
 use Rattle.definitions.specs.declared.answer.Refusal.{Refusal}
-use Rattle.definitions.specs.Table.{pick, word_of, judgment}
+use Rattle.definitions.specs.Table.{word_of, judgment}
 use Rattle.definitions.specs.Form.{words_by, Fine}
-use Rattle.definitions.specs.Tree.{Tree, Forest, node, more, tree, tree_words, size, sizes}
-use Rattle.definitions.specs.Tree as trees
+use Rattle.definitions.specs.Tree.{tree, tree_words}
 use Rattle.definitions.specs.Records.{Derivation, Relation, Pack}
 use Rattle.definitions.specs.Pack.{WellFormed, words, blocks, total}
 use Rattle.definitions.specs.Records as records
@@ -28,7 +27,7 @@ use Rattle.directions.proofs.RelationLaws.{lead, lead_words, lead_long, predicat
 use Rattle.directions.proofs.TurnedPack.{front, pack-words, rules_keep, relations_keep}
 use Rattle.turning.specs.declared.turns.Ended.{Ended}
 use Rattle.turning.specs.declared.turns.Ended.TheVariants as ended
-use Rattle.turning.specs.Notes.{Note, note, look_of, noted, within, notes_of, notes_in, notes_run, body_notes, rule_notes, derived_notes, relation_notes, relations_noted, rules_noted, notes_of_pack, Held}
+use Rattle.turning.specs.Notes.{Note, notes_run, body_notes, rule_notes, derived_notes, relation_notes, relations_noted, rules_noted, notes_of_pack, Held}
 use Rattle.turning.specs.Turns.{KnownTables, known_of, Work, work, nowhere, afresh, turn_notes, turn_pack, TurnedInto}
 use Rattle.turning.specs.TurnPromises.{known_in, Placed, EndedBy, TurnsAsked, NotesTurned, PackAsked, TurnedAs, PackTurned}
 use Rattle.turning.proofs.RecordFlat.{its-derivation}

@@ -3,15 +3,11 @@ use Prim.Native.Nat.{ℕ, zero, suc, ◌+◌, ◌<◌, ◌≤◌}
 use native.Mathlib.Omega.{arith}
 use mathlib.Core.Path.{◌≡◌, refl, ap, sym, ◌∙◌, subst}
 use mathlib.Core.List.{List, [], ◌∷◌, ◌++◌, append_assoc}
-use mathlib.Core.Bool.{Bool, true, false, ◌||◌, ◌&&◌}
+use mathlib.Core.Bool.{Bool, true, false, ◌||◌}
 use mathlib.Core.Option.{Option, none, some}
 use lib.ListN.{length, length-append}
-use lib.Dec.{ltb, leb}
-use borrow.Author.Tests.{ltb-true, ltb-false, lt-leb}
-use Rattle.definitions.specs.declared.table.Values.{Values}
-use Rattle.definitions.specs.declared.table.Values.TheVariants.{Name}
 use Rattle.definitions.specs.declared.table.Follows.{Follows}
-use Rattle.definitions.specs.Table.{pick, word_of, judgment, allowed, table, entry_of, fields_of, children_of}
+use Rattle.definitions.specs.Table.{pick, word_of, judgment, entry_of, fields_of, children_of}
 use Rattle.definitions.specs.Form.{FineEach, allowed_here, Fine, words_by}
 use Rattle.definitions.specs.Tree.{Tree, Forest, node, more, of_forest, last_field, root, tree, Fields, field_words, tree_words, forest_words, size}
 use Rattle.definitions.specs.Tree as trees
@@ -22,7 +18,6 @@ use Rattle.definitions.specs.Pack as pack
 use Rattle.pack.proofs.EachFollows.{where_true}
 use Rattle.pack.proofs.PackLaws.{words-length}
 use Rattle.definitions.specs.Places.{relation_words, first_relation}
-use Rattle.chains.proofs.RelationForm.{kept}
 use Rattle.chains.proofs.PackParts.{parts}
 use Rattle.definitions.specs.Resolving.{rule_words, predicate_place, first_rule}
 use Rattle.directions.proofs.KeepsForm.{FieldsFine, only_one, open_node, no_level, head_fine}
@@ -35,7 +30,7 @@ use Rattle.turning.specs.Notes.{Note, note, look_by, look_of, noted, within, not
 use Rattle.turning.specs.Turns.{value_in, kind_here}
 use Rattle.turning.specs.TurnPromises.{NodeStands, RootStands, Stands, Placed}
 use Rattle.turning.proofs.FlatLaws.{kind-there, value_there}
-use Rattle.turning.proofs.RecordFlat.{value-is, kind-is, its-derivation, name_below}
+use Rattle.turning.proofs.RecordFlat.{kind-is, its-derivation}
 
 -- ---- kinds with slots: their first fields are the slots
 

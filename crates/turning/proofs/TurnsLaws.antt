@@ -12,7 +12,7 @@ use Rattle.turning.specs.declared.turns.Next.{Next}
 use Rattle.turning.specs.declared.turns.Next.TheVariants as next
 use Rattle.turning.specs.declared.turns.Ended.TheVariants as ended
 use Rattle.turning.specs.Notes.{Note, note_code, Held}
-use Rattle.turning.specs.Turns.{KnownTables, Root, Work, work, nowhere, turn_note, turn_notes}
+use Rattle.turning.specs.Turns.{KnownTables, Work, work, nowhere, turn_note, turn_notes}
 use Rattle.directions.specs.Words.{derived_in, member_in}
 use Rattle.turning.specs.TurnPromises.{known_in, Stands, root_in, NextBy, NoteAsked, NoteTurned, Placed, EndedBy, TurnsAsked, NotesTurned}
 

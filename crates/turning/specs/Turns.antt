@@ -1,13 +1,12 @@
 -- Notes turned one after the other: a node is read in the words of the pack, and its slots are set in others.
 use Rattle.std.specs.Prelude.{ℕ, suc, ◌+◌, ◌/◌, ◌%◌, ◌≡◌, List, [], ◌∷◌, map, Bool, length, get_or, set, take, drop, eqb}
-use Rattle.std.proofs.Math.Option.{Option, none, some}
+use Rattle.std.proofs.Math.Option.{Option, none}
 use Rattle.std.proofs.lemmas.List.Edits.{sets}
 use Rattle.definitions.specs.Table.{pick, kind_of, value_of, entry_of, fields_of}
 use Rattle.definitions.specs.Records.{Pack}
 use Rattle.definitions.specs.Pack.{words}
-use Rattle.definitions.specs.Filtered.{kind_at}
 use Rattle.definitions.specs.Inputs.{input}
-use Rattle.definitions.specs.Tables.{Derived, Tables, tables}
+use Rattle.definitions.specs.Tables.{Tables, tables}
 use Rattle.definitions.specs.Direction.{Membership, related_kind, member_kinds}
 use Rattle.definitions.specs.Tree.{Fields, field_words}
 use Rattle.definitions.specs.Answers.{Outcome, done, refused, and_then}

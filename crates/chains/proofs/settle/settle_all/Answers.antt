@@ -1,5 +1,4 @@
 -- `chains::settle::settle_all` meets its contract.
-use Prim.Native.Nat.{◌-◌}
 use native.Mathlib.Omega.{arith}
 use mathlib.Core.Path.{◌∙◌, sym, subst}
 use Rattle.chains.proofs.EntryLaws.{name-here, names-long}

@@ -1,7 +1,7 @@
 -- `checking::rewrite::write_again` meets its contract.
 use mathlib.Core.Path.{◌≡◌, refl, ap, ◌∙◌}
 use native.Mathlib.Omega.{arith}
-use Prim.Native.Nat.{ℕ, ◌-◌}
+use Prim.Native.Nat.{ℕ}
 use lib.ListN.{set, length-set}
 use Rattle.checking.proofs.RewriteLaws.{copy_next, anew}
 use Rattle.checking.proofs.rewrite.write_again.Goals as goal

@@ -1,5 +1,4 @@
 -- `directions::equal::first_equal` meets its contract.
-use Prim.Native.Nat.{◌-◌}
 use Rattle.directions.proofs.EqualLaws.{look, found, look_on, looked, counted}
 use Rattle.directions.proofs.equal.first_equal.Goals as goal
 

@@ -1,7 +1,6 @@
 -- `filtered::filtered::clear` meets its contract.
 use native.Mathlib.Omega.{arith}
 use mathlib.Core.Path.{refl}
-use Prim.Native.Nat.{◌-◌}
 use Rattle.chains.proofs.FillLaws.{begin, next, done}
 use Rattle.filtered.proofs.filtered.clear.Goals as goal
 

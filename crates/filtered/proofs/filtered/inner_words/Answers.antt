@@ -1,7 +1,6 @@
 -- `filtered::filtered::inner_words` meets its contract.
 use native.Mathlib.Omega.{arith}
 use mathlib.Core.Path.{refl}
-use Prim.Native.Nat.{◌-◌}
 use lib.ListN.{length-set}
 use Rattle.filtered.proofs.InnerLaws.{words-next}
 use Rattle.filtered.proofs.filtered.inner_words.Goals as goal

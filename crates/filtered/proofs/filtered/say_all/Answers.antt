@@ -1,7 +1,6 @@
 -- `filtered::filtered::say_all` meets its contract.
 use native.Mathlib.Omega.{arith}
 use mathlib.Core.Path.{◌∙◌, ap}
-use Prim.Native.Nat.{◌-◌}
 use lib.ListN.{get_or}
 use Rattle.filtered.specs.Said.{said, said_in}
 use Rattle.chains.proofs.FillLaws.{begin, next, left_there, done}

@@ -1,5 +1,4 @@
 -- `filtered::taking::read_relations` meets its contract.
-use Prim.Native.Nat.{◌-◌}
 use native.Mathlib.Omega.{arith}
 use mathlib.Core.Path.{refl, ◌∙◌, sym}
 use Rattle.chains.proofs.EntryLaws.{name-here, names-long, reaches_one}

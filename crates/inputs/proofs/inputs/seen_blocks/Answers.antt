@@ -1,6 +1,5 @@
 -- `inputs::inputs::seen_blocks` meets its contract.
 use native.Mathlib.Omega.{arith}
-use Prim.Native.Nat.{◌-◌}
 use Rattle.inputs.proofs.InputWords.{begin_blocks, block_near, lacking, next-block, all_blocks}
 use Rattle.inputs.proofs.inputs.seen_blocks.Goals as goal
 

@@ -1,6 +1,5 @@
 -- `inputs::inputs::seen_items` meets its contract.
 use native.Mathlib.Omega.{arith}
-use Prim.Native.Nat.{◌-◌}
 use Rattle.inputs.proofs.InputWords.{begin, at_near, next, done}
 use Rattle.inputs.proofs.inputs.seen_items.Goals as goal
 

@@ -1,5 +1,4 @@
 -- `kinds::all_kinds::places` meets its contract.
-use Prim.Native.Nat.{◌-◌}
 use native.Mathlib.Omega.{arith}
 use mathlib.Core.Path.{refl}
 use Rattle.kinds.specs.KindsPromises.{place_at}

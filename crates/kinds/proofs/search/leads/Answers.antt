@@ -1,5 +1,4 @@
 -- `kinds::search::leads` meets its contract.
-use Prim.Native.Nat.{◌-◌}
 use native.Mathlib.Omega.{arith}
 use mathlib.Core.Path.{◌∙◌}
 use Rattle.chains.proofs.EntryLaws.{reaches_one}

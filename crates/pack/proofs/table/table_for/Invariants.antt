@@ -5,7 +5,7 @@ use mathlib.Core.List.{List}
 use mathlib.Core.Bool.{◌&&◌}
 use lib.ListN.{length, get_or}
 use lib.Dec.{ltb}
-use Rattle.definitions.specs.Table.{table, word_of, entry_of}
+use Rattle.definitions.specs.Table.{word_of, entry_of}
 use Rattle.definitions.specs.Form.{allowed_here}
 use Rattle.pack.specs.Packed.{Tabled, last_of_trees, bound_of}
 use Rattle.pack.proofs.table.table_for.Given as goal

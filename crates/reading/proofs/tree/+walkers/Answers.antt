@@ -1,24 +1,20 @@
 -- The walkers of trees meet their contracts.
-use Prim.Native.Nat.{ℕ, suc, ◌+◌, ◌-◌, ◌*◌, ◌%◌, ◌<◌, ◌≤◌}
+use Prim.Native.Nat.{ℕ, suc, ◌+◌, ◌%◌, ◌<◌, ◌≤◌}
 use native.Mathlib.Omega.{arith}
 use mathlib.Core.Path.{◌≡◌, refl, ap, ◌∙◌}
 use mathlib.Core.Bool.{true, false}
-use mathlib.Core.Logic.{⊎_elim}
-use lib.ListN.{length, get_or}
-use borrow.Author.Rules.{rules}
+use lib.ListN.{get_or}
 use borrow.Author.Rules.{part_to_end}
-use borrow.Author.Tests.{leb-true}
 use Rattle.definitions.specs.declared.table.Follows.TheVariants.{Patterns, Periods, Choice, Aggregate, OnlyRelated, Slots, Atom, Exists}
 use Rattle.definitions.specs.Table.{kind_of, value_of, entry_of, table, fields_of, children_of, how_many, scalar as scalar-sort, judgment as judgment-sort}
 use Rattle.pack.specs.Packed.{bound_of}
 use Rattle.definitions.specs.Tree.{fields, follow}
 use Rattle.reading.specs.Notes.{look_by, noted}
-use Rattle.reading.proofs.TreeLaws.{aggregate-kind, scalars_in_row, judgments_in_row, other-low, other-between, other_high, other_leaf, scalar_row, comparison_row, judgment_row, above, leaf_past, leaf_low, leaf_last, leaf_between, compared, scalar-kind, judgment-kind}
-use Rattle.reading.proofs.CodeLaws.{code_within, passed, fault_code, fault_large, first_code, next_code, last_code, then_code, up_to-any, row_small}
+use Rattle.reading.proofs.TreeLaws.{aggregate-kind, scalars_in_row, judgments_in_row, other_leaf, scalar_row, comparison_row, judgment_row, leaf_low, leaf_last, leaf_between, compared, scalar-kind, judgment-kind}
+use Rattle.reading.proofs.CodeLaws.{code_within, passed, fault_code, fault_large, last_code, then_code, up_to-any, row_small}
 use Rattle.reading.proofs.NotingLaws.{by_shape, after_row, after_bare, after_leaf, after-words, steady_scalar, steady_judgment, noted-aggregate, plain-low, plain-between, plain-last}
-use Rattle.reading.proofs.RowLaws.{refuses, Walking, walking, walked, head_refused, begun, past_leaf, past-last, node-refused, forward, past-node, first-refused, first_then, rows_as, fields_read, aggregate-refused, where_rows, exists_rows, compared_rows}
-use Rattle.reading.proofs.PartLaws.{based_losing, based_inside, based_part, part_long, ready_part, part_rows}
-use borrow.Fn.PlainCycle.{Measures, is, falls, and}
+use Rattle.reading.proofs.RowLaws.{refuses, walked, head_refused, begun, past_leaf, past-last, node-refused, forward, past-node, first-refused, first_then, rows_as, fields_read, aggregate-refused, where_rows, exists_rows, compared_rows}
+use Rattle.reading.proofs.PartLaws.{based_losing, based_inside, part_long, part_rows}
 use Rattle.reading.proofs.tree.+walkers.Goals as goal
 use Rattle.reading.proofs.tree.+walkers.Goals.{after_judgment-in_default-via-then-kind-lt96, after_judgment-in_default-via-else-kind-lt96+else-kind-lt101}
 

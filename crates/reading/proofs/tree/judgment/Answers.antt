@@ -10,7 +10,6 @@ use Rattle.reading.proofs.TreeLaws.{leaf_last}
 use Rattle.reading.proofs.NotingLaws.{plain-last}
 use Rattle.reading.proofs.RowLaws.{walking, begun, past_leaf, walked, step_noted}
 use Rattle.reading.proofs.PartLaws.{based_own}
-use borrow.Author.Rules.{rules}
 use Rattle.reading.proofs.tree.judgment.Goals as goal
 
 pub head-requires : goal.head-requires

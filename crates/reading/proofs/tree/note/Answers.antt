@@ -1,5 +1,4 @@
 use Rattle.reading.specs.Noting.{push}
-use borrow.Author.Rules.{rules}
 use Rattle.reading.proofs.tree.note.Goals as goal
 
 pub returns : goal.returns

@@ -11,7 +11,6 @@ use Rattle.pack.specs.Readers.{skip_over, coded_step}
 use Rattle.reading.proofs.CodeLaws.{up_to-any, passed, fault_code, fault_large, first_code, next_code, last_code, Plain, either_plain}
 use lib.ListN.{length}
 use mathlib.Core.List.{List, [], ◌∷◌}
-use borrow.Author.Rules.{rules}
 use Rattle.reading.proofs.tree.only_related.Goals as goal
 
 -- the name is held to the table's bound

@@ -4,7 +4,6 @@ use native.Mathlib.Omega.{arith}
 use mathlib.Core.Path.{◌≡◌, ap, ◌∙◌}
 use mathlib.Core.List.{List}
 use mathlib.Core.Bool.{false}
-use borrow.Author.Rules.{rules}
 use Rattle.reading.specs.Notes.{note_code, note}
 use Rattle.reading.specs.Noting.{push}
 use Rattle.reading.proofs.tree.open.Goals as goal

@@ -1,7 +1,6 @@
 use native.Mathlib.Omega.{arith}
 use mathlib.Core.Path.{sym}
 use lib.Seq.{set_out}
-use borrow.Author.Rules.{rules}
 use Rattle.reading.proofs.tree.put.Goals as goal
 
 pub returns-else-i-notes : goal.returns-else-i-notes

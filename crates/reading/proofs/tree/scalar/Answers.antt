@@ -3,7 +3,6 @@ use Rattle.definitions.specs.Tree.{root}
 use Rattle.reading.proofs.CodeLaws.{tree_code}
 use Rattle.reading.proofs.RowLaws.{step_noted}
 use Rattle.reading.proofs.PartLaws.{based_own}
-use borrow.Author.Rules.{rules}
 use Rattle.reading.proofs.tree.scalar.Goals as goal
 
 pub scalars-requires : goal.scalars-requires

@@ -6,7 +6,6 @@ use Rattle.definitions.specs.Form.{says}
 use Rattle.definitions.specs.Table.{entry_of, table}
 use Rattle.records.proofs.KeptLaws.{noted_no}
 use Rattle.records.proofs.LoopLaws.{left_all, count-refused, turn-refused, left_turn, noted-all}
-use borrow.Author.Rules.{rules as the_rules}
 use Rattle.records.proofs.rule.rules.Goals as goal
 
 pub returns-in_default-g : goal.returns-in_default-g

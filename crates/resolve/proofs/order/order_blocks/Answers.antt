@@ -1,6 +1,5 @@
 -- `resolve::order::order_blocks` meets its contract.
 use native.Mathlib.Omega.{arith}
-use Prim.Native.Nat.{◌-◌}
 use mathlib.Core.Path.{refl}
 use Rattle.resolve.proofs.PlacesLaws.{walk_begin, walk-next, walk_end}
 use Rattle.resolve.proofs.order.order_blocks.Goals as goal

@@ -1,6 +1,5 @@
 -- `resolve::order::order_relations` meets its contract.
 use native.Mathlib.Omega.{arith}
-use Prim.Native.Nat.{◌-◌}
 use mathlib.Core.Path.{refl}
 use Rattle.chains.proofs.FillLaws.{begin, next, done}
 use Rattle.resolve.specs.Finish.{order_in}

@@ -1,6 +1,5 @@
 -- `resolve::order::order_rules` meets its contract.
 use native.Mathlib.Omega.{arith}
-use Prim.Native.Nat.{◌-◌}
 use mathlib.Core.Path.{refl, sym}
 use Rattle.resolve.proofs.PlacesLaws.{roots_begin, roots_pass, some_root, root-room, roots_next, roots_end}
 use Rattle.resolve.proofs.order.order_rules.Goals as goal

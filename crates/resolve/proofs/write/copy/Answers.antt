@@ -1,6 +1,5 @@
 -- `resolve::write::copy` meets its contract.
 use native.Mathlib.Omega.{arith}
-use Prim.Native.Nat.{◌-◌}
 use mathlib.Core.Path.{refl}
 use Rattle.chains.proofs.FillLaws.{begin, next}
 use Rattle.resolve.proofs.WriteLaws.{copied}

@@ -1,6 +1,5 @@
 -- `resolve::write::put_names` meets its contract.
 use native.Mathlib.Omega.{arith}
-use Prim.Native.Nat.{◌-◌}
 use Rattle.chains.proofs.FillLaws.{begin, next}
 use Rattle.resolve.proofs.WriteLaws.{names-put, name-word}
 use Rattle.resolve.proofs.write.put_names.Goals as goal

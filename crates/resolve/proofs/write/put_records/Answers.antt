@@ -1,6 +1,5 @@
 -- `resolve::write::put_records` meets its contract.
 use native.Mathlib.Omega.{arith}
-use Prim.Native.Nat.{◌-◌}
 use mathlib.Core.Path.{refl, sym, ◌∙◌}
 use Rattle.resolve.proofs.WriteLaws.{part_within, part_asked, part_put, all-put}
 use Rattle.resolve.proofs.WrittenPack.{come_long, come_few, writing_begin, all-counted}

@@ -1,6 +1,5 @@
 -- `resolve_main::report::lines` meets its contract: the lines of the words that were passed.
 use native.Mathlib.Omega.{arith}
-use Prim.Native.Nat.{◌-◌}
 use mathlib.Core.Path.{◌≡◌, refl, ◌∙◌}
 use Rattle.resolve_main.proofs.LineLaws.{lines_none, lines_turn}
 use Rattle.resolve_main.proofs.report.lines.Goals as goal

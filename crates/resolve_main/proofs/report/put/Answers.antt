@@ -1,6 +1,5 @@
 -- `resolve_main::report::put` meets its contract: the loop copies.
 use native.Mathlib.Omega.{arith}
-use Prim.Native.Nat.{◌-◌}
 use mathlib.Core.Path.{refl}
 use lib.ListN.{length-set}
 use lib.Seq.{paste-zero}

@@ -1,5 +1,4 @@
 -- `resolve_main::report::refused_line` meets its contract.
-use borrow.Author.Rules.{rules}
 use native.Mathlib.Omega.{arith}
 use mathlib.Core.Path.{refl}
 use Rattle.resolve_main.proofs.PrintingLaws.{and_then, adds_as}

@@ -1,6 +1,5 @@
 -- `stamping::lists` meets its contract.
 use native.Mathlib.Omega.{arith}
-use Prim.Native.Nat.{◌-◌}
 use mathlib.Core.Path.{sym, ◌∙◌}
 use Rattle.stamping.proofs.ListForLaws.{recorded, listing_begin, listing_next, listing_all}
 use Rattle.stamping.proofs.lists.lists.Goals as goal

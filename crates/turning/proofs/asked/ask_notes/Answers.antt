@@ -1,5 +1,4 @@
 -- `turning::asked::ask_notes` meets its contract.
-use Prim.Native.Nat.{◌-◌}
 use native.Mathlib.Omega.{arith}
 use Rattle.turning.proofs.MarkLaws.{marks_begin, mark_asked, marks-next, marks-end}
 use Rattle.turning.proofs.asked.ask_notes.Goals as goal

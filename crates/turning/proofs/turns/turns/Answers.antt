@@ -2,7 +2,6 @@
 use mathlib.Core.Path.{◌∙◌}
 use Rattle.turning.proofs.TurnsLaws.{turns_begin, turns-asked, turns_next, turns-stop, turns-end}
 use native.Mathlib.Omega.{arith}
-use Prim.Native.Nat.{◌-◌}
 use Rattle.turning.proofs.turns.turns.Goals as goal
 
 pub loop-i-init : goal.loop-i-init

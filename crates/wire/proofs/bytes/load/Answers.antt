@@ -1,6 +1,5 @@
 -- `wire::bytes::load` meets its contract: the words loaded and those of the bytes that are left are the words of all bytes.
 use native.Mathlib.Omega.{arith}
-use Prim.Native.Nat.{◌-◌}
 use mathlib.Core.Path.{refl, sym, ◌∙◌}
 use lib.ListN.{length, length-set}
 use Rattle.std.proofs.lemmas.Bool.{not_from_false, not_from_true}

@@ -4,7 +4,6 @@ use mathlib.Core.Path.{◌≡◌}
 use mathlib.Core.List.{List, ◌++◌}
 use lib.ListN.{length, take, drop}
 use Rattle.definitions.specs.Bytes.{words_of}
-use Rattle.wire.proofs.OverBytes.{few}
 use Rattle.wire.proofs.bytes.load.Given as goal
 
 pub record Loading (bytes before : List ℕ) (n : ℕ) (words : List ℕ) (i : ℕ) : Type 0 where

@@ -1,6 +1,5 @@
 -- `wire::bytes::store` meets its contract: the bytes of the words stored, and then the bytes as they were.
 use native.Mathlib.Omega.{arith}
-use Prim.Native.Nat.{◌-◌}
 use mathlib.Core.Path.{◌≡◌, refl, ◌∙◌}
 use Rattle.definitions.specs.Bytes.{bytes_of}
 use Rattle.wire.proofs.ByteLaws.{store_turn}
