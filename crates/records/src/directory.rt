@@ -11,12 +11,19 @@ impl Directory {
     // Where the words by name begin.
     pub const NAMES: usize = Pack::MOST_RELATIONS as usize;
 
-    pub const WORDS: usize = Directory::NAMES + Pack::MOST_NAMES as usize;
-
-    // How many names a small one has, and a larger one.
+    // How many names a small one has, a larger one and the largest.
     pub const FEW: usize = 128;
 
     pub const SOME: usize = 1024;
+
+    pub const ALL: usize = Pack::MOST_NAMES as usize;
+
+    // How many words they have.
+    pub const FEW_WORDS: usize = Directory::NAMES + Directory::FEW;
+
+    pub const SOME_WORDS: usize = Directory::NAMES + Directory::SOME;
+
+    pub const WORDS: usize = Directory::NAMES + Directory::ALL;
 
     pub const PLACES: u32 = Pack::MOST_WORDS as u32;
 }
