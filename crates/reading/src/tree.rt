@@ -28,7 +28,7 @@ fn code_of(number: u32, at: usize) -> usize
 // The word that begins a tree of the sort, where so many levels are left: 0, or a refusal's code.
 fn head(s: &[u32], heads: &Heads, at: usize, sort: u32, left: u32) -> usize
     requires { (length s.now ≤ 8192) × (at ≤ length s.now) × (sort < 2) }
-    ensures { result ≡ fault (skip_over (word (begin_with sort left) heads.now) s.now at) }
+    ensures { result ≡ fault (skip_over (word (begin_with sort left) heads.now.names) s.now at) }
 {
     if s.len() <= at {
         return code_of(Number::Ended as u32, at);
@@ -99,7 +99,7 @@ fn atom(s: &[u32], at: usize) -> usize
 // The slots of an OnlyRelated, and its input's or derived name.
 fn only_related(s: &[u32], heads: &Heads, at: usize) -> usize
     requires { (length s.now ≤ 8192) × (at ≤ length s.now) }
-    ensures { result ≡ coded_step (skip_over (fields heads.now (fields_of OnlyRelated)) s.now at) }
+    ensures { result ≡ coded_step (skip_over (fields heads.now.names (fields_of OnlyRelated)) s.now at) }
 {
     let f1 = up_to(s, at, Pack::CURRENT, Pack::ANY_VALUE);
     if f1 != 0 {
@@ -110,7 +110,7 @@ fn only_related(s: &[u32], heads: &Heads, at: usize) -> usize
         return f2;
     }
     let c = Cursor { at: at + 2 };
-    match c.either(s, heads.names(), Pack::INPUT, Pack::DERIVED, Values::Name) {
+    match c.either(s, heads.names, Pack::INPUT, Pack::DERIVED, Values::Name) {
         Ok((_, next)) => next.at,
         Err(r) => code_of(r.number, r.place),
     }
@@ -236,7 +236,7 @@ fn scalars(
     notes: &mut [u32],
 ) -> usize
     requires { (length s.now ≤ 8192) × (start ≤ length s.now) × Based s.now context }
-    ensures { Rows heads.now levels scalar count context s.now start notes.old result notes.new }
+    ensures { Rows heads.now.names levels scalar count context s.now start notes.old result notes.new }
 {
     let mut at = start;
     let mut k = count;
@@ -279,7 +279,7 @@ fn judgments(
     notes: &mut [u32],
 ) -> usize
     requires { (length s.now ≤ 8192) × (start ≤ length s.now) × Based s.now context }
-    ensures { Rows heads.now levels judgment count context s.now start notes.old result notes.new }
+    ensures { Rows heads.now.names levels judgment count context s.now start notes.old result notes.new }
 {
     let mut at = start;
     let mut k = count;
@@ -314,7 +314,7 @@ fn judgments(
 #[cycle(walkers)]
 fn choice(s: &[u32], heads: &Heads, at: usize, left: u32, context: u32, notes: &mut [u32]) -> usize
     requires { (length s.now ≤ 8192) × (at ≤ length s.now) × Based s.now context }
-    ensures { Sorted heads.now left (judgment ∷ scalar ∷ scalar ∷ []) context context s.now at notes.old result notes.new }
+    ensures { Sorted heads.now.names left (judgment ∷ scalar ∷ scalar ∷ []) context context s.now at notes.old result notes.new }
 {
     let next = judgments(s, heads, at, 1, left, context, notes);
     if Pack::CODES <= next {
@@ -335,7 +335,7 @@ fn patterns(
     notes: &mut [u32],
 ) -> usize
     requires { (length s.now ≤ 8192) × (at ≤ length s.now) × Based s.now context }
-    ensures { Sorted heads.now left (replicate (count + 1) scalar) context (losing context) s.now at notes.old result notes.new }
+    ensures { Sorted heads.now.names left (replicate (count + 1) scalar) context (losing context) s.now at notes.old result notes.new }
 {
     let next = scalars(s, heads, at, 1, left, context, notes);
     if Pack::CODES <= next {
@@ -357,7 +357,7 @@ fn aggregate(
     notes: &mut [u32],
 ) -> usize
     requires { (length s.now ≤ 8192) × (at ≤ length s.now) × Based s.now context }
-    ensures { Shape heads.now left true Aggregate 0 context s.now at notes.old result notes.new }
+    ensures { Shape heads.now.names left true Aggregate 0 context s.now at notes.old result notes.new }
 {
     let f = aggregate_fields(s, at);
     if f != 0 {
@@ -378,7 +378,7 @@ fn aggregate(
 #[cycle(walkers)]
 fn exists(s: &[u32], heads: &Heads, at: usize, left: u32, context: u32, notes: &mut [u32]) -> usize
     requires { (length s.now ≤ 8192) × (at ≤ length s.now) × Based s.now context }
-    ensures { Shape heads.now left true Exists 0 context s.now at notes.old result notes.new }
+    ensures { Shape heads.now.names left true Exists 0 context s.now at notes.old result notes.new }
 {
     let f1 = up_to(s, at, Pack::ARGUMENTS, Pack::ANY_VALUE);
     if f1 != 0 {
@@ -399,7 +399,7 @@ fn after_scalar(
     notes: &mut [u32],
 ) -> usize
     requires { (length s.now ≤ 8192) × (at < length s.now) × (kind_of (get_or s.now at 0) ≤ 95) × Based s.now context }
-    ensures { After heads.now left context s.now at notes.old result notes.new }
+    ensures { After heads.now.names left context s.now at notes.old result notes.new }
 {
     let w = s[at];
     let kind = w / Pack::VALUES;
@@ -425,7 +425,7 @@ fn after_other(
     notes: &mut [u32],
 ) -> usize
     requires { (length s.now ≤ 8192) × (at < length s.now) × OtherScalar (kind_of (get_or s.now at 0)) × Based s.now context }
-    ensures { After heads.now left context s.now at notes.old result notes.new }
+    ensures { After heads.now.names left context s.now at notes.old result notes.new }
 {
     let w = s[at];
     let kind = w / Pack::VALUES;
@@ -461,7 +461,7 @@ fn after_judgment(
     notes: &mut [u32],
 ) -> usize
     requires { (length s.now ≤ 8192) × (at < length s.now) × (96 ≤ kind_of (get_or s.now at 0)) × Based s.now context }
-    ensures { After heads.now left context s.now at notes.old result notes.new }
+    ensures { After heads.now.names left context s.now at notes.old result notes.new }
 {
     let w = s[at];
     let kind = w / Pack::VALUES;
@@ -512,14 +512,14 @@ fn step_of(code: usize) -> Step
 // The tree of a body or predicate in a context.
 pub fn scalar(s: &[u32], heads: &Heads, c: Cursor, context: u32, notes: &mut [u32]) -> Step
     requires { (length s.now ≤ 8192) × (c.at ≤ length s.now) × Context context }
-    ensures { NotedStep (root heads.now scalar) (λ u. note_tree context u) s.now c.at notes.old result notes.new }
+    ensures { NotedStep (root heads.now.names scalar) (λ u. note_tree context u) s.now c.at notes.old result notes.new }
 {
     step_of(scalars(s, heads, c.at, 1, Pack::DEPTH, context, notes))
 }
 
 pub fn judgment(s: &[u32], heads: &Heads, c: Cursor, context: u32, notes: &mut [u32]) -> Step
     requires { (length s.now ≤ 8192) × (c.at ≤ length s.now) × Context context }
-    ensures { NotedStep (root heads.now judgment) (λ u. note_tree context u) s.now c.at notes.old result notes.new }
+    ensures { NotedStep (root heads.now.names judgment) (λ u. note_tree context u) s.now c.at notes.old result notes.new }
 {
     let at = c.at;
     if head(s, heads, at, Pack::JUDGMENT, Pack::DEPTH) == 0 {

@@ -135,29 +135,29 @@ aggregate-returns-then-f-ne0 t c =
 
 pub aggregate-bounds-s-at : goal.aggregate-bounds-s-at
 aggregate-bounds-s-at t c =
-    let f = fields_read c.args.heads.now _ _ c.requires.0 c.requires.1 (c.aggregate_fields-f.ensures _) c.if-f-ne0.false in
+    let f = fields_read c.args.heads.now.names _ _ c.requires.0 c.requires.1 (c.aggregate_fields-f.ensures _) c.if-f-ne0.false in
     omega (arith, f.flag.there)
 
 pub aggregate-returns-then-compares : goal.aggregate-returns-then-compares
 aggregate-returns-then-compares t c =
-    let f = fields_read c.args.heads.now _ _ c.requires.0 c.requires.1 (c.aggregate_fields-f.ensures _) c.if-f-ne0.false in
+    let f = fields_read c.args.heads.now.names _ _ c.requires.0 c.requires.1 (c.aggregate_fields-f.ensures _) c.if-f-ne0.false in
     where_rows _ _ c.args.context _ _ f
     (ap (λ (i : ℕ). i + c.args.context % 8192) c.note.ensures.0) c.note.ensures.1
     (compared_rows _ _ _ _ _ c.requires.0 (c.compares.ensures c.if-compares.true) c.if-flag-eq1.true _ (omega arith) c.scalars.ensures)
 
 pub aggregate-slice_bounds-judgments-count : goal.aggregate-slice_bounds-judgments-count
 aggregate-slice_bounds-judgments-count t c =
-    let f = fields_read c.args.heads.now _ _ c.requires.0 c.requires.1 (c.aggregate_fields-f.ensures _) c.if-f-ne0.false in
+    let f = fields_read c.args.heads.now.names _ _ c.requires.0 c.requires.1 (c.aggregate_fields-f.ensures _) c.if-f-ne0.false in
     omega (arith, f.flag.there, c.requires.0)
 
 pub aggregate-slice_bounds-judgments-start : goal.aggregate-slice_bounds-judgments-start
 aggregate-slice_bounds-judgments-start t c =
-    let f = fields_read c.args.heads.now _ _ c.requires.0 c.requires.1 (c.aggregate_fields-f.ensures _) c.if-f-ne0.false in
+    let f = fields_read c.args.heads.now.names _ _ c.requires.0 c.requires.1 (c.aggregate_fields-f.ensures _) c.if-f-ne0.false in
     omega (arith, f.flag.there, c.requires.0)
 
 pub aggregate-overflow_add-result : goal.aggregate-overflow_add-result
 aggregate-overflow_add-result t c =
-    let f = fields_read c.args.heads.now _ _ c.requires.0 c.requires.1 (c.aggregate_fields-f.ensures _) c.if-f-ne0.false in
+    let f = fields_read c.args.heads.now.names _ _ c.requires.0 c.requires.1 (c.aggregate_fields-f.ensures _) c.if-f-ne0.false in
     let l = part_long c.args.s.now (c.args.at + 4) f.flag.there in omega (
       arith,
       row_small _ _ _ _ _ (omega (arith, l, c.requires.0)) (omega arith) c.judgments.ensures.answers,
@@ -167,7 +167,7 @@ aggregate-overflow_add-result t c =
 
 pub aggregate-returns : goal.aggregate-returns
 aggregate-returns t c =
-    let f = fields_read c.args.heads.now _ _ c.requires.0 c.requires.1 (c.aggregate_fields-f.ensures _) c.if-f-ne0.false in
+    let f = fields_read c.args.heads.now.names _ _ c.requires.0 c.requires.1 (c.aggregate_fields-f.ensures _) c.if-f-ne0.false in
     let i = ap (λ (i : ℕ). i + c.args.context % 8192) c.note.ensures.0 in
     let g = based_inside _ c.requires.2 c.args.notes.now c.note.ensures.0 in
     where_rows _ _ c.args.context _ _ f i c.note.ensures.1
@@ -193,17 +193,17 @@ exists-up_to-f1-requires t c = (c.requires.0, c.requires.1, up_to-any 85 refl)
 pub exists-returns-then-f1-ne0 : goal.exists-returns-then-f1-ne0
 unfolding follow fields fields_of
 exists-returns-then-f1-ne0 t c =
-    let g = fault_large _ _ _ _ (c.up_to-f1.ensures c.args.heads.now) c.if-f1-ne0.true in let q = fault_code _ _ _ _
-    (c.up_to-f1.ensures c.args.heads.now) c.if-f1-ne0.true in refuses _ (then_code _ _ _ _ (last_code _ _ _ _ q) c.requires.0 c.requires.1 g) g
+    let g = fault_large _ _ _ _ (c.up_to-f1.ensures c.args.heads.now.names) c.if-f1-ne0.true in let q = fault_code _ _ _ _
+    (c.up_to-f1.ensures c.args.heads.now.names) c.if-f1-ne0.true in refuses _ (then_code _ _ _ _ (last_code _ _ _ _ q) c.requires.0 c.requires.1 g) g
 
 pub exists-judgments-requires : goal.exists-judgments-requires
 exists-judgments-requires t c =
-    let m = passed _ _ _ _ (c.up_to-f1.ensures c.args.heads.now) c.requires.0 c.requires.1 c.if-f1-ne0.false
+    let m = passed _ _ _ _ (c.up_to-f1.ensures c.args.heads.now.names) c.requires.0 c.requires.1 c.if-f1-ne0.false
     (c.args.at + 1) refl in (omega arith, (c.requires.0, m.there, c.requires.2))
 
 pub exists-returns : goal.exists-returns
 exists-returns t c =
-    let m = passed _ _ _ _ (c.up_to-f1.ensures c.args.heads.now) c.requires.0 c.requires.1 c.if-f1-ne0.false
+    let m = passed _ _ _ _ (c.up_to-f1.ensures c.args.heads.now.names) c.requires.0 c.requires.1 c.if-f1-ne0.false
     (c.args.at + 1) refl in exists_rows _ _ _ _ _ m c.requires.1 c.note.ensures.1 c.judgments.ensures
 
 pub judgments-returns-then-f-ne0 : goal.judgments-returns-then-f-ne0
