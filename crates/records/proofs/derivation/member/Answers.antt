@@ -4,7 +4,7 @@ use Rattle.definitions.specs.Pack.{member}
 use Rattle.definitions.specs.Tree.{root}
 use Rattle.definitions.specs.Table.{entry_of, table}
 use Rattle.pack.proofs.StepLaws.{by_then, then_stop, last-stop}
-use Rattle.reading.proofs.CodeLaws.{field-within, step_within}
+use Rattle.reading.proofs.WalkLaws.{field-within, step_within}
 use Rattle.records.proofs.KeptLaws.{noted_no}
 use Rattle.records.proofs.NotesLaws.{rooted, member-noted}
 use Rattle.records.proofs.derivation.member.Goals as goal

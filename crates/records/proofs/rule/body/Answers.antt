@@ -4,7 +4,7 @@ use native.Mathlib.Omega.{arith}
 use Rattle.definitions.specs.Pack.{body}
 use Rattle.pack.proofs.StepLaws.{walks}
 use Rattle.definitions.specs.Table.{entry_of, table}
-use Rattle.reading.proofs.CodeLaws.{field-within}
+use Rattle.reading.proofs.WalkLaws.{field-within}
 use Rattle.records.proofs.RecordLaws.{body-sort}
 use Rattle.records.proofs.KeptLaws.{noted_no}
 use Rattle.records.proofs.NotesLaws.{rooted, body-noted}
