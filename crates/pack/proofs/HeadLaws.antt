@@ -81,21 +81,20 @@ below-most kind l v = go (leb v l) refl
 -- the end of a kind's words, by its entry
 module _ (n kind : ℕ) where
   pub ends-none : (entry_of kind).sort ≡ 2 → EndsAt n kind 0
-  unfolding EndsAt
   ends-none s v h = rw s (le-ltb (word_of kind v) 0 (omega arith))
 
   module _ (s : (entry_of kind).sort < 2) where
     pub ends-any : (entry_of kind).values ≡ Any → EndsAt n kind (kind * 16777216 + 16777216)
-    unfolding EndsAt allowed_here
+    unfolding allowed_here
     ends-any e v h = rw (lt-ltb (entry_of kind).sort 2 s, e) (lt-ltb (word_of kind v) (kind * 16777216 + 16777216) (omega arith))
 
     pub ends-most : {m : ℕ} → (entry_of kind).values ≡ AtMost m → EndsAt n kind (kind * 16777216 + m + 1)
-    unfolding EndsAt allowed_here
+    unfolding allowed_here
     ends-most {m} e v h = rw (lt-ltb (entry_of kind).sort 2 s, e) (below-most kind m v)
 
     -- any other rule is that of names
     pub ends-name : kind < 256 → ((entry_of kind).values ≡ Any → ⊥) → ((m : ℕ) → (entry_of kind).values ≡ AtMost m → ⊥) → EndsAt n kind (kind * 16777216 + n)
-    unfolding EndsAt allowed_here
+    unfolding allowed_here
     ends-name k x y v h = rw (lt-ltb (entry_of kind).sort 2 s) (rw named (below-name kind n v))
       where
         go : (r : Values) → (entry_of kind).values ≡ r → head_rule r ≡ true → r ≡ Name
@@ -126,7 +125,7 @@ other-sort n sort w h s e = go (eqb (entry_of (kind_of w)).sort sort) refl
 
 -- one of a kind of the sort may where it stands below the end of its kind
 pub by_end : (n : ℕ) (ends : List ℕ) (sort w : ℕ) → w < 4294967296 → sort < 2 → kind_of w / 32 ≡ 2 + sort → Ended n ends → ltb w (get_or ends (kind_of w - 64) 0) ≡ may_begin n sort w
-unfolding may_begin Ended EndsAt
+unfolding may_begin
 by_end n ends sort w h s k e =
     let whole : word_of (kind_of w) (value_of w) ≡ w = omega arith in
     let there : 64 + (kind_of w - 64) ≡ kind_of w = omega arith in

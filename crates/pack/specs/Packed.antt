@@ -46,11 +46,11 @@ head_rule Name = true
 head_rule NameOrNone = false
 
 -- one more than the last word of a kind that may begin a tree, in a pack of so many names
-unfoldable pub EndsAt : ℕ → ℕ → ℕ → Type 0
+abbrev pub EndsAt : ℕ → ℕ → ℕ → Type 0
 EndsAt n kind end = (v : ℕ) → v < 16777216 → ltb (word_of kind v) end ≡ (ltb (entry_of kind).sort 2 && allowed_here n kind v)
 
 -- of each of the kinds from 64 to 127, in a list
-unfoldable pub Ended : ℕ → List ℕ → Type 0
+abbrev pub Ended : ℕ → List ℕ → Type 0
 Ended n ends = (i : ℕ) → i < 64 → EndsAt n (64 + i) (get_or ends i 0)
 
 -- a word of this kind may have any value up to a most

@@ -5,22 +5,15 @@ ghost use Rattle.pack.specs.Packed.{Ended, EndsAt, may_begin};
 use crate::kinds::Pack;
 use crate::table::entry_of;
 use definitions::table::Values;
-use std::marker::Model;
 
-// Of each kind of trees where its words end that may begin one: kind and value are one number, so that one comparison takes the place
-// of rule and limit. A contract sees the number of names.
+// N, and of each kind of trees where its words end that may begin one: kind and value are one number, so that one comparison takes the
+// place of rule and limit.
 #[derive(Drop)]
 pub struct Heads {
-    names: u32,
+    pub names: u32,
     ends: [u32; Pack::KINDS_OF_TREES],
-}
-
-impl Model for Heads {
-    ghost Value = { ℕ };
-
-    ghost view = { λ h. h.names };
-
-    ghost invariant = { λ h. (h.names ≤ 4096) × Ended h.names h.ends };
+    pub ghost few: { names ≤ 4096 },
+    ghost ended: { Ended names ends },
 }
 
 // One more than the last word of a kind that may begin a tree; 0 where none may.
@@ -44,7 +37,7 @@ impl Heads {
     // For so many names.
     pub fn new(names: u32) -> Self
         requires { names ≤ 4096 }
-        ensures { result ≡ names }
+        ensures { result.names ≡ names }
     {
         let mut ends = [0u32; Pack::KINDS_OF_TREES];
         for (i, end) in ends.iter_mut().enumerate() {
@@ -53,17 +46,10 @@ impl Heads {
         Heads { names, ends }
     }
 
-    // N.
-    pub fn names(&self) -> u32
-        ensures { (result ≡ self.now) × (result ≤ 4096) }
-    {
-        self.names
-    }
-
     // Whether a word may begin a tree of a sort. Of the kinds of trees, those of each sort stand among KINDS_OF_A_SORT.
     pub fn begins(&self, sort: u32, w: u32) -> bool
         requires { sort < 2 }
-        ensures { result ≡ may_begin self.now sort w }
+        ensures { result ≡ may_begin self.now.names sort w }
     {
         let kind = w / Pack::VALUES;
         if kind / Pack::KINDS_OF_A_SORT != Pack::FIRST_OF_TREES / Pack::KINDS_OF_A_SORT + sort {

@@ -72,7 +72,7 @@ impl From<Fault> for Refusal {
 // The word that begins a tree of the sort, where so many levels are left: the place after it.
 fn head(s: &[u32], heads: &Heads, at: usize, sort: u32, left: u32) -> Result<usize, Fault>
     requires { (length s.now ≤ 8192) × (at ≤ length s.now) × (sort < 2) }
-    ensures { walked result ≡ skip_over (word (begin_with sort left) heads.now) s.now at }
+    ensures { walked result ≡ skip_over (word (begin_with sort left) heads.now.names) s.now at }
 {
     if s.len() <= at {
         return Err(Fault::new(Number::Ended, at));
@@ -132,11 +132,11 @@ fn atom(s: &[u32], at: usize) -> Result<usize, Fault>
 // The slots of an OnlyRelated, and its input's or derived name.
 fn only_related(s: &[u32], heads: &Heads, at: usize) -> Result<usize, Fault>
     requires { (length s.now ≤ 8192) × (at ≤ length s.now) }
-    ensures { walked result ≡ skip_over (fields heads.now (fields_of OnlyRelated)) s.now at }
+    ensures { walked result ≡ skip_over (fields heads.now.names (fields_of OnlyRelated)) s.now at }
 {
     let at = slots(s, at)?;
     let name = Cursor { at };
-    match name.either(s, heads.names(), Pack::INPUT, Pack::DERIVED, Values::Name) {
+    match name.either(s, heads.names, Pack::INPUT, Pack::DERIVED, Values::Name) {
         Ok((_, next)) => Ok(next.at),
         Err(refusal) => Err(Fault::of(refusal)),
     }
@@ -252,7 +252,7 @@ fn scalars(
     notes: &mut [u32],
 ) -> Result<usize, Fault>
     requires { (length s.now ≤ 8192) × (start ≤ length s.now) × Based s.now context }
-    ensures { Rows heads.now levels scalar count context s.now start notes.old (walked result) notes.new }
+    ensures { Rows heads.now.names levels scalar count context s.now start notes.old (walked result) notes.new }
 {
     let mut at = start;
     let mut k = count;
@@ -289,7 +289,7 @@ fn judgments(
     notes: &mut [u32],
 ) -> Result<usize, Fault>
     requires { (length s.now ≤ 8192) × (start ≤ length s.now) × Based s.now context }
-    ensures { Rows heads.now levels judgment count context s.now start notes.old (walked result) notes.new }
+    ensures { Rows heads.now.names levels judgment count context s.now start notes.old (walked result) notes.new }
 {
     let mut at = start;
     let mut k = count;
@@ -325,7 +325,7 @@ fn choice(
     notes: &mut [u32],
 ) -> Result<usize, Fault>
     requires { (length s.now ≤ 8192) × (at ≤ length s.now) × Based s.now context }
-    ensures { Sorted heads.now left (judgment ∷ scalar ∷ scalar ∷ []) context context s.now at notes.old (walked result) notes.new }
+    ensures { Sorted heads.now.names left (judgment ∷ scalar ∷ scalar ∷ []) context context s.now at notes.old (walked result) notes.new }
 {
     let next = judgments(s, heads, at, 1, left, context, notes)?;
     scalars(s, heads, next, 2, left, context, notes)
@@ -343,7 +343,7 @@ fn patterns(
     notes: &mut [u32],
 ) -> Result<usize, Fault>
     requires { (length s.now ≤ 8192) × (at ≤ length s.now) × Based s.now context }
-    ensures { Sorted heads.now left (replicate (count + 1) scalar) context (losing context) s.now at notes.old (walked result) notes.new }
+    ensures { Sorted heads.now.names left (replicate (count + 1) scalar) context (losing context) s.now at notes.old (walked result) notes.new }
 {
     let next = scalars(s, heads, at, 1, left, context, notes)?;
     let without = lost(context);
@@ -362,7 +362,7 @@ fn aggregate(
     notes: &mut [u32],
 ) -> Result<usize, Fault>
     requires { (length s.now ≤ 8192) × (at ≤ length s.now) × Based s.now context }
-    ensures { Shape heads.now left true Aggregate 0 context s.now at notes.old (walked result) notes.new }
+    ensures { Shape heads.now.names left true Aggregate 0 context s.now at notes.old (walked result) notes.new }
 {
     let root = aggregate_fields(s, at)?;
     let inner = note(notes, at as u32 + context) + context % Pack::LOST;
@@ -390,7 +390,7 @@ fn exists(
     notes: &mut [u32],
 ) -> Result<usize, Fault>
     requires { (length s.now ≤ 8192) × (at ≤ length s.now) × Based s.now context }
-    ensures { Shape heads.now left true Exists 0 context s.now at notes.old (walked result) notes.new }
+    ensures { Shape heads.now.names left true Exists 0 context s.now at notes.old (walked result) notes.new }
 {
     let body = atom(s, at)?;
     let _ = note(notes, at as u32 + context);
@@ -408,7 +408,7 @@ fn after_scalar(
     notes: &mut [u32],
 ) -> Result<usize, Fault>
     requires { (length s.now ≤ 8192) × (at < length s.now) × (kind_of (get_or s.now at 0) ≤ 95) × Based s.now context }
-    ensures { After heads.now left context s.now at notes.old (walked result) notes.new }
+    ensures { After heads.now.names left context s.now at notes.old (walked result) notes.new }
 {
     let w = s[at];
     let kind = w / Pack::VALUES;
@@ -434,7 +434,7 @@ fn after_other(
     notes: &mut [u32],
 ) -> Result<usize, Fault>
     requires { (length s.now ≤ 8192) × (at < length s.now) × OtherScalar (kind_of (get_or s.now at 0)) × Based s.now context }
-    ensures { After heads.now left context s.now at notes.old (walked result) notes.new }
+    ensures { After heads.now.names left context s.now at notes.old (walked result) notes.new }
 {
     let w = s[at];
     let kind = w / Pack::VALUES;
@@ -470,7 +470,7 @@ fn after_judgment(
     notes: &mut [u32],
 ) -> Result<usize, Fault>
     requires { (length s.now ≤ 8192) × (at < length s.now) × (96 ≤ kind_of (get_or s.now at 0)) × Based s.now context }
-    ensures { After heads.now left context s.now at notes.old (walked result) notes.new }
+    ensures { After heads.now.names left context s.now at notes.old (walked result) notes.new }
 {
     let w = s[at];
     let kind = w / Pack::VALUES;
@@ -505,7 +505,7 @@ fn after_judgment(
 // The tree of a body or predicate in a context.
 pub fn scalar(s: &[u32], heads: &Heads, c: Cursor, context: u32, notes: &mut [u32]) -> Step
     requires { (length s.now ≤ 8192) × (c.at ≤ length s.now) × Context context }
-    ensures { NotedStep (root heads.now scalar) (λ u. note_tree context u) s.now c.at notes.old result notes.new }
+    ensures { NotedStep (root heads.now.names scalar) (λ u. note_tree context u) s.now c.at notes.old result notes.new }
 {
     let at = scalars(s, heads, c.at, 1, Pack::DEPTH, context, notes)?;
     Ok((0, Cursor { at }))
@@ -513,7 +513,7 @@ pub fn scalar(s: &[u32], heads: &Heads, c: Cursor, context: u32, notes: &mut [u3
 
 pub fn judgment(s: &[u32], heads: &Heads, c: Cursor, context: u32, notes: &mut [u32]) -> Step
     requires { (length s.now ≤ 8192) × (c.at ≤ length s.now) × Context context }
-    ensures { NotedStep (root heads.now judgment) (λ u. note_tree context u) s.now c.at notes.old result notes.new }
+    ensures { NotedStep (root heads.now.names judgment) (λ u. note_tree context u) s.now c.at notes.old result notes.new }
 {
     let next = head(s, heads, c.at, Pack::JUDGMENT, Pack::DEPTH)?;
     // many predicates are a leaf, for which a call would take longer than the work

@@ -143,7 +143,7 @@ aggregate-bounds-s-at t c =
 
 pub aggregate-returns-then-compares : goal.aggregate-returns-then-compares
 aggregate-returns-then-compares t c =
-    let f = fielded c.args.heads.now _ _ c.requires.1 (c.in_ok-root.ensures _) refl in
+    let f = fielded c.args.heads.now.names _ _ c.requires.1 (c.in_ok-root.ensures _) refl in
     where_rows _ _ c.args.context _ _ f
     (ap (λ (i : ℕ). i + c.args.context % 8192) c.note.ensures.0) c.note.ensures.1
     (compared_rows _ _ _ _ _ (c.compares.ensures c.if-compares.true) c.if-flag-eq1.true _ refl c.scalars.ensures)
@@ -189,7 +189,7 @@ aggregate-behind-requires t c =
 
 pub aggregate-returns-in-Ok : goal.aggregate-returns-in-Ok
 aggregate-returns-in-Ok t c =
-    let f = fielded c.args.heads.now _ _ c.requires.1 (c.in_ok-root.ensures _) refl in
+    let f = fielded c.args.heads.now.names _ _ c.requires.1 (c.in_ok-root.ensures _) refl in
     let i = ap (λ (i : ℕ). i + c.args.context % 8192) c.note.ensures.0 in
     let g = based_inside _ c.requires.2 c.args.notes.now c.note.ensures.0 in
     noted_as _ _ _ _ _ (ap (λ (y : Result ℕ Fault). shifted c.in_ok-root.root (walked y)) c.in-Ok.is)
@@ -198,7 +198,7 @@ aggregate-returns-in-Ok t c =
 
 pub aggregate-returns-in-Err : goal.aggregate-returns-in-Err
 aggregate-returns-in-Err t c =
-    let f = fielded c.args.heads.now _ _ c.requires.1 (c.in_ok-root.ensures _) refl in
+    let f = fielded c.args.heads.now.names _ _ c.requires.1 (c.in_ok-root.ensures _) refl in
     let i = ap (λ (i : ℕ). i + c.args.context % 8192) c.note.ensures.0 in
     let g = based_inside _ c.requires.2 c.args.notes.now c.note.ensures.0 in
     noted_as _ _ _ _ _ (ap (λ (y : Result ℕ Fault). shifted c.in_ok-root.root (walked y)) c.in-Err.is ∙ ap Err (sym c.behind.ensures))

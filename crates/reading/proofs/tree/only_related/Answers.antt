@@ -1,26 +1,19 @@
 -- `reading::tree::only_related` meets its contract.
 use Rattle.std.specs.Prelude.{Err}
-use Prim.Native.Nat.{ℕ}
 use native.Mathlib.Omega.{arith}
-use mathlib.Core.Path.{◌≡◌, refl, ap, sym, ◌∙◌, subst}
-use mathlib.Core.List.{List, [], ◌∷◌}
+use mathlib.Core.Path.{refl, ap, sym, ◌∙◌}
+use mathlib.Core.List.{[], ◌∷◌}
 use lib.ListN.{length}
 use Rattle.definitions.specs.Table.{entry_of, table, fields_of}
-use Rattle.definitions.specs.Form.{word, only}
 use Rattle.definitions.specs.Tree.{fields}
-use Rattle.pack.specs.Readers.{Step, skip_over}
 use Rattle.pack.proofs.StepLaws.{each_last, last_ok}
 use Rattle.reading.specs.Noting.{Plain}
 use Rattle.reading.proofs.WalkLaws.{handed, step_within, by-front, front-stop, either_plain}
 use Rattle.reading.proofs.tree.only_related.Goals as goal
 
--- the name is held to the heads' number of names
-named : (ws : List ℕ) (at : ℕ) {b n : ℕ} {y : Step} → b ≡ n → y ≡ skip_over (word (only (82 ∷ 84 ∷ [])) b) ws at → y ≡ skip_over (word (only (82 ∷ 84 ∷ [])) n) ws at
-named ws at {y = y} e h = subst (λ (i : ℕ). y ≡ skip_over (word (only (82 ∷ 84 ∷ [])) i) ws at) e h
-
 pub returns-in_err-at : goal.returns-in_err-at
 unfolding fields fields_of
-returns-in_err-at c = handed _ _ c.from_residual.ensures.1 (front-stop _ _ _ _ _ (c.in_err-at.ensures c.args.heads.now) refl)
+returns-in_err-at c = handed _ _ c.from_residual.ensures.1 (front-stop _ _ _ _ _ (c.in_err-at.ensures c.args.heads.now.names) refl)
 
 pub either-requires : goal.either-requires
 unfolding entry_of table
@@ -34,8 +27,8 @@ of-requires c =
 
 pub returns-in-Ok : goal.returns-in-Ok
 unfolding fields fields_of
-returns-in-Ok c = by-front _ _ _ _ _ (c.in_ok-at.ensures c.args.heads.now) refl (each_last _ _ _ _ _ _ (λ b. refl) (named _ _ c.names.ensures.0 (last_ok (λ a. 0) _ _ _ 0 (sym c.in-Ok.is ∙ c.either.ensures))))
+returns-in-Ok c = by-front _ _ _ _ _ (c.in_ok-at.ensures c.args.heads.now.names) refl (each_last _ _ _ _ _ _ (λ b. refl) (last_ok (λ a. 0) _ _ _ 0 (sym c.in-Ok.is ∙ c.either.ensures)))
 
 pub returns-in-Err : goal.returns-in-Err
 unfolding fields fields_of
-returns-in-Err c = by-front _ _ _ _ _ (c.in_ok-at.ensures c.args.heads.now) refl (each_last _ _ _ _ _ _ (λ b. refl) (named _ _ c.names.ensures.0 (ap Err c.of.ensures ∙ sym c.in-Err.is ∙ c.either.ensures)))
+returns-in-Err c = by-front _ _ _ _ _ (c.in_ok-at.ensures c.args.heads.now.names) refl (each_last _ _ _ _ _ _ (λ b. refl) (ap Err c.of.ensures ∙ sym c.in-Err.is ∙ c.either.ensures))

@@ -7,4 +7,4 @@ pub returns-then-kind-sort : goal.returns-then-kind-sort
 returns-then-kind-sort c = sym (other-sort _ _ _ (omega arith) c.requires c.if-kind-sort.true)
 
 pub returns : goal.returns
-returns c = rw (← c.self.view_is) (by_end _ _ _ _ (omega arith) c.requires c.if-kind-sort.false c.self.invariant.1)
+returns c = by_end _ _ _ _ (omega arith) c.requires c.if-kind-sort.false c.args.self.now.ended

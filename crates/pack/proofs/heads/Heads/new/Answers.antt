@@ -1,8 +1,6 @@
 -- `pack::heads::Heads::new` meets its contract.
 use Rattle.std.proofs.Common.{◌≡◌, ◌<◌, ◌≤◌, arith}
-use Rattle.pack.specs.Packed.{Ended}
 use Rattle.pack.proofs.heads.Heads.new.Goals as goal
 
 pub invariant_of-result : goal.invariant_of-result
-unfolding Ended
-invariant_of-result c = (omega arith, λ i h. c.loop-i.invariant i (omega arith))
+invariant_of-result c = record { few = omega arith; ended = λ i h. c.loop-i.invariant i (omega arith) }
