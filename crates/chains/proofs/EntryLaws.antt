@@ -113,10 +113,13 @@ pub name-here : (dir : List ℕ) (count j : ℕ) → j < count → get_or (names
 unfolding names_in
 name-here dir count j h = whole_at (λ j. get_or dir j 0) count j h
 
-names-front : (dir : List ℕ) (count : ℕ) → count ≤ length dir → names_in dir count ≡ take count dir
+pub names-front : (dir : List ℕ) (count : ℕ) → count ≤ length dir → names_in dir count ≡ take count dir
 names-front dir many h =
     let l = length-take-le many dir h in
     ext_get_or 0 (names_in dir many) (take many dir) (names-long dir many ∙ sym l) (λ j k. name-here dir many j (omega (arith, names-long dir many)) ∙ sym (get_or-take many dir j 0 (omega (arith, names-long dir many))))
+
+pub front-long : (dir : List ℕ) (count : ℕ) → count ≤ length dir → length (take count dir) ≡ length (names_in dir count)
+front-long dir count h = ap length (sym (names-front dir count h))
 
 -- ---- what a word says
 
