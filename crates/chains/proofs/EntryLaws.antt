@@ -29,7 +29,7 @@ use Rattle.chains.specs.Declaration.{coded_link, placed, declaration_at}
 use Rattle.definitions.specs.Answers.{table_from}
 use Rattle.chains.specs.Settle.{ReadOne}
 use Rattle.chains.specs.DirectoryWord.{Reaches, word_in, start_by, slots_by, declared_by, start_in, slot_in, declared_in, starts_in, slots_in, declarations_in, names_in}
-use Rattle.chains.specs.PackDirectory.{place_in, record_of, slots_for, slots_of, IsPack, ClearTable, DirectoryRoom, IsDirectory}
+use Rattle.chains.specs.PackDirectory.{place_in, record_of, slots_for, slots_of, IsPack, ClearTable, DirectoryRoom, IsDirectory, Sized}
 use Rattle.pack.proofs.PackLaws.{words-read}
 use Rattle.checking.proofs.CheckLaws.{clear-zeros, said-most}
 use Rattle.chains.proofs.FillLaws.{whole_at, whole-past, table-length}
@@ -413,6 +413,12 @@ room_for {ws} k e h m =
 
 pub room-all : (ws : List ℕ) → DirectoryRoom ws (replicate 4608 0) (replicate 4096 0)
 room-all ws = room_for {n = names_said ws} 4096 refl (said-most ws) (omega arith)
+
+pub room_sized : {ws : List ℕ} {words names : ℕ} → Sized ws words names → DirectoryRoom ws (replicate words 0) (replicate names 0)
+room_sized {ws} {names = k} s = rw s.both (room_for {n = names_said ws} k refl s.enough s.most)
+
+pub sized_all : (ws : List ℕ) → Sized ws 4608 4096
+sized_all ws = record { enough = said-most ws; most = omega arith; both = omega arith }
 
 -- of a checked pack they are as long as N asks
 pub lent-said : {ws dir t : List ℕ} {l : Layout} → IsDirectory ws l dir → ClearTable (names_said ws) t → ClearTable l.names t

@@ -33,6 +33,17 @@ impl Mark {
             _ => Mark::Settled(number - Mark::SETTLED),
         }
     }
+
+    // The answer of a settled name, 0 where none is known.
+    pub fn answer(self) -> u32
+        ensures { result ≡ number_of_mark self - 2 }
+    {
+        match self {
+            Mark::Unseen => 0,
+            Mark::OnPath => 0,
+            Mark::Settled(answer) => answer,
+        }
+    }
 }
 
 // One declaration read at a name: the only place that adds to the steps.
