@@ -27,7 +27,6 @@ use Rattle.definitions.specs.Places.{start_of, first_relation, relations_end, co
 use Rattle.definitions.specs.Places as places
 use Rattle.chains.specs.Declaration.{coded_link, placed, declaration_at}
 use Rattle.definitions.specs.Answers.{table_from}
-use Rattle.chains.specs.Settle.{ReadOne}
 use Rattle.chains.specs.DirectoryWord.{Reaches, word_in, start_by, slots_by, declared_by, start_in, slot_in, declared_in, starts_in, slots_in, declarations_in, names_in}
 use Rattle.chains.specs.PackDirectory.{place_in, record_of, slots_for, slots_of, IsPack, ClearTable, DirectoryRoom, IsDirectory, Sized}
 use Rattle.pack.proofs.PackLaws.{words-read}
@@ -330,11 +329,6 @@ module _ (p : Pack) (w : WellFormed p) (d : List ℕ) (clear : Clear p.names d) 
           declared-said (starts_at m) (start_low m) r b.few b.short
           ∙ ap coded_link (mapped_alike (placed (starts_at m) r) (place_of p) r.name refl (λ c. rw (f, s) refl) r.slot_kinds r.derivation)
 
--- one name read
-pub read_one : (dir : List ℕ) {n steps : ℕ} → Reaches dir (n + 1) → {r : ℕ} → r ≡ declared_in dir n → ReadOne (declarations_in dir) n steps r (steps + 1)
-unfolding declarations_in
-read_one dir {n} h e = record { says = e ∙ sym (whole_at (declared_in dir) 4096 n (omega (arith, h.most))); counts = refl }
-
 -- what reaches so many names reaches each
 pub reaches_one : {dir : List ℕ} {names n : ℕ} → Reaches dir names → n < names → Reaches dir (n + 1)
 reaches_one r h = record { most = omega (arith, r.most); long = omega (arith, r.long) }
@@ -396,10 +390,6 @@ module _ {ws d : List ℕ} (clear : Clear (names_said ws) d) {r : Laid} {d' : Li
         says = of_any (λ q. (m : ℕ) → get_or (declarations_in d') m 0 ≡ coded_link (mapped (place_of q) (kind_step q.relations m)))
             (λ m. ap (λ (x : List ℕ). get_or (declarations_in x) m 0) same-directory ∙ says_there p fine d clear-names m);
       }
-
--- a cleared directory for all names
-pub clear-all : (ws : List ℕ) → Clear (names_said ws) (replicate 4608 0)
-clear-all ws = clear-zeros (names_said ws) 4608 (omega (arith, said-most ws))
 
 -- ---- tables as long as the words ask
 

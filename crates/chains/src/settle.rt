@@ -47,6 +47,7 @@ impl Mark {
 }
 
 // One declaration read at a name: the only place that adds to the steps.
+#[tactic(auto, using(crate::proofs::ByName::declarations_by))]
 fn read_name(dir: &[u32], n: usize, steps: &mut u32) -> Declaration
     requires { Reaches dir.now (n + 1) × (steps.old < 4294967295) }
     ensures reads { ReadOne (declarations_in dir.now) n steps.old (number_of result) steps.new }
