@@ -9,9 +9,6 @@ use Rattle.kinds.proofs.PartLaws.{kinds_left}
 use Rattle.kinds.proofs.OperationLaws.{kinds-refused, kinds-room, kinds-done}
 use Rattle.kinds.proofs.all_kinds.kinds_sized.Goals as goal
 
-pub check_directory-r-requires : goal.check_directory-r-requires
-check_directory-r-requires g c = (room_sized c.requires).clear
-
 pub returns-in_default : goal.returns-in_default
 returns-in_default g c = kinds-refused _ _ (c.answer.ensures ∙ c.check_directory-r.ensures.answers) (c.answer.ensures ∙ ap answer_in c.in_default.is)
 

@@ -8,9 +8,6 @@ use Rattle.kinds.proofs.PartLaws.{walkable_own, own-place}
 use Rattle.kinds.proofs.OperationLaws.{name-refused, name-unknown, name-place}
 use Rattle.kinds.proofs.kinds_of.place_sized.Goals as goal
 
-pub check_directory-r-requires : goal.check_directory-r-requires
-check_directory-r-requires g c = (room_sized c.requires).clear
-
 pub returns-in_default : goal.returns-in_default
 returns-in_default g c = name-refused _ _ (c.answer.ensures ∙ c.check_directory-r.ensures.answers) (c.answer.ensures ∙ ap answer_in c.in_default.is)
 

@@ -7,9 +7,6 @@ use Rattle.kinds.proofs.EdgeLaws.{its_searchable, its_leaning}
 use Rattle.kinds.proofs.OperationLaws.{lean-refused, first-unknown, second_unknown, leans-or_not}
 use Rattle.kinds.proofs.lean.lean_sized.Goals as goal
 
-pub check_directory-r-requires : goal.check_directory-r-requires
-check_directory-r-requires g c = (room_sized c.requires).clear
-
 pub returns-in_default : goal.returns-in_default
 returns-in_default g c = lean-refused _ _ _ (c.answer.ensures ∙ c.check_directory-r.ensures.answers) (c.answer.ensures ∙ ap answer_in c.in_default.is)
 

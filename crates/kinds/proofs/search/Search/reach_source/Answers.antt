@@ -2,9 +2,6 @@
 use Rattle.kinds.proofs.SearchLaws.{no_source, source-asked, a_source}
 use Rattle.kinds.proofs.search.Search.reach_source.Goals as goal
 
-pub reach-requires : goal.reach-requires
-reach-requires c = source-asked _ c.if-source-ne-NONE.true c.requires
-
 pub returns-then-source-ne-NONE : goal.returns-then-source-ne-NONE
 returns-then-source-ne-NONE c = a_source _ c.if-source-ne-NONE.true c.reach.ensures
 
