@@ -1,4 +1,5 @@
 -- The directory that Check writes says of every name what its record says.
+use Rattle.std.specs.Prelude.{Ok}
 use Prim.Native.Nat.{ℕ, zero, suc, ◌+◌, ◌-◌, ◌*◌, ◌/◌, ◌%◌, ◌<◌, ◌≤◌}
 use native.Mathlib.Omega.{arith}
 use native.Mathlib.Numerals.{add-one}
@@ -17,9 +18,7 @@ use Rattle.definitions.specs.Records.{Hop, Derivation, Relation, Pack}
 use Rattle.definitions.specs.FieldRows.{to_row}
 use Rattle.definitions.specs.Pack.{WellFormed, yes, read, new_name, relation, relations, defaulted}
 use Rattle.records.specs.declared.directory.Layout.{Layout}
-use Rattle.records.specs.declared.directory.Laid.{Laid}
-use Rattle.records.specs.declared.directory.Laid.TheVariants.{Yes}
-use Rattle.records.specs.Directory.{notes_all, note_relation, directory_of, layout_of, relations_at, rules_at, blocks_at, entry, derived_note, note_in, lead_of, Clear}
+use Rattle.records.specs.Directory.{Laid, notes_all, note_relation, directory_of, layout_of, relations_at, rules_at, blocks_at, entry, derived_note, note_in, lead_of, Clear}
 use Rattle.checking.specs.CheckPromises.{names_said, DirectoryChecked, answer_in}
 use Rattle.definitions.specs.Chain.{mapped, end, next}
 use Rattle.definitions.specs.Kinds.{list21, inherits, plain, derived, declares, declared, find, read_at, kind_step}
@@ -335,7 +334,7 @@ reaches_one r h = record { most = omega (arith, r.most); long = omega (arith, r.
 
 -- ---- what Check gives
 
-module _ {ws d : List ℕ} (clear : Clear (names_said ws) d) {r : Laid} {d' : List ℕ} (c : DirectoryChecked ws d r d') {l : Layout} (o : r ≡ Yes l) where
+module _ {ws d : List ℕ} (clear : Clear (names_said ws) d) {r : Laid} {d' : List ℕ} (c : DirectoryChecked ws d r d') {l : Layout} (o : r ≡ Ok l) where
   it : IsPack ws
   it = checked ws c.answers (ap answer_in o)
 
@@ -355,7 +354,7 @@ module _ {ws d : List ℕ} (clear : Clear (names_said ws) d) {r : Laid} {d' : Li
   all = (c.lays p it.reads).1
 
   laid : l ≡ layout_of p.names 2 (length ws) (to_row p).1 first all
-  laid = let e : Yes l ≡ Yes (layout_of p.names 2 (length ws) (to_row p).1 first all) = sym o ∙ (c.lays p it.reads).2 in cc
+  laid = let e : Ok l ≡ Ok (layout_of p.names 2 (length ws) (to_row p).1 first all) = sym o ∙ (c.lays p it.reads).2 in cc
 
   same-directory : d' ≡ directory_of p.names 2 (to_row p).1 d
   same-directory = c.enters p it.reads
