@@ -10,10 +10,8 @@ pub fn settle_all(dir: &[u32], marks: &mut [u32]) -> u32
 {
     let mut steps: u32 = 0;
     let fuel = marks.len() as u32 + 1;
-    let mut j: usize = 0;
-    while j < marks.len() {
+    for j in 0..marks.len() {
         walk(dir, marks, &mut steps, j, fuel);
-        j += 1;
     }
     steps
 }

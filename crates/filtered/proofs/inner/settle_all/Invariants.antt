@@ -9,6 +9,3 @@ use Rattle.filtered.proofs.inner.settle_all.Given as goal
 
 abbrev pub invariant-loop-j : goal.invariant-loop-j
 invariant-loop-j l = Settling (declarations_in l.dir) l.initial.marks (table_from plainly 0 (length l.initial.marks)) 0 (length l.initial.marks + 1) l.marks l.steps l.j
-
-abbrev pub decreases-loop-j : goal.decreases-loop-j
-decreases-loop-j l = length l.initial.marks - l.j
