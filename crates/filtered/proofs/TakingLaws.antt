@@ -20,7 +20,7 @@ use Rattle.chains.specs.Record.{value_at, kind_count}
 use Rattle.chains.specs.DirectoryWord.{names_in}
 use Rattle.chains.proofs.EntryLaws.{name-here}
 use Rattle.filtered.specs.Acts.{act_list, part_for, act_for, acts_from}
-use Rattle.filtered.specs.Taking.{option_in, KindFound, several, named_after, taken_after, take_at, taken_by, kind_marked, taken_in, RelationRead, RelationsRead, NamesLow}
+use Rattle.filtered.specs.Taking.{option_in, KindFound, named_after, taken_after, take_at, taken_by, kind_marked, taken_in, RelationRead, RelationsRead, NamesLow}
 
 -- ---- the kind at a slot
 
@@ -76,13 +76,6 @@ unfolding take_at
 an_entity t e kind h n k = sym (rw (lt-ltb e (length t) h, ← n, ← k) refl)
 
 -- ---- one relation
-
-module _ (ws : List ℕ) (start : ℕ) {count : ℕ} (e : count ≡ kind_count ws start) where
-  pub two_kinds : count ≡ 2 → (◌≡◌ {A = ℕ} 1 (pick (eqb (kind_count ws start) 2) 1 0)) × (1 ≤ 1)
-  two_kinds z = (sym (rw (← e, z) refl), omega arith)
-
-  pub other-kinds : (count ≡ 2 → ⊥) → (◌≡◌ {A = ℕ} 0 (pick (eqb (kind_count ws start) 2) 1 0)) × (0 ≤ 1)
-  other-kinds z = (sym (rw (← e, ne_eqb count 2 z) refl), omega arith)
 
 module _ (ws starts slots acts t : List ℕ) (name : ℕ) {at x : ℕ} (s : at ≡ get_or slots name 0) (m : x ≡ get_or acts name 0 % 131072) where
   part_none : at ≡ 0 → part_for ws (get_or starts name 0) (get_or slots name 0) ≡ pick (eqb (kind_count ws (get_or starts name 0)) 2) 1 0

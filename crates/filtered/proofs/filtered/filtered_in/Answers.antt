@@ -7,9 +7,6 @@ use Rattle.chains.proofs.EntryLaws.{directed, lent-said, reaches_kept}
 use Rattle.filtered.proofs.FilterLaws.{filter-refused, filter-room, filter-done}
 use Rattle.filtered.proofs.filtered.filtered_in.Goals as goal
 
-pub check_directory-r-requires : goal.check_directory-r-requires
-check_directory-r-requires c = c.requires.0.clear
-
 pub returns-in_default : goal.returns-in_default
 returns-in_default c = filter-refused _ _ _ (c.answer.ensures ∙ c.check_directory-r.ensures.answers) (c.answer.ensures ∙ ap answer_in c.in_default.is)
 

@@ -1,6 +1,5 @@
 -- `filtered::filtered::say_all` meets its contract.
 
-use lib.ListN.{length}
 use Rattle.filtered.specs.Said.{said_in}
 use Rattle.chains.proofs.FillLaws.{Filling}
 use Rattle.filtered.proofs.filtered.say_all.Given as goal

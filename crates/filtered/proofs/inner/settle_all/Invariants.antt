@@ -1,5 +1,5 @@
 -- `filtered::inner::settle_all` meets its contract.
-use Prim.Native.Nat.{◌+◌, ◌-◌}
+use Prim.Native.Nat.{◌+◌}
 use lib.ListN.{length}
 use Rattle.definitions.specs.Answers.{table_from}
 use Rattle.chains.specs.DirectoryWord.{declarations_in}

@@ -1,7 +1,7 @@
 -- `filtered::taking::take_at` meets its contract.
 use native.Mathlib.Omega.{arith}
 use mathlib.Core.Path.{◌∙◌, ap}
-use Rattle.filtered.specs.Taking.{named_after, taken_after, option_in}
+use Rattle.filtered.specs.Taking.{named_after}
 use Rattle.filtered.proofs.TakingLaws.{no_entity, an_entity, taken_fits}
 use Rattle.filtered.proofs.taking.take_at.Goals as goal
 
