@@ -1,8 +1,8 @@
 -- The kinds that entities take, by name, read at the records of relations.
-use Rattle.std.specs.Prelude.{ℕ, ◌+◌, ◌<◌, ◌≡◌, List, [], ◌∷◌, Bool, not, length, get_or, set, ltb, eqb, Option, Some, None, IfSome}
+use Rattle.std.specs.Prelude.{ℕ, suc, ◌+◌, ◌-◌, ◌<◌, ◌≤◌, ◌≡◌, map, List, [], ◌∷◌, Bool, not, length, get_or, set, ltb, eqb, Option, Some, None, IfSome}
 use Rattle.std.proofs.Math.Option as math
 use Rattle.std.proofs.Math.Option.{none, some}
-use Rattle.definitions.specs.Table.{pick}
+use Rattle.definitions.specs.Table.{pick, value_of}
 use Rattle.definitions.specs.Records.{Pack}
 use Rattle.definitions.specs.Pack.{yes, read}
 use Rattle.filtered.specs.declared.taking.Taken.{Taken}
@@ -19,6 +19,17 @@ use Rattle.filtered.specs.Acts.{act_list, act_for, acts_from, ActsOf}
 abbrev pub option_in : {A : Type 0} → Option A → math.Option A
 option_in (Some a) = some a
 option_in None = none
+
+-- the names of a list, none where there is no list
+abbrev pub names_or : math.Option (List ℕ) → List ℕ
+names_or none = []
+names_or (some ks) = ks
+
+-- the words of the list whose count word stands at a place
+pub record ListFound (ws : List ℕ) (place : ℕ) (words : List ℕ) : Type 0 where
+  pub names : map value_of words ≡ names_or (names_at ws place)
+  pub few : length words < 16777216
+  pub within : length words ≤ length ws - suc place
 
 -- the kind at a slot of the list whose count word stands at a place
 pub record KindFound (ws : List ℕ) (place slot : ℕ) (kind : Option ℕ) : Type 0 where

@@ -7,7 +7,7 @@ ghost use Rattle.chains.specs.DirectoryWord.{Reaches, starts_in, slots_in, names
 ghost use Rattle.chains.specs.PackDirectory.{ClearTable, IsDirectory};
 ghost use Rattle.filtered.specs.Acts.{part_number};
 ghost use Rattle.filtered.specs.Said.{direct_by, alias_of, unresolved_of};
-ghost use Rattle.filtered.specs.Taking.{option_in, KindFound, number_of, Plain, named_after, taken_after, take_at, RelationRead, RelationsRead, NamesLow, KnowsEntities, Filled};
+ghost use Rattle.filtered.specs.Taking.{option_in, ListFound, KindFound, number_of, Plain, named_after, taken_after, take_at, RelationRead, RelationsRead, NamesLow, KnowsEntities, Filled};
 
 use crate::act::{Part, list};
 use chains::entry::{name_at, slots, start};
@@ -116,25 +116,27 @@ impl Taken {
     }
 }
 
-// The kind at a slot of the list whose count word stands at a place; at place 0 there is none.
+// The words of the list whose count word stands at a place, as far as they stand in the pack; at place 0 there is none.
+pub fn list_at(pack: &[u32], place: u32) -> &[u32]
+    ensures { ListFound pack.now place result.now }
+{
+    let at = place as usize;
+    if at == 0 || pack.len() <= at {
+        return &[];
+    }
+    let words = &pack[at + 1..];
+    let count = (pack[at] % Pack::VALUES) as usize;
+    &words[..count.min(words.len())]
+}
+
+// The kind at a slot of that list.
 pub fn kind_at(pack: &[u32], place: u32, slot: u32) -> Option<u32>
     ensures { KindFound pack.now place slot result }
 {
-    if place == 0 {
-        return None;
+    match list_at(pack, place).get(slot as usize) {
+        Some(word) => Some(word % Pack::VALUES),
+        None => None,
     }
-    let at = place as usize;
-    if pack.len() <= at {
-        return None;
-    }
-    if pack[at] % Pack::VALUES <= slot {
-        return None;
-    }
-    let after = pack.len() - at - 1;
-    if after <= slot as usize {
-        return None;
-    }
-    Some(pack[at + 1 + slot as usize] % Pack::VALUES)
 }
 
 // An entity of a derivation and the kind that it takes there; one past the table is none and passed over.
