@@ -58,7 +58,7 @@ fn matching_kind(taken: &[u32], entity: u32) -> u32
     if taken.len() <= e {
         return entity;
     }
-    Taken::of(taken[e]).direct().unwrap_or(entity)
+    Taken::from(taken[e]).direct().unwrap_or(entity)
 }
 
 // The two kinds of a typed relation, by its number.

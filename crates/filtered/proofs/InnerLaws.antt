@@ -6,18 +6,19 @@ use mathlib.Core.Path.{◌≡◌, refl, ap, sym, ◌∙◌, subst}
 use mathlib.Core.List.{List}
 use mathlib.Core.Bool.{Bool, true, false}
 use mathlib.Core.Option.{Option, none, some, map}
-use lib.ListN.{length, get_or, replicate, length-replicate, get_or-eq_default}
+use lib.ListN.{length, get_or, set, replicate, length-replicate, get_or-eq_default}
 use Rattle.std.proofs.lemmas.List.{get_or-replicate}
+use lib.Seq.{get_or-set_same, get_or-set_other}
 use lib.Dec.{eqb, ltb}
-use borrow.Author.Tests.{eq-eqb, eqb-false, lt-ltb, le-ltb, ltb-true, ltb-false}
+use borrow.Author.Tests.{eq-eqb, eqb-true, eqb-false, lt-ltb, le-ltb, ltb-true, ltb-false}
 use Rattle.definitions.specs.Table.{pick}
 use Rattle.definitions.specs.Table as table
 use Rattle.definitions.specs.Form.{among}
 use Rattle.definitions.specs.Chain.{end, next, mapped, Settled, nothing, AllWalked, walk_all, own, same}
 use Rattle.definitions.specs.Filtered.{inner_at, up_to, inner_step}
 use Rattle.definitions.specs.Answers.{table_from}
-use Rattle.chains.specs.DirectoryWord.{declared_by, declared_in, declarations_in}
-use Rattle.chains.specs.Settle.{link_at, Leading, settled_in, walks_in, Walkable, WalkedHere, SettledAll}
+use Rattle.chains.specs.DirectoryWord.{word_in, declared_by, declared_in, declarations_in}
+use Rattle.chains.specs.Settle.{link_at, Leading, settled_in, walks_in, WalkedHere, SettledAll}
 use Rattle.chains.specs.PackDirectory.{ClearTable}
 use Rattle.filtered.specs.Said.{direct_of, direct_by, inner_entry, plainly, direct_in, InnerAsked, InnerWords, InnerSettleable, InnerSettled, answered, InnerMarked}
 use Rattle.chains.proofs.Names.{or_left, or_right}
@@ -25,7 +26,7 @@ use Rattle.chains.proofs.MappedLaws.{AnswersMapped, answers-mapped}
 use Rattle.filtered.proofs.FilteredLaws.{inner-own}
 use Rattle.chains.proofs.AllKindsLaws.{clear-nothing, settled_mark}
 use Rattle.chains.proofs.CheckedLaws.{settleable-clear}
-use Rattle.chains.proofs.SettleLaws.{Settling, walkable, walk_on}
+use Rattle.chains.proofs.SettleLaws.{Settling, walk_on}
 use Rattle.chains.proofs.FillLaws.{table-length, whole_at, whole-past}
 
 up_to-length : (n : ℕ) → length (up_to n) ≡ n
@@ -38,6 +39,15 @@ among-counted n (suc k) zero h = or_left (among (n + 0) (table_from plainly (suc
 among-counted n (suc k) (suc i) h =
     let e : suc n + i ≡ n + suc i = omega arith in
     or_right (eqb (n + suc i) n) (ap (λ (m : ℕ). among m (table_from plainly (suc n) k)) (sym e) ∙ among-counted (suc n) k i (omega arith))
+
+-- ---- the words, one after another
+
+pub words-next : {taken dir : List ℕ} {j : ℕ} → InnerWords taken j dir → 512 + j < length dir → (v : ℕ) → declared_by v ≡ inner_entry (get_or taken j 0) j → InnerWords taken (j + 1) (set dir (512 + j) v)
+words-next {taken} {dir} {j} s h v e = record { says = λ m l. go m l (eqb m j) refl }
+  where
+    go : (m : ℕ) → m < j + 1 → (b : Bool) → eqb m j ≡ b → declared_by (word_in (set dir (512 + j) v) m) ≡ inner_entry (get_or taken m 0) m
+    go m l true q = let z : m ≡ j = eqb-true m j q in rw z (ap declared_by (get_or-set_same dir (512 + j) v 0 h) ∙ e)
+    go m l false q = let o = eqb-false m j q in ap declared_by (get_or-set_other dir (512 + j) (512 + m) v 0 (λ z. o (omega arith))) ∙ s.says m (omega arith)
 
 -- ---- the walks along them
 
@@ -156,9 +166,6 @@ module _ {dir marks₀ : List ℕ} (asked : InnerSettleable dir marks₀) {marks
 
   within : j < length (table_from plainly 0 (length marks₀))
   within = omega (arith, table-length plainly 0 (length marks₀))
-
-  pub name_walkable : Walkable (declarations_in dir) marks steps j (length marks₀ + 1)
-  name_walkable = subst (λ (n : ℕ). Walkable (declarations_in dir) marks steps n (length marks₀ + 1)) here (walkable _ _ _ _ _ asked.settleable s within)
 
   pub name-walked : {r : ℕ} {marks' : List ℕ} {steps' : ℕ} → WalkedHere (declarations_in dir) marks steps j (length marks₀ + 1) r marks' steps' → Settling (declarations_in dir) marks₀ (table_from plainly 0 (length marks₀)) 0 (length marks₀ + 1) marks' steps' (j + 1)
   name-walked {r} {marks'} {steps'} w = walk_on _ _ _ _ _ asked.settleable s within (subst (λ (n : ℕ). WalkedHere (declarations_in dir) marks steps n (length marks₀ + 1) r marks' steps') (sym here) w)

@@ -32,7 +32,7 @@ fn say(filter: Filter, x: u32, mark: u32, e: u32) -> u32
     requires { e < 4096 }
     ensures { result ≡ said filter x mark e }
 {
-    let taken = Taken::of(x);
+    let taken = Taken::from(x);
     match filter {
         Filter::Direct => taken.direct().unwrap_or(Pack::NONE),
         Filter::Innermost => inner_of(taken, mark).unwrap_or(Pack::NONE),
@@ -56,7 +56,7 @@ fn inner_word(x: u32, e: u32) -> u32
     requires { KnownName x e }
     ensures { declared_by result ≡ inner_entry x e }
 {
-    match Taken::of(x).direct() {
+    match Taken::from(x).direct() {
         Some(d) if d != e => Directory::PLACES * Directory::OFFSETS * (Directory::OFFSETS + d),
         _ => e + Directory::PLACES,
     }
@@ -93,7 +93,7 @@ fn mark_inner(filter: Filter, taken: &[u32], dir: &mut [u32], marks: &mut [u32])
 }
 
 // A table of a checked pack into a slice with one word for each name. When the kinds are taken the directory is free for the
-// walks along them.
+// walks along them; so what it says is asked for here, and no promise of a struct round it.
 fn fill(
     pack: &[u32],
     l: Layout,

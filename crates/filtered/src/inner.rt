@@ -3,7 +3,8 @@ ghost use Rattle.filtered.specs.Said.{InnerSettleable, InnerSettled};
 
 use chains::settle::walk;
 
-// The walks from all names in order: the number of words read.
+// The walks from all names in order: the number of words read. The chain walk's `settle_all` starts from the names of relations, which
+// it reads in the directory; that both call `walk` in a loop is all that they share.
 pub fn settle_all(dir: &[u32], marks: &mut [u32]) -> u32
     requires { InnerSettleable dir.now marks.old }
     ensures { InnerSettled dir.now marks.old marks.new result }

@@ -35,18 +35,6 @@ impl Taken {
 
     const SEVERAL: u32 = Taken::ONE + Pack::VALUES;
 
-    // What a number of a table says.
-    pub fn of(x: u32) -> Taken
-        ensures { (number_of result ≡ x) × Plain result }
-    {
-        match x {
-            0 => Taken::Nothing,
-            1 => Taken::Named,
-            Taken::SEVERAL => Taken::Several,
-            _ => Taken::One(x - Taken::ONE),
-        }
-    }
-
     // As it is packed.
     fn number(self) -> u32
         requires { number_of self < 2 ^ 32 }
@@ -116,6 +104,20 @@ impl Taken {
     }
 }
 
+// What a number of a table says.
+impl From<u32> for Taken {
+    ghost from_gives = { λ x taken. (number_of taken ≡ x) × Plain taken };
+
+    fn from(x: u32) -> Taken {
+        match x {
+            0 => Taken::Nothing,
+            1 => Taken::Named,
+            Taken::SEVERAL => Taken::Several,
+            _ => Taken::One(x - Taken::ONE),
+        }
+    }
+}
+
 // The words of the list whose count word stands at a place, as far as they stand in the pack; at place 0 there is none.
 pub fn list_at(pack: &[u32], place: u32) -> &[u32]
     ensures { ListFound pack.now place result.now }
@@ -133,10 +135,9 @@ pub fn list_at(pack: &[u32], place: u32) -> &[u32]
 pub fn kind_at(pack: &[u32], place: u32, slot: u32) -> Option<u32>
     ensures { KindFound pack.now place slot result }
 {
-    match list_at(pack, place).get(slot as usize) {
-        Some(word) => Some(word % Pack::VALUES),
-        None => None,
-    }
+    list_at(pack, place)
+        .get(slot as usize)
+        .map(|word| word % Pack::VALUES)
 }
 
 // An entity of a derivation and the kind that it takes there; one past the table is none and passed over.
@@ -148,7 +149,7 @@ pub fn take_at(table: &mut [u32], entity: u32, kind: Option<u32>)
     if table.len() <= e {
         return;
     }
-    table[e] = Taken::of(table[e]).named().with(kind).number();
+    table[e] = Taken::from(table[e]).named().with(kind).number();
 }
 
 // The part of a relation without derivation, whose record starts at a place: it is typed with two slot kinds.

@@ -4,9 +4,8 @@ use native.Mathlib.Omega.{arith}
 use mathlib.Core.Path.{◌≡◌, refl, ap, sym, ◌∙◌}
 use mathlib.Core.List.{List, [], ◌∷◌, ◌++◌}
 use lib.ListN.{length, get_or, take, set, length-set}
-use lib.Seq.{take_all, take-suc, take-suc-set, length-take-le}
-use Rattle.chains.specs.Record.{Recorded}
-use Rattle.stamping.specs.Stamping.{list_for, added_for, lists_for, added_by, Listed}
+use lib.Seq.{take-suc, take-suc-set, length-take-le}
+use Rattle.stamping.specs.Stamping.{list_for, added_for, lists_for, added_by}
 -- the names of a list as they stand in the words
 pub use Rattle.filtered.proofs.TakingLaws.{names-there}
 
@@ -52,16 +51,3 @@ module _ (ws work acts asked : List ℕ) where
             holds = rw one (t ∙ rw (s.holds, e) (sym (lists-more (take i order) (get_or order i 0))) ∙ ap (lists_for ws work acts asked) (sym o));
             sums = rw (one, t, o) (rw (added_more (take i order) (take i table) (get_or order i 0) list same, ← f, ← s.sums) refl);
           }
-
-      pub listing_all : length order ≤ i → length order ≤ 512 → Listed ws work acts asked order table more
-      listing_all h few =
-          let t : take i table ≡ table = take_all i table (omega (arith, s.long)) in
-          let o : take i order ≡ order = take_all i order h in
-          record {
-            each = sym t ∙ s.holds ∙ ap (lists_for ws work acts asked) o;
-            adds = s.sums ∙ ap (λ (l : List ℕ). added_by ws work l (take i table)) o ∙ ap (added_by ws work order) t;
-            few = let w = s.within in omega (arith, s.small);
-          }
-
-pub recorded : {ws : List ℕ} (places : List ℕ) (i : ℕ) → Recorded ws places → get_or places i 0 ≤ 65536
-recorded places i h = omega (arith, h.within i)

@@ -11,8 +11,8 @@ returns-then-table-e c = no_entity _ _ _ (omega arith)
 pub number-requires : goal.number-requires
 number-requires c =
     let x = c.type_inv.table c.args.entity in
-    rw (c.with.ensures, c.named.ensures, c.of.ensures.0) (taken_fits _ _ (omega arith) c.requires)
+    rw (c.with.ensures, c.named.ensures, c.from.ensures.0) (taken_fits _ _ (omega arith) c.requires)
 
 pub returns : goal.returns
 returns c =
-    an_entity _ _ _ (omega arith) (c.named.ensures ∙ ap named_after c.of.ensures.0) (c.number.ensures ∙ c.with.ensures)
+    an_entity _ _ _ (omega arith) (c.named.ensures ∙ ap named_after c.from.ensures.0) (c.number.ensures ∙ c.with.ensures)
