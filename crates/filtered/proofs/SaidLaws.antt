@@ -73,9 +73,11 @@ module _ (x : ℕ) where
     unfolding inner_of
     inner-none q = sym (rw (eq-eqb (direct_of x) 16777215 (no-direct q)) refl)
 
-    pub inner_some : {d : ℕ} → some d ≡ direct_by x → (o : code.Option ℕ) → SomeIff o (3 ≤ mark) (mark - 3) → or_none (option_in o) ≡ inner_of x mark
+    pub inner_some : {d : ℕ} → some d ≡ direct_by x → {answer : ℕ} → answer ≡ mark - 2 → (o : code.Option ℕ) → SomeIff o (1 ≤ answer) (answer - 1) → or_none (option_in o) ≡ inner_of x mark
     unfolding inner_of
-    inner_some q None s =
+    inner_some q e None s =
         let i = is-direct q in sym (rw (← i.0, ne_eqb _ 16777215 i.1, le-leb mark 2 (omega (arith, s))) refl)
-    inner_some q (Some m) s =
-        let i = is-direct q in s.1 ∙ sym (rw (← i.0, ne_eqb _ 16777215 i.1, lt-leb mark 2 (omega (arith, s.0))) refl)
+    inner_some q e (Some m) s =
+        let i = is-direct q in
+        let n : m ≡ mark - 3 = omega (arith, s.0, s.1) in
+        n ∙ sym (rw (← i.0, ne_eqb _ 16777215 i.1, lt-leb mark 2 (omega (arith, s.0))) refl)

@@ -57,5 +57,5 @@ pub fn act_of(acts: &[u32], name: usize) -> u32
 pub fn list(x: u32) -> u32
     ensures { (result ≡ act_list x) × (result < 131072) }
 {
-    (x % Part::MARKS).saturating_sub(Mark::SETTLED)
+    Mark::of(x % Part::MARKS).answer()
 }

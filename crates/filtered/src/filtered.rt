@@ -2,7 +2,7 @@
 ghost use Rattle.std.specs.Prelude.{◌≡◌, ◌+◌, ◌<◌, ◌≤◌, length};
 ghost use Rattle.definitions.specs.Answers.{table_from, Answered};
 ghost use Rattle.chains.specs.DirectoryWord.{Reaches, declared_by};
-ghost use Rattle.chains.specs.PackDirectory.{ClearTable, DirectoryRoom, IsDirectory};
+ghost use Rattle.chains.specs.PackDirectory.{ClearTable, DirectoryRoom, IsDirectory, Sized};
 ghost use Rattle.checking.specs.CheckPromises.{names_said};
 ghost use Rattle.definitions.specs.Filtered.{or_none};
 ghost use Rattle.definitions.specs.Operations.{filter_answer, filter_buffer};
@@ -12,11 +12,12 @@ ghost use Rattle.filtered.specs.Taking.{option_in, number_of, Plain};
 use crate::inner::settle_all;
 use crate::taking::{Taken, take_kinds};
 use chains::settle::Mark;
-use checking::check::{answer, check_directory, names_said, refuse};
-use definitions::answer::{Answer, Number};
+use checking::check::{check_directory, names_said};
+use definitions::answer::{Answer, Given, Number};
 use definitions::operation::Filter;
 use pack::kinds::Pack;
-use records::directory::{Directory, Laid, Layout};
+use pack::refusal::refused;
+use records::directory::{Directory, Layout};
 
 // Its innermost kind, by the mark of its walk; a name that has no direct kind gets none.
 fn inner_of(taken: Taken, mark: u32) -> Option<u32>
@@ -24,7 +25,7 @@ fn inner_of(taken: Taken, mark: u32) -> Option<u32>
     ensures { or_none (option_in result) ≡ inner_of (number_of taken) mark }
 {
     taken.direct()?;
-    mark.checked_sub(Mark::SETTLED + 1)
+    Mark::of(mark).answer().checked_sub(1)
 }
 
 // What a table says of a name.
@@ -124,26 +125,26 @@ fn filtered_in(
     requires { DirectoryRoom pack.now dir.old marks.old × ClearTable (names_said pack.now) taken.old }
     ensures { Answered (filter_answer filter) (filter_buffer filter) pack.now out.old result out.new }
 {
-    let r = check_directory(pack, dir);
-    let Laid::Yes(l) = r else {
-        return answer(r);
-    };
+    let l = check_directory(pack, dir)?;
     let names = l.names;
     let count = names as usize;
     if out.len() < count {
-        return refuse(Number::NO_ROOM, 0);
+        return Err(refused(Number::NoRoom, 0));
     }
     fill(pack, l, dir, filter, marks, taken, &mut out[0..count]);
-    Answer::Given(names, 0)
+    Ok(Given {
+        value: names,
+        steps: 0,
+    })
 }
 
-// The same with a directory and tables of its own, for a pack that says so many names at most.
-fn filtered_sized<const NAMES: usize, const WORDS: usize>(
+// The same with a directory and tables of its own.
+fn filtered_sized<const WORDS: usize, const NAMES: usize>(
     pack: &[u32],
     filter: Filter,
     out: &mut [u32],
 ) -> Answer
-    requires { (names_said pack.now ≤ NAMES) × (NAMES ≤ 4096) × (WORDS ≡ 512 + NAMES) }
+    requires { Sized pack.now WORDS NAMES }
     ensures { Answered (filter_answer filter) (filter_buffer filter) pack.now out.old result out.new }
 {
     let mut dir = [0u32; WORDS];
@@ -158,10 +159,10 @@ pub fn filtered(pack: &[u32], filter: Filter, out: &mut [u32]) -> Answer
 {
     let n = names_said(pack);
     if n <= Directory::FEW {
-        filtered_sized::<{ Directory::FEW }, { Directory::FEW_WORDS }>(pack, filter, out)
+        filtered_sized::<{ Directory::FEW_WORDS }, { Directory::FEW }>(pack, filter, out)
     } else if n <= Directory::SOME {
-        filtered_sized::<{ Directory::SOME }, { Directory::SOME_WORDS }>(pack, filter, out)
+        filtered_sized::<{ Directory::SOME_WORDS }, { Directory::SOME }>(pack, filter, out)
     } else {
-        filtered_sized::<{ Directory::ALL }, { Directory::WORDS }>(pack, filter, out)
+        filtered_sized::<{ Directory::WORDS }, { Directory::ALL }>(pack, filter, out)
     }
 }
