@@ -10,9 +10,11 @@ use Rattle.inputs.specs.declared.inputs.Declaration.{Declaration}
 use Rattle.inputs.specs.declared.inputs.Seen.{Seen}
 use Rattle.inputs.specs.declared.inputs.Seen.TheVariants.{Never, Once, Several}
 use Rattle.inputs.specs.declared.inputs.Number.{Number}
-use Rattle.inputs.specs.declared.inputs.Number.TheVariants.{NoSequence, NotDeclaredOnce, NotBoolean, WrongOwner}
+use Rattle.inputs.specs.declared.inputs.Number.TheVariants.{DirectionOpen, DerivedInput, NoSequence, NotDeclaredOnce, NotBoolean, WrongOwner}
 
 abbrev pub number_of : Number → ℕ
+number_of DirectionOpen = 10
+number_of DerivedInput = 11
 number_of NoSequence = 12
 number_of NotDeclaredOnce = 13
 number_of NotBoolean = 14

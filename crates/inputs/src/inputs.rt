@@ -7,6 +7,8 @@ use pack::kinds::Pack;
 
 #[derive(Clone, Copy, PartialEq, Eq)]
 pub enum Number {
+    DirectionOpen = 10,
+    DerivedInput = 11,
     NoSequence = 12,
     NotDeclaredOnce = 13,
     NotBoolean = 14,
