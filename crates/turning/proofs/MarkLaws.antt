@@ -3,8 +3,9 @@ use Prim.Native.Nat.{ℕ, suc, ◌+◌, ◌-◌, ◌<◌, ◌≤◌}
 use native.Mathlib.Omega.{arith}
 use native.Mathlib.Numerals.{add-one}
 use mathlib.Core.Path.{◌≡◌, refl, ap, sym, ◌∙◌}
+use Rattle.std.proofs.Math.Bool.{and-false}
 use mathlib.Core.List.{List, [], ◌∷◌}
-use mathlib.Core.Bool.{Bool, true, false, ◌||◌, ◌&&◌}
+use mathlib.Core.Bool.{Bool, true, false, ◌||◌}
 use lib.ListN.{length, get_or, set, take, drop, length-set, length-drop}
 use Rattle.std.proofs.lemmas.List.{get_or-take}
 use Rattle.std.proofs.lemmas.Grind.{get_or_after_one}
@@ -74,15 +75,11 @@ module _ (ws : List ℕ) (code : ℕ) (current : Option ℕ) (t : List ℕ) {not
               (rw (some_inside n is near) refl, e ∙ rw (some_inside n is near) (ap (λ (x : ℕ). role_marked (kind_here ws x) (value_in ws x) current (atom_marked (kind_here ws x) (value_in ws x) t)) p));
         }
 
-    and_false : (b : Bool) → (b && false) ≡ false
-    and_false true = refl
-    and_false false = refl
-
     pub low-marked : kind_here ws note.place < 102 → NoteMarked ws code current t current t
     low-marked h = node-marked refl (sym (rw (lt-leb 102 (kind_here ws note.place) h, ne_eqb (kind_here ws note.place) 102 (λ e. omega arith), ne_eqb (kind_here ws note.place) 103 (λ e. omega arith)) refl))
 
     pub high_marked : 104 < kind_here ws note.place → NoteMarked ws code current t current t
-    high_marked h = node-marked refl (sym (rw (lt-leb (kind_here ws note.place) 104 h, and_false (leb 102 (kind_here ws note.place)), ne_eqb (kind_here ws note.place) 102 (λ e. omega arith), ne_eqb (kind_here ws note.place) 103 (λ e. omega arith)) refl))
+    high_marked h = node-marked refl (sym (rw (lt-leb (kind_here ws note.place) 104 h, and-false (leb 102 (kind_here ws note.place)), ne_eqb (kind_here ws note.place) 102 (λ e. omega arith), ne_eqb (kind_here ws note.place) 103 (λ e. omega arith)) refl))
 
     pub same-marked : kind_here ws note.place ≡ 104 → {left : List ℕ} → left ≡ mark_if current t → NoteMarked ws code current t current left
     same-marked k {left} e = node-marked (ap length e ∙ mark_long current t) (e ∙ sym (rw k refl))

@@ -2,6 +2,7 @@
 use Prim.Native.Nat.{ℕ, suc, ◌+◌, ◌<◌, ◌≤◌}
 use native.Mathlib.Omega.{arith}
 use mathlib.Core.Path.{◌≡◌, refl, ap, sym, ◌∙◌}
+use Rattle.std.proofs.Math.Bool.{or_assoc, or_comm, and-true, and-false, or-false}
 use mathlib.Core.List.{List, [], ◌∷◌, ◌++◌, append_assoc}
 use mathlib.Core.Bool.{Bool, true, false, ◌||◌, ◌&&◌}
 use mathlib.Core.Option.{Option, none, some}
@@ -121,10 +122,6 @@ module _ (ws : List ℕ) (m : ℕ) where
       marks-read ns (relation_after ws n current) (mark_note ws n current t) (let l = note-long n current t in omega arith)
       ∙ ap (λ (x : ℕ). pick (marked ws ns (relation_after ws n current) m) 1 x) (note_mark n current t h)
       ∙ pick_or (hits ws n current m) (marked ws ns (relation_after ws n current) m) (get_or t m 0)
-
-  or_assoc : (a b c : Bool) → ((a || b) || c) ≡ (a || (b || c))
-  or_assoc true b c = refl
-  or_assoc false b c = refl
 
   marked_append : (ns ms : List Note) (current : own.Option ℕ) → marked ws (ns ++ ms) current m ≡ (marked ws ns current m || marked ws ms (after-all ws ns current) m)
   unfolding marked after-all
@@ -260,14 +257,6 @@ or_mid false true false d = refl
 or_mid false false true d = refl
 or_mid false false false d = refl
 
-or_none : (b : Bool) → (b || false) ≡ b
-or_none true = refl
-or_none false = refl
-
-and_none : (b : Bool) → (b && false) ≡ false
-and_none true = refl
-and_none false = refl
-
 and_or : (a b c : Bool) → ((a || b) && c) ≡ ((a && c) || (b && c))
 and_or true b true = refl
 and_or true true false = refl
@@ -305,7 +294,7 @@ any_or f g (a ∷ l) = ap (λ (b : Bool). (f a || g a) || b) (any_or f g l) ∙ 
 -- outside of relations roles mark nothing
 rules_atoms : (m : ℕ) (l : List Rule) → any (in_rule (marks_as m None)) l ≡ any (in_rule (atom_of m)) l
 rules_atoms m l =
-    let t : (x : Tree) → holds (marks_as m None) x ≡ holds (atom_of m) x = λ x. tree-parts m None x ∙ rw (and_none (holds role_judgment x)) (or_none (holds (atom_of m) x)) in
+    let t : (x : Tree) → holds (marks_as m None) x ≡ holds (atom_of m) x = λ x. tree-parts m None x ∙ rw (and-false (holds role_judgment x)) (or-false (holds (atom_of m) x)) in
     any_same (in_rule (marks_as m None)) (in_rule (atom_of m))
     (λ r. ap (λ (b : Bool). b || any (λ (x : Body). holds (marks_as m None) x.tree) r.versions) (t r.semantics.tree)
     ∙ ap (λ (b : Bool). holds (atom_of m) r.semantics.tree || b) (any_same (λ (x : Body). holds (marks_as m None) x.tree) (λ (x : Body). holds (atom_of m) x.tree) (λ x. t x.tree) r.versions)) l
@@ -320,14 +309,14 @@ module _ (all : List Relation) (r : Relation) (found : find r.name all ≡ some 
     where
       go : (b : Bool) → eqb s.name r.name ≡ b → (in_derivation role_judgment s.derivation && b) ≡ (in_derivation role_judgment r.derivation && b)
       go true e = let q = sym f ∙ ap (λ (x : ℕ). find x all) (eqb-true s.name r.name e) ∙ found in let same : s ≡ r = cc in ap (λ (x : Relation). in_derivation role_judgment x.derivation && true) same
-      go false e = and_none (in_derivation role_judgment s.derivation) ∙ sym (and_none (in_derivation role_judgment r.derivation))
+      go false e = and-false (in_derivation role_judgment s.derivation) ∙ sym (and-false (in_derivation role_judgment r.derivation))
 
   and_any : (b : Bool) (x y : Bool) → ((b && x) || (b && y)) ≡ (b && (x || y))
   and_any true x y = refl
   and_any false x y = refl
 
   role_bears : (l : List Relation) → EachFound all l → any bears l ≡ (in_derivation role_judgment r.derivation && any (λ (s : Relation). eqb s.name r.name) l)
-  role_bears [] h = sym (and_none (in_derivation role_judgment r.derivation))
+  role_bears [] h = sym (and-false (in_derivation role_judgment r.derivation))
   role_bears (s ∷ l) h =
       ap (λ (b : Bool). b || any bears l) (one_bears s h.0) ∙ ap (λ (b : Bool). (in_derivation role_judgment r.derivation && eqb s.name r.name) || b) (role_bears l h.1)
       ∙ and_any (in_derivation role_judgment r.derivation) (eqb s.name r.name) (any (λ (s : Relation). eqb s.name r.name) l)
@@ -345,16 +334,6 @@ found_some m (s ∷ l) r e = go (eqb m s.name) refl e (found_some m l r)
     go true q e ih = rw (eq-eqb s.name m (sym (eqb-true m s.name q))) refl
     go false q e ih = rw (ih e) (or_true (eqb s.name m))
 
-and_true : (b : Bool) → (b && true) ≡ b
-and_true true = refl
-and_true false = refl
-
-or_swap : (a b : Bool) → (a || b) ≡ (b || a)
-or_swap true true = refl
-or_swap true false = refl
-or_swap false true = refl
-or_swap false false = refl
-
 -- THE LAW of marks: "that some atom or Exists names, or whose predicate holds kinds 102 to 104"
 pub marks-are : (p : Pack) (w : WellFormed p) (r : Relation) → find r.name p.relations ≡ some r → r.name < 4096 → (t : List ℕ) → r.name < length t → get_or t r.name 0 ≡ 0
     → get_or (mark_notes (words p) (notes_of_pack p) None t) r.name 0 ≡ pick (atom_names p r.name || in_derivation role_judgment r.derivation) 1 0
@@ -364,13 +343,13 @@ marks-are p w r found low t wide clear =
     let U : Bool = any (in_rule (atom_of r.name)) p.rules in
     let R : Bool = in_derivation role_judgment r.derivation in
     let roles : any (bears p.relations r found) p.relations ≡ R =
-    role_bears p.relations r found p.relations (all_found p w) ∙ rw (found_some r.name p.relations r found) (and_true R) in
+    role_bears p.relations r found p.relations (all_found p w) ∙ rw (found_some r.name p.relations r found) (and-true R) in
     let relations : any (λ (s : Relation). in_derivation (marks_as r.name (Some s.name)) s.derivation) p.relations ≡ (A || R) =
     any_same (λ (s : Relation). in_derivation (marks_as r.name (Some s.name)) s.derivation) (λ (s : Relation). in_derivation (atom_of r.name) s.derivation || bears p.relations r found s) (λ s. derivation-parts r.name (Some s.name) s.derivation) p.relations
     ∙ any_or (λ (s : Relation). in_derivation (atom_of r.name) s.derivation) (bears p.relations r found) p.relations ∙ ap (λ (b : Bool). A || b) roles in
     let all : marked (words p) (notes_of_pack p) None r.name ≡ ((U || A) || R) =
     pack_told p w r.name ∙ ap (λ (b : Bool). b || any (in_rule (marks_as r.name None)) p.rules) relations ∙ ap (λ (b : Bool). (A || R) || b) (rules_atoms r.name p.rules)
-    ∙ or_swap (A || R) U ∙ three U A R in
+    ∙ or_comm (A || R) U ∙ three U A R in
     marks-read (words p) r.name (notes_of_pack p) None t (omega arith) ∙ ap (λ (b : Bool). pick b 1 (get_or t r.name 0)) all ∙ ap (λ (x : ℕ). pick ((U || A) || R) 1 x) clear
   where
     three : (a b c : Bool) → (a || (b || c)) ≡ ((a || b) || c)

@@ -17,14 +17,16 @@ use Rattle.pack.proofs.EachFollows.{where_true}
 use Rattle.definitions.specs.declared.direction.Direction.{Direction}
 use Rattle.definitions.specs.declared.direction.Direction.TheVariants.{Directed, Open}
 use Rattle.definitions.specs.Direction.{Membership}
+use Rattle.definitions.specs.Direction as direction
+use Rattle.definitions.specs.Tables.{Tables}
 use Rattle.definitions.specs.Tree.{Fields}
 use Rattle.definitions.specs.ResolvingTrees.{with_slots, stops, aggregate, allowed_input, only_related, membership_test, node_step}
-use Rattle.directions.specs.Words.{member_in, MemberTurned, SlotsFit}
+use Rattle.directions.specs.Words.{tables_in, member_in, MemberTurned, SlotsFit}
 use Rattle.std.specs.Prelude.{Result, Ok, Err}
 use Rattle.inputs.specs.declared.inputs.Number.{Number}
 use Rattle.inputs.specs.declared.inputs.Number.TheVariants.{DerivedInput}
 use Rattle.inputs.specs.Blocks.{input_in, refused_by}
-use Rattle.directions.proofs.SlotLaws.{member_fits_code}
+use Rattle.directions.proofs.SlotLaws.{turned_fits, member_fits_code}
 use Rattle.turning.specs.declared.step.Out.{Out}
 use Rattle.turning.specs.declared.step.Out.TheVariants.{Sets, Passes}
 use Rattle.definitions.specs.declared.answer.Refusal.{Refusal}
@@ -180,14 +182,26 @@ by_direction : (n : Node) (d : Direction) (c r x : ℕ) → directed_by n d ≡ 
 by_direction n (Directed a b y) c r x e = let t : ◌≡◌ {A = ℕ × ℕ × ℕ} (a, b, y) (c, r, x) = cc in λ j. Directed (t j).0 (t j).1 (t j).2
 by_direction n (Open other) c r x e = let z : ◌≡◌ {A = ℕ} 0 1 = cc in absurd (omega arith)
 
-pub tested-out : (k : Known) (n : Node) {d : Direction} {c r x : ℕ}
-    → MemberTurned k.pack.now k.acts.now (value_in k.pack.now n.at) (member_in k.pack.now n.own) (value_in k.pack.now (n.at + 1)) (value_in k.pack.now (n.at + 2)) d → Ok (c, r, x) ≡ directed_by n d
-    → (Ok (Sets c r) ≡ tested_in k n) × OutFits (Ok (Sets c r))
-tested-out k n {d} {c} {r} {x} t e =
-    let q : d ≡ Directed c r x = by_direction n d c r x (sym e) in
+-- the relation of a node and its slots
+abbrev words_of : Known → Node → ℕ × ℕ × ℕ
+words_of k n = (value_in k.pack.now n.at, value_in k.pack.now (n.at + 1), value_in k.pack.now (n.at + 2))
+
+pub turned-out : (k : Known) (n : Node) {w : ℕ × ℕ × ℕ} → w ≡ words_of k n → {d : Direction} → d ≡ direction.turn (tables_in k.pack.now k.acts.now k.taken.now) w.0 n.entity w.1 w.2 → (d ≡ turned_in k n) × SlotsFit d
+unfolding turn_at
+turned-out k n q {d} e =
     let ws : List ℕ = k.pack.now in
-    let f : SlotsFit d = member_fits_code ws k.acts.now (value_in ws n.at) (member_in ws n.own) (value_in ws (n.at + 1)) (value_in ws (n.at + 2)) (omega arith) (omega arith) t in
-    (ap (tested_by n) (sym q ∙ t k.taken.now), subst SlotsFit q f)
+    let T : Tables = tables_in ws k.acts.now k.taken.now in
+    let t : d ≡ direction.turn T (value_in ws n.at) n.entity (value_in ws (n.at + 1)) (value_in ws (n.at + 2)) = e ∙ ap (λ (x : ℕ × ℕ × ℕ). direction.turn T x.0 n.entity x.1 x.2) q in
+    (t, turned_fits _ _ _ _ _ _ _ (omega arith) (omega arith) t)
+
+pub tested-out : (k : Known) (n : Node) {w : ℕ × ℕ × ℕ} → w ≡ words_of k n → {d : Direction} {c r x : ℕ}
+    → MemberTurned k.pack.now k.acts.now w.0 (member_in k.pack.now n.own) w.1 w.2 d → Ok (c, r, x) ≡ directed_by n d → (Ok (Sets c r) ≡ tested_in k n) × OutFits (Ok (Sets c r))
+tested-out k n w {d} {c} {r} {x} t e =
+    let ws : List ℕ = k.pack.now in
+    let q : d ≡ Directed c r x = by_direction n d c r x (sym e) in
+    let m : MemberTurned ws k.acts.now (value_in ws n.at) (member_in ws n.own) (value_in ws (n.at + 1)) (value_in ws (n.at + 2)) d = subst (λ (y : ℕ × ℕ × ℕ). MemberTurned ws k.acts.now y.0 (member_in ws n.own) y.1 y.2 d) w t in
+    let f : SlotsFit d = member_fits_code ws k.acts.now (value_in ws n.at) (member_in ws n.own) (value_in ws (n.at + 1)) (value_in ws (n.at + 2)) (omega arith) (omega arith) m in
+    (ap (tested_by n) (sym q ∙ m k.taken.now), subst SlotsFit q f)
 
 pub two_sets : (l : List ℕ) (at a b : ℕ) → set (set l (at + 1) a) (at + 2) b ≡ sets l (at + 1) (a ∷ b ∷ [])
 two_sets l at a b = let e : at + 2 ≡ suc (at + 1) = omega arith in ap (λ (x : ℕ). set (set l (at + 1) a) x b) e

@@ -1,8 +1,8 @@
 // What comes of one node, read in the words of the pack.
-ghost use Rattle.std.specs.Prelude.{◌≡◌, true};
+ghost use Rattle.std.specs.Prelude.{◌≡◌, ◌+◌, ◌<◌, true, length};
 ghost use Rattle.directions.specs.Words.{SlotsFit};
 ghost use Rattle.turning.specs.Notes.{look_of};
-ghost use Rattle.turning.specs.Turns.{kind_here};
+ghost use Rattle.turning.specs.Turns.{value_in, kind_here};
 ghost use Rattle.turning.specs.TurnPromises.{NodeStands, refused_at, directed_by, turned_in, went_by, tested_in, only_in, OutFits, StepTaken};
 ghost use Rattle.definitions.specs.Table.{entry_of};
 ghost use Rattle.definitions.specs.declared.table.Follows.TheVariants.{OnlyRelated};
@@ -64,15 +64,24 @@ impl Node {
 }
 
 impl Known<'_> {
+    // The relation of a node, and its slots.
+    #[inline]
+    fn slots(&self, at: usize) -> (usize, u32, u32)
+        requires { at + 2 < length self.now.pack.now }
+        ensures { result ≡ (value_in self.now.pack.now at, value_in self.now.pack.now (at + 1), value_in self.now.pack.now (at + 2)) }
+    {
+        let relation = (self.pack[at] % Pack::VALUES) as usize;
+        let current = self.pack[at + 1] % Pack::VALUES;
+        let related = self.pack[at + 2] % Pack::VALUES;
+        (relation, current, related)
+    }
+
     // The direction of an aggregate.
     fn turned(&self, node: Node) -> Direction
         requires { NodeStands self.now.pack.now node.at × ((look_of (kind_here self.now.pack.now node.at)).slots ≡ true) }
         ensures { (result ≡ turned_in self.now node) × SlotsFit result }
     {
-        let at = node.at;
-        let relation = (self.pack[at] % Pack::VALUES) as usize;
-        let current = self.pack[at + 1] % Pack::VALUES;
-        let related = self.pack[at + 2] % Pack::VALUES;
+        let (relation, current, related) = self.slots(node.at);
         turn(
             self.pack,
             self.acts,
@@ -122,10 +131,7 @@ impl Known<'_> {
         requires { NodeStands self.now.pack.now node.at × ((look_of (kind_here self.now.pack.now node.at)).slots ≡ true) }
         ensures { (result ≡ tested_in self.now node) × OutFits result }
     {
-        let at = node.at;
-        let relation = (self.pack[at] % Pack::VALUES) as usize;
-        let current = self.pack[at + 1] % Pack::VALUES;
-        let related = self.pack[at + 2] % Pack::VALUES;
+        let (relation, current, related) = self.slots(node.at);
         let direction = member(self.pack, self.acts, relation, node.own, current, related);
         let (current, related, _) = node.directed(direction)?;
         Ok(Out::Sets(current, related))
