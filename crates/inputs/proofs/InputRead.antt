@@ -19,8 +19,8 @@ use Rattle.std.specs.Prelude.{Result, Ok, Err}
 use Rattle.inputs.specs.declared.inputs.Declaration.{Declaration}
 use Rattle.inputs.specs.declared.inputs.Seen.{Seen}
 use Rattle.inputs.specs.declared.inputs.Seen.TheVariants.{Never, Once, Several}
-use Rattle.inputs.specs.declared.inputs.Number.{Number}
-use Rattle.inputs.specs.declared.inputs.Number.TheVariants.{NoSequence, NotBoolean, WrongOwner}
+use Rattle.definitions.specs.declared.answer.Number.{Number}
+use Rattle.definitions.specs.declared.answer.Number.TheVariants.{NoSequence, NotBoolean, WrongOwner}
 use Rattle.inputs.specs.Blocks.{declaration_at, seen_after, seen_items, seen_block, then_so, seen_blocks, allowed_as, input_in, refused_by}
 use Rattle.chains.proofs.RecordLaws.{value_there}
 

@@ -2,6 +2,9 @@
 use Rattle.std.specs.Prelude.{ℕ, zero, suc, ◌+◌, ◌*◌, ◌^◌, ◌≤◌, ◌≡◌, List, ◌||◌, not, eqb, Result, Ok, Err, Some, None}
 use Rattle.std.proofs.Math.Option.{Option, none, some}
 use Rattle.std.specs.declared.option.Option as code
+use Rattle.definitions.specs.declared.answer.Number.{Number}
+use Rattle.definitions.specs.declared.answer.Number.TheVariants.{NoSequence, NotDeclaredOnce, NotBoolean, WrongOwner}
+use Rattle.definitions.specs.Answers.{number_of}
 use Rattle.definitions.specs.Table.{pick}
 use Rattle.definitions.specs.Table as table
 use Rattle.definitions.specs.Form.{repeats}
@@ -9,16 +12,6 @@ use Rattle.chains.specs.Record.{value_at}
 use Rattle.inputs.specs.declared.inputs.Declaration.{Declaration}
 use Rattle.inputs.specs.declared.inputs.Seen.{Seen}
 use Rattle.inputs.specs.declared.inputs.Seen.TheVariants.{Never, Once, Several}
-use Rattle.inputs.specs.declared.inputs.Number.{Number}
-use Rattle.inputs.specs.declared.inputs.Number.TheVariants.{DirectionOpen, DerivedInput, NoSequence, NotDeclaredOnce, NotBoolean, WrongOwner}
-
-abbrev pub number_of : Number → ℕ
-number_of DirectionOpen = 10
-number_of DerivedInput = 11
-number_of NoSequence = 12
-number_of NotDeclaredOnce = 13
-number_of NotBoolean = 14
-number_of WrongOwner = 15
 
 -- the declaration in an item that starts at a place
 abbrev pub declaration_at : List ℕ → ℕ → Declaration

@@ -3,17 +3,8 @@ ghost use Rattle.std.specs.Prelude.{◌≡◌, ◌+◌, ◌*◌, ◌<◌, ◌≤
 ghost use Rattle.inputs.specs.Blocks.{declaration_at, seen_after, seen_items, item_count, seen_block, seen_blocks, allowed_as, input_in, far, AfterBlock};
 
 use chains::record::value_at;
+use definitions::answer::Number;
 use pack::kinds::Pack;
-
-#[derive(Clone, Copy, PartialEq, Eq)]
-pub enum Number {
-    DirectionOpen = 10,
-    DerivedInput = 11,
-    NoSequence = 12,
-    NotDeclaredOnce = 13,
-    NotBoolean = 14,
-    WrongOwner = 15,
-}
 
 // A declaration of a name: whether it is Boolean, and of which entity.
 #[derive(Clone, Copy, PartialEq, Eq)]

@@ -23,8 +23,8 @@ use Rattle.definitions.specs.Tree.{Fields}
 use Rattle.definitions.specs.ResolvingTrees.{with_slots, stops, aggregate, allowed_input, only_related, membership_test, node_step}
 use Rattle.directions.specs.Words.{tables_in, member_in, MemberTurned, SlotsFit}
 use Rattle.std.specs.Prelude.{Result, Ok, Err}
-use Rattle.inputs.specs.declared.inputs.Number.{Number}
-use Rattle.inputs.specs.declared.inputs.Number.TheVariants.{DerivedInput}
+use Rattle.definitions.specs.declared.answer.Number.{Number}
+use Rattle.definitions.specs.declared.answer.Number.TheVariants.{DerivedInput}
 use Rattle.inputs.specs.Blocks.{input_in, refused_by}
 use Rattle.directions.proofs.SlotLaws.{turned_fits, member_fits_code}
 use Rattle.turning.specs.declared.step.Out.{Out}

@@ -3,15 +3,15 @@ use Rattle.std.specs.Prelude.{ℕ, suc, ◌+◌, ◌<◌, ◌≤◌, ◌≡◌, 
 use Rattle.definitions.specs.Table.{pick, kind_of, value_of, entry_of, fields_of}
 use Rattle.definitions.specs.Records.{Pack}
 use Rattle.definitions.specs.Pack.{yes, read, words}
-use Rattle.inputs.specs.declared.inputs.Number.{Number}
-use Rattle.inputs.specs.declared.inputs.Number.TheVariants.{DirectionOpen, DerivedInput}
-use Rattle.inputs.specs.Blocks.{input_in, refused_by, number_of}
+use Rattle.definitions.specs.declared.answer.Number.{Number}
+use Rattle.definitions.specs.declared.answer.Number.TheVariants.{DirectionOpen, DerivedInput}
+use Rattle.inputs.specs.Blocks.{input_in, refused_by}
 use Rattle.definitions.specs.declared.answer.Refusal.{Refusal}
 use Rattle.definitions.specs.declared.direction.Direction.{Direction}
 use Rattle.definitions.specs.declared.direction.Direction.TheVariants.{Directed, Open}
 use Rattle.definitions.specs.Tables.{Tables}
 use Rattle.definitions.specs.Direction.{turn, Membership, related_kind, member_direction}
-use Rattle.definitions.specs.Answers.{Outcome, done, refused}
+use Rattle.definitions.specs.Answers.{Outcome, done, refused, number_of}
 use Rattle.definitions.specs.ResolvingTrees.{Citing, current_of, related_of, NodeStep, goes, stops}
 use Rattle.directions.specs.Words.{tables_in, member_in}
 use Rattle.directions.specs.RecordRuns.{trees_resolved}

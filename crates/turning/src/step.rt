@@ -9,10 +9,10 @@ ghost use Rattle.definitions.specs.declared.table.Follows.TheVariants.{OnlyRelat
 
 use crate::known::Known;
 use crate::root::Root;
-use definitions::answer::Refusal;
+use definitions::answer::{Number, Refusal};
 use definitions::direction::Direction;
 use directions::direction::{member, turn};
-use inputs::inputs::{Number, input};
+use inputs::inputs::input;
 use pack::kinds::Pack;
 
 // Its slots and the entity of what stands inside it; its slots, where nothing stands inside it; or nothing, where it has no slots.
