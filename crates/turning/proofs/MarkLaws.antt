@@ -1,5 +1,5 @@
 -- Marks by name, from the notes.
-use Prim.Native.Nat.{ℕ, suc, ◌+◌, ◌-◌, ◌<◌, ◌≤◌}
+use Prim.Native.Nat.{ℕ, suc, ◌+◌, ◌-◌, ◌/◌, ◌%◌, ◌<◌, ◌≤◌}
 use native.Mathlib.Omega.{arith}
 use native.Mathlib.Numerals.{add-one}
 use mathlib.Core.Path.{◌≡◌, refl, ap, sym, ◌∙◌}
@@ -19,6 +19,14 @@ use Rattle.turning.specs.Notes.{Note, note_code, Held}
 use Rattle.turning.specs.Turns.{field_of, note_in, value_in, kind_here}
 use Rattle.turning.specs.Asked.{relation_after, mark_if, atom_marked, role_marked, mark_note, mark_notes, InWords, MarkAsked, NoteMarked, MarksAsked, NotesMarked}
 use Rattle.turning.proofs.CodeLaws.{as_read, is_note, read_is}
+
+-- the parts of a note's number
+module _ {code : ℕ} (n : Note) (is : code ≡ note_code n) (near : n.place + 1 < 8192) where
+  pub mark_place : code % 8192 - 1 ≡ n.place
+  mark_place = ap (λ (x : taken.Note). x.place) (read_is n is near refl)
+
+  pub mark_inside : code / 16384 ≡ n.inside
+  mark_inside = ap (λ (x : taken.Note). x.inside) (read_is n is near refl)
 
 module _ {ws : List ℕ} {code : ℕ} (a : MarkAsked ws code) where
   pub some_place : 1 ≤ field_of code

@@ -38,6 +38,10 @@ pub record NodeStands (ws : List ℕ) (at : ℕ) : Type 0 where
   pub slots : (look_of (kind_here ws at)).slots ≡ true → (kind_here ws (at + 1) ≡ 80) × (kind_here ws (at + 2) ≡ 81)
   pub short : length ws ≤ 8192
 
+-- one that has slots
+abbrev pub HasSlots : List ℕ → ℕ → Type 0
+HasSlots ws at = NodeStands ws at × ((look_of (kind_here ws at)).slots ≡ true)
+
 -- a rule or relation: its origin and what follows are there
 abbrev pub RootStands : List ℕ → ℕ → Type 0
 RootStands ws at = at + 2 < length ws

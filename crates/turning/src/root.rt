@@ -6,8 +6,8 @@ use directions::direction::related_kind;
 use filtered::act::act_of;
 use pack::kinds::Pack;
 
-// Its name, its origin, the entity of its trees, and the number of the relation in whose predicate they stand, 0 for a rule. By
-// default it is none.
+// Its name, its origin, the entity of its trees, and what `acts` has for the relation in whose predicate they stand: 0, which is NEITHER
+// there, for a rule. By default it is none.
 #[derive(Clone, Copy, Default)]
 pub struct Root {
     pub name: u32,

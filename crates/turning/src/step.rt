@@ -1,9 +1,8 @@
 // What comes of one node, read in the words of the pack.
-ghost use Rattle.std.specs.Prelude.{◌≡◌, ◌+◌, ◌<◌, true, length};
+ghost use Rattle.std.specs.Prelude.{◌≡◌, ◌+◌, ◌<◌, length};
 ghost use Rattle.directions.specs.Words.{SlotsFit};
-ghost use Rattle.turning.specs.Notes.{look_of};
 ghost use Rattle.turning.specs.Turns.{value_in, kind_here};
-ghost use Rattle.turning.specs.TurnPromises.{NodeStands, refused_at, directed_by, turned_in, went_by, tested_in, only_in, OutFits, StepTaken};
+ghost use Rattle.turning.specs.TurnPromises.{NodeStands, HasSlots, refused_at, directed_by, turned_in, went_by, tested_in, only_in, OutFits, StepTaken};
 ghost use Rattle.definitions.specs.Table.{entry_of};
 ghost use Rattle.definitions.specs.declared.table.Follows.TheVariants.{OnlyRelated};
 
@@ -78,7 +77,7 @@ impl Known<'_> {
 
     // The direction of an aggregate.
     fn turned(&self, node: Node) -> Direction
-        requires { NodeStands self.now.pack.now node.at × ((look_of (kind_here self.now.pack.now node.at)).slots ≡ true) }
+        requires { HasSlots self.now.pack.now node.at }
         ensures { (result ≡ turned_in self.now node) × SlotsFit result }
     {
         let (relation, current, related) = self.slots(node.at);
@@ -95,7 +94,7 @@ impl Known<'_> {
 
     // An aggregate.
     fn aggregate(&self, node: Node) -> Result<Out, Refusal>
-        requires { NodeStands self.now.pack.now node.at × ((look_of (kind_here self.now.pack.now node.at)).slots ≡ true) }
+        requires { HasSlots self.now.pack.now node.at }
         ensures { (result ≡ went_by node (turned_in self.now node)) × OutFits result }
     {
         let (current, related, entity) = node.directed(self.turned(node))?;
@@ -128,7 +127,7 @@ impl Known<'_> {
 
     // A test of membership.
     fn membership(&self, node: Node) -> Result<Out, Refusal>
-        requires { NodeStands self.now.pack.now node.at × ((look_of (kind_here self.now.pack.now node.at)).slots ≡ true) }
+        requires { HasSlots self.now.pack.now node.at }
         ensures { (result ≡ tested_in self.now node) × OutFits result }
     {
         let (relation, current, related) = self.slots(node.at);
