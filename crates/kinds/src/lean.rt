@@ -1,28 +1,21 @@
 // Lean: whether a name leans on another.
-ghost use Rattle.std.specs.Prelude.{◌≡◌, ◌≤◌, length};
-ghost use Rattle.chains.specs.PackDirectory.{DirectoryRoom};
+ghost use Rattle.std.specs.Prelude.{◌≡◌};
+ghost use Rattle.chains.specs.PackDirectory.{Sized};
 ghost use Rattle.definitions.specs.Operations.{lean_answer};
 
 use crate::search::leads;
 use chains::unknown::unknown_name;
 use checking::check::{answer, check_directory, names_said};
 use definitions::answer::Answer;
-use pack::kinds::Pack;
 use records::directory::{Directory, Laid};
 
-// Whether a name leans on another, by a directory, marks and a queue that are lent.
-fn lean_in(
-    pack: &[u32],
-    a: u32,
-    b: u32,
-    dir: &mut [u32],
-    marks: &mut [u8],
-    queue: &mut [u32],
-) -> Answer
-    requires { DirectoryRoom pack.now dir.old marks.old × (length marks.old ≤ length queue.old) }
+// Whether a name leans on another, by a directory, marks and a queue for so many names.
+fn lean_sized<const WORDS: usize, const NAMES: usize>(pack: &[u32], a: u32, b: u32) -> Answer
+    requires { Sized pack.now WORDS NAMES }
     ensures { result ≡ lean_answer pack.now a b }
 {
-    let r = check_directory(pack, dir);
+    let mut dir = [0u32; WORDS];
+    let r = check_directory(pack, &mut dir);
     let Laid::Yes(l) = r else {
         return answer(r);
     };
@@ -32,7 +25,9 @@ fn lean_in(
     if l.names <= b {
         return unknown_name(b);
     }
-    if leads(pack, dir, a as usize, b as usize, marks, queue) {
+    let mut marks = [0u8; NAMES];
+    let mut queue = [0u32; NAMES];
+    if leads(pack, &dir, a as usize, b as usize, &mut marks, &mut queue) {
         return Answer::Given(1, 0);
     }
     Answer::Given(0, 0)
@@ -44,19 +39,10 @@ pub fn lean(pack: &[u32], a: u32, b: u32) -> Answer
 {
     let n = names_said(pack);
     if n <= Directory::FEW {
-        let mut dir = [0u32; Directory::NAMES + Directory::FEW];
-        let mut marks = [0u8; Directory::FEW];
-        let mut queue = [0u32; Directory::FEW];
-        return lean_in(pack, a, b, &mut dir, &mut marks, &mut queue);
+        return lean_sized::<{ Directory::FEW_WORDS }, { Directory::FEW }>(pack, a, b);
     }
     if n <= Directory::SOME {
-        let mut dir = [0u32; Directory::NAMES + Directory::SOME];
-        let mut marks = [0u8; Directory::SOME];
-        let mut queue = [0u32; Directory::SOME];
-        return lean_in(pack, a, b, &mut dir, &mut marks, &mut queue);
+        return lean_sized::<{ Directory::SOME_WORDS }, { Directory::SOME }>(pack, a, b);
     }
-    let mut dir = [0u32; Directory::WORDS];
-    let mut marks = [0u8; Pack::MOST_NAMES as usize];
-    let mut queue = [0u32; Pack::MOST_NAMES as usize];
-    lean_in(pack, a, b, &mut dir, &mut marks, &mut queue)
+    lean_sized::<{ Directory::WORDS }, { Directory::ALL }>(pack, a, b)
 }
