@@ -2,7 +2,7 @@
 use Rattle.definitions.specs.Pack.{member}
 use Rattle.definitions.specs.Tree.{root}
 use Rattle.pack.proofs.StepLaws.{last_err, then_ok, then_err}
-use Rattle.reading.proofs.CodeLaws.{field-within, step_within}
+use Rattle.reading.proofs.WalkLaws.{field-within, step_within}
 use Rattle.records.proofs.KeptLaws.{noted_err}
 use Rattle.records.proofs.NotesLaws.{rooted, member-noted}
 use Rattle.records.proofs.derivation.member.Goals as goal
