@@ -9,9 +9,10 @@ ghost use Rattle.definitions.specs.Operations.{all_kinds_answer, all_kinds_buffe
 
 use chains::entry::name_at;
 use chains::settle::{Mark, settle_all};
-use checking::check::{answer, check_directory, names_said, refuse};
-use definitions::answer::{Answer, Number};
-use records::directory::{Directory, Laid};
+use checking::check::{check_directory, names_said};
+use definitions::answer::{Answer, Given, Number};
+use pack::refusal::refused;
+use records::directory::Directory;
 
 // The place of each relation's list in record order, for as many as there is room.
 fn places(dir: &[u32], marks: &[u32], out: &mut [u32])
@@ -29,18 +30,18 @@ fn kinds_sized<const WORDS: usize, const NAMES: usize>(pack: &[u32], out: &mut [
     ensures { Answered all_kinds_answer all_kinds_buffer pack.now out.old result out.new }
 {
     let mut dir = [0u32; WORDS];
-    let r = check_directory(pack, &mut dir);
-    let Laid::Yes(l) = r else {
-        return answer(r);
-    };
+    let l = check_directory(pack, &mut dir)?;
     let count = l.relations as usize;
     if out.len() < count {
-        return refuse(Number::NO_ROOM, 0);
+        return Err(refused(Number::NoRoom, 0));
     }
     let mut marks = [0u32; NAMES];
     let steps = settle_all(&dir, &mut marks, l.relations);
     places(&dir, &marks, &mut out[0..count]);
-    Answer::Given(l.relations, steps)
+    Ok(Given {
+        value: l.relations,
+        steps,
+    })
 }
 
 // Each relation's kinds in record order, as the place of the list that settles it, 0 for none; the steps are the declarations read.

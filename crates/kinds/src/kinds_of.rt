@@ -5,9 +5,9 @@ ghost use Rattle.definitions.specs.Operations.{kinds_of_answer};
 
 use chains::settle::walk;
 use chains::unknown::unknown_name;
-use checking::check::{answer, check_directory, names_said};
-use definitions::answer::Answer;
-use records::directory::{Directory, Laid};
+use checking::check::{check_directory, names_said};
+use definitions::answer::{Answer, Given};
+use records::directory::Directory;
 
 // The place of a name's list, by a directory and marks for so many names.
 fn place_sized<const WORDS: usize, const NAMES: usize>(pack: &[u32], name: u32) -> Answer
@@ -15,17 +15,17 @@ fn place_sized<const WORDS: usize, const NAMES: usize>(pack: &[u32], name: u32) 
     ensures { result ≡ kinds_of_answer pack.now name }
 {
     let mut dir = [0u32; WORDS];
-    let r = check_directory(pack, &mut dir);
-    let Laid::Yes(l) = r else {
-        return answer(r);
-    };
+    let l = check_directory(pack, &mut dir)?;
     if l.names <= name {
-        return unknown_name(name);
+        return Err(unknown_name(name));
     }
     let mut marks = [0u32; NAMES];
     let mut steps: u32 = 0;
     let place = walk(&dir, &mut marks, &mut steps, name as usize, l.relations + 1);
-    Answer::Given(place, 0)
+    Ok(Given {
+        value: place,
+        steps: 0,
+    })
 }
 
 // The place of the list that settles a name, 0 for none.

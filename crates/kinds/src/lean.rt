@@ -5,9 +5,9 @@ ghost use Rattle.definitions.specs.Operations.{lean_answer};
 
 use crate::search::leads;
 use chains::unknown::unknown_name;
-use checking::check::{answer, check_directory, names_said};
-use definitions::answer::Answer;
-use records::directory::{Directory, Laid};
+use checking::check::{check_directory, names_said};
+use definitions::answer::{Answer, Given};
+use records::directory::Directory;
 
 // Whether a name leans on another, by a directory, marks and a queue for so many names.
 fn lean_sized<const WORDS: usize, const NAMES: usize>(pack: &[u32], a: u32, b: u32) -> Answer
@@ -15,22 +15,20 @@ fn lean_sized<const WORDS: usize, const NAMES: usize>(pack: &[u32], a: u32, b: u
     ensures { result ≡ lean_answer pack.now a b }
 {
     let mut dir = [0u32; WORDS];
-    let r = check_directory(pack, &mut dir);
-    let Laid::Yes(l) = r else {
-        return answer(r);
-    };
+    let l = check_directory(pack, &mut dir)?;
     if l.names <= a {
-        return unknown_name(a);
+        return Err(unknown_name(a));
     }
     if l.names <= b {
-        return unknown_name(b);
+        return Err(unknown_name(b));
     }
     let mut marks = [0u8; NAMES];
     let mut queue = [0u32; NAMES];
-    if leads(pack, &dir, a as usize, b as usize, &mut marks, &mut queue) {
-        return Answer::Given(1, 0);
-    }
-    Answer::Given(0, 0)
+    let leans = leads(pack, &dir, a as usize, b as usize, &mut marks, &mut queue);
+    Ok(Given {
+        value: leans as u32,
+        steps: 0,
+    })
 }
 
 // 1 if the first name leans on the second, 0 if not.

@@ -1,5 +1,5 @@
 -- `kinds::search::Search::reach` meets its contract.
-use mathlib.Core.Path.{sym, ◌∙◌}
+use mathlib.Core.Path.{sym}
 use Rattle.kinds.proofs.SearchLaws.{inside, fits, reached-before, reached_now, room_kept, added}
 use Rattle.kinds.proofs.search.Search.reach.Goals as goal
 

@@ -1,5 +1,5 @@
 -- `kinds::search::Search::reach_source` meets its contract.
-use Rattle.kinds.proofs.SearchLaws.{no_source, source-asked, a_source}
+use Rattle.kinds.proofs.SearchLaws.{no_source, a_source}
 use Rattle.kinds.proofs.search.Search.reach_source.Goals as goal
 
 pub returns-then-source-ne-NONE : goal.returns-then-source-ne-NONE
