@@ -16,10 +16,6 @@ pub returns-in_err-first : goal.returns-in_err-first
 unfolding bodies
 returns-in_err-first c = noted_err (first-stop _ _ _ _ _ _ _ _ c.field.ensures c.in_ok-count.was _ c.in_err-first.ensures.answers refl) c.from_residual-in_err-first.ensures.1
 
-pub loop-init : goal.loop-init
-unfolding bodies
-loop-init c = (left_all, refl)
-
 pub returns-in_err-next : goal.returns-in_err-next
 unfolding bodies
 returns-in_err-next c = more_err c.field.ensures c.in_ok-count.was c.body.ensures c.in_ok-first.was c.loop.invariant.0 (omega arith) c.in_err-next.ensures c.from_residual-in_err-next.ensures.1

@@ -23,9 +23,6 @@ returns-in_err-c3 c =
 pub open-context-requires : goal.open-context-requires
 open-context-requires c = rule-place _ _ _ c.skip.ensures c.in_ok-c1.was c.requires
 
-pub bodies-requires : goal.bodies-requires
-bodies-requires c = (c.requires, rule_context c.args.notes.now c.open-context.ensures.0)
-
 pub returns : goal.returns
 returns c =
     λ i. rule-noted _ i _ _ _ c.skip.ensures c.in_ok-c1.was c.skip-2.ensures c.in_ok-c2.was c.skip-3.ensures c.in_ok-c3.was
