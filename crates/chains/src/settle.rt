@@ -5,7 +5,7 @@ ghost use Rattle.chains.specs.Mark.{number_of_mark};
 ghost use Rattle.chains.specs.Settle.{Walkable, WalkedHere, Settleable, SettledAll};
 ghost use Rattle.chains.specs.Walks.{Keeps, ReadBy, WalkableBy, WentAheadBy, MarkableBy, MarkedBy, WalkedBy};
 
-use crate::entry::{Declaration, declared, name_at};
+use crate::entry::{Declaration, declared};
 
 // What is known of a name: nothing, that it is on the path of the walk that is going on, or its answer. Tables of marks by name hold
 // it as a number, since they stand on the stack, where words of two numbers would take twice the room.
