@@ -168,7 +168,7 @@ module _ (p : Pack) (w : WellFormed p) (rels : List Relation) (rls : List Rule) 
 
 -- ---- for the code
 
-front_length : (lent : List ℕ) (count : ℕ) → count ≤ length lent → length (mid_of 0 (count - 0) lent) ≡ count
+pub front_length : (lent : List ℕ) (count : ℕ) → count ≤ length lent → length (mid_of 0 (count - 0) lent) ≡ count
 front_length lent count h = let whole : count - 0 ≡ count = omega arith in rw whole (length-take-le count lent h)
 
 done-same : {A : Type 0} {a b : A} → ◌≡◌ {A = Outcome A} (done a) (done b) → a ≡ b

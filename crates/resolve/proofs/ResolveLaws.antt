@@ -43,7 +43,7 @@ use Rattle.definitions.specs.Operations.{resolve_answer, resolve_buffer}
 use Rattle.directions.specs.Words.{derived_in, tables_in, first_equal}
 use Rattle.chains.specs.Record.{value_at}
 use Rattle.directions.specs.RecordRuns.{with_records, trees_resolved, TablesFilled}
-use Rattle.resolve.specs.declared.finish.Figures.{Figures}
+use Rattle.resolve.specs.declared.checked.Figures.{Figures}
 use Rattle.definitions.specs.WrittenRecords.{beginnings, pieces_of}
 use Rattle.resolve.specs.Finish.{stamp_all, resolved_trees, AskedOf, TreesAsked, TreesCame, ResolveAsked, PlacedAsked, TablesFor, CheckedAsked, RoomFor, front_of, Into, FinishAsked, FinishCame, given_out, written_out}
 use Rattle.turning.specs.declared.turns.Ended.{Ended}

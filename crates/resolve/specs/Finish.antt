@@ -30,7 +30,9 @@ use Rattle.turning.specs.TurnPromises.{TurnedAs, PackAsked}
 use Rattle.turning.specs.Asked.{NotesMarked}
 use Rattle.directions.specs.Words.{first_equal}
 use Rattle.definitions.specs.Table as table
-use Rattle.resolve.specs.declared.finish.Figures.{Figures}
+use Rattle.resolve.specs.declared.checked.Figures.{Figures}
+use Rattle.resolve.specs.declared.writer.Writer.{Writer}
+use Rattle.resolve.specs.Writing.{HasRoom, Writes}
 
 -- ---- the first three steps of Resolving
 
@@ -65,18 +67,17 @@ roots_of [] = []
 roots_of (n ∷ ns) = pick (eqb n.inside 0) (n.place ∷ roots_of ns) (roots_of ns)
 
 -- notes in an array from an index up to another, and room for their roots
-pub record RulesAsked (notes : List ℕ) (from all room : ℕ) : Type 0 where
+pub record RulesAsked (notes : List ℕ) (from all : ℕ) (w : Writer) : Type 0 where
   pub ws : List ℕ
   pub ns : List Note
   pub are : Held notes from ns
   pub many : all + 1 ≡ from + length ns
   pub within : all < length notes
   pub there : InWords ws ns
-  pub size : room ≡ length (roots_of ns)
-  pub few : room ≤ 8192
+  pub room : HasRoom w (roots_of ns)
 
-abbrev pub RulesCame : List ℕ → ℕ → ℕ → ℕ → List ℕ → Type 0
-RulesCame notes from all room left = (a : RulesAsked notes from all room) → left ≡ roots_of a.ns
+abbrev pub RulesCame : List ℕ → ℕ → ℕ → Writer → Writer → Type 0
+RulesCame notes from all w w' = (a : RulesAsked notes from all w) → Writes w (roots_of a.ns) w'
 
 -- where so many blocks start, one after the other from a place on
 unfoldable pub block_places : List ℕ → ℕ → ℕ → List ℕ
@@ -144,6 +145,14 @@ pub record PlacedAsked (ws acts taken asked places notes : List ℕ) (f : Figure
   pub resolves : ResolveAsked ws dir acts taken before notes f work
   pub marked : NotesMarked ws notes f.notes.all before asked
   pub begins : places ≡ beginnings 0 (pieces_of resolves.directory.checked.pack)
+  pub unequal : first_equal ws acts 3 (value_at ws 2) ≡ table.none
+
+-- the same before the places are known, of which there are no more than so many
+pub record PiecesAsked (ws dir acts taken asked notes : List ℕ) (f : Figures) (work : List ℕ) (most : ℕ) : Type 0 where
+  pub before : List ℕ
+  pub resolves : ResolveAsked ws dir acts taken before notes f work
+  pub marked : NotesMarked ws notes f.notes.all before asked
+  pub few : f.relations + value_at ws f.rules + f.notes.blocks.count + 3 ≤ most
   pub unequal : first_equal ws acts 3 (value_at ws 2) ≡ table.none
 
 -- room for the places of its pieces, and these places
