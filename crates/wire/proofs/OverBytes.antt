@@ -1,7 +1,7 @@
 -- Operations over bytes: what a function that loads, runs the operation and gives its words answers and leaves, from what each step ensures.
 use Prim.Native.Nat.{ℕ, ◌/◌, ◌%◌, ◌≤◌, min}
 use native.Mathlib.Omega.{arith}
-use mathlib.Core.Path.{◌≡◌, refl, ap, sym, ◌∙◌}
+use mathlib.Core.Path.{◌≡◌, refl, ap, sym, ◌∙◌, subst}
 use mathlib.Core.Bool.{Bool, true, false, not, ◌&&◌}
 use mathlib.Core.List.{List, [], ◌++◌}
 use lib.ListN.{length, take, drop, length-append}
@@ -125,3 +125,7 @@ module _ {answer : List ℕ → ℕ → Answer} {buffer : List ℕ → List ℕ 
     -- with 16 the output is as it was
     pub kept_out : r ≡ 16 → after ≡ out
     kept_out e = t.leaves ∙ unchanged (answer (loaded_of bytes) (min (length out / 4) most)) (buffer (loaded_of bytes) (words_of out)) out (sym t.answers ∙ e)
+
+-- in as many words
+pub tried_as : {answer : List ℕ → ℕ → Answer} {buffer : List ℕ → List ℕ → List ℕ} {bytes out after : List ℕ} {n m r : ℕ} → n ≡ m → Tried answer buffer bytes n out r after → Tried answer buffer bytes m out r after
+tried_as {answer} {buffer} {bytes} {out} {after} {r = r} e t = subst (λ (k : ℕ). Tried answer buffer bytes k out r after) e t
