@@ -1,7 +1,6 @@
 pub mod TreeLaws
-pub mod CodeLaws
+pub mod WalkLaws
 pub mod NotingLaws
 pub mod RowLaws
 pub mod NotesLaws
-pub mod BoundLaws
 pub mod PartLaws
