@@ -1,10 +1,10 @@
 // Answers as one number.
 ghost use Rattle.std.specs.Prelude.{◌≡◌, ◌*◌, ◌/◌, ◌%◌, ◌^◌, ◌<◌, ◌≤◌, length};
 ghost use Rattle.definitions.specs.Bytes.{in_bits, encode, decode, out_after};
-ghost use Rattle.wire.specs.Loading.{FitsOutput};
+ghost use Rattle.wire.specs.Loading.{lacks_room, FitsOutput};
 
 use crate::bytes::store;
-use definitions::answer::{Answer, Refusal};
+use definitions::answer::{Answer, Given, Number, Refusal};
 
 // A field of an answer's number: what one of it counts, and how many values it has.
 #[derive(Clone, Copy)]
@@ -65,8 +65,8 @@ pub fn encode(a: Answer) -> u64
     ensures { result ≡ encode a }
 {
     match a {
-        Answer::Given(value, steps) => in_bits(0, 0, value, steps),
-        Answer::Refused(r) => in_bits(r.number, r.place, r.name, r.other),
+        Ok(g) => in_bits(0, 0, g.value, g.steps),
+        Err(r) => in_bits(r.number, r.place, r.name, r.other),
     }
 }
 
@@ -80,9 +80,12 @@ pub fn decode(r: u64) -> Answer
     let name = Field::NAME.get(r) as u32;
     let other = Field::OTHER.get(r) as u32;
     if number == 0 {
-        return Answer::Given(name, other);
+        return Ok(Given {
+            value: name,
+            steps: other,
+        });
     }
-    Answer::Refused(Refusal {
+    Err(Refusal {
         number,
         place,
         name,
@@ -90,14 +93,23 @@ pub fn decode(r: u64) -> Answer
     })
 }
 
-// An answer, with as many of the words as it says as bytes in the output.
-#[tactic(auto, unfolding(definitions::specs::Bytes::out_after))]
-pub fn give(a: Answer, words: &[u32], out: &mut [u8]) -> u64
-    requires { FitsOutput a (length words.now) (length out.old) }
-    ensures { (result ≡ encode a) × (out.new ≡ out_after a words.now out.old) }
+// Whether it is the refusal for want of room.
+pub fn lacks_room(a: Answer) -> bool
+    ensures { result ≡ lacks_room a }
 {
-    if let Answer::Given(n, _) = a {
-        store(words, n as usize, out);
+    match a {
+        Ok(_) => false,
+        Err(r) => r.number == Number::NoRoom as u32,
     }
-    encode(a)
+}
+
+// As many of the words as an answer says, as bytes in the output; after a refusal none.
+#[tactic(auto, unfolding(definitions::specs::Bytes::out_after))]
+pub fn put(a: Answer, words: &[u32], out: &mut [u8])
+    requires { FitsOutput a (length words.now) (length out.old) }
+    ensures { out.new ≡ out_after a words.now out.old }
+{
+    if let Ok(g) = a {
+        store(words, g.value as usize, out);
+    }
 }
