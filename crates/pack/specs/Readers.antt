@@ -1,8 +1,8 @@
 -- What the functions that read a part of a pack answer: the forms' readers, of whose values a number is kept.
-use Rattle.std.specs.Prelude.{ℕ, ◌+◌, ◌-◌, ◌*◌, ◌/◌, ◌%◌, Bool, List, [], ◌∷◌, drop, get_or, ltb, eqb, Result, Ok, Err}
+use Rattle.std.specs.Prelude.{ℕ, ◌+◌, Bool, List, [], ◌∷◌, drop, get_or, eqb, Result, Ok, Err}
 use Rattle.pack.specs.declared.cursor.Cursor.{Cursor}
 use Rattle.definitions.specs.declared.answer.Refusal.{Refusal}
-use Rattle.definitions.specs.Table.{pick, word_of}
+use Rattle.definitions.specs.Table.{word_of}
 use Rattle.definitions.specs.Form.{Read, got, refused, Form, field, read_all, read_by}
 use Rattle.definitions.specs.Records.{Relation}
 

@@ -1,9 +1,8 @@
 -- `pack::heads::end_of` meets its contract, rule by rule.
-use Rattle.std.proofs.Common.{◌≡◌, ◌<◌, ◌≤◌, ℕ, arith, sym, ap, ◌∙◌}
+use Rattle.std.proofs.Common.{◌≡◌, ◌<◌, ◌≤◌, ℕ, arith, ap, ◌∙◌}
 use Rattle.definitions.specs.declared.table.Entry.{Entry}
-use Rattle.definitions.specs.declared.table.Values.TheVariants.{Any, AtMost}
 use Rattle.definitions.specs.Table.{entry_of}
-use Rattle.pack.proofs.HeadLaws.{sorted, most_small, ends-none, ends-any, ends-name, ends-most}
+use Rattle.pack.proofs.HeadLaws.{sorted, most_small, ends-any, ends-name, ends-most}
 use Rattle.pack.proofs.heads.end_of.Goals as goal
 
 sort_is : {e d : Entry} → e ≡ d → e.sort ≡ d.sort

@@ -5,7 +5,7 @@ use Rattle.pack.proofs.StepLaws.{more-stop, first-stop}
 use Rattle.records.specs.Notes.{note_body, note_bodies}
 use Rattle.records.proofs.RecordLaws.{bodies_one}
 use Rattle.records.proofs.KeptLaws.{noted_err}
-use Rattle.records.proofs.LoopLaws.{left_all, left_next, more_err, noted_more}
+use Rattle.records.proofs.LoopLaws.{left_next, more_err, noted_more}
 use Rattle.records.proofs.rule.bodies.Goals as goal
 
 pub returns-in_err-count : goal.returns-in_err-count

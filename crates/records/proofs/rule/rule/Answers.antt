@@ -2,7 +2,7 @@
 use Rattle.definitions.specs.Pack.{rule}
 use Rattle.pack.proofs.StepLaws.{by-via, then_ok, then_err}
 use Rattle.records.proofs.KeptLaws.{noted_err}
-use Rattle.records.proofs.NotesLaws.{rule-place, rule_context, rule-noted}
+use Rattle.records.proofs.NotesLaws.{rule-place, rule-noted}
 use Rattle.records.proofs.rule.rule.Goals as goal
 
 pub returns-in_err-c1 : goal.returns-in_err-c1
