@@ -4,9 +4,9 @@ ghost use Rattle.resolve.specs.Finish.{ClearFor, FinishAsked, FinishCame};
 
 use crate::checked::Checked;
 use crate::write::write;
-use checking::check::refuse;
-use definitions::answer::{Answer, Number};
+use definitions::answer::{Answer, Given, Number};
 use pack::kinds::Pack;
+use pack::refusal::refused;
 use stamping::lists::lists;
 
 // From the words of a pack whose trees are resolved, and the places of its pieces, with a cleared table for the lists that are
@@ -28,14 +28,17 @@ fn finish_in(
     let more = lists(pack, work, checked.acts, asked, order, &mut found[1..after]);
     let len = work.len() + more;
     if Pack::MOST_WORDS < len {
-        return refuse(Number::NO_ROOM, 0);
+        return Err(refused(Number::NoRoom, 0));
     }
     if out.len() < len {
-        return refuse(Number::NO_ROOM, 0);
+        return Err(refused(Number::NoRoom, 0));
     }
     let all = places.len();
     write(pack, work, places, &found[0..all], &mut out[0..len]);
-    Answer::Given(len as u32, checked.figures.steps)
+    Ok(Given {
+        value: len as u32,
+        steps: checked.figures.steps,
+    })
 }
 
 // With room for so many lists: a pack of few pieces has a small table.

@@ -10,15 +10,15 @@ use crate::checked::{Checked, Figures, Places};
 use crate::finish::finish;
 use crate::order::order;
 use chains::entry::start;
-use checking::check::{answer, check_notes, names_said};
+use checking::check::{check_notes, names_said};
 use checking::rewrite::written;
 use definitions::answer::{Answer, Number, Refusal};
 use directions::equal::first_equal;
 use filtered::taking::read_tables;
 use pack::kinds::Pack;
-use records::directory::{Directory, Laid};
+use records::directory::Directory;
 use turning::asked::ask_notes;
-use turning::turns::{Ended, turn_pack};
+use turning::turns::turn_pack;
 
 // The place of each piece of a pack is known, no more than MOST of them, and no defaulted name has equal kinds: all trees are
 // resolved in a copy of the words, and then the result takes the place of the notes, if there is room for it.
@@ -34,13 +34,9 @@ fn resolve_placed<const MOST: usize>(
 {
     work.copy_from_slice(checked.pack);
     let notes = checked.figures.notes;
-    match turn_pack(checked.pack, checked.acts, checked.taken, work, out, notes) {
-        Ended::All => {
-            let room = checked.figures.room;
-            finish::<MOST>(checked, asked, places, work, &mut out[0..room])
-        }
-        Ended::Refused(x) => Answer::Refused(x),
-    }
+    turn_pack(checked.pack, checked.acts, checked.taken, work, out, notes)?;
+    let room = checked.figures.room;
+    finish::<MOST>(checked, asked, places, work, &mut out[0..room])
 }
 
 // With room for the places of so many pieces: clearing a large table would take longer than the work on a small pack.
@@ -67,9 +63,8 @@ fn resolve_in(checked: &Checked, asked: &mut [u8], out: &mut [u32], work: &mut [
     requires { ResolveAsked checked.now.pack.now checked.now.dir.now checked.now.acts.now checked.now.taken.now asked.old out.old checked.now.figures work.old }
     ensures { Into checked.now.pack.now checked.now.figures.room result out.new }
 {
-    let name = first_equal(checked.pack, checked.acts);
-    if name != Pack::NONE {
-        return equal_kinds(checked.dir, name);
+    if let Some(name) = first_equal(checked.pack, checked.acts) {
+        return Err(equal_kinds(checked.dir, name));
     }
     ask_notes(checked.pack, out, checked.figures.notes.all, asked);
     if checked.pieces() <= Places::FEW {
@@ -79,16 +74,16 @@ fn resolve_in(checked: &Checked, asked: &mut [u8], out: &mut [u32], work: &mut [
 }
 
 // The refusal of a name whose relation has equal kinds in both slots.
-fn equal_kinds(dir: &[u32], name: u32) -> Answer
+fn equal_kinds(dir: &[u32], name: u32) -> Refusal
     requires { Reaches dir.now (name + 1) }
-    ensures { result ≡ Answer.Refused (record { number = 9; place = get_or (starts_in dir.now) name 0; name = name; other = 0 }) }
+    ensures { result ≡ record { number = 9; place = get_or (starts_in dir.now) name 0; name = name; other = 0 } }
 {
-    Answer::Refused(Refusal {
-        number: Number::EQUAL_KINDS,
+    Refusal {
+        number: Number::EqualKinds as u32,
         place: start(dir, name as usize),
         name,
         other: 0,
-    })
+    }
 }
 
 // With a directory and tables for the names that the words say, and a slice for a copy of the words.
@@ -105,10 +100,7 @@ fn resolve_by(
     requires { RoomFor pack.now out.old room × TablesFor pack.now dir.old acts.old taken.old asked.old × (length pack.now ≤ 8192 → length pack.now ≤ length words.old) }
     ensures { Into pack.now room result out.new }
 {
-    let r = check_notes(pack, dir, out);
-    let Laid::Yes(layout) = r else {
-        return answer(r);
-    };
+    let layout = check_notes(pack, dir, out)?;
     let steps = read_tables(pack, layout, dir, acts, taken);
     let checked = Checked {
         pack,
