@@ -3,7 +3,7 @@ use Rattle.std.specs.Prelude.{ℕ, ◌<◌, ◌≡◌, List, length}
 use Rattle.chains.specs.declared.entry.Declaration.{Declaration}
 use Rattle.chains.specs.declared.settle.Walks.{Walks}
 use Rattle.chains.specs.Declaration.{Ends, number_of}
-use Rattle.chains.specs.DirectoryWord.{Reaches, declarations_in}
+use Rattle.chains.specs.DirectoryWord.{declarations_in}
 use Rattle.chains.specs.Settle.{Leading, ReadOne, marked_path, Walkable, WentAhead, WalkedHere}
 
 abbrev pub table_of : Walks → List ℕ
@@ -20,18 +20,14 @@ pub record ReadBy (w : Walks) (n : ℕ) (d : Declaration) (w' : Walks) : Type 0 
   pub ends : Ends d
   pub marks : w'.marks.now ≡ w.marks.now
 
--- every name has a word of the directory
-abbrev pub AllReached : Walks → Type 0
-AllReached w = Reaches w.dir.now (length w.marks.now)
-
 abbrev pub WalkableBy : Walks → ℕ → ℕ → Type 0
-WalkableBy w n fuel = Walkable (table_of w) w.marks.now w.steps n fuel × AllReached w
+WalkableBy w n fuel = Walkable (table_of w) w.marks.now w.steps n fuel
 
 abbrev pub WentAheadBy : Walks → ℕ → ℕ → ℕ → Walks → Type 0
 WentAheadBy w n fuel r w' = WentAhead (table_of w) w.marks.now w.steps n fuel r w'.marks.now w'.steps
 
 abbrev pub MarkableBy : Walks → ℕ → Type 0
-MarkableBy w n = (n < length w.marks.now) × Leading (length w.marks.now) (table_of w) × AllReached w
+MarkableBy w n = (n < length w.marks.now) × Leading (length w.marks.now) (table_of w)
 
 pub record MarkedBy (w : Walks) (mark count n : ℕ) (w' : Walks) : Type 0 where
   pub marks : w'.marks.now ≡ marked_path (table_of w) mark count n w.marks.now

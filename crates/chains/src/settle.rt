@@ -3,7 +3,6 @@ ghost use Rattle.std.specs.Prelude.{◌≡◌, ◌+◌, ◌-◌, ◌<◌, ◌≤
 ghost use Rattle.chains.specs.DirectoryWord.{Reaches, declarations_in, names_in};
 ghost use Rattle.chains.specs.Mark.{number_of_mark};
 ghost use Rattle.chains.specs.Settle.{Walkable, WalkedHere, Settleable, SettledAll};
-ghost use Rattle.chains.specs.Walks.{Keeps, ReadBy, WalkableBy, WentAheadBy, MarkableBy, MarkedBy, WalkedBy};
 
 use crate::entry::{Declaration, declared};
 
@@ -46,19 +45,22 @@ impl Mark {
     }
 }
 
-// The walks over a directory, with what is known of each name, and how many declarations were read.
+// The walks over a directory that has a word for each name with a mark: what is known of the names, and how many declarations were read.
 #[derive(Drop)]
 struct Walks<'a> {
     dir: &'a [u32],
     marks: &'a mut [u32],
     steps: u32,
+    ghost reaches: { Reaches dir.now (length marks.now) },
 }
 
 impl<'a> Walks<'a> {
+    ghost use Rattle.chains.specs.Walks.{Keeps, ReadBy, WalkableBy, WentAheadBy, MarkableBy, MarkedBy, WalkedBy};
+
     // One declaration read at a name: the only place that adds to the steps.
     #[tactic(auto, using(crate::proofs::ByName::declarations_by))]
     fn read_name(&mut self, n: usize) -> Declaration
-        requires { Reaches self.old.dir.now (n + 1) × (self.old.steps < 4294967295) }
+        requires { (n < length self.old.marks.now) × (self.old.steps < 4294967295) }
         ensures reads { ReadBy self.old n result self.new }
         ensures keeps { Keeps self.old self.new }
     {
@@ -115,7 +117,8 @@ impl<'a> Walks<'a> {
     }
 }
 
-// The walk from a name: its answer, which settles each name of its path.
+// The same by a directory and marks that are lent. The answer is a place, 0 for none, and no Option: so a mark and an answer of an
+// operation hold it.
 pub fn walk(dir: &[u32], marks: &mut [u32], steps: &mut u32, n: usize, fuel: u32) -> u32
     requires { Walkable (declarations_in dir.now) marks.old steps.old n fuel × Reaches dir.now (length marks.old) }
     ensures { WalkedHere (declarations_in dir.now) marks.old steps.old n fuel result marks.new steps.new }

@@ -11,8 +11,8 @@ use chains::record::{flag_at, kind_count, value_at};
 use pack::kinds::Pack;
 use std::marker::Model;
 
-// Marks by name say which names are reached. The queue has them in the order in which they were, and room for all others too; so
-// many of them are entered.
+// Marks by name say which names are reached. The queue has them in the order in which they were, as many as `count`, and room for all
+// others; the first ones, as many as `entered`, are entered.
 #[derive(Drop)]
 struct Search<'a> {
     marks: &'a mut [u8],

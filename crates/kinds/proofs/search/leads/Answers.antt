@@ -35,4 +35,3 @@ loop-search-smaller c = fewer _ _ _ _ c.loop-search.invariant c.in-Some.ensures.
 
 pub loop-search-preserved : goal.loop-search-preserved
 loop-search-preserved c = entered_one _ _ _ _ c.loop-search.invariant c.in-Some.ensures.0 c.in-Some.ensures.1 c.in-Some.ensures.2 c.start-in-loop-search.ensures.0 c.enter-in-loop-search.ensures
-

@@ -5,7 +5,7 @@ use Rattle.chains.proofs.AheadLaws.{ahead_begin, stops_settled, stops-ring, stop
 use Rattle.chains.proofs.settle.Walks.ahead.Goals as goal
 
 pub loop-init : goal.loop-init
-loop-init c = record { going = ahead_begin _ _ _ _ _ c.requires.0 (omega arith); keeps = record { dir = refl; lent = refl } }
+loop-init c = record { going = ahead_begin _ _ _ _ _ c.requires (omega arith); keeps = record { dir = refl; lent = refl } }
 
 pub returns-in-Settled-clause-goes : goal.returns-in-Settled-clause-goes
 returns-in-Settled-clause-goes c = stops_settled _ _ _ _ _ c.loop.invariant.going (omega arith) c.in-Settled.ensures
