@@ -34,7 +34,7 @@ use Rattle.turning.specs.declared.step.Node.{Node}
 use Rattle.turning.specs.declared.known.Known.{Known}
 use Rattle.turning.specs.Notes.{look_by, look_of}
 use Rattle.turning.specs.Turns.{value_in, kind_here, fields_at, step_at}
-use Rattle.turning.specs.TurnPromises.{NodeStands, turn_at, out_by, out_at, told_by, refused_at, directed_by, went_by, tested_by, allowed_by, only_by, turned_in, only_in, member_at, tested_in, OutFits, StepTaken}
+use Rattle.turning.specs.TurnPromises.{NodeStands, turn_at, out_by, out_at, told_by, refused_at, directed_by, went_by, tested_by, told_input, opened_by, only_by, turned_in, only_in, aggregate_in, member_at, tested_in, OutFits, StepTaken}
 
 -- ---- fields read from the words
 
@@ -138,7 +138,7 @@ only_out n allowed a b word fs (Open o) = refl
 only_out n allowed a b word fs (Directed c r owner) = go (eqb (kind_of word) 84) (allowed owner (value_of word))
   where
     go : (x : Bool) (v : Result (Unit {0}) Number)
-        → pick x (Err (refused_at n DerivedInput (value_of word))) (allowed_by n c r (value_of word) v)
+        → opened_by c r (pick x (Err (refused_at n DerivedInput (value_of word))) (told_input n (value_of word) v))
         ≡ told_by n.root.name n.at (out_by true (pick x (stops 11 (value_of word)) (allowed_input (with_slots c r (a ∷ b ∷ (kind_of word, value_of word) ∷ fs)) (value_of word) (refused_by v))))
     go true v = refl
     go false (Ok u) = refl
@@ -171,6 +171,14 @@ module _ {k : Known} {n : Node} (s : NodeStands k.pack.now n.at) where
             (test_out n (field_at k.pack.now (n.at + 1)) (field_at k.pack.now (n.at + 2)) [] n.entity (member_in k.pack.now n.own) (member_at k n));
         fits = q.1;
       }
+
+  -- an aggregate of any kind
+  pub aggregate_taken : 74 ≤ kind_here k.pack.now n.at → kind_here k.pack.now n.at < 79 → {o : Result Out Refusal} → (o ≡ aggregate_in k n (kind_here k.pack.now n.at)) × OutFits o → StepTaken k n o
+  aggregate_taken l h {o} q = go (eqb (kind_here k.pack.now n.at) 78) refl q.0
+    where
+      go : (b : Bool) → eqb (kind_here k.pack.now n.at) 78 ≡ b → o ≡ pick b (only_in k n (turned_in k n)) (went_by n (turned_in k n)) → StepTaken k n o
+      go true e f = only-taken (only-kind _ (eqb-true (kind_here k.pack.now n.at) 78 e)) (f, q.1)
+      go false e f = went_taken (aggregates _ l (let z = eqb-false (kind_here k.pack.now n.at) 78 e in omega arith)) (f, q.1)
 
   pub none-taken : (look_of (kind_here k.pack.now n.at)).slots ≡ false → StepTaken k n (Ok Passes)
   unfolding out_at

@@ -95,20 +95,33 @@ abbrev pub tested_by : Node → Direction → Result Out Refusal
 tested_by n (Directed c r kind) = Ok (Sets c r)
 tested_by n (Open other) = Err (refused_at n DirectionOpen other)
 
-abbrev pub allowed_by : Node → ℕ → ℕ → ℕ → Result (Unit {0}) Number → Result Out Refusal
-allowed_by n c r name (Ok u) = Ok (Opens c r 0)
-allowed_by n c r name (Err number) = Err (refused_at n number name)
+abbrev pub told_input : Node → ℕ → Result (Unit {0}) Number → Result (Unit {0}) Refusal
+told_input n name (Ok u) = Ok u
+told_input n name (Err number) = Err (refused_at n number name)
+
+abbrev pub allowed_by : (ℕ → ℕ → Result (Unit {0}) Number) → ℕ → Node → ℕ → Result (Unit {0}) Refusal
+allowed_by allowed word n owner = pick (eqb (kind_of word) 84) (Err (refused_at n DerivedInput (value_of word))) (told_input n (value_of word) (allowed owner (value_of word)))
+
+abbrev pub opened_by : ℕ → ℕ → Result (Unit {0}) Refusal → Result Out Refusal
+opened_by c r (Ok u) = Ok (Opens c r 0)
+opened_by c r (Err x) = Err x
 
 abbrev pub only_by : (ℕ → ℕ → Result (Unit {0}) Number) → ℕ → Node → Direction → Result Out Refusal
-only_by allowed word n (Directed c r owner) = pick (eqb (kind_of word) 84) (Err (refused_at n DerivedInput (value_of word))) (allowed_by n c r (value_of word) (allowed owner (value_of word)))
+only_by allowed word n (Directed c r owner) = opened_by c r (allowed_by allowed word n owner)
 only_by allowed word n (Open other) = Err (refused_at n DirectionOpen other)
 
 -- what is known of its relation
 abbrev pub turned_in : Known → Node → Direction
 turned_in k n = turn_at (tables_in k.pack.now k.acts.now k.taken.now) k.pack.now n.at n.entity
 
+abbrev pub allowed_in : Known → Node → ℕ → Result (Unit {0}) Refusal
+allowed_in k n owner = allowed_by (input_in k.pack.now k.blocks.at k.blocks.count n.root.origin) (get_or k.pack.now (n.at + 3) 0) n owner
+
 abbrev pub only_in : Known → Node → Direction → Result Out Refusal
 only_in k n d = only_by (input_in k.pack.now k.blocks.at k.blocks.count n.root.origin) (get_or k.pack.now (n.at + 3) 0) n d
+
+abbrev pub aggregate_in : Known → Node → ℕ → Result Out Refusal
+aggregate_in k n kind = pick (eqb kind 78) (only_in k n (turned_in k n)) (went_by n (turned_in k n))
 
 abbrev pub member_at : Known → Node → Direction
 member_at k n = member_direction (tables_in k.pack.now k.acts.now k.taken.now) (value_in k.pack.now n.at) (member_in k.pack.now n.own) (value_in k.pack.now (n.at + 1)) (value_in k.pack.now (n.at + 2))

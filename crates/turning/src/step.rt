@@ -2,7 +2,7 @@
 ghost use Rattle.std.specs.Prelude.{◌≡◌, ◌+◌, ◌<◌, length};
 ghost use Rattle.directions.specs.Words.{SlotsFit};
 ghost use Rattle.turning.specs.Turns.{value_in, kind_here};
-ghost use Rattle.turning.specs.TurnPromises.{NodeStands, HasSlots, refused_at, directed_by, turned_in, went_by, tested_in, only_in, OutFits, StepTaken};
+ghost use Rattle.turning.specs.TurnPromises.{NodeStands, HasSlots, refused_at, directed_by, turned_in, allowed_in, aggregate_in, tested_in, OutFits, StepTaken};
 ghost use Rattle.definitions.specs.Table.{entry_of};
 ghost use Rattle.definitions.specs.declared.table.Follows.TheVariants.{OnlyRelated};
 
@@ -92,36 +92,33 @@ impl Known<'_> {
         )
     }
 
-    // An aggregate.
-    fn aggregate(&self, node: Node) -> Result<Out, Refusal>
-        requires { HasSlots self.now.pack.now node.at }
-        ensures { (result ≡ went_by node (turned_in self.now node)) × OutFits result }
-    {
-        let (current, related, entity) = node.directed(self.turned(node))?;
-        Ok(Out::Opens(current, related, entity))
-    }
-
-    // An OnlyRelated, whose input must be allowed.
-    fn only_related(&self, node: Node) -> Result<Out, Refusal>
+    // Whether an OnlyRelated may have its input, for an owner.
+    fn allowed(&self, node: Node, owner: u32) -> Result<(), Refusal>
         requires { NodeStands self.now.pack.now node.at × ((entry_of (kind_here self.now.pack.now node.at)).follows ≡ OnlyRelated) }
-        ensures { (result ≡ only_in self.now node (turned_in self.now node)) × OutFits result }
+        ensures { result ≡ allowed_in self.now node owner }
     {
-        let (current, related, owner) = node.directed(self.turned(node))?;
         let word = self.pack[node.at + 3];
-        let other = word % Pack::VALUES;
+        let name = word % Pack::VALUES;
         if word / Pack::VALUES == Pack::DERIVED {
-            return Err(node.refused(Number::DerivedInput, other));
+            return Err(node.refused(Number::DerivedInput, name));
         }
         let blocks = self.blocks;
-        input(
-            self.pack,
-            blocks.at,
-            blocks.count,
-            node.root.origin,
-            owner,
-            other,
+        let origin = node.root.origin;
+        input(self.pack, blocks.at, blocks.count, origin, owner, name).map_err(
+            |number| node.refused(number, name),
         )
-        .map_err(|number| node.refused(number, other))?;
+    }
+
+    // An aggregate, of any kind. Inside an OnlyRelated there is no entity, since its kind is the owner of its input.
+    fn aggregate(&self, node: Node, kind: u32) -> Result<Out, Refusal>
+        requires { HasSlots self.now.pack.now node.at × (kind ≡ kind_here self.now.pack.now node.at) }
+        ensures { (result ≡ aggregate_in self.now node kind) × OutFits result }
+    {
+        let (current, related, entity) = node.directed(self.turned(node))?;
+        if kind != Pack::ONLY_RELATED {
+            return Ok(Out::Opens(current, related, entity));
+        }
+        self.allowed(node, entity)?;
         Ok(Out::Opens(current, related, 0))
     }
 
@@ -141,10 +138,10 @@ impl Known<'_> {
         requires { NodeStands self.now.pack.now node.at }
         ensures { StepTaken self.now node result }
     {
-        match self.pack[node.at] / Pack::VALUES {
+        let kind = self.pack[node.at] / Pack::VALUES;
+        match kind {
             Pack::RELATION_MEMBER => self.membership(node),
-            Pack::ONLY_RELATED => self.only_related(node),
-            Pack::COUNT..=Pack::ONLY_RELATED => self.aggregate(node),
+            Pack::COUNT..=Pack::ONLY_RELATED => self.aggregate(node, kind),
             _ => Ok(Out::Passes),
         }
     }
