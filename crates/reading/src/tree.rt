@@ -20,19 +20,17 @@ fn by_table(kind: u32, v: u32) -> u32
     requires { (kind < 256) × (v < 16777216) }
     ensures { result ≡ how_many (entry_of kind).follows v }
 {
-    let e = entry_of(kind);
-    let follows = e.follows;
-    how_many(follows, v)
+    how_many(entry_of(kind).follows, v)
 }
 
 // How many notes there are.
 pub fn count(notes: &[u32]) -> u32
     ensures { result ≡ get_or notes.now 0 0 }
 {
-    if notes.len() == 0 {
-        return 0;
+    match notes.first() {
+        Some(many) => *many,
+        None => 0,
     }
-    notes[0]
 }
 
 // A word of the notes, where there is room for it.
@@ -45,6 +43,7 @@ fn put(notes: &mut [u32], i: usize, word: u32)
 }
 
 // One note more, and the context of the trees inside it.
+#[tactic(auto, unfolding(crate::specs::Noting::push))]
 fn note(notes: &mut [u32], code: u32) -> u32
     ensures { (result ≡ in_next notes.old) × (notes.new ≡ push code notes.old) }
 {
@@ -63,6 +62,7 @@ pub fn open(notes: &mut [u32], at: usize) -> u32
 }
 
 // A context without membership.
+#[tactic(auto, unfolding(crate::specs::Noting::losing))]
 fn lost(context: u32) -> u32
     requires { context < 134250496 }
     ensures { result ≡ losing context }

@@ -138,12 +138,9 @@ impl<'a> Words<'a> {
     pub fn compares(self, at: usize, left: u32) -> bool
         ensures { result ≡ true → Compares self.entry.words.now at left }
     {
-        if left < 1 {
-            return false;
+        match self.words.get(at) {
+            Some(w) => 0 < left && *w / Pack::VALUES == Pack::COMPARISON,
+            None => false,
         }
-        if self.words.len() <= at {
-            return false;
-        }
-        self.words[at] / Pack::VALUES == Pack::COMPARISON
     }
 }
