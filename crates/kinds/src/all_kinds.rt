@@ -45,6 +45,7 @@ fn kinds_sized<const WORDS: usize, const NAMES: usize>(pack: &[u32], out: &mut [
 }
 
 // Each relation's kinds in record order, as the place of the list that settles it, 0 for none; the steps are the declarations read.
+// A size is an argument that must be a constant, so each is written out.
 pub fn all_kinds(pack: &[u32], out: &mut [u32]) -> Answer
     ensures { Answered all_kinds_answer all_kinds_buffer pack.now out.old result out.new }
 {

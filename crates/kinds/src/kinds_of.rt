@@ -29,6 +29,7 @@ fn place_sized<const WORDS: usize, const NAMES: usize>(pack: &[u32], name: u32) 
 }
 
 // The place of the list that settles a name, 0 for none.
+// A size is an argument that must be a constant, so each is written out.
 pub fn kinds_of(pack: &[u32], name: u32) -> Answer
     ensures { result ≡ kinds_of_answer pack.now name }
 {

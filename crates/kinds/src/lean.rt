@@ -32,6 +32,7 @@ fn lean_sized<const WORDS: usize, const NAMES: usize>(pack: &[u32], a: u32, b: u
 }
 
 // 1 if the first name leans on the second, 0 if not.
+// A size is an argument that must be a constant, so each is written out.
 pub fn lean(pack: &[u32], a: u32, b: u32) -> Answer
     ensures { result ≡ lean_answer pack.now a b }
 {
