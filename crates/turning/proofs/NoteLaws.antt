@@ -122,16 +122,15 @@ module _ (k : Known) (words notes : List ℕ) (i : ℕ) (r : code.Root) {note : 
           go false e p = let q = p.relation (eqb-false (kind_here ws n.place) 23 e) in (x, refl, q.1, refl, ap (set notes i) q.0)
 
   -- a node: what came of its step
-  module _ (h : note.inside ≡ 0 → ⊥) (μ : ℕ) (keep : (v : List ℕ) → member_in v μ ≡ held note.lost (member_in v r.own)) {o : Result Out Refusal}
-      (t : StepTaken k (record { at = note.place; entity = get_or notes note.inside 0; own = μ; root = r }) o) where
+  module _ (h : note.inside ≡ 0 → ⊥) {o : Result Out Refusal}
+      (t : StepTaken k (record { note = note; entity = get_or notes note.inside 0; root = r }) o) where
     its_outcome : (n : Note) → get_or notes i 0 ≡ note_code n → Stands ws i n → turn_note K ws i n (work words notes (root_in ws r)) ≡ applied i n.place (work words notes (root_in ws r)) o
     unfolding turn_note
     its_outcome n is st =
         let e : note ≡ as_read n = same n is st in
         let away : n.inside ≡ 0 → ⊥ = λ z. h (ap (λ (x : taken.Note). x.inside) e ∙ z) in
         let step : o ≡ told_by r.name n.place (out_at (citing K (root_in ws r)) (get_or notes n.inside 0) (held n.lost (member_in ws r.own)) ws n.place) =
-        t.each (root_in ws r) refl ∙ ap (λ (m : Membership). told_by r.name note.place (out_at (citing K (root_in ws r)) (get_or notes note.inside 0) m ws note.place)) (keep ws)
-        ∙ ap (λ (x : taken.Note). told_by r.name x.place (out_at (citing K (root_in ws r)) (get_or notes x.inside 0) (held x.lost (member_in ws r.own)) ws x.place)) e in
+        t.each (root_in ws r) refl ∙ ap (λ (x : taken.Note). told_by r.name x.place (out_at (citing K (root_in ws r)) (get_or notes x.inside 0) (held x.lost (member_in ws r.own)) ws x.place)) e in
         rw (ne_eqb n.inside 0 away) (node_turned K ws i n (work words notes (root_in ws r)) (st.node away) ∙ ap (applied i n.place (work words notes (root_in ws r))) (sym step))
 
     its-place : (n : Note) → get_or notes i 0 ≡ note_code n → Stands ws i n → note.place ≡ n.place
@@ -178,11 +177,11 @@ sets_slots C entity m ws at name {o} e h = go (look_of (kind_here ws at)).slots 
     go false q e = absurd (h e)
 
 module _ (k : Known) (n : Node) {o : Result Out Refusal} (t : StepTaken k n o) where
-  its-slots : (o ≡ Ok Passes → ⊥) → (look_of (kind_here k.pack.now n.at)).slots ≡ true
-  its-slots h = let root : Root = record { name = 0; origin = n.root.origin; member = none } in sets_slots (citing (known_by k) root) n.entity (member_in k.pack.now n.own) k.pack.now n.at n.root.name (t.each root refl) h
+  its-slots : (o ≡ Ok Passes → ⊥) → (look_of (kind_here k.pack.now n.note.place)).slots ≡ true
+  its-slots h = let root : Root = record { name = 0; origin = n.root.origin; member = none } in sets_slots (citing (known_by k) root) n.entity (held n.note.lost (member_in k.pack.now n.root.own)) k.pack.now n.note.place n.root.name (t.each root refl) h
 
-  pub opens_some : {c r y : ℕ} → o ≡ Ok (Opens c r y) → (look_of (kind_here k.pack.now n.at)).slots ≡ true
+  pub opens_some : {c r y : ℕ} → o ≡ Ok (Opens c r y) → (look_of (kind_here k.pack.now n.note.place)).slots ≡ true
   opens_some e = its-slots (λ q. let z : ◌≡◌ {A = ℕ} 0 1 = cc in omega arith)
 
-  pub sets_some : {c r : ℕ} → o ≡ Ok (Sets c r) → (look_of (kind_here k.pack.now n.at)).slots ≡ true
+  pub sets_some : {c r : ℕ} → o ≡ Ok (Sets c r) → (look_of (kind_here k.pack.now n.note.place)).slots ≡ true
   sets_some e = its-slots (λ q. let z : ◌≡◌ {A = ℕ} 0 1 = cc in omega arith)

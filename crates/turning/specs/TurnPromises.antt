@@ -21,7 +21,7 @@ use Rattle.turning.specs.declared.step.Node.{Node}
 use Rattle.turning.specs.declared.known.Known.{Known}
 use Rattle.turning.specs.declared.root.Root as code
 use Rattle.turning.specs.Notes.{Note, look_of, note_code, Held, NotesIn}
-use Rattle.turning.specs.Turns.{KnownTables, known_of, Root, citing, Work, work, nowhere, value_in, kind_here, rule_root, relation_root, step_at, turn_note, turn_notes}
+use Rattle.turning.specs.Turns.{KnownTables, known_of, held, Root, citing, Work, work, nowhere, value_in, kind_here, rule_root, relation_root, step_at, turn_note, turn_notes}
 
 -- what is known of the pack, as the code has it
 abbrev pub known_in : List ℕ → List ℕ → List ℕ → ℕ → ℕ → KnownTables
@@ -80,7 +80,7 @@ told_by name at (Err (number, other)) = Err (record { number = number; place = a
 
 -- the same in the code
 abbrev pub refused_at : Node → Number → ℕ → Refusal
-refused_at n number other = record { number = number_of number; place = n.at; name = n.root.name; other = other }
+refused_at n number other = record { number = number_of number; place = n.note.place; name = n.root.name; other = other }
 
 abbrev pub directed_by : Node → Direction → Result (ℕ × ℕ × ℕ) Refusal
 directed_by n (Directed c r kind) = Ok (c, r, kind)
@@ -112,19 +112,19 @@ only_by allowed word n (Open other) = Err (refused_at n DirectionOpen other)
 
 -- what is known of its relation
 abbrev pub turned_in : Known → Node → Direction
-turned_in k n = turn_at (tables_in k.pack.now k.acts.now k.taken.now) k.pack.now n.at n.entity
+turned_in k n = turn_at (tables_in k.pack.now k.acts.now k.taken.now) k.pack.now n.note.place n.entity
 
 abbrev pub allowed_in : Known → Node → ℕ → Result (Unit {0}) Refusal
-allowed_in k n owner = allowed_by (input_in k.pack.now k.blocks.at k.blocks.count n.root.origin) (get_or k.pack.now (n.at + 3) 0) n owner
+allowed_in k n owner = allowed_by (input_in k.pack.now k.blocks.at k.blocks.count n.root.origin) (get_or k.pack.now (n.note.place + 3) 0) n owner
 
 abbrev pub only_in : Known → Node → Direction → Result Out Refusal
-only_in k n d = only_by (input_in k.pack.now k.blocks.at k.blocks.count n.root.origin) (get_or k.pack.now (n.at + 3) 0) n d
+only_in k n d = only_by (input_in k.pack.now k.blocks.at k.blocks.count n.root.origin) (get_or k.pack.now (n.note.place + 3) 0) n d
 
 abbrev pub aggregate_in : Known → Node → ℕ → Result Out Refusal
 aggregate_in k n kind = pick (eqb kind 78) (only_in k n (turned_in k n)) (went_by n (turned_in k n))
 
 abbrev pub member_at : Known → Node → Direction
-member_at k n = member_direction (tables_in k.pack.now k.acts.now k.taken.now) (value_in k.pack.now n.at) (member_in k.pack.now n.own) (value_in k.pack.now (n.at + 1)) (value_in k.pack.now (n.at + 2))
+member_at k n = member_direction (tables_in k.pack.now k.acts.now k.taken.now) (value_in k.pack.now n.note.place) (held n.note.lost (member_in k.pack.now n.root.own)) (value_in k.pack.now (n.note.place + 1)) (value_in k.pack.now (n.note.place + 2))
 
 abbrev pub tested_in : Known → Node → Result Out Refusal
 tested_in k n = tested_by n (member_at k n)
@@ -138,7 +138,7 @@ OutFits (Err s) = Unit {0}
 -- what comes of it does not depend on the name of its rule or relation
 pub record StepTaken (k : Known) (n : Node) (o : Result Out Refusal) : Type 0 where
   pub each : (root : Root) → root.origin ≡ n.root.origin
-      → o ≡ told_by n.root.name n.at (out_at (citing (known_by k) root) n.entity (member_in k.pack.now n.own) k.pack.now n.at)
+      → o ≡ told_by n.root.name n.note.place (out_at (citing (known_by k) root) n.entity (held n.note.lost (member_in k.pack.now n.root.own)) k.pack.now n.note.place)
   pub fits : OutFits o
 
 -- ---- a rule or relation

@@ -1,6 +1,7 @@
 // A note, taken out of its number.
-ghost use Rattle.std.specs.Prelude.{◌≡◌, ◌≤◌};
-ghost use Rattle.turning.specs.Turns.{field_of, note_in};
+ghost use Rattle.std.specs.Prelude.{◌≡◌, ◌≤◌, List, ℕ};
+ghost use Rattle.directions.specs.Words.{member_in};
+ghost use Rattle.turning.specs.Turns.{field_of, held, note_in};
 
 use pack::kinds::Pack;
 
@@ -23,5 +24,15 @@ impl Note {
             inside: (code / Pack::INSIDE) as usize,
             lost: code / Pack::LOST % 2 == 1,
         }
+    }
+
+    // The number of the relation whose membership a note keeps; 0 where it is lost.
+    pub fn kept(self, own: u32) -> u32
+        ensures { (ws : List ℕ) → member_in ws result ≡ held self.lost (member_in ws own) }
+    {
+        if self.lost {
+            return 0;
+        }
+        own
     }
 }

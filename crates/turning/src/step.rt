@@ -7,6 +7,7 @@ ghost use Rattle.definitions.specs.Table.{entry_of};
 ghost use Rattle.definitions.specs.declared.table.Follows.TheVariants.{OnlyRelated};
 
 use crate::known::Known;
+use crate::note::Note;
 use crate::root::Root;
 use definitions::answer::{Number, Refusal};
 use definitions::direction::Direction;
@@ -29,12 +30,11 @@ pub struct Blocks {
     pub count: usize,
 }
 
-// A node: where it stands, with which entity, in the predicate of the relation with which number, and in which rule or relation.
+// A node: its note, the entity with which it stands, and in which rule or relation.
 #[derive(Clone, Copy)]
 pub struct Node {
-    pub at: usize,
+    pub note: Note,
     pub entity: u32,
-    pub own: u32,
     pub root: Root,
 }
 
@@ -45,7 +45,7 @@ impl Node {
     {
         Refusal {
             number: number as u32,
-            place: self.at,
+            place: self.note.place,
             name: self.root.name,
             other,
         }
@@ -77,10 +77,10 @@ impl Known<'_> {
 
     // The direction of an aggregate.
     fn turned(&self, node: Node) -> Direction
-        requires { HasSlots self.now.pack.now node.at }
+        requires { HasSlots self.now.pack.now node.note.place }
         ensures { (result ≡ turned_in self.now node) × SlotsFit result }
     {
-        let (relation, current, related) = self.slots(node.at);
+        let (relation, current, related) = self.slots(node.note.place);
         turn(
             self.pack,
             self.acts,
@@ -94,10 +94,10 @@ impl Known<'_> {
 
     // Whether an OnlyRelated may have its input, for an owner.
     fn allowed(&self, node: Node, owner: u32) -> Result<(), Refusal>
-        requires { NodeStands self.now.pack.now node.at × ((entry_of (kind_here self.now.pack.now node.at)).follows ≡ OnlyRelated) }
+        requires { NodeStands self.now.pack.now node.note.place × ((entry_of (kind_here self.now.pack.now node.note.place)).follows ≡ OnlyRelated) }
         ensures { result ≡ allowed_in self.now node owner }
     {
-        let word = self.pack[node.at + 3];
+        let word = self.pack[node.note.place + 3];
         let name = word % Pack::VALUES;
         if word / Pack::VALUES == Pack::DERIVED {
             return Err(node.refused(Number::DerivedInput, name));
@@ -111,7 +111,7 @@ impl Known<'_> {
 
     // An aggregate, of any kind. Inside an OnlyRelated there is no entity, since its kind is the owner of its input.
     fn aggregate(&self, node: Node, kind: u32) -> Result<Out, Refusal>
-        requires { HasSlots self.now.pack.now node.at × (kind ≡ kind_here self.now.pack.now node.at) }
+        requires { HasSlots self.now.pack.now node.note.place × (kind ≡ kind_here self.now.pack.now node.note.place) }
         ensures { (result ≡ aggregate_in self.now node kind) × OutFits result }
     {
         let (current, related, entity) = node.directed(self.turned(node))?;
@@ -124,21 +124,22 @@ impl Known<'_> {
 
     // A test of membership.
     fn membership(&self, node: Node) -> Result<Out, Refusal>
-        requires { HasSlots self.now.pack.now node.at }
+        requires { HasSlots self.now.pack.now node.note.place }
         ensures { (result ≡ tested_in self.now node) × OutFits result }
     {
-        let (relation, current, related) = self.slots(node.at);
-        let direction = member(self.pack, self.acts, relation, node.own, current, related);
+        let (relation, current, related) = self.slots(node.note.place);
+        let own = node.note.kept(node.root.own);
+        let direction = member(self.pack, self.acts, relation, own, current, related);
         let (current, related, _) = node.directed(direction)?;
         Ok(Out::Sets(current, related))
     }
 
     // By its kind.
     pub fn step(&self, node: Node) -> Result<Out, Refusal>
-        requires { NodeStands self.now.pack.now node.at }
+        requires { NodeStands self.now.pack.now node.note.place }
         ensures { StepTaken self.now node result }
     {
-        let kind = self.pack[node.at] / Pack::VALUES;
+        let kind = self.pack[node.note.place] / Pack::VALUES;
         match kind {
             Pack::RELATION_MEMBER => self.membership(node),
             Pack::COUNT..=Pack::ONLY_RELATED => self.aggregate(node, kind),

@@ -2,8 +2,7 @@
 ghost use Rattle.std.specs.Prelude.{◌≡◌, List, [], ◌∷◌, ℕ, ◌+◌, ◌<◌, ◌≤◌, length, get_or};
 ghost use Rattle.std.proofs.lemmas.List.Edits.{sets};
 ghost use Rattle.definitions.specs.Table.{word_of};
-ghost use Rattle.directions.specs.Words.{member_in};
-ghost use Rattle.turning.specs.Turns.{held, note_in};
+ghost use Rattle.turning.specs.Turns.{note_in};
 ghost use Rattle.turning.specs.TurnPromises.{NoteAsked, NoteTurned, TurnsAsked, NotesTurned, PackAsked, PackTurned};
 
 use crate::known::Known;
@@ -30,18 +29,6 @@ fn set_slots(work: &mut [u32], at: usize, current: u32, related: u32)
     work[at + 2] = Pack::RELATED * Pack::VALUES + related;
 }
 
-impl Note {
-    // The number of the relation whose membership a note keeps; 0 where it is lost.
-    fn kept(self, own: u32) -> u32
-        ensures { (ws : List ℕ) → member_in ws result ≡ held self.lost (member_in ws own) }
-    {
-        if self.lost {
-            return 0;
-        }
-        own
-    }
-}
-
 impl Known<'_> {
     // The i-th note, of a node: its own number gives way to the entity of what stands inside it.
     fn turn_node(
@@ -56,9 +43,8 @@ impl Known<'_> {
         ensures { NoteTurned self.now i root work.old notes.old result work.new notes.new }
     {
         let node = Node {
-            at: note.place,
+            note,
             entity: notes[note.inside],
-            own: note.kept(root.own),
             root,
         };
         match self.step(node)? {

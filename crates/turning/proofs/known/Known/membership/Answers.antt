@@ -3,4 +3,4 @@ use Rattle.turning.proofs.StepLaws.{tested-out}
 use Rattle.turning.proofs.known.Known.membership.Goals as goal
 
 pub returns : goal.returns
-returns c = tested-out c.args.self.now c.args.node c.slots-relation.ensures c.member-direction.ensures c.in_ok-current.ensures
+returns c = tested-out c.args.self.now c.args.node c.slots-relation.ensures _ c.kept-own.ensures c.member-direction.ensures c.in_ok-current.ensures

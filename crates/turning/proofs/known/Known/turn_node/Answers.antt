@@ -8,7 +8,7 @@ use Rattle.turning.proofs.known.Known.turn_node.Goals as goal
 pub returns-in_err-current : goal.returns-in_err-current
 returns-in_err-current c =
     let p = err_from_is_err_and c.from_residual.result c.from_residual.ensures.1 in
-    rw (p.1, p.2) (note-stops _ _ _ _ _ c.requires.1 c.requires.2 _ c.kept.ensures c.step.ensures c.in_err-current.was)
+    rw (p.1, p.2) (note-stops _ _ _ _ _ c.requires.1 c.requires.2 c.step.ensures c.in_err-current.was)
 
 pub set_slots-requires : goal.set_slots-requires
 set_slots-requires c =
@@ -32,12 +32,12 @@ set_slots-requires-in-Sets c =
 
 pub returns-in-Opens : goal.returns-in-Opens
 returns-in-Opens c =
-    note-opens _ _ _ _ _ c.requires.1 c.requires.2 _ c.kept.ensures c.step.ensures (c.in_ok-current.was ∙ ap Ok c.in-Opens.is) c.set_slots.ensures
+    note-opens _ _ _ _ _ c.requires.1 c.requires.2 c.step.ensures (c.in_ok-current.was ∙ ap Ok c.in-Opens.is) c.set_slots.ensures
 
 pub returns-in-Sets : goal.returns-in-Sets
 returns-in-Sets c =
-    note_sets _ _ _ _ _ c.requires.1 c.requires.2 _ c.kept.ensures c.step.ensures (c.in_ok-current.was ∙ ap Ok c.in-Sets.is) c.set_slots-in-Sets.ensures
+    note_sets _ _ _ _ _ c.requires.1 c.requires.2 c.step.ensures (c.in_ok-current.was ∙ ap Ok c.in-Sets.is) c.set_slots-in-Sets.ensures
 
 pub returns-in-Passes : goal.returns-in-Passes
 returns-in-Passes c =
-    note_passes _ _ _ _ _ c.requires.1 c.requires.2 _ c.kept.ensures c.step.ensures (c.in_ok-current.was ∙ ap Ok c.in-Passes.is)
+    note_passes _ _ _ _ _ c.requires.1 c.requires.2 c.step.ensures (c.in_ok-current.was ∙ ap Ok c.in-Passes.is)

@@ -1,4 +1,4 @@
--- `turning::turns::Note::kept` meets its contract.
+-- `turning::note::Note::kept` meets its contract.
 use Rattle.std.proofs.Common.{refl}
 use Rattle.directions.specs.Words.{derived_in, member_in}
 use Rattle.turning.proofs.note.Note.kept.Goals as goal
