@@ -1,5 +1,7 @@
 // Trees: scalar and judgment walkers, which call each other. With each level the number of levels left falls.
 // They answer the place after the tree, or what is wrong with it. On their way they note the nodes that resolving looks at.
+// Notes are a slice, and no struct round it: every function of the cycle would have to promise that the struct still holds that slice. A
+// context is a number, since a note is its sum with a place.
 ghost use Rattle.std.specs.Prelude.{◌≡◌, ◌+◌, ◌≤◌, ◌<◌, [], ◌∷◌, true, false, length, get_or, set, replicate};
 ghost use Rattle.definitions.specs.declared.table.Follows.TheVariants.{Aggregate, Exists};
 ghost use Rattle.definitions.specs.Table.{scalar, judgment, kind_of, entry_of, how_many};
@@ -70,7 +72,8 @@ fn lost(context: u32) -> u32
     context - context % Pack::INSIDE + Pack::LOST + context % Pack::LOST
 }
 
-// A row of scalars. The last one's own row, where it has one, takes the place of the row that ends with it.
+// A row of scalars. The last one's own row, where it has one, takes the place of the row that ends with it: so how many are left does not
+// fall by one each time, and no range counts them.
 #[cycle(walkers)]
 fn scalars(
     part: Words,
@@ -106,7 +109,8 @@ fn scalars(
     Ok(at)
 }
 
-// A row of judgments, in the same way.
+// A row of judgments, in the same way. One function for both sorts cannot be proved: those that call each other must have the same type
+// parameters.
 #[cycle(walkers)]
 fn judgments(
     part: Words,
