@@ -4,7 +4,7 @@
 // context is a number, since a note is its sum with a place.
 ghost use Rattle.std.specs.Prelude.{◌≡◌, ◌+◌, ◌≤◌, ◌<◌, [], ◌∷◌, true, false, length, get_or, set, replicate};
 ghost use Rattle.definitions.specs.declared.table.Follows.TheVariants.{Aggregate, Exists};
-ghost use Rattle.definitions.specs.Table.{scalar, judgment, kind_of, entry_of, how_many};
+ghost use Rattle.definitions.specs.Table.{scalar, judgment, kind_of};
 ghost use Rattle.definitions.specs.Tree.{root};
 ghost use Rattle.reading.specs.Faults.{walked};
 ghost use Rattle.reading.specs.Notes.{context_of, note_code, note};
@@ -16,14 +16,6 @@ use pack::cursor::{Cursor, Step};
 use pack::heads::Heads;
 use pack::kinds::Pack;
 use pack::table::{children, entry_of, how_many};
-
-// How many follow a word, by the table.
-fn by_table(kind: u32, v: u32) -> u32
-    requires { (kind < 256) × (v < 16777216) }
-    ensures { result ≡ how_many (entry_of kind).follows v }
-{
-    how_many(entry_of(kind).follows, v)
-}
 
 // How many notes there are.
 pub fn count(notes: &[u32]) -> u32
@@ -270,7 +262,10 @@ fn after_other(
     let v = w % Pack::VALUES;
     match kind {
         Pack::NO_MATCH => patterns(part, at + 1, v, left, context, notes),
-        Pack::OVER_PERIODS => scalars(part, at + 1, by_table(kind, v), left, lost(context), notes),
+        Pack::OVER_PERIODS => {
+            let count = how_many(entry_of(kind).follows, v);
+            scalars(part, at + 1, count, left, lost(context), notes)
+        }
         Pack::IF => choice(part, at + 1, left, context, notes),
         Pack::ONLY_RELATED => {
             let _ = note(notes, at as u32 + 1 + context);

@@ -8,6 +8,7 @@ use mathlib.Core.Path.{◌≡◌, refl, ap, sym, ◌∙◌}
 use mathlib.Core.Bool.{true, false}
 use lib.ListN.{get_or}
 use borrow.Author.Rules.{part_to_end}
+use Rattle.definitions.specs.declared.table.Entry.{Entry}
 use Rattle.definitions.specs.declared.table.Follows.TheVariants.{Patterns, Periods, Choice, Aggregate, OnlyRelated, Slots, Atom, Exists}
 use Rattle.definitions.specs.Table.{kind_of, value_of, entry_of, table, fields_of, children_of, how_many, scalar as scalar-sort, judgment as judgment-sort}
 use Rattle.definitions.specs.Tree.{follow}
@@ -91,7 +92,7 @@ unfolding entry_of table fields_of children_of noted look_by
 after_other-returns-in-73 t c =
     after_bare _ _ _ _ (kind_of (get_or c.args.part.words.now c.args.at 0)) (value_of (get_or c.args.part.words.now c.args.at 0)) _ Periods
     (ap (λ (k : ℕ). (entry_of k).follows) c.in-73.is) (ap noted c.in-73.is) refl
-    (rows_as _ _ scalar-sort _ (c.by_table.ensures ∙ ap (λ (k : ℕ). how_many (entry_of k).follows (value_of (get_or c.args.part.words.now c.args.at 0)))
+    (rows_as _ _ scalar-sort _ (c.how_many-count.ensures ∙ ap (λ (e : Entry). how_many e.follows (value_of (get_or c.args.part.words.now c.args.at 0))) c.entry_of.ensures ∙ ap (λ (k : ℕ). how_many (entry_of k).follows (value_of (get_or c.args.part.words.now c.args.at 0)))
     c.in-73.is) c.lost.ensures c.scalars.ensures)
 
 pub after_other-returns-in-71 : goal.after_other-returns-in-71
