@@ -109,11 +109,10 @@ after_other-returns-in-78 t c =
 
 pub after_other-returns-in_default : goal.after_other-returns-in_default
 after_other-returns-in_default t c =
-    let m = c.in_default.in_default-own.rest in
     let k : ℕ = kind_of (get_or c.args.part.words.now c.args.at 0) in let v = value_of (get_or c.args.part.words.now c.args.at 0) in
-    other_leaf k c.requires.1 m.0.1 m.0.0.0.1 m.0.0.1 m.1
+    other_leaf k c.requires.1 (λ z. omega arith) (λ z. omega arith) (λ z. omega arith) (λ z. omega arith)
     (λ lo. after_leaf _ _ _ _ k v _ (leaf_low v k lo) false (plain-low k lo) _ refl)
-    (λ lo hi. after_leaf _ _ _ _ k v _ (leaf_between v k (omega (arith, lo)) m.1 hi) false (plain-between k lo hi) _ refl)
+    (λ lo hi. after_leaf _ _ _ _ k v _ (leaf_between v k (omega (arith, lo)) (λ z. omega arith) hi) false (plain-between k lo hi) _ refl)
 
 pub after_scalar-children-count-requires : goal.after_scalar-children-count-requires
 after_scalar-children-count-requires t c =
