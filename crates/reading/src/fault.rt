@@ -6,14 +6,16 @@ ghost use Rattle.reading.specs.Faults.{refusal_of, later, Plain};
 use definitions::answer::{Number, Refusal};
 use pack::refusal::refused;
 
-// A refusal of which the number and the place are told, both in one number: with it a Result is handed over in two registers, and with
-// two numbers or more through memory, by which Check of nested where trees took 1.4 times as long and more (docs/SPEED.md).
+// A refusal of which the number and the place are told. Both stand in one number: so a Result with it is handed over in registers. With a
+// number and a place in two fields, or with a Refusal, it goes through memory, and the walkers took 1.2 to 1.9 times as long on mixed
+// packs and nested where trees.
 #[derive(Clone, Copy)]
 pub struct Fault {
     code: usize,
 }
 
 impl Fault {
+    // The numbers of refusals are below.
     const NUMBERS: usize = 64;
 
     pub fn new(number: Number, at: usize) -> Fault
@@ -23,6 +25,7 @@ impl Fault {
         Fault::of(refused(number, at))
     }
 
+    // A refusal that tells no more.
     pub fn of(refusal: Refusal) -> Fault
         requires { Plain 8192 refusal }
         ensures { refusal_of result ≡ refusal }
@@ -32,7 +35,7 @@ impl Fault {
         }
     }
 
-    // The same in the words of which a part was read that starts at a place.
+    // What was refused in a part of the words that starts at a place, in the words.
     pub fn behind(self, start: usize) -> Fault
         requires { ((refusal_of self).place ≤ 8192) × (start ≤ 8192) }
         ensures { refusal_of result ≡ later start (refusal_of self) }

@@ -1,8 +1,10 @@
 // Trees: scalar and judgment walkers, which call each other. With each level the number of levels left falls.
 // They answer the place after the tree, or what is wrong with it. On their way they note the nodes that resolving looks at.
+// Notes are a slice, and no struct round it: every function of the cycle would have to promise that the struct still holds that slice. A
+// context is a number, since a note is its sum with a place.
 ghost use Rattle.std.specs.Prelude.{◌≡◌, ◌+◌, ◌≤◌, ◌<◌, [], ◌∷◌, true, false, length, get_or, set, replicate};
 ghost use Rattle.definitions.specs.declared.table.Follows.TheVariants.{Aggregate, Exists};
-ghost use Rattle.definitions.specs.Table.{scalar, judgment, kind_of, entry_of, how_many};
+ghost use Rattle.definitions.specs.Table.{scalar, judgment, kind_of};
 ghost use Rattle.definitions.specs.Tree.{root};
 ghost use Rattle.reading.specs.Faults.{walked};
 ghost use Rattle.reading.specs.Notes.{context_of, note_code, note};
@@ -14,14 +16,6 @@ use pack::cursor::{Cursor, Step};
 use pack::heads::Heads;
 use pack::kinds::Pack;
 use pack::table::{children, entry_of, how_many};
-
-// How many follow a word, by the table.
-fn by_table(kind: u32, v: u32) -> u32
-    requires { (kind < 256) × (v < 16777216) }
-    ensures { result ≡ how_many (entry_of kind).follows v }
-{
-    how_many(entry_of(kind).follows, v)
-}
 
 // How many notes there are.
 pub fn count(notes: &[u32]) -> u32
@@ -70,7 +64,8 @@ fn lost(context: u32) -> u32
     context - context % Pack::INSIDE + Pack::LOST + context % Pack::LOST
 }
 
-// A row of scalars. The last one's own row, where it has one, takes the place of the row that ends with it.
+// A row of scalars. The last one's own row, where it has one, takes the place of the row that ends with it: so how many are left does not
+// fall by one each time, and no range counts them.
 #[cycle(walkers)]
 fn scalars(
     part: Words,
@@ -106,7 +101,8 @@ fn scalars(
     Ok(at)
 }
 
-// A row of judgments, in the same way.
+// A row of judgments, in the same way. One function for both sorts cannot be proved: those that call each other must have the same type
+// parameters.
 #[cycle(walkers)]
 fn judgments(
     part: Words,
@@ -266,7 +262,10 @@ fn after_other(
     let v = w % Pack::VALUES;
     match kind {
         Pack::NO_MATCH => patterns(part, at + 1, v, left, context, notes),
-        Pack::OVER_PERIODS => scalars(part, at + 1, by_table(kind, v), left, lost(context), notes),
+        Pack::OVER_PERIODS => {
+            let count = how_many(entry_of(kind).follows, v);
+            scalars(part, at + 1, count, left, lost(context), notes)
+        }
         Pack::IF => choice(part, at + 1, left, context, notes),
         Pack::ONLY_RELATED => {
             let _ = note(notes, at as u32 + 1 + context);

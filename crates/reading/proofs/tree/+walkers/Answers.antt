@@ -8,6 +8,7 @@ use mathlib.Core.Path.{◌≡◌, refl, ap, sym, ◌∙◌}
 use mathlib.Core.Bool.{true, false}
 use lib.ListN.{get_or}
 use borrow.Author.Rules.{part_to_end}
+use Rattle.definitions.specs.declared.table.Entry.{Entry}
 use Rattle.definitions.specs.declared.table.Follows.TheVariants.{Patterns, Periods, Choice, Aggregate, OnlyRelated, Slots, Atom, Exists}
 use Rattle.definitions.specs.Table.{kind_of, value_of, entry_of, table, fields_of, children_of, how_many, scalar as scalar-sort, judgment as judgment-sort}
 use Rattle.definitions.specs.Tree.{follow}
@@ -91,7 +92,7 @@ unfolding entry_of table fields_of children_of noted look_by
 after_other-returns-in-73 t c =
     after_bare _ _ _ _ (kind_of (get_or c.args.part.words.now c.args.at 0)) (value_of (get_or c.args.part.words.now c.args.at 0)) _ Periods
     (ap (λ (k : ℕ). (entry_of k).follows) c.in-73.is) (ap noted c.in-73.is) refl
-    (rows_as _ _ scalar-sort _ (c.by_table.ensures ∙ ap (λ (k : ℕ). how_many (entry_of k).follows (value_of (get_or c.args.part.words.now c.args.at 0)))
+    (rows_as _ _ scalar-sort _ (c.how_many-count.ensures ∙ ap (λ (e : Entry). how_many e.follows (value_of (get_or c.args.part.words.now c.args.at 0))) c.entry_of.ensures ∙ ap (λ (k : ℕ). how_many (entry_of k).follows (value_of (get_or c.args.part.words.now c.args.at 0)))
     c.in-73.is) c.lost.ensures c.scalars.ensures)
 
 pub after_other-returns-in-71 : goal.after_other-returns-in-71
@@ -108,11 +109,10 @@ after_other-returns-in-78 t c =
 
 pub after_other-returns-in_default : goal.after_other-returns-in_default
 after_other-returns-in_default t c =
-    let m = c.in_default.in_default-own.rest in
     let k : ℕ = kind_of (get_or c.args.part.words.now c.args.at 0) in let v = value_of (get_or c.args.part.words.now c.args.at 0) in
-    other_leaf k c.requires.1 m.0.1 m.0.0.0.1 m.0.0.1 m.1
+    other_leaf k c.requires.1 (λ z. omega arith) (λ z. omega arith) (λ z. omega arith) (λ z. omega arith)
     (λ lo. after_leaf _ _ _ _ k v _ (leaf_low v k lo) false (plain-low k lo) _ refl)
-    (λ lo hi. after_leaf _ _ _ _ k v _ (leaf_between v k (omega (arith, lo)) m.1 hi) false (plain-between k lo hi) _ refl)
+    (λ lo hi. after_leaf _ _ _ _ k v _ (leaf_between v k (omega (arith, lo)) (λ z. omega arith) hi) false (plain-between k lo hi) _ refl)
 
 pub after_scalar-children-count-requires : goal.after_scalar-children-count-requires
 after_scalar-children-count-requires t c =
