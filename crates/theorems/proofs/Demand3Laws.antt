@@ -1,4 +1,5 @@
 -- Demand 3 holds for every checked pack and every pack dealt out of it.
+use Rattle.std.specs.Prelude.{Ok, Err}
 use Prim.Native.Nat.{ℕ, ◌≤◌}
 use native.Mathlib.Omega.{arith}
 use mathlib.Core.Path.{◌≡◌, refl, ap, sym, ◌∙◌, subst}
@@ -7,7 +8,7 @@ use mathlib.Core.Bool.{Bool, true, false, ◌&&◌}
 use lib.ListN.{length, drop}
 use lib.Dec.{leb}
 use borrow.Author.Tests.{le-leb, leb-true}
-use Rattle.definitions.specs.Answers.{gives}
+use Rattle.definitions.specs.Answers.{Answer, gives}
 use Rattle.definitions.specs.Table.{pick}
 use Rattle.definitions.specs.Records.{Relation, Pack}
 use Rattle.definitions.specs.Pack.{WellFormed, yes, read, words, total}
@@ -73,6 +74,11 @@ kinds_row : (ws : List ℕ) (p : Pack) → read ws ≡ yes p → (l : List Relat
 kinds_row ws p h [] rest = no_more
 kinds_row ws p h (r ∷ l) rest = one_more (kinds_at ws p h r.name) (settled_at ws p h r.name) (kinds_row ws p h l rest)
 
+-- the steps that an answer tells
+abbrev steps_told : Answer → ℕ
+steps_told (Ok g) = g.steps
+steps_told (Err r) = 0
+
 module _ (ws : List ℕ) (p : Pack) (h : read ws ≡ yes p) (room n steps : ℕ) where
   -- where All kinds answers there is room for a word for each relation, and the steps are those of all walks
   all_kinds-said : all_kinds_answer ws room ≡ gives n steps → (length (all_kinds_words p) ≤ room) × (steps ≡ step_sum p)
@@ -82,7 +88,7 @@ module _ (ws : List ℕ) (p : Pack) (h : read ws ≡ yes p) (room n steps : ℕ)
       go : (b : Bool) → leb (length (all_kinds_words p)) room ≡ b → pick b (gives (length (all_kinds_words p)) (all_kinds p.relations).steps) out_of_room ≡ gives n steps
           → (length (all_kinds_words p) ≤ room) × (steps ≡ step_sum p)
       go true f q =
-          let u : (all_kinds p.relations).steps ≡ steps = cc in
+          let u : (all_kinds p.relations).steps ≡ steps = ap steps_told q in
           (leb-true (length (all_kinds_words p)) room f, sym u ∙ kinds-steps p.relations (distinct_names p (words-read ws p h).fine))
       go false f q = let z : ◌≡◌ {A = ℕ} 0 1 = cc in absurd (omega arith)
 
@@ -98,7 +104,7 @@ module _ (ws : List ℕ) (p : Pack) (h : read ws ≡ yes p) (room n steps : ℕ)
       go (done r) q = fits (leb (total r) 8192 && leb (total r) room) q
         where
           fits : (b : Bool) → pick b (gives (total r) sum) out_of_room ≡ gives n steps → steps ≡ step_sum p
-          fits true q = let u : sum ≡ steps = cc in sym u ∙ kinds-steps p.relations (distinct_names p (words-read ws p h).fine)
+          fits true q = let u : sum ≡ steps = ap steps_told q in sym u ∙ kinds-steps p.relations (distinct_names p (words-read ws p h).fine)
           fits false q = let z : ◌≡◌ {A = ℕ} 0 1 = cc in absurd (omega arith)
 
 module _ (ws : List ℕ) (p : Pack) (h : read ws ≡ yes p) where

@@ -11,7 +11,7 @@ use Rattle.definitions.specs.Pack.{yes, read}
 use Rattle.definitions.specs.Chain.{Link, end, next}
 use Rattle.definitions.specs.Kinds.{KindsFound, inherits, derived, declares, read_at, kind_step}
 use Rattle.definitions.specs.Lean.{leans}
-use Rattle.definitions.specs.Answers.{yes_or_no}
+use Rattle.definitions.specs.Answers.{yes_or_no, written_of}
 use Rattle.definitions.specs.Operations.{lean_answer}
 use Rattle.kinds.proofs.LeanLaws.{leans_computes}
 use Rattle.theorems.specs.Leaning.{LeanFollows, KindsKeepOut}
@@ -32,7 +32,7 @@ lean_follows ws p h a b k l =
   where
     said : (t : Bool) → yes_or_no t ≡ yes_or_no true → t ≡ true
     said true q = refl
-    said false q = let z : ◌≡◌ {A = ℕ} 0 1 = cc in absurd (omega arith)
+    said false q = let z : ◌≡◌ {A = ℕ} 0 1 = ap written_of q in absurd (omega arith)
 
     unsaid : (t : Bool) → (t ≡ true → ⊥) → t ≡ false
     unsaid true n = absurd (n refl)

@@ -1,5 +1,5 @@
 -- Every operation refuses by 01's numbers alone, and a refusal changes nothing that is lent: on words, over bytes, and in the number that the host's function answers.
-use Rattle.std.specs.Prelude.{Err}
+use Rattle.std.specs.Prelude.{Ok, Err}
 use Prim.Native.Nat.{ℕ, zero, suc, ◌+◌, ◌/◌, ◌<◌, ◌≤◌}
 use native.Mathlib.Omega.{arith}
 use mathlib.Core.Path.{◌≡◌, refl, ap, sym, ◌∙◌}
@@ -79,7 +79,7 @@ among_below most (x ∷ xs) h v a = go (ltb x most) refl h (eqb v x) refl a (λ 
 of_check : (more ws : List ℕ) (r : Refusal) → CheckRefuses ws r → Among r.number (check_numbers ++ more)
 of_check more ws r h = among_left r.number check_numbers more (among_up 1 8 r.number h.within.least (omega (arith, h.within.most)))
 
-number_of : (r s : Refusal) → Err r ≡ Err s → r.number ≡ s.number
+number_of : (r s : Refusal) → ◌≡◌ {A = Answer} (Err r) (Err s) → r.number ≡ s.number
 number_of r s e = cc
 
 -- Check's, or those that come after

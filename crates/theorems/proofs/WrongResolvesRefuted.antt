@@ -13,7 +13,7 @@ use Rattle.definitions.specs.Form.{words_by, count, items}
 use Rattle.definitions.specs.Tree.{tree, root, follow, fields, heads, size}
 use Rattle.definitions.specs.Records.{Pack}
 use Rattle.definitions.specs.Pack.{words, total, layout, inner, records, defaulted, defaulted_name, relations, relation, new_name, relation_tail, name_list, optional_derivation, derivation, chain, path, hop, member, rules, rule, bodies, body, blocks, block, block_items, item}
-use Rattle.definitions.specs.Answers.{words_and_steps, done}
+use Rattle.definitions.specs.Answers.{words_and_steps, written_of, done}
 use Rattle.definitions.specs.Chain.{walk, own}
 use Rattle.definitions.specs.Kinds.{find, kind_step, kinds_of}
 use Rattle.definitions.specs.Places.{start_of}
@@ -32,7 +32,7 @@ use Rattle.theorems.specs.WrongResolves.{of_two_kinds, turned_rule, with_blocks,
 -- ---- nothing else is left
 
 left_where_given : {p q : Pack} {lent lent' after after' : List ℕ} {a b : Answer} → ResolveAlike p q lent lent' a after b after' → {len steps : ℕ} → a ≡ gives len steps → Left p lent len after
-left_where_given {p} {lent = lent} {after = after} (both_resolve {len = n} one other same) {len} e = let s : n ≡ len = cc in subst (λ (t : ℕ). Left p lent t after) s one
+left_where_given {p} {lent = lent} {after = after} (both_resolve {len = n} one other same) {len} e = let s : n ≡ len = ap written_of e in subst (λ (t : ℕ). Left p lent t after) s one
 left_where_given (both_equal a b n) e = let z : ◌≡◌ {A = ℕ} 0 1 = cc in absurd (omega arith)
 left_where_given (both_room a b) e = let z : ◌≡◌ {A = ℕ} 0 1 = cc in absurd (omega arith)
 left_where_given (both_open a b) e = let z : ◌≡◌ {A = ℕ} 0 1 = cc in absurd (omega arith)
