@@ -1,4 +1,5 @@
-// What C, and any language that calls C, links: the functions of the crate cogunwa, each under its own name and promise.
+// What C, and any language that calls C, links: the functions of the crate cogunwa, each under its own name and promise. They
+// stand twice, since a crate is a library or what C links.
 #![tactic(auto)]
 
 ghost use Rattle.std.specs.Prelude.{◌≡◌};

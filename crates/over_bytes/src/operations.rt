@@ -102,8 +102,8 @@ fn written<F: Fn(&[u32], &mut [u32]) -> Answer>(run: F, pack: &[u8], out: &mut [
     encode(a)
 }
 
-// Resolve likewise, whose notes stand in the slice before what is written; so it has one word more than may be written, and is
-// passed the whole slice with the room.
+// Resolve likewise, but by functions of its own: its notes stand in the slice before what is written, so it has one word more
+// than may be written, is passed the whole slice with the room, and promises of the slice only its front.
 fn resolve_in<const WORDS: usize, const ROOM: usize, const MADE: usize>(
     pack: &[u8],
     out: &mut [u8],

@@ -12,13 +12,15 @@ use Rattle.definitions.specs.Table.{value_of, word_of}
 use Rattle.definitions.specs.Places.{names_at}
 use Rattle.definitions.specs.Answers.{table_from}
 use Rattle.chains.proofs.FillLaws.{table-length}
-use Rattle.chains.specs.Record.{value_at, kind_count, slots_place}
-use Rattle.stamping.specs.Stamping.{names_or, Lists}
+use Rattle.chains.specs.Record.{kind_count, slots_place}
+use Rattle.stamping.specs.Stamping.{names_or}
+use Rattle.filtered.specs.Taking.{ListFound}
+use Rattle.std.proofs.lemmas.List.{map_more}
+use Rattle.std.proofs.lemmas.Simd.{map-map}
 use Rattle.definitions.specs.WrittenRecords.{joined, sums, beginnings}
 use Rattle.resolve.specs.declared.writer.Writer.{Writer}
 use Rattle.resolve.specs.Writing.{written, HasRoom, Begins, Writes}
 use Rattle.resolve.specs.Pieces.{from_to, list_words, put_for, piece_out, Stampable, Written, RecordPut}
-use Rattle.stamping.proofs.ListForLaws.{names-there}
 
 -- nothing, and words after words
 pub nothing_written : (w : Writer) → Writes w [] w
@@ -65,47 +67,16 @@ all_written {w} {w'} {out} {more} b p l =
 
 -- ---- the names of a list
 
--- the word for each
-abbrev pub name_from : List ℕ → ℕ → ℕ → ℕ
-name_from ws list j = word_of 10 (value_at ws (list + 1 + j))
+-- the word for the name that a word holds
+abbrev pub name_word : ℕ → ℕ
+name_word w = word_of 10 (value_of w)
 
-take_again : (n : ℕ) (l : List ℕ) → take (length (take n l)) l ≡ take n l
-take_again zero l = refl
-take_again (suc n) [] = refl
-take_again (suc n) (x ∷ l) = ap (λ (m : List ℕ). x ∷ m) (take_again n l)
+pub names_next : {w w' w'' : Writer} (names : List ℕ) {i : ℕ} → i < length names → Writes w (map name_word (take i names)) w' → Writes w' (name_word (get_or names i 0) ∷ []) w'' → Writes w (map name_word (take (i + 1) names)) w''
+names_next {w} {w'' = w''} names {i} h p q = subst (λ (l : List ℕ). Writes w l w'') (sym (map_more name_word names i 0 h)) (writes_then p q)
 
-from-table : (ws : List ℕ) (list j count : ℕ) → count ≤ length ws - (list + 1 + j) → table_from (name_from ws list) j count ≡ map (word_of 10) (map value_of (take count (drop (list + 1 + j) ws)))
-unfolding value_at
-from-table ws list j zero h = refl
-from-table ws list j (suc count) h =
-    let one : list + 1 + suc j ≡ suc (list + 1 + j) = omega arith in
-    rw (drop-cons ws (list + 1 + j) 0 (omega arith)) (ap (λ (l : List ℕ). word_of 10 (value_of (get_or ws (list + 1 + j) 0)) ∷ l) (from-table ws list (suc j) count (omega arith) ∙ rw one refl))
-
-module _ (ws : List ℕ) (list : ℕ) where
-  no_names : (list ≡ 0) → names_or (names_at ws list) ≡ []
-  unfolding names_at
-  no_names e = rw e refl
-
-  its-names : {count : ℕ} → Lists ws list count → table_from (name_from ws list) 0 count ≡ map (word_of 10) (names_or (names_at ws list))
-  its-names {count} l = go list refl
-    where
-      go : (x : ℕ) → list ≡ x → table_from (name_from ws list) 0 count ≡ map (word_of 10) (names_or (names_at ws list))
-      go zero e = let n = no_names e in let z : count ≡ 0 = l.counts ∙ ap length n in rw (z, n) refl
-      go (suc x) e =
-          let there = names-there ws list (λ z. omega arith) in
-          let c : ℕ = value_of (get_or ws list 0) in
-          let k : count ≡ length (take c (drop (suc list) ws)) = l.counts ∙ ap length there ∙ length-map (take c (drop (suc list) ws)) value_of in
-          let at : list + 1 + 0 ≡ suc list = omega arith in
-          from-table ws list 0 count (let b = l.within in omega arith) ∙ ap (λ (y : ℕ). map (word_of 10) (map value_of (take count (drop y ws)))) at
-          ∙ ap (λ (y : ℕ). map (word_of 10) (map value_of (take y (drop (suc list) ws)))) k ∙ ap (λ (v : List ℕ). map (word_of 10) (map value_of v)) (take_again c (drop (suc list) ws)) ∙ ap (map (word_of 10)) (sym there)
-
--- so there is room for them where there is room for a table, and so they are written
-module _ {ws : List ℕ} {list count : ℕ} (l : Lists ws list count) where
-  pub names-room : (w : Writer) → HasRoom w (map (word_of 10) (names_or (names_at ws list))) → HasRoom w (table_from (name_from ws list) 0 count)
-  names-room w r = rw (its-names ws list l) r
-
-  pub names-put : {w w' : Writer} → Writes w (table_from (name_from ws list) 0 count) w' → Writes w (map (word_of 10) (names_or (names_at ws list))) w'
-  names-put p = rw (its-names ws list l) at p
+-- so the list is written
+pub list_put : {ws : List ℕ} {list : ℕ} (kind : ℕ) {names : List ℕ} → ListFound ws list names → list_words kind (names_or (names_at ws list)) ≡ word_of kind (length names) ∷ map name_word names
+list_put kind {names} f = rw (← f.names, length-map names value_of, map-map (word_of 10) value_of names) refl
 
 -- ---- a record
 

@@ -1,9 +1,9 @@
 // Words that are written one after the other into a slice. `pack` are the words in which the lists stand.
 ghost use Rattle.std.specs.Prelude.{◌≡◌, [], ◌∷◌, ◌≤◌, ◌<◌, length};
 
-use chains::record::{kind_count, slots_place, value_at};
+use chains::record::{kind_count, slots_place};
+use filtered::taking::list_at;
 use pack::kinds::Pack;
-use stamping::lists::names_at;
 
 // The slice, and the running place: how many words of it are written.
 #[derive(Drop)]
@@ -46,21 +46,20 @@ impl<'a> Writer<'a> {
 
 // Records, with the list at a place of the pack.
 impl Writer<'_> {
-    ghost use Rattle.definitions.specs.Table.{word_of};
+    ghost use Rattle.definitions.specs.Table.{value_of, word_of};
     ghost use Rattle.definitions.specs.Places.{names_at};
-    ghost use Rattle.stamping.specs.Stamping.{names_or, Lists};
+    ghost use Rattle.stamping.specs.Stamping.{names_or};
     ghost use Rattle.resolve.specs.Pieces.{list_words, put_for, piece_out, Stampable, RecordPut};
     ghost use Rattle.resolve.specs.Writing.{HasRoom, Writes};
     ghost use Rattle.std.specs.Prelude.{map};
 
-    // The names of the list, of which there are so many.
-    fn put_names(&mut self, pack: &[u32], list: u32, names: u32)
-        requires { Lists pack.now list names × HasRoom self.old (map (word_of 10) (names_or (names_at pack.now list))) }
-        ensures { Writes self.old (map (word_of 10) (names_or (names_at pack.now list))) self.new }
+    // The names that the words of a list hold.
+    fn put_names(&mut self, names: &[u32])
+        requires { HasRoom self.old names.now }
+        ensures { Writes self.old (map (λ w. word_of 10 (value_of w)) names.now) self.new }
     {
-        for j in 0..names as usize {
-            let name = value_at(pack, list as usize + 1 + j);
-            self.put_word(Pack::SLOT_KIND * Pack::VALUES + name);
+        for &name in names {
+            self.put_word(Pack::SLOT_KIND * Pack::VALUES + name % Pack::VALUES);
         }
     }
 
@@ -69,9 +68,9 @@ impl Writer<'_> {
         requires { (kind ≤ 21) × HasRoom self.old (list_words kind (names_or (names_at pack.now list))) }
         ensures { Writes self.old (list_words kind (names_or (names_at pack.now list))) self.new }
     {
-        let names = names_at(pack, list);
-        self.put_word(kind * Pack::VALUES + names);
-        self.put_names(pack, list, names);
+        let names = list_at(pack, list);
+        self.put_word(kind * Pack::VALUES + names.len() as u32);
+        self.put_names(names);
     }
 
     // A relation's record up to the count of its list 21, which stands at a place, with the list stamped on it.

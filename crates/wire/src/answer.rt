@@ -61,6 +61,7 @@ fn in_bits(number: u32, place: usize, name: u32, other: u32) -> u64
         + Field::OTHER.put(other as u64)
 }
 
+// A function, as `decode` is, and no `From`: neither an answer nor a number is a type of this crate.
 pub fn encode(a: Answer) -> u64
     ensures { result ≡ encode a }
 {
