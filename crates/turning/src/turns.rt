@@ -29,6 +29,8 @@ fn set_slots(work: &mut [u32], at: usize, current: u32, related: u32)
     work[at + 2] = Pack::RELATED * Pack::VALUES + related;
 }
 
+// The slices that turning writes are parameters, not fields: a struct that held them would have to promise at each call that it still holds
+// the same ones, beside what it leaves in them.
 impl Known<'_> {
     // The i-th note, of a node: its own number gives way to the entity of what stands inside it.
     fn turn_node(
