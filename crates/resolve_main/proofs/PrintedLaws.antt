@@ -1,6 +1,5 @@
 -- What the host's function answers and leaves in the output, as a text, is what is to be printed.
-use Prim.Native.Nat.{ℕ, ◌*◌, ◌/◌, ◌%◌, ◌^◌, ◌≤◌}
-use native.Mathlib.Nat.{div-div-eq-div-mul}
+use Prim.Native.Nat.{ℕ, ◌*◌, ◌/◌, ◌≤◌}
 use native.Mathlib.Omega.{arith}
 use mathlib.Core.Path.{◌≡◌, refl, ap, sym, subst, ◌∙◌}
 use mathlib.Core.Bool.{Bool, true, false, ◌&&◌}
@@ -17,48 +16,21 @@ use Rattle.definitions.specs.Pack.{Reading, yes, refuse, read, words, total}
 use Rattle.definitions.specs.Answers.{buffer, Outcome, done, refused}
 use Rattle.definitions.specs.Resolving.{resolved}
 use Rattle.definitions.specs.Operations.{resolve_answer, resolve_buffer}
-use Rattle.definitions.specs.Bytes.{word_from, words_of, bytes_of, encode, decode, are_words, not_words, over_bytes, out_after, in_room, out_bytes, Gives}
-use Rattle.definitions.specs.Text.{digit_of, line_of, lines_of, ok_line, text_of, printed}
+use Rattle.definitions.specs.Bytes.{words_of, bytes_of, encode, decode, are_words, not_words, over_bytes, out_after, in_room, out_bytes, Gives}
+use Rattle.definitions.specs.Text.{line_of, lines_of, ok_line, text_of, printed}
 use Rattle.pack.proofs.PackLaws as pack
 use Rattle.resolve.specs.Finish.{front_of, written_out}
 use Rattle.resolve.proofs.ResolveLaws.{front_alike, answer-within}
 use Rattle.wire.proofs.ByteLaws.{words-length, bytes_length}
 use Rattle.over_bytes.proofs.Bits.{resolve-decoded}
-use Rattle.resolve_main.specs.Printing.{Prints}
-use Rattle.resolve_main.proofs.Digits.{line_from}
-use Rattle.resolve_main.proofs.PrintingLaws.{prints_as}
+use Rattle.resolve_main.proofs.Digits.{word_line}
 
--- ---- a word's line is that of its four bytes, which keep all that is printed of it
-
-low : (n : ℕ) → n % 16 ≡ n % 256 % 16
-low n = omega arith
-
-high : (n m : ℕ) → n / 16 ≡ m → m % 16 ≡ n % 256 / 16
-high n m e = omega arith
-
-byte : (n : ℕ) → n % 256 ≤ 255
-byte n = omega arith
-
-word_line : (w : ℕ) → line_of (word_from (w % 256) (w / 256 % 256) (w / 65536 % 256) (w / 16777216 % 256)) ≡ line_of w
-word_line w =
-    sym
-    (line_from (w % 256) (w / 256 % 256) (w / 65536 % 256) (w / 16777216 % 256)
-    (omega arith) (omega (arith, byte (w / 256))) (omega (arith, byte (w / 65536))) (omega (arith, byte (w / 16777216)))
-    (ap digit_of (high (w / 16777216) (w / 16 ^ 7) (div-div-eq-div-mul w 16777216 16)))
-    (ap digit_of (low (w / 16777216)))
-    (ap digit_of (high (w / 65536) (w / 16 ^ 5) (div-div-eq-div-mul w 65536 16)))
-    (ap digit_of (low (w / 65536)))
-    (ap digit_of (high (w / 256) (w / 16 ^ 3) (div-div-eq-div-mul w 256 16)))
-    (ap digit_of (low (w / 256)))
-    (ap digit_of (high w (w / 16) refl))
-    (ap digit_of (low w)))
+-- ---- the words at the front of the output
 
 lines_again : (ws : List ℕ) → lines_of (words_of (bytes_of ws)) ≡ lines_of ws
 unfolding lines_of words_of bytes_of
 lines_again [] = refl
 lines_again (w ∷ ws) = ap (λ (l : List ℕ). l ++ lines_of (words_of (bytes_of ws))) (word_line w) ∙ ap (λ (l : List ℕ). line_of w ++ l) (lines_again ws)
-
--- ---- the words at the front of the output
 
 words_append : (ws rest : List ℕ) → words_of (bytes_of ws ++ rest) ≡ words_of (bytes_of ws) ++ words_of rest
 unfolding words_of bytes_of
@@ -125,11 +97,11 @@ printed-is bytes out e = go (are_words (length bytes)) (omega arith)
     go false l = text_after not_words (resolve_buffer (words_of bytes) (words_of out)) out (λ n s g. let z : ◌≡◌ {A = ℕ} 0 1 = cc in absurd (omega arith)) ∙ text_front not_words _ _ refl
 
 -- the program has the number, and the output
-pub resolved-text : {bytes out after before text : List ℕ} {r e : ℕ} → Gives resolve_answer resolve_buffer bytes out r after
-    → Prints (text_of (decode r) (words_of after)) before e text → length out ≡ 32768 → Prints (printed bytes) before e text
+pub resolved-text : {bytes out after text : List ℕ} {r : ℕ} → Gives resolve_answer resolve_buffer bytes out r after
+    → text ≡ text_of (decode r) (words_of after) → length out ≡ 32768 → text ≡ printed bytes
 resolved-text {bytes} {out} {after} g p l =
-    prints_as p
-    (ap (λ (r : ℕ). text_of (decode r) (words_of after)) g.answers
+    p
+    ∙ ap (λ (r : ℕ). text_of (decode r) (words_of after)) g.answers
     ∙ ap (λ (l : List ℕ). text_of (decode (encode (in_room resolve_answer (length out) bytes))) (words_of l)) g.leaves
     ∙ ap (λ (a : Answer). text_of a (words_of (out_bytes resolve_answer resolve_buffer bytes out))) (resolve-decoded (length out) bytes)
-    ∙ printed-is bytes out l)
+    ∙ printed-is bytes out l
