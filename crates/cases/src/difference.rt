@@ -1,0 +1,100 @@
+// Answers and buffers, expected and found.
+use definitions::answer::{Answer, Refusal};
+use std::fmt;
+
+// What a buffer holds before a call: words of the kind 222, which no pack has, that begin with this one and grow by 1.
+const MARK: u32 = 0xDEAD0000;
+
+// What came of a call is another than the one expected.
+#[derive(Clone, Copy)]
+pub enum Difference {
+    Answer {
+        expected: Answer,
+        came: Answer,
+    },
+    Word {
+        place: usize,
+        expected: u32,
+        came: u32,
+    },
+    IllFormed,
+}
+
+// An answer as it is shown.
+#[derive(Clone, Copy)]
+struct Shown(Answer);
+
+impl fmt::Display for Shown {
+    fn fmt<W: fmt::Write>(&self, f: &mut fmt::Formatter<W>) -> fmt::Result {
+        match self.0 {
+            Answer::Given(value, steps) => write!(f, "given {value} {steps}"),
+            Answer::Refused(
+                Refusal {
+                    number,
+                    place,
+                    name,
+                    other,
+                },
+            ) => write!(f, "refused {number} {place} {name} {other}"),
+        }
+    }
+}
+
+impl fmt::Display for Difference {
+    fn fmt<W: fmt::Write>(&self, f: &mut fmt::Formatter<W>) -> fmt::Result {
+        match *self {
+            Difference::Answer { expected, came } => {
+                write!(f, "expected {}, came {}", Shown(expected), Shown(came))
+            }
+            Difference::Word {
+                place,
+                expected,
+                came,
+            } => write!(f, "word {place}: expected {expected:08x}, came {came:08x}"),
+            Difference::IllFormed => f.write_str("the list is ill-formed"),
+        }
+    }
+}
+
+fn same(a: Answer, b: Answer) -> bool {
+    match (a, b) {
+        (Answer::Given(value, steps), Answer::Given(other_value, other_steps)) => value
+            == other_value
+            && steps == other_steps,
+        (Answer::Refused(a), Answer::Refused(b)) => {
+            a.number == b.number && a.place == b.place && a.name == b.name && a.other == b.other
+        }
+        _ => false,
+    }
+}
+
+pub fn compare(expected: Answer, came: Answer) -> Result<(), Difference> {
+    if same(expected, came) {
+        Ok(())
+    } else {
+        Err(Difference::Answer { expected, came })
+    }
+}
+
+// Marks a buffer before a call.
+pub fn mark(out: &mut [u32]) {
+    for (word, mark) in out.iter_mut().zip(MARK..u32::MAX) {
+        *word = mark;
+    }
+}
+
+// The buffer has to hold these words, and after them what it held before.
+pub fn compare_words(out: &[u32], words: &[u32]) -> Result<(), Difference> {
+    let marks = (MARK..u32::MAX).skip(words.len());
+    let expected = words.iter().copied().chain(marks);
+    for (place, (came, expected)) in out.iter().copied().zip(expected).enumerate() {
+        if came != expected {
+            return Err(Difference::Word {
+                place,
+                expected,
+                came,
+            });
+        }
+    }
+    Ok(())
+}
