@@ -85,9 +85,8 @@ pub fn mark(out: &mut [u32]) {
 
 // The buffer has to hold these words, and after them what it held before.
 pub fn compare_words(out: &[u32], words: &[u32]) -> Result<(), Difference> {
-    let marks = (MARK..u32::MAX).skip(words.len());
-    let expected = words.iter().copied().chain(marks);
-    for (place, (came, expected)) in out.iter().copied().zip(expected).enumerate() {
+    for (place, (came, mark)) in out.iter().copied().zip(MARK..u32::MAX).enumerate() {
+        let expected = words.get(place).copied().unwrap_or(mark);
         if came != expected {
             return Err(Difference::Word {
                 place,
