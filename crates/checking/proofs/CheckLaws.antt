@@ -1,4 +1,5 @@
 -- Laws of Check: what its tests and its reading come to.
+use Rattle.std.specs.Prelude.{Ok, Err}
 use Prim.Native.Nat.{ℕ, ◌+◌, ◌≤◌, ◌<◌}
 use mathlib.Core.Path.{◌≡◌, refl, ap, sym, ◌∙◌, subst}
 use mathlib.Core.List.{List}
@@ -9,10 +10,10 @@ use lib.Seq.{drop-cons, get_or-drop}
 use lib.Dec.{leb, ltb}
 use borrow.Author.Tests.{le-leb, lt-leb, leb-true, ltb-true, ltb-false}
 use Rattle.definitions.specs.declared.answer.Refusal.{Refusal}
-use Rattle.definitions.specs.declared.answer.Answer.TheVariants.{Given, Refused as No}
+use Rattle.definitions.specs.Answers.{gives}
 use Rattle.pack.specs.declared.cursor.Cursor.{Cursor}
-use Rattle.pack.specs.declared.cursor.Step.{Step}
-use Rattle.pack.specs.declared.cursor.Step.TheVariants.{On, Refused}
+use Rattle.pack.specs.Readers.{Step}
+use Rattle.pack.specs.Readers.{on}
 use Rattle.definitions.specs.Table.{pick, value_of, word_of, entry_of, table}
 use Rattle.definitions.specs.Form.{Form, Read, map_read, field, got, read_by, words_by}
 use Rattle.definitions.specs.Records.{undated, Pack}
@@ -23,10 +24,8 @@ use Rattle.definitions.specs.Answers.{answer}
 use Rattle.definitions.specs.Checking.{check_answer}
 use Rattle.pack.proofs.FormLaws.{clash, map-got}
 use Rattle.records.specs.declared.directory.Layout.{Layout}
-use Rattle.records.specs.declared.directory.Laid.{Laid}
-use Rattle.records.specs.declared.directory.Laid.TheVariants.{Yes}
-use Rattle.records.specs.declared.directory.Laid.TheVariants.{No as Out}
-use Rattle.records.specs.Directory.{Clear, step_in, refused_layout, layout_of, directory_of}
+use Rattle.records.specs.Directory.{Laid}
+use Rattle.records.specs.Directory.{Clear, step_in, layout_of, directory_of}
 use Rattle.records.specs.Notes.{relations_left, notes_left, LaidOut}
 use Rattle.records.proofs.KeptLaws.{There, there, within}
 use Rattle.checking.specs.CheckPromises.{names_said, LaidWhole, answer_in, CheckedNotes, DirectoryChecked}
@@ -37,35 +36,35 @@ pub from_start : {A : Type 0} (F : Form A) (ws : List ℕ) {at : ℕ} {x : Step}
 from_start F ws z h = h ∙ ap (λ (a : ℕ). skip_over F ws a) z
 
 -- the number of names that was read
-pub names-most : (n : ℕ) (ws : List ℕ) (at : ℕ) {x : Step} {v : ℕ} {k : Cursor} → x ≡ field_step n 2 ws at → x ≡ On v k → v ≤ 4096
+pub names-most : (n : ℕ) (ws : List ℕ) (at : ℕ) {x : Step} {v : ℕ} {k : Cursor} → x ≡ field_step n 2 ws at → x ≡ on v k → v ≤ 4096
 unfolding entry_of table
 names-most n ws at {v = v} e o = (from_one n 2 4096 refl v (field-fine n 2 ws at e o).1).1
 
 module _ (ws : List ℕ) where
-  pub check_short : length ws < 6 → No (record { number = 1; place = 0; name = 0; other = 0 }) ≡ check_answer ws
+  pub check_short : length ws < 6 → Err (record { number = 1; place = 0; name = 0; other = 0 }) ≡ check_answer ws
   unfolding check_answer read
   check_short h = sym (simp (lt-leb 6 (length ws) h))
 
   module _ (lo : 6 ≤ length ws) where
-    pub check_long : 8192 < length ws → No (record { number = 1; place = 0; name = 0; other = 0 }) ≡ check_answer ws
+    pub check_long : 8192 < length ws → Err (record { number = 1; place = 0; name = 0; other = 0 }) ≡ check_answer ws
     unfolding check_answer read
     check_long h = sym (simp (le-leb 6 (length ws) lo, lt-leb (length ws) 8192 h))
 
     module _ (hi : length ws ≤ 8192) {x : Step} (e : x ≡ skip_over (layout undated (length ws)) ws 0) where
-      sized : check_answer ws ≡ answer (complete undated (read_by (layout undated (length ws)) 0 ws)) (λ p. Given 1 0)
+      sized : check_answer ws ≡ answer (complete undated (read_by (layout undated (length ws)) 0 ws)) (λ p. gives 1 0)
       unfolding check_answer read
       sized = simp (le-leb 6 (length ws) lo, le-leb (length ws) 8192 hi)
 
-      pub check_refused : {r : Refusal} → x ≡ Refused r → No r ≡ check_answer ws
+      pub check_refused : {r : Refusal} → x ≡ Err r → Err r ≡ check_answer ws
       unfolding step_of
       check_refused o = sym (sized ∙ rw (step_no (λ a. 0) (read_by (layout undated (length ws)) 0 ws) (sym e ∙ o)))
 
-      pub check_left : {v : ℕ} {k : Cursor} → x ≡ On v k → k.at < length ws → No (record { number = 8; place = k.at; name = 0; other = 0 }) ≡ check_answer ws
+      pub check_left : {v : ℕ} {k : Cursor} → x ≡ on v k → k.at < length ws → Err (record { number = 8; place = k.at; name = 0; other = 0 }) ≡ check_answer ws
       check_left {k = k} o h =
           let t = went (λ a. 0) (layout undated (length ws)) ws 0 e o in
           sym (sized ∙ rw t.found (rw (drop-cons ws k.at 0 h)))
 
-      pub check_yes : {v : ℕ} {k : Cursor} → x ≡ On v k → length ws ≤ k.at → Given 1 0 ≡ check_answer ws
+      pub check_yes : {v : ℕ} {k : Cursor} → x ≡ on v k → length ws ≤ k.at → gives 1 0 ≡ check_answer ws
       check_yes {k = k} o h =
           let t = went (λ a. 0) (layout undated (length ws)) ws 0 e o in
           sym (sized ∙ rw t.found (rw (drop_of_length-le ws h)))
@@ -93,7 +92,7 @@ said-most ws = go (leb (value_of (get_or ws 1 0)) 4096) refl
     go false e = omega arith
 
 -- N that was read is as word 1 says it
-names-said : (ws : List ℕ) {x : Step} {v : ℕ} {k : Cursor} → x ≡ field_step 0 2 ws 1 → x ≡ On v k → names_said ws ≡ v
+names-said : (ws : List ℕ) {x : Step} {v : ℕ} {k : Cursor} → x ≡ field_step 0 2 ws 1 → x ≡ on v k → names_said ws ≡ v
 unfolding names_said words_by
 names-said ws {v = v} e o =
     let t = there itself (field 0 2) ws 1 e o in
@@ -103,7 +102,7 @@ names-said ws {v = v} e o =
     rw (w, le-leb v 4096 m) refl
 
 -- so there is room for as many names
-pub clear-read : (len : ℕ) (ws : List ℕ) {at : ℕ} → at ≡ 0 → {x y : Step} {u v : ℕ} {k j : Cursor} → x ≡ skip_over (field len 1) ws at → x ≡ On u k → y ≡ field_step 0 2 ws k.at → y ≡ On v j → {d : List ℕ}
+pub clear-read : (len : ℕ) (ws : List ℕ) {at : ℕ} → at ≡ 0 → {x y : Step} {u v : ℕ} {k j : Cursor} → x ≡ skip_over (field len 1) ws at → x ≡ on u k → y ≡ field_step 0 2 ws k.at → y ≡ on v j → {d : List ℕ}
     → Clear (names_said ws) d → Clear v d
 unfolding words_by
 clear-read len ws {at} z {y = y} {k = k} e₁ o₁ e₂ o₂ {d} c =
@@ -113,34 +112,35 @@ clear-read len ws {at} z {y = y} {k = k} e₁ o₁ e₂ o₂ {d} c =
 
 module _ {ws d e : List ℕ} {d' e' : List ℕ} where
   -- of a refusal nothing is to be shown but the answer
-  pub checked_no : {w : Refusal} {r : Laid} → r ≡ Out w → No w ≡ check_answer ws → CheckedNotes ws d e r d' e'
+  pub checked_no : {w : Refusal} {r : Laid} → r ≡ Err w → Err w ≡ check_answer ws → CheckedNotes ws d e r d' e'
   unfolding check_answer
   checked_no {w} {r} q a =
       record { answers = ap answer_in q ∙ a; lays = λ p h. absurd (never p h); enters = λ p h. absurd (never p h); notes = λ p h. absurd (never p h) }
     where
-      clash : answer (read ws) (λ p. Given 1 0) ≡ Given 1 0 → ◌≡◌ {A = ℕ} 0 1
+      clash : answer (read ws) (λ p. gives 1 0) ≡ gives 1 0 → ◌≡◌ {A = ℕ} 0 1
       clash b = cc (a, b)
 
       never : (p : Pack) → read ws ≡ yes p → ⊥
-      never p h = let z : ◌≡◌ {A = ℕ} 0 1 = clash (ap (λ (r : Reading). answer r (λ p. Given 1 0)) h) in omega arith
+      never p h = let z : ◌≡◌ {A = ℕ} 0 1 = clash (ap (λ (r : Reading). answer r (λ p. gives 1 0)) h) in omega arith
 
   module _ (lo : 6 ≤ length ws) (hi : length ws ≤ 8192) where
-    pub checked_refused : {r : Laid} → LaidWhole (length ws) ws d e r d' e' → {w : Refusal} → r ≡ Out w → CheckedNotes ws d e r d' e'
+    pub checked_refused : {r : Laid} → LaidWhole (length ws) ws d e r d' e' → {w : Refusal} → r ≡ Err w → CheckedNotes ws d e r d' e'
     checked_refused l q = checked_no q (check_refused ws lo hi l.answers (ap step_in q))
 
-    pub checked-yes : {r : Laid} → LaidWhole (length ws) ws d e r d' e' → {l : Layout} → r ≡ Yes l → length ws ≤ l.end → CheckedNotes ws d e (Yes l) d' e'
+    pub checked-yes : {r : Laid} → LaidWhole (length ws) ws d e r d' e' → {l : Layout} → r ≡ Ok l → length ws ≤ l.end → CheckedNotes ws d e (Ok l) d' e'
     unfolding read
     checked-yes {r} w {l} q h =
-        let s : On 0 (record { at = l.end }) ≡ skip_over (layout undated (length ws)) ws 0 = sym (ap step_in q) ∙ w.answers in
+        let s : on 0 (record { at = l.end }) ≡ skip_over (layout undated (length ws)) ws 0 = sym (ap step_in q) ∙ w.answers in
         let t = there (λ a. 0) (layout undated (length ws)) ws 0 s refl in
         let n : l.end ≡ length ws = omega (arith, within (λ a. 0) (layout undated (length ws)) ws 0 s refl (whole_long (length ws))) in
         let f : read ws ≡ yes (of_row undated t.value.1) = simp (le-leb 6 (length ws) lo, le-leb (length ws) 8192 hi, t.found, drop_of_length-le ws h) in
         let itself : (p : Pack) → read ws ≡ yes p → of_row undated t.value.1 ≡ p = λ p k. cc (f, k) in
+        let laid : ℕ → Laid = λ x. Ok (layout_of t.value.1.0 2 x t.value.1.1 (get_or (relations_left t.value.1.0 2 t.value.1.1 e) 0 0) (get_or (notes_left t.value.1.0 2 t.value.1.1 e) 0 0)) in
         record {
           answers = check_yes ws lo hi s refl h;
-          lays = λ p k. subst (λ (p : Pack). Yes l ≡ Yes (layout_of p.names 2 (length ws) (to_row p).1 (get_or (relations_left p.names 2 (to_row p).1 e) 0 0) (get_or (notes_left p.names 2 (to_row p).1 e) 0 0))) (itself p k)
+          lays = λ p k. subst (λ (p : Pack). ◌≡◌ {A = Laid} (Ok l) (Ok (layout_of p.names 2 (length ws) (to_row p).1 (get_or (relations_left p.names 2 (to_row p).1 e) 0 0) (get_or (notes_left p.names 2 (to_row p).1 e) 0 0)))) (itself p k)
               (sym q ∙ w.lays t.value l.end (drop l.end ws) t.found
-              ∙ ap (λ (x : ℕ). Yes (layout_of t.value.1.0 2 x t.value.1.1 (get_or (relations_left t.value.1.0 2 t.value.1.1 e) 0 0) (get_or (notes_left t.value.1.0 2 t.value.1.1 e) 0 0))) n);
+              ∙ ap laid n);
           enters = λ p k. subst (λ (p : Pack). d' ≡ directory_of p.names 2 (to_row p).1 d) (itself p k) (w.enters t.value l.end (drop l.end ws) t.found);
           notes = λ p k. subst (λ (p : Pack). e' ≡ notes_left p.names 2 (to_row p).1 e) (itself p k) (w.notes t.value l.end (drop l.end ws) t.found);
         }
@@ -150,14 +150,13 @@ module _ {ws d e : List ℕ} {d' e' : List ℕ} where
 
 -- the total and the number of names, and then the records
 module _ (len : ℕ) (ws d e : List ℕ) {d' e' : List ℕ} where
-  pub whole_no : {x : Step} {w : Refusal} {r : Laid} → x ≡ skip_over (layout undated len) ws 0 → x ≡ Refused w → r ≡ refused_layout x → LaidWhole len ws d e r d' e'
+  pub whole_no : {w : Refusal} {r : Laid} → Err w ≡ skip_over (layout undated len) ws 0 → r ≡ Err w → LaidWhole len ws d e r d' e'
   unfolding step_of
-  whole_no {x} {w} {r} y o q =
-      let s : r ≡ Out w = q ∙ ap refused_layout o in
-      let no = step_no (λ a. 0) (read_by (layout undated len) 0 ws) (sym y ∙ o) in
-      record { answers = ap step_in s ∙ sym o ∙ y; lays = λ t next rest h. absurd (clash (sym no ∙ h)); enters = λ t next rest h. absurd (clash (sym no ∙ h)); notes = λ t next rest h. absurd (clash (sym no ∙ h)) }
+  whole_no {w} {r} y q =
+      let no = step_no (λ a. 0) (read_by (layout undated len) 0 ws) (sym y) in
+      record { answers = ap step_in q ∙ y; lays = λ t next rest h. absurd (clash (sym no ∙ h)); enters = λ t next rest h. absurd (clash (sym no ∙ h)); notes = λ t next rest h. absurd (clash (sym no ∙ h)) }
 
-  pub whole_on : {at : ℕ} → at ≡ 0 → {x y : Step} {v n : ℕ} {k j : Cursor} → x ≡ skip_over (field len 1) ws at → x ≡ On v k → y ≡ field_step 0 2 ws k.at → y ≡ On n j → {r : Laid}
+  pub whole_on : {at : ℕ} → at ≡ 0 → {x y : Step} {v n : ℕ} {k j : Cursor} → x ≡ skip_over (field len 1) ws at → x ≡ on v k → y ≡ field_step 0 2 ws k.at → y ≡ on n j → {r : Laid}
       → LaidOut n ws j.at d e r d' e' → LaidWhole len ws d e r d' e'
   unfolding layout inner read_by step_of words_by
   whole_on {at} z {x = x} {v = v} {n = n} {k = k} {j = j} e₁ o₁ e₂ o₂ {r} l =

@@ -1,7 +1,6 @@
 -- Packs and outputs as bytes, each answer as one number, as the host's functions have them.
-use Rattle.std.specs.Prelude.{ℕ, ◌+◌, ◌*◌, ◌/◌, ◌%◌, ◌^◌, ◌≡◌, Bool, ◌&&◌, List, [], ◌∷◌, ◌++◌, length, take, drop, eqb, leb}
-use Rattle.definitions.specs.declared.answer.Answer.{Answer}
-use Rattle.definitions.specs.declared.answer.Answer.TheVariants.{Given, Refused}
+use Rattle.std.specs.Prelude.{ℕ, ◌+◌, ◌*◌, ◌/◌, ◌%◌, ◌^◌, ◌≡◌, Bool, ◌&&◌, List, [], ◌∷◌, ◌++◌, length, take, drop, eqb, leb, Ok, Err}
+use Rattle.definitions.specs.Answers.{Answer, gives}
 use Rattle.definitions.specs.Table.{pick}
 
 -- "A host in Rust hands over the pack as bytes, four a word, low byte first."
@@ -27,8 +26,8 @@ in_bits number place name other = number % 2 ^ 6 + place % 2 ^ 14 * 2 ^ 6 + name
 
 -- an answer that is no refusal has number 0, its value in the bits of the name, its steps in those of the other, and 0 in the rest
 abbrev pub encode : Answer → ℕ
-encode (Given value steps) = in_bits 0 0 value steps
-encode (Refused r) = in_bits r.number r.place r.name r.other
+encode (Ok g) = in_bits 0 0 g.value g.steps
+encode (Err r) = in_bits r.number r.place r.name r.other
 
 -- and the answer from its number: its fields, and what they say, as no refusal has the number 0
 abbrev pub number_field : ℕ → ℕ
@@ -46,15 +45,15 @@ other_field r = r / 2 ^ 52 % 2 ^ 12
 unfoldable pub decode : ℕ → Answer
 decode r =
     pick (eqb (number_field r) 0)
-    (Given (name_field r) (other_field r))
-    (Refused (record { number = number_field r; place = place_field r; name = name_field r; other = other_field r }))
+    (gives (name_field r) (other_field r))
+    (Err (record { number = number_field r; place = place_field r; name = name_field r; other = other_field r }))
 
 -- "byte counts not divisible by four, or above 32,768, give that": refused 1 0 0 0
 abbrev pub are_words : ℕ → Bool
 are_words count = eqb (count % 4) 0 && leb count 32768
 
 abbrev pub not_words : Answer
-not_words = Refused (record { number = 1; place = 0; name = 0; other = 0 })
+not_words = Err (record { number = 1; place = 0; name = 0; other = 0 })
 
 -- what an operation answers for a pack in bytes
 unfoldable pub over_bytes : (List ℕ → Answer) → List ℕ → Answer
@@ -63,8 +62,8 @@ over_bytes answer bytes = pick (are_words (length bytes)) (answer (words_of byte
 -- the output after an answer, whose value is the number of words written. "A refusal changes no lent buffer. Words and bytes past those that an operation
 -- writes are kept."
 unfoldable pub out_after : Answer → List ℕ → List ℕ → List ℕ
-out_after (Given n steps) written out = bytes_of (take n written) ++ drop (4 * n) out
-out_after (Refused r) written out = out
+out_after (Ok g) written out = bytes_of (take g.value written) ++ drop (4 * g.value) out
+out_after (Err r) written out = out
 
 -- An operation that writes: its answer for an output of b bytes, of which it uses the first 4 · (b div 4), and the output afterwards.
 abbrev pub in_room : (List ℕ → ℕ → Answer) → ℕ → List ℕ → Answer

@@ -1,8 +1,7 @@
 -- Check and Rewrite: what they answer, and what Rewrite leaves in the lent slice.
 use Rattle.std.specs.Prelude.{ℕ, List}
-use Rattle.definitions.specs.declared.answer.Answer.{Answer}
 use Rattle.definitions.specs.Pack.{read, words}
-use Rattle.definitions.specs.Answers.{answer, says_yes, done, all_of, Operation, answer_by, buffer_by}
+use Rattle.definitions.specs.Answers.{Answer, answer, says_yes, done, all_of, Operation, answer_by, buffer_by}
 
 -- "Check answers yes or the first of"
 unfoldable pub check_answer : List ℕ → Answer

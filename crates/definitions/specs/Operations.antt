@@ -1,6 +1,5 @@
 -- The operations: what each answers of any words, and what it leaves in the lent slice.
 use Rattle.std.specs.Prelude.{ℕ, List, ltb, leb}
-use Rattle.definitions.specs.declared.answer.Answer.{Answer}
 use Rattle.definitions.specs.declared.operation.Filter.{Filter}
 use Rattle.definitions.specs.declared.operation.Question.{Question}
 use Rattle.definitions.specs.declared.operation.Question.TheVariants.{Check, KindsOf, Lean}
@@ -9,7 +8,7 @@ use Rattle.definitions.specs.declared.operation.Writing.TheVariants.{Rewrite, Al
 use Rattle.definitions.specs.Table.{pick}
 use Rattle.definitions.specs.Records.{Pack}
 use Rattle.definitions.specs.Pack.{total, words, read}
-use Rattle.definitions.specs.Answers.{answer, place_found, unknown, yes_or_no, done, map_done, Output, all_of, Operation, answer_by, buffer_by}
+use Rattle.definitions.specs.Answers.{Answer, answer, place_found, unknown, yes_or_no, done, map_done, Output, all_of, Operation, answer_by, buffer_by}
 use Rattle.definitions.specs.Checking.{check_answer, rewrite_answer, rewrite_buffer}
 use Rattle.definitions.specs.Kinds.{all_kinds, own_answer}
 use Rattle.definitions.specs.Places.{place_of, all_kinds_words}

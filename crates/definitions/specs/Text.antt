@@ -1,10 +1,9 @@
 -- What the program prints. "A program reads the same bytes from standard input and runs Resolve." A text is the list of its characters' codes.
-use Rattle.std.specs.Prelude.{ℕ, zero, suc, ◌+◌, ◌/◌, ◌%◌, ◌^◌, List, [], ◌∷◌, ◌++◌, map, take, replicate, ltb}
+use Rattle.std.specs.Prelude.{ℕ, zero, suc, ◌+◌, ◌/◌, ◌%◌, ◌^◌, List, [], ◌∷◌, ◌++◌, map, take, replicate, ltb, Ok, Err}
 use Prim.Native.Char.{code}
 use Prim.Native.String.{String, [] as nothing, ◌∷◌ as ◌then◌}
-use Rattle.definitions.specs.declared.answer.Answer.{Answer}
-use Rattle.definitions.specs.declared.answer.Answer.TheVariants.{Given, Refused}
 use Rattle.definitions.specs.Table.{pick}
+use Rattle.definitions.specs.Answers.{Answer}
 use Rattle.definitions.specs.Bytes.{words_of, over_bytes}
 use Rattle.definitions.specs.Operations.{resolve_answer, resolve_buffer}
 
@@ -50,8 +49,8 @@ refused_line number place name other = codes "refused" ++ spaced number ++ space
 
 -- an answer, and the slice whose first words are those that it says are written
 unfoldable pub text_of : Answer → List ℕ → List ℕ
-text_of (Given count steps) slice = ok_line count steps ++ lines_of (take count slice)
-text_of (Refused r) slice = refused_line r.number r.place r.name r.other
+text_of (Ok g) slice = ok_line g.value g.steps ++ lines_of (take g.value slice)
+text_of (Err r) slice = refused_line r.number r.place r.name r.other
 
 -- What is printed for the bytes of standard input: what Resolve answers, and what it leaves in a slice of 8,192 zeros, as many as a pack may have.
 unfoldable pub printed : List ℕ → List ℕ

@@ -1,8 +1,8 @@
 -- What the table says of words that begin trees, by one computation over all kinds; and where the words of a kind that do end.
 -- Assumes nothing.
-use Prim.Native.Nat.{ℕ, ◌+◌, ◌*◌, ◌/◌, ◌%◌, ◌<◌, ◌≤◌}
+use Prim.Native.Nat.{ℕ, ◌+◌, ◌-◌, ◌*◌, ◌/◌, ◌%◌, ◌<◌, ◌≤◌}
 use native.Mathlib.Omega.{arith}
-use mathlib.Core.Path.{◌≡◌, refl, ap, sym, ◌∙◌}
+use mathlib.Core.Path.{◌≡◌, refl, ap, sym, subst, ◌∙◌}
 use mathlib.Core.List.{List}
 use lib.ListN.{get_or}
 use mathlib.Core.Bool.{Bool, true, false, ◌&&◌}
@@ -12,7 +12,7 @@ use Rattle.definitions.specs.declared.table.Values.{Values}
 use Rattle.definitions.specs.declared.table.Values.TheVariants.{Unused, Any, AtMost, FromOne, AtMostOrNone, Total, Name, NameOrNone}
 use Rattle.definitions.specs.Table.{pick, kind_of, value_of, word_of, allowed, entry_of, table}
 use Rattle.definitions.specs.Form.{allowed_here}
-use Rattle.pack.specs.Packed.{rule_from, head_rule, EndsBy, Ended, bound_of, may_begin}
+use Rattle.pack.specs.Packed.{head_rule, EndsAt, Ended, may_begin}
 use Rattle.pack.proofs.Listed.{in_range}
 
 -- a kind with which a tree begins has one of the three rules
@@ -34,19 +34,33 @@ pub high_none : (k : ℕ) → 128 ≤ k → k < 256 → (entry_of k).sort ≡ 2
 unfolding entry_of table
 high_none k l h = in_range (λ (k : ℕ). (entry_of k).sort) 2 128 128 refl k l h
 
+-- a sort is scalar, judgment or none
+pub sorted : (k : ℕ) → k < 256 → (entry_of k).sort ≤ 2
+unfolding entry_of table
+sorted k h =
+    let e : leb (entry_of k).sort 2 ≡ true = in_range (λ (k : ℕ). leb (entry_of k).sort 2) true 0 256 refl k (omega arith) h in
+    leb-true (entry_of k).sort 2 e
+
+abbrev most_in : Values → ℕ
+most_in Unused = 0
+most_in Any = 0
+most_in (AtMost m) = m
+most_in (FromOne m) = 0
+most_in (AtMostOrNone m) = 0
+most_in Total = 0
+most_in Name = 0
+most_in NameOrNone = 0
+
+-- what a value may be at most is small
+pub most_small : (k : ℕ) → k < 256 → {m : ℕ} → (entry_of k).values ≡ AtMost m → m ≤ 1024
+unfolding entry_of table
+most_small k h {m} q =
+    let e : leb (most_in (entry_of k).values) 1024 ≡ true = in_range (λ (k : ℕ). leb (most_in (entry_of k).values) 1024) true 0 256 refl k (omega arith) h in
+    let s : most_in (entry_of k).values ≤ 1024 = leb-true (most_in (entry_of k).values) 1024 e in
+    rw q at s
+
 no : {A : Type 0} → false ≡ true → A
 no e = let z : ◌≡◌ {A = ℕ} 0 1 = cc in absurd (omega arith)
-
--- a rule's number that is neither any value's nor a name's
-third : (b2 b3 b4 b5 b7 : Bool) (l n v : ℕ)
-    → head_rule (pick b2 (AtMost l) (pick b3 (FromOne l) (pick b4 (AtMostOrNone l) (pick b5 Total (pick b7 NameOrNone Unused))))) ≡ true
-    → leb v l ≡ allowed (pick b2 (AtMost l) (pick b3 (FromOne l) (pick b4 (AtMostOrNone l) (pick b5 Total (pick b7 NameOrNone Unused))))) n v
-third true b3 b4 b5 b7 l n v p = refl
-third false true b4 b5 b7 l n v p = no p
-third false false true b5 b7 l n v p = no p
-third false false false true b7 l n v p = no p
-third false false false false true l n v p = no p
-third false false false false false l n v p = no p
 
 -- ---- words below an end
 
@@ -64,57 +78,37 @@ below-most kind l v = go (leb v l) refl
     go true e = lt-ltb (kind * 16777216 + v) (kind * 16777216 + l + 1) (omega (arith, leb-true v l e)) ∙ sym e
     go false e = le-ltb (kind * 16777216 + v) (kind * 16777216 + l + 1) (omega (arith, leb-false v l e)) ∙ sym e
 
-module _ (x kind : ℕ) where
-  pub ends-none : 2 ≤ x / 65536 % 4 → EndsBy x kind 0
-  unfolding EndsBy
-  ends-none s n v h b p = rw (le-ltb (x / 65536 % 4) 2 s) (le-ltb (word_of kind v) 0 (omega arith))
+-- the end of a kind's words, by its entry
+module _ (n kind : ℕ) where
+  pub ends-none : (entry_of kind).sort ≡ 2 → EndsAt n kind 0
+  ends-none s v h = rw s (le-ltb (word_of kind v) 0 (omega arith))
 
-  pub ends-any : x / 65536 % 4 < 2 → x % 8 ≡ 1 → EndsBy x kind (kind * 16777216 + 16777216)
-  unfolding EndsBy
-  ends-any s e n v h b p = rw (lt-ltb (x / 65536 % 4) 2 s, e) (lt-ltb (word_of kind v) (kind * 16777216 + 16777216) (omega arith))
+  module _ (s : (entry_of kind).sort < 2) where
+    pub ends-any : (entry_of kind).values ≡ Any → EndsAt n kind (kind * 16777216 + 16777216)
+    unfolding allowed_here
+    ends-any e v h = rw (lt-ltb (entry_of kind).sort 2 s, e) (lt-ltb (word_of kind v) (kind * 16777216 + 16777216) (omega arith))
 
-  pub ends-name : x / 65536 % 4 < 2 → x % 8 ≡ 6 → EndsBy x kind (kind * 16777216 + x / 8 % 8192)
-  unfolding EndsBy
-  ends-name s e n v h b p = rw (b e, lt-ltb (x / 65536 % 4) 2 s, e) (below-name kind n v)
+    pub ends-most : {m : ℕ} → (entry_of kind).values ≡ AtMost m → EndsAt n kind (kind * 16777216 + m + 1)
+    unfolding allowed_here
+    ends-most {m} e v h = rw (lt-ltb (entry_of kind).sort 2 s, e) (below-most kind m v)
 
-  pub ends-most : x / 65536 % 4 < 2 → (x % 8 ≡ 1 → ⊥) → (x % 8 ≡ 6 → ⊥) → EndsBy x kind (kind * 16777216 + x / 8 % 8192 + 1)
-  unfolding EndsBy
-  ends-most s y z n v h b p =
-      let r : ℕ = x % 8 in
-      let a : eqb (x % 8) 1 ≡ false = ne_eqb _ _ y in
-      let d : eqb (x % 8) 6 ≡ false = ne_eqb _ _ z in
-      let q : head_rule (rule_from x) ≡ true = p s in
-      rw (lt-ltb (x / 65536 % 4) 2 s)
-      (below-most kind (x / 8 % 8192) v ∙ rw (a, d) (third (eqb r 2) (eqb r 3) (eqb r 4) (eqb r 5) (eqb r 7) (x / 8 % 8192) n v (rw (a, d) at q)))
+    -- any other rule is that of names
+    pub ends-name : kind < 256 → ((entry_of kind).values ≡ Any → ⊥) → ((m : ℕ) → (entry_of kind).values ≡ AtMost m → ⊥) → EndsAt n kind (kind * 16777216 + n)
+    unfolding allowed_here
+    ends-name k x y v h = rw (lt-ltb (entry_of kind).sort 2 s) (rw named (below-name kind n v))
+      where
+        go : (r : Values) → (entry_of kind).values ≡ r → head_rule r ≡ true → r ≡ Name
+        go Unused e t = no t
+        go Any e t = absurd (x e)
+        go (AtMost m) e t = absurd (y m e)
+        go (FromOne m) e t = no t
+        go (AtMostOrNone m) e t = no t
+        go Total e t = no t
+        go Name e t = refl
+        go NameOrNone e t = no t
 
-abbrev is_name : Values → Bool
-is_name Unused = false
-is_name Any = false
-is_name (AtMost m) = false
-is_name (FromOne m) = false
-is_name (AtMostOrNone m) = false
-is_name Total = false
-is_name Name = true
-is_name NameOrNone = false
-
-not_name : {A : Type 0} (b1 b2 b3 b4 b5 b7 : Bool) (l : ℕ) → pick b1 Any (pick b2 (AtMost l) (pick b3 (FromOne l) (pick b4 (AtMostOrNone l) (pick b5 Total (pick b7 NameOrNone Unused))))) ≡ Name → A
-not_name true b2 b3 b4 b5 b7 l e = no (ap is_name e)
-not_name false true b3 b4 b5 b7 l e = no (ap is_name e)
-not_name false false true b4 b5 b7 l e = no (ap is_name e)
-not_name false false false true b5 b7 l e = no (ap is_name e)
-not_name false false false false true b7 l e = no (ap is_name e)
-not_name false false false false false true l e = no (ap is_name e)
-not_name false false false false false false l e = no (ap is_name e)
-
--- an entry of names has the number of their rule
-pub names_six : (x : ℕ) → rule_from x ≡ Name → x % 8 ≡ 6
-names_six x e = go (eqb (x % 8) 6) refl
-  where
-    go : (b : Bool) → eqb (x % 8) 6 ≡ b → x % 8 ≡ 6
-    go true h = eqb-true (x % 8) 6 h
-    go false h =
-        let m : pick (eqb (x % 8) 1) Any (pick (eqb (x % 8) 2) (AtMost (x / 8 % 8192)) (pick (eqb (x % 8) 3) (FromOne (x / 8 % 8192)) (pick (eqb (x % 8) 4) (AtMostOrNone (x / 8 % 8192)) (pick (eqb (x % 8) 5) Total (pick (eqb (x % 8) 7) NameOrNone Unused))))) ≡ Name = rw h at e in
-        not_name (eqb (x % 8) 1) (eqb (x % 8) 2) (eqb (x % 8) 3) (eqb (x % 8) 4) (eqb (x % 8) 5) (eqb (x % 8) 7) (x / 8 % 8192) m
+        named : (entry_of kind).values ≡ Name
+        named = go (entry_of kind).values refl (head_rules kind k s)
 
 -- ---- words that may begin a tree
 
@@ -130,12 +124,13 @@ other-sort n sort w h s e = go (eqb (entry_of (kind_of w)).sort sort) refl
     go false q = rw q
 
 -- one of a kind of the sort may where it stands below the end of its kind
-pub by_end : (t : List ℕ) (sort w : ℕ) → w < 4294967296 → sort < 2 → kind_of w / 32 ≡ 2 + sort → Ended (bound_of t) t → ltb w (get_or t (128 + kind_of w) 0) ≡ may_begin (bound_of t) sort w
-unfolding may_begin Ended
-by_end t sort w h s k e =
+pub by_end : (n : ℕ) (ends : List ℕ) (sort w : ℕ) → w < 4294967296 → sort < 2 → kind_of w / 32 ≡ 2 + sort → Ended n ends → ltb w (get_or ends (kind_of w - 64) 0) ≡ may_begin n sort w
+unfolding may_begin
+by_end n ends sort w h s k e =
     let whole : word_of (kind_of w) (value_of w) ≡ w = omega arith in
-    let m : ltb (word_of (kind_of w) (value_of w)) (get_or t (128 + kind_of w) 0) ≡ (ltb (entry_of (kind_of w)).sort 2 && allowed_here (bound_of t) (kind_of w) (value_of w)) = e (kind_of w) (value_of w) (omega arith) (omega arith) (omega arith) in
-    ap (λ (x : ℕ). ltb x (get_or t (128 + kind_of w) 0)) (sym whole) ∙ m ∙ ap (λ (b : Bool). b && allowed_here (bound_of t) (kind_of w) (value_of w)) same
+    let there : 64 + (kind_of w - 64) ≡ kind_of w = omega arith in
+    let m : ltb (word_of (kind_of w) (value_of w)) (get_or ends (kind_of w - 64) 0) ≡ (ltb (entry_of (kind_of w)).sort 2 && allowed_here n (kind_of w) (value_of w)) = subst (λ (x : ℕ). ltb (word_of x (value_of w)) (get_or ends (kind_of w - 64) 0) ≡ (ltb (entry_of x).sort 2 && allowed_here n x (value_of w))) there (e (kind_of w - 64) (omega arith) (value_of w) (omega arith)) in
+    ap (λ (x : ℕ). ltb x (get_or ends (kind_of w - 64) 0)) (sym whole) ∙ m ∙ ap (λ (b : Bool). b && allowed_here n (kind_of w) (value_of w)) same
   where
     same : ltb (entry_of (kind_of w)).sort 2 ≡ eqb (entry_of (kind_of w)).sort sort
     same = go (ltb (entry_of (kind_of w)).sort 2) refl

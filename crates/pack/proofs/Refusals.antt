@@ -1,4 +1,5 @@
 -- Check and Rewrite refuse by 01's numbers alone: 1 to 8, and Rewrite 16 too. Places lie within the slice, or are its length where it has ended, and names are below 2^24.
+use Rattle.std.specs.Prelude.{Err}
 use Prim.Native.Nat.{ℕ, zero, suc, ◌+◌, ◌-◌, ◌≤◌, ◌<◌}
 use native.Mathlib.Omega.{arith}
 use mathlib.Core.Path.{◌≡◌, refl, ap, sym, ◌∙◌}
@@ -9,7 +10,7 @@ use mathlib.Core.Logic.{◌⊎◌, inl, inr}
 use lib.Dec.{leb, eqb}
 use borrow.Author.Tests.{eqb-false, leb-true}
 use Rattle.definitions.specs.declared.answer.Refusal.{Refusal}
-use Rattle.definitions.specs.declared.answer.Answer.TheVariants.{Given, Refused}
+use Rattle.definitions.specs.Answers.{gives}
 use Rattle.definitions.specs.Table.{pick, kind_of, value_of, entry_of, judgment}
 use Rattle.definitions.specs.Form.{Read, got, refused, because, bind, map_read, allowed_here, read_word, among, only, read_field, read_all, read_each, Holder, says, whole, Suits, Form, field, word, empty, each, guarded, ◌▹◌, counted_from, one_and_more, via, words_by, Fine, read_by}
 use Rattle.definitions.specs.Tree.{heads, fields, follow, tree, root}
@@ -279,23 +280,23 @@ read_numbers ws r e = size (leb 6 (length ws) && leb (length ws) 8192) refl e
         record { least = omega arith; most = omega arith; place = omega arith; size = λ e. refl; ended = λ e. absurd (omega arith); word = λ lo n. absurd (omega arith); name = omega arith; other = refl } in
         rw (← s) (record { within = one; few = omega arith; many = λ m. (refl, refl) })
 
-pub check-numbers : (ws : List ℕ) (r : Refusal) → check_answer ws ≡ Refused r → CheckRefuses ws r
+pub check-numbers : (ws : List ℕ) (r : Refusal) → check_answer ws ≡ Err r → CheckRefuses ws r
 unfolding check_answer
 check-numbers ws r e = go (read ws) refl e
   where
-    go : (m : Reading) → read ws ≡ m → answer m (λ p. Given 1 0) ≡ Refused r → CheckRefuses ws r
+    go : (m : Reading) → read ws ≡ m → answer m (λ p. gives 1 0) ≡ Err r → CheckRefuses ws r
     go (yes p) h q = let z : ◌≡◌ {A = ℕ} 0 1 = cc in absurd (omega arith)
     go (refuse s) h q = let u : s ≡ r = cc in read_numbers ws r (h ∙ ap refuse u)
 
 -- one of Check's refusals, or 16 with nothing else
-pub rewrite_numbers : (ws : List ℕ) (room : ℕ) (r : Refusal) → rewrite_answer ws room ≡ Refused r → CheckRefuses ws r ⊎ (Refused r ≡ out_of_room)
+pub rewrite_numbers : (ws : List ℕ) (room : ℕ) (r : Refusal) → rewrite_answer ws room ≡ Err r → CheckRefuses ws r ⊎ (Err r ≡ out_of_room)
 unfolding rewrite_answer
 rewrite_numbers ws room r e = go (read ws) refl e
   where
-    fits : (b : Bool) (n : ℕ) → pick b (Given n 0) out_of_room ≡ Refused r → CheckRefuses ws r ⊎ (Refused r ≡ out_of_room)
+    fits : (b : Bool) (n : ℕ) → pick b (gives n 0) out_of_room ≡ Err r → CheckRefuses ws r ⊎ (Err r ≡ out_of_room)
     fits true n q = let z : ◌≡◌ {A = ℕ} 0 1 = cc in absurd (omega arith)
     fits false n q = inr (sym q)
 
-    go : (m : Reading) → read ws ≡ m → answer m (λ p. pick (leb (length (words p)) room) (Given (length (words p)) 0) out_of_room) ≡ Refused r → CheckRefuses ws r ⊎ (Refused r ≡ out_of_room)
+    go : (m : Reading) → read ws ≡ m → answer m (λ p. pick (leb (length (words p)) room) (gives (length (words p)) 0) out_of_room) ≡ Err r → CheckRefuses ws r ⊎ (Err r ≡ out_of_room)
     go (yes p) h q = fits (leb (length (words p)) room) (length (words p)) q
     go (refuse s) h q = let u : s ≡ r = cc in inl (read_numbers ws r (h ∙ ap refuse u))

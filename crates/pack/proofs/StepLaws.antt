@@ -1,4 +1,7 @@
 -- Laws of reading steps. They are stated backwards, for `search`: what answers the rest of a form answers the whole.
+use Rattle.std.specs.Prelude.{Result, Ok, Err}
+use Rattle.std.specs.Result.{IsErrAnd}
+use Rattle.std.proofs.lemmas.Result.{err_from_is_err_and}
 use Prim.Native.Nat.{ℕ, suc, ◌+◌, ◌-◌, ◌≤◌, ◌<◌}
 use native.Mathlib.Omega.{arith}
 use mathlib.Core.Path.{◌≡◌, refl, ap, sym, ◌∙◌}
@@ -11,8 +14,8 @@ use lib.Dec.{leb}
 use borrow.Author.Tests.{ne_eqb, leb-true}
 use Rattle.definitions.specs.declared.answer.Refusal.{Refusal}
 use Rattle.pack.specs.declared.cursor.Cursor.{Cursor}
-use Rattle.pack.specs.declared.cursor.Step.{Step}
-use Rattle.pack.specs.declared.cursor.Step.TheVariants.{On, Refused}
+use Rattle.pack.specs.Readers.{Step}
+use Rattle.pack.specs.Readers.{on}
 use Rattle.definitions.specs.declared.table.Values.TheVariants.{AtMost, FromOne}
 use Rattle.definitions.specs.Table.{kind_of, value_of, entry_of}
 use Rattle.definitions.specs.Form.{Read, got, refused, bind, map_read, allowed_here, read_word, only, read_field, read_all, read_each, Holder, option, says, whole, Suits, Form, field, word, each, guarded, ◌▹◌, counted_from, one_and_more, via, words_by, Fine, read_by}
@@ -21,22 +24,45 @@ use Rattle.pack.proofs.FormLaws.{lawful}
 
 -- a word at a place
 module _ (ws : List ℕ) (at : ℕ) where
-  pub word-ended : length ws ≤ at → Refused (record { number = 3; place = at; name = 0; other = 0 }) ≡ word_step ws at
+  pub word-ended : length ws ≤ at → Err (record { number = 3; place = at; name = 0; other = 0 }) ≡ word_step ws at
   unfolding word_step
   word-ended h = sym (rw (drop_of_length-le ws h))
 
-  pub word-there : at < length ws → On (get_or ws at 0) (record { at = at + 1 }) ≡ word_step ws at
+  pub word-there : at < length ws → on (get_or ws at 0) (record { at = at + 1 }) ≡ word_step ws at
   unfolding word_step
   word-there h = sym (rw (drop-cons ws at 0 h))
 
-no_on : {r : Refusal} {v : ℕ} {k : Cursor} → Refused r ≡ On v k → ⊥
+no_on : {r : Refusal} {v : ℕ} {k : Cursor} → Err r ≡ on v k → ⊥
 no_on e = let z : ◌≡◌ {A = ℕ} 0 1 = cc in omega arith
 
-no_refused : {r : Refusal} {v : ℕ} {k : Cursor} → On v k ≡ Refused r → ⊥
+no_refused : {r : Refusal} {v : ℕ} {k : Cursor} → on v k ≡ Err r → ⊥
 no_refused e = let z : ◌≡◌ {A = ℕ} 0 1 = cc in omega arith
 
+-- a step that went on tells its value and its place
+abbrev value_in : Step → ℕ
+value_in (Ok (v, k)) = v
+value_in (Err r) = 0
+
+abbrev place_in : Cursor → Step → Cursor
+place_in j (Ok (v, k)) = k
+place_in j (Err r) = j
+
+pub on_value : {v w : ℕ} {j k : Cursor} → on v j ≡ on w k → v ≡ w
+on_value e = ap value_in e
+
+pub on_place : {v w : ℕ} {j k : Cursor} → on v j ≡ on w k → j ≡ k
+on_place {v} {w} {j} {k} e = ap (place_in j) e
+
+-- what `?` hands on where a call is refused: the call's refusal
+pub exit : {T E : Type 0} {r : Result T E} {e : E} → IsErrAnd r (λ x. x ≡ e) → r ≡ Err e
+exit {T} {E} {r} h = let p = err_from_is_err_and r h in p.1 ∙ ap Err p.2
+
+-- and where the call answers what the caller does, its answer
+pub exit_same : {T E : Type 0} {r y : Result T E} {e : E} → IsErrAnd r (λ x. x ≡ e) → y ≡ Err e → r ≡ y
+exit_same h o = exit h ∙ sym o
+
 -- a step that was refused
-pub step_no : {A : Type 0} (f : A → ℕ) (m : Read A) {r : Refusal} → step_by f m ≡ Refused r → m ≡ refused r
+pub step_no : {A : Type 0} (f : A → ℕ) (m : Read A) {r : Refusal} → step_by f m ≡ Err r → m ≡ refused r
 step_no f (got a at ws) e = absurd (no_refused e)
 step_no f (refused r) e = cc
 
@@ -51,7 +77,7 @@ module _ (rejects : ℕ → ℕ) (n : ℕ) (f : ℕ × ℕ → ℕ) (ws : List �
   unfolding word_step
   stood l h = e ∙ ap (λ (m : List ℕ). next_word at m) h
 
-  pub word-stop : {r : Refusal} → y ≡ Refused r → y ≡ step_of f (word rejects n) ws at
+  pub word-stop : {r : Refusal} → y ≡ Err r → y ≡ step_of f (word rejects n) ws at
   unfolding step_of read_by
   word-stop {r} o = go (drop at ws) refl
     where
@@ -59,16 +85,16 @@ module _ (rejects : ℕ → ℕ) (n : ℕ) (f : ℕ × ℕ → ℕ) (ws : List �
       go [] h = stood [] h
       go (w ∷ l) h = absurd (no_refused (sym (stood (w ∷ l) h) ∙ o))
 
-  module _ {w : ℕ} {k : Cursor} (o : y ≡ On w k) where
+  module _ {w : ℕ} {k : Cursor} (o : y ≡ on w k) where
     stands : drop at ws ≡ w ∷ drop k.at ws
     stands = go (drop at ws) refl
       where
         go : (l : List ℕ) → drop at ws ≡ l → l ≡ w ∷ drop k.at ws
         go [] h = absurd (no_on (sym (stood [] h) ∙ o))
         go (x ∷ l) h =
-            let u : On x (record { at = at + 1 }) ≡ On w k = sym (stood (x ∷ l) h) ∙ o in
-            let v : x ≡ w = cc in
-            let q : at + 1 ≡ k.at = ap (λ (c : Cursor). c.at) (cc) in
+            let u : on x (record { at = at + 1 }) ≡ on w k = sym (stood (x ∷ l) h) ∙ o in
+            let v : x ≡ w = on_value u in
+            let q : at + 1 ≡ k.at = ap (λ (c : Cursor). c.at) (on_place u) in
             let d : drop (at + 1) ws ≡ l = sym (drop-drop 1 at ws) ∙ ap (λ (m : List ℕ). drop 1 m) h in
             rw v (ap (λ (m : List ℕ). w ∷ m) (sym d ∙ ap (λ (m : ℕ). drop m ws) q))
 
@@ -77,18 +103,18 @@ module _ (rejects : ℕ → ℕ) (n : ℕ) (f : ℕ × ℕ → ℕ) (ws : List �
       where
         go : (l : List ℕ) → drop at ws ≡ l → k ≡ record { at = at + 1 }
         go [] h = absurd (no_on (sym (stood [] h) ∙ o))
-        go (x ∷ l) h = let u : On x (record { at = at + 1 }) ≡ On w k = sym (stood (x ∷ l) h) ∙ o in cc
+        go (x ∷ l) h = let u : on x (record { at = at + 1 }) ≡ on w k = sym (stood (x ∷ l) h) ∙ o in sym (on_place u)
 
-    pub word_rejected : {x : ℕ} → rejects (kind_of w) ≡ x → (x ≡ 0 → ⊥) → Refused (record { number = x; place = at; name = 0; other = 0 }) ≡ step_of f (word rejects n) ws at
+    pub word_rejected : {x : ℕ} → rejects (kind_of w) ≡ x → (x ≡ 0 → ⊥) → Err (record { number = x; place = at; name = 0; other = 0 }) ≡ step_of f (word rejects n) ws at
     unfolding step_of read_by
     word_rejected {x} t z = sym (simp (stands, t, ne_eqb x 0 z))
 
     pub word_value : rejects (kind_of w) ≡ 0 → allowed_here n (kind_of w) (value_of w) ≡ false
-        → Refused (record { number = 4; place = at; name = 0; other = 0 }) ≡ step_of f (word rejects n) ws at
+        → Err (record { number = 4; place = at; name = 0; other = 0 }) ≡ step_of f (word rejects n) ws at
     unfolding step_of read_by
     word_value t v = sym (simp (stands, t, v))
 
-    pub word_on : {x : ℕ} → rejects (kind_of w) ≡ 0 → allowed_here n (kind_of w) (value_of w) ≡ true → f (kind_of w, value_of w) ≡ x → On x k ≡ step_of f (word rejects n) ws at
+    pub word_on : {x : ℕ} → rejects (kind_of w) ≡ 0 → allowed_here n (kind_of w) (value_of w) ≡ true → f (kind_of w, value_of w) ≡ x → on x k ≡ step_of f (word rejects n) ws at
     unfolding step_of read_by
     word_on t v q = sym (simp (stands, t, v, q, after))
 
@@ -116,20 +142,20 @@ pub record Went {A : Type 0} (f : A → ℕ) (F : Form A) (ws : List ℕ) (at v 
   pub kept : f value ≡ v
   pub fine : Fine F value
 
-pub went : {A : Type 0} (f : A → ℕ) (F : Form A) (ws : List ℕ) (at : ℕ) {x : Step} {v : ℕ} {k : Cursor} → x ≡ step_of f F ws at → x ≡ On v k → Went f F ws at v k
+pub went : {A : Type 0} (f : A → ℕ) (F : Form A) (ws : List ℕ) (at : ℕ) {x : Step} {v : ℕ} {k : Cursor} → x ≡ step_of f F ws at → x ≡ on v k → Went f F ws at v k
 unfolding step_of
 went {A} f F ws at {x} {v} {k} e o = go (read_by F at (drop at ws)) refl (sym e ∙ o)
   where
-    go : (m : Read A) → read_by F at (drop at ws) ≡ m → step_by f m ≡ On v k → Went f F ws at v k
+    go : (m : Read A) → read_by F at (drop at ws) ≡ m → step_by f m ≡ on v k → Went f F ws at v k
     go (got a at' rest) h e =
         let r : rest ≡ drop at' ws = rest-drop F ws at h in
-        let p : at' ≡ k.at = ap (λ (c : Cursor). c.at) (cc) in
+        let p : at' ≡ k.at = ap (λ (c : Cursor). c.at) (on_place e) in
         let g : read_by F at (drop at ws) ≡ got a k.at (drop k.at ws) = h ∙ rw r (rw p refl) in
-        record { value = a; found = g; kept = cc; fine = ((lawful F).back at (drop at ws) a k.at (drop k.at ws) g).fine }
+        record { value = a; found = g; kept = on_value e; fine = ((lawful F).back at (drop at ws) a k.at (drop k.at ws) g).fine }
     go (refused r) h e = absurd (no_on e)
 
 -- of a form whose number is its value
-pub went_same : (F : Form ℕ) (ws : List ℕ) (at : ℕ) {x : Step} {v : ℕ} {k : Cursor} → x ≡ step_of itself F ws at → x ≡ On v k
+pub went_same : (F : Form ℕ) (ws : List ℕ) (at : ℕ) {x : Step} {v : ℕ} {k : Cursor} → x ≡ step_of itself F ws at → x ≡ on v k
     → (read_by F at (drop at ws) ≡ got v k.at (drop k.at ws)) × Fine F v
 went_same F ws at e o = let t = went itself F ws at e o in (rw (← t.kept) t.found, rw (← t.kept) t.fine)
 
@@ -140,17 +166,17 @@ by-via to from tf ft g F ws at h = h ∙ sym (step_map g to (read_by F at (drop 
 
 module _ {A : Type 0} (f : A → ℕ) (F : Form A) (ws : List ℕ) (at : ℕ) {y : Step} (e : y ≡ step_of f F ws at) where
   -- refused, whatever number is kept
-  pub last-stop : (g : A → ℕ) {r : Refusal} → y ≡ Refused r → y ≡ step_of g F ws at
+  pub last-stop : (g : A → ℕ) {r : Refusal} → y ≡ Err r → y ≡ step_of g F ws at
   unfolding step_of
   last-stop g o = o ∙ sym (rw (step_no f (read_by F at (drop at ws)) (sym e ∙ o)))
 
   -- read, where a number is kept that does not depend on it
-  pub last_on : (c : ℕ) {v : ℕ} {k : Cursor} → y ≡ On v k → On c k ≡ step_of (λ a. c) F ws at
+  pub last_on : (c : ℕ) {v : ℕ} {k : Cursor} → y ≡ on v k → on c k ≡ step_of (λ a. c) F ws at
   unfolding step_of
   last_on c o = let s = went f F ws at e o in sym (rw s.found)
 
   module _ {B : Type 0} (G : A → Form B) (g : A × B → ℕ) where
-    pub then_stop : {r : Refusal} → y ≡ Refused r → y ≡ step_of g (F ▹ G) ws at
+    pub then_stop : {r : Refusal} → y ≡ Err r → y ≡ step_of g (F ▹ G) ws at
     unfolding step_of read_by
     then_stop o = o ∙ sym (rw (step_no f (read_by F at (drop at ws)) (sym e ∙ o)))
 
@@ -158,11 +184,11 @@ module _ {A : Type 0} (f : A → ℕ) (F : Form A) (ws : List ℕ) (at : ℕ) {y
     unfolding step_of read_by
     past a at' h = rw h (step_map g (λ b. (a, b)) (read_by (G a) at' (drop at' ws)))
 
-    pub by_then : {x : Step} {v : ℕ} {k : Cursor} → y ≡ On v k → ((a : A) → x ≡ step_of (λ b. g (a, b)) (G a) ws k.at) → x ≡ step_of g (F ▹ G) ws at
+    pub by_then : {x : Step} {v : ℕ} {k : Cursor} → y ≡ on v k → ((a : A) → x ≡ step_of (λ b. g (a, b)) (G a) ws k.at) → x ≡ step_of g (F ▹ G) ws at
     by_then {k = k} o h = let s = went f F ws at e o in h s.value ∙ sym (past s.value k.at s.found)
 
     -- where what follows goes by the number that is kept
-    pub by_kept : {x : Step} {v : ℕ} {k : Cursor} → y ≡ On v k → ((a : A) → f a ≡ v → Fine F a → x ≡ step_of (λ b. g (a, b)) (G a) ws k.at) → x ≡ step_of g (F ▹ G) ws at
+    pub by_kept : {x : Step} {v : ℕ} {k : Cursor} → y ≡ on v k → ((a : A) → f a ≡ v → Fine F a → x ≡ step_of (λ b. g (a, b)) (G a) ws k.at) → x ≡ step_of g (F ▹ G) ws at
     by_kept {k = k} o h = let s = went f F ws at e o in h s.value s.kept s.fine ∙ sym (past s.value k.at s.found)
 
 -- and then none of a list
@@ -176,12 +202,12 @@ then_none {A} {B} f F G ws at = go (read_by F at (drop at ws))
 
 -- where what follows goes by the value
 pub by_value : {B : Type 0} (F : Form ℕ) (G : ℕ → Form B) (g : ℕ × B → ℕ) (ws : List ℕ) (at : ℕ) {x y : Step} {v : ℕ} {k : Cursor}
-    → y ≡ step_of itself F ws at → y ≡ On v k → x ≡ step_of (λ b. g (v, b)) (G v) ws k.at → x ≡ step_of g (F ▹ G) ws at
+    → y ≡ step_of itself F ws at → y ≡ on v k → x ≡ step_of (λ b. g (v, b)) (G v) ws k.at → x ≡ step_of g (F ▹ G) ws at
 by_value F G g ws at {v = v} {k = k} e o h = h ∙ sym (past itself F ws at e G g v k.at (went_same F ws at e o).0)
 
 -- one for each entry of a list
 module _ {X A : Type 0} (F : X → Form A) (ws : List ℕ) (at : ℕ) where
-  pub each-done : (c : ℕ) → On c (record { at = at }) ≡ step_of (λ l. c) (each F []) ws at
+  pub each-done : (c : ℕ) → on c (record { at = at }) ≡ step_of (λ l. c) (each F []) ws at
   unfolding step_of read_by
   each-done c = refl
 
@@ -190,7 +216,7 @@ module _ {X A : Type 0} (F : X → Form A) (ws : List ℕ) (at : ℕ) where
   none_then G g = step_map g (λ b. ([], b)) (read_by (G []) at (drop at ws))
 
   module _ (x : X) (xs : List X) (f : A → ℕ) (g : List A → ℕ) {y : Step} (e : y ≡ step_of f (F x) ws at) where
-    pub each-stop : {r : Refusal} → y ≡ Refused r → y ≡ step_of g (each F (x ∷ xs)) ws at
+    pub each-stop : {r : Refusal} → y ≡ Err r → y ≡ step_of g (each F (x ∷ xs)) ws at
     unfolding step_of read_by
     each-stop o = o ∙ sym (rw (step_no f (read_by (F x) at (drop at ws)) (sym e ∙ o)))
 
@@ -198,7 +224,7 @@ module _ {X A : Type 0} (F : X → Form A) (ws : List ℕ) (at : ℕ) where
     unfolding step_of read_by
     each-past a at' h = rw h (step_map g (λ l. a ∷ l) (read_each (λ z b vs. read_by (F z) b vs) xs at' (drop at' ws)))
 
-    pub by-each : {z : Step} {v : ℕ} {k : Cursor} → y ≡ On v k → ((a : A) → z ≡ step_of (λ l. g (a ∷ l)) (each F xs) ws k.at) → z ≡ step_of g (each F (x ∷ xs)) ws at
+    pub by-each : {z : Step} {v : ℕ} {k : Cursor} → y ≡ on v k → ((a : A) → z ≡ step_of (λ l. g (a ∷ l)) (each F xs) ws k.at) → z ≡ step_of g (each F (x ∷ xs)) ws at
     by-each {k = k} o h = let s = went f (F x) ws at e o in h s.value ∙ sym (each-past s.value k.at s.found)
 
   -- the last one, with the number that is kept of it
@@ -219,19 +245,19 @@ pred_of m h = omega arith
 
 -- as many of one entry
 module _ {X A : Type 0} (F : X → Form A) (x : X) (ws : List ℕ) (at m : ℕ) where
-  pub many-done : m ≤ 0 → On 0 (record { at = at }) ≡ skip_over (each F (replicate m x)) ws at
+  pub many-done : m ≤ 0 → on 0 (record { at = at }) ≡ skip_over (each F (replicate m x)) ws at
   many-done h = let z : m ≡ 0 = omega arith in rw z (each-done F ws at 0)
 
   module _ (h : 0 < m) (f : A → ℕ) {y : Step} (e : y ≡ step_of f (F x) ws at) where
-    pub many-stop : {r : Refusal} → y ≡ Refused r → y ≡ skip_over (each F (replicate m x)) ws at
+    pub many-stop : {r : Refusal} → y ≡ Err r → y ≡ skip_over (each F (replicate m x)) ws at
     many-stop o = each-stop F ws at x (replicate (m - 1) x) f (λ l. 0) e o ∙ ap (λ (n : ℕ). skip_over (each F (replicate n x)) ws at) (sym (pred_of m h))
 
-    pub many-next : {v : ℕ} {k : Cursor} → y ≡ On v k → skip_over (each F (replicate m x)) ws at ≡ skip_over (each F (replicate (m - 1) x)) ws k.at
+    pub many-next : {v : ℕ} {k : Cursor} → y ≡ on v k → skip_over (each F (replicate m x)) ws at ≡ skip_over (each F (replicate (m - 1) x)) ws k.at
     many-next o = ap (λ (n : ℕ). skip_over (each F (replicate n x)) ws at) (pred_of m h) ∙ sym (by-each F ws at x (replicate (m - 1) x) f (λ l. 0) e o (λ a. refl))
 
 -- so many with a state
 module _ {S A : Type 0} (step : S → A → S) (F : S → Form A) (s : S) (ws : List ℕ) (at : ℕ) (m : ℕ) where
-  pub all_done : m ≤ 0 → On 0 (record { at = at }) ≡ skip_all step F m s ws at
+  pub all_done : m ≤ 0 → on 0 (record { at = at }) ≡ skip_all step F m s ws at
   unfolding skip_all
   all_done h = let z : m ≡ 0 = omega arith in rw z refl
 
@@ -241,34 +267,34 @@ module _ {S A : Type 0} (step : S → A → S) (F : S → Form A) (s : S) (ws : 
 
   module _ (h : 0 < m) (f : A → ℕ) {y : Step} (e : y ≡ step_of f (F s) ws at) where
     -- the next state is a function of the number that is kept
-    pub all-next : (g : ℕ → S) → ((a : A) → step s a ≡ g (f a)) → {v : ℕ} {k : Cursor} → y ≡ On v k → skip_all step F m s ws at ≡ skip_all step F (m - 1) (g v) ws k.at
+    pub all-next : (g : ℕ → S) → ((a : A) → step s a ≡ g (f a)) → {v : ℕ} {k : Cursor} → y ≡ on v k → skip_all step F m s ws at ≡ skip_all step F (m - 1) (g v) ws k.at
     all-next g q {v} {k} o =
         let t = went f (F s) ws at e o in
         ap (λ (n : ℕ). skip_all step F n s ws at) (pred_of m h) ∙ all_past (m - 1) t.value k.at t.found
         ∙ ap (λ (u : S). skip_all step F (m - 1) u ws k.at) (q t.value ∙ ap g t.kept)
 
-    pub all-stop : {r : Refusal} → y ≡ Refused r → y ≡ skip_all step F m s ws at
+    pub all-stop : {r : Refusal} → y ≡ Err r → y ≡ skip_all step F m s ws at
     unfolding skip_all step_of
     all-stop {r} o = o ∙ sym (ap (λ (n : ℕ). skip_all step F n s ws at) (pred_of m h) ∙ rw (step_no f (read_by (F s) at (drop at ws)) (sym e ∙ o)))
 
 -- a count and what it counts
 module _ {S A C : Type 0} (H : Holder A C) (n kind : ℕ) (suits : Suits H (entry_of kind).values) (step : S → A → S) (F : S → Form A) (s : S) (ws : List ℕ) (at : ℕ) {y : Step} (e : y ≡ field_step n kind ws at) where
-  pub counted_stop : {r : Refusal} → y ≡ Refused r → y ≡ skip_over (counted_from H n kind suits step F s) ws at
+  pub counted_stop : {r : Refusal} → y ≡ Err r → y ≡ skip_over (counted_from H n kind suits step F s) ws at
   unfolding step_of read_by
   counted_stop {r} o = o ∙ sym (rw (step_no itself (read_field n kind at (drop at ws)) (sym e ∙ o)))
 
-  pub by-counted : {x : Step} {v : ℕ} {k : Cursor} → y ≡ On v k → x ≡ skip_all step F (says H v) s ws k.at → x ≡ skip_over (counted_from H n kind suits step F s) ws at
+  pub by-counted : {x : Step} {v : ℕ} {k : Cursor} → y ≡ on v k → x ≡ skip_all step F (says H v) s ws k.at → x ≡ skip_over (counted_from H n kind suits step F s) ws at
   unfolding step_of skip_all read_by
   by-counted {v = v} {k = k} o h =
       let z : read_field n kind at (drop at ws) ≡ got v k.at (drop k.at ws) = (went_same (field n kind) ws at e o).0 in
       h ∙ sym (rw z (step_map (λ c. 0) (whole H v) (read_all step (λ u b vs. read_by (F u) b vs) (says H v) s k.at (drop k.at ws))))
 
   -- the same with a loop's own count
-  pub by_left : {x : Step} {v : ℕ} {k : Cursor} → y ≡ On v k → {m : ℕ} → m ≡ says H v → x ≡ skip_all step F m s ws k.at → x ≡ skip_over (counted_from H n kind suits step F s) ws at
+  pub by_left : {x : Step} {v : ℕ} {k : Cursor} → y ≡ on v k → {m : ℕ} → m ≡ says H v → x ≡ skip_all step F m s ws k.at → x ≡ skip_over (counted_from H n kind suits step F s) ws at
   by_left {k = k} o q h = by-counted o (h ∙ ap (λ (m : ℕ). skip_all step F m s ws k.at) q)
 
 -- a word that was read has an allowed value
-pub field-fine : (n kind : ℕ) (ws : List ℕ) (at : ℕ) {x : Step} {v : ℕ} {k : Cursor} → x ≡ field_step n kind ws at → x ≡ On v k → (v < 16777216) × (allowed_here n kind v ≡ true)
+pub field-fine : (n kind : ℕ) (ws : List ℕ) (at : ℕ) {x : Step} {v : ℕ} {k : Cursor} → x ≡ field_step n kind ws at → x ≡ on v k → (v < 16777216) × (allowed_here n kind v ≡ true)
 unfolding Fine
 field-fine n kind ws at e o = (went_same (field n kind) ws at e o).1
 
@@ -290,11 +316,11 @@ module _ {A : Type 0} (n kind : ℕ) (flag : (entry_of kind).values ≡ AtMost 1
   abbrev optional : Form (Option A)
   optional = counted_from {S = Unit {0}} option n kind flag (λ u a. u) (λ u. F) tt
 
-  pub optional_none : {v : ℕ} {k : Cursor} → y ≡ On v k → v ≡ 0 → On 0 k ≡ skip_over optional ws at
+  pub optional_none : {v : ℕ} {k : Cursor} → y ≡ on v k → v ≡ 0 → on 0 k ≡ skip_over optional ws at
   unfolding says
   optional_none {v} {k} o z = by-counted option n kind flag _ _ _ ws at e o (all_done _ _ _ ws k.at v (omega arith))
 
-  pub optional_some : {v : ℕ} {k : Cursor} {x : Step} → y ≡ On v k → (v ≡ 0 → ⊥) → x ≡ skip_over F ws k.at → x ≡ skip_over optional ws at
+  pub optional_some : {v : ℕ} {k : Cursor} {x : Step} → y ≡ on v k → (v ≡ 0 → ⊥) → x ≡ skip_over F ws k.at → x ≡ skip_over optional ws at
   unfolding says skip_all step_of
   optional_some {v} {k} {x} o z h =
       let l : v ≤ 1 = at_most n kind 1 flag v (field-fine n kind ws at e o).1 in
@@ -310,20 +336,20 @@ module _ {A B : Type 0} (n kind most : ℕ) (rule : (entry_of kind).values ≡ F
   abbrev bodies : Form (A × List B)
   bodies = one_and_more n kind most rule F G
 
-  pub more-stop : {r : Refusal} → y ≡ Refused r → y ≡ skip_over bodies ws at
+  pub more-stop : {r : Refusal} → y ≡ Err r → y ≡ skip_over bodies ws at
   unfolding step_of read_by
   more-stop {r} o = o ∙ sym (rw (step_no itself (read_field n kind at (drop at ws)) (sym e ∙ o)))
 
-  module _ {v : ℕ} {k : Cursor} (o : y ≡ On v k) (f : A → ℕ) {x : Step} (d : x ≡ step_of f F ws k.at) where
+  module _ {v : ℕ} {k : Cursor} (o : y ≡ on v k) (f : A → ℕ) {x : Step} (d : x ≡ step_of f F ws k.at) where
     count-there : read_field n kind at (drop at ws) ≡ got v k.at (drop k.at ws)
     unfolding read_by
     count-there = (went_same (field n kind) ws at e o).0
 
-    pub first-stop : {r : Refusal} → x ≡ Refused r → x ≡ skip_over bodies ws at
+    pub first-stop : {r : Refusal} → x ≡ Err r → x ≡ skip_over bodies ws at
     unfolding step_of read_by
     first-stop {r} p = p ∙ sym (rw count-there (rw (step_no f (read_by F k.at (drop k.at ws)) (sym d ∙ p))))
 
-    pub by-more : {z : Step} {u : ℕ} {j : Cursor} → x ≡ On u j → z ≡ skip_all {S = Unit {0}} (λ u b. u) (λ u. G) (v - 1) tt ws j.at → z ≡ skip_over bodies ws at
+    pub by-more : {z : Step} {u : ℕ} {j : Cursor} → x ≡ on u j → z ≡ skip_all {S = Unit {0}} (λ u b. u) (λ u. G) (v - 1) tt ws j.at → z ≡ skip_over bodies ws at
     unfolding step_of skip_all read_by
     by-more {j = j} p h =
         let t = went f F ws k.at d p in
@@ -331,22 +357,53 @@ module _ {A B : Type 0} (n kind most : ℕ) (rule : (entry_of kind).values ≡ F
 
 -- a word with a later test
 module _ (n kind : ℕ) (test : ℕ → Bool) (why : ℕ → ℕ → Refusal) (ws : List ℕ) (at : ℕ) {x : Step} (e : x ≡ field_step n kind ws at) where
-  pub guarded-stop : {r : Refusal} → x ≡ Refused r → x ≡ step_of itself (guarded (field n kind) test why) ws at
+  pub guarded-stop : {r : Refusal} → x ≡ Err r → x ≡ step_of itself (guarded (field n kind) test why) ws at
   unfolding step_of read_by
   guarded-stop o = o ∙ sym (rw (step_no itself (read_field n kind at (drop at ws)) (sym e ∙ o)))
 
-  module _ {v : ℕ} {k : Cursor} (o : x ≡ On v k) where
+  module _ {v : ℕ} {k : Cursor} (o : x ≡ on v k) where
     value_there : read_field n kind at (drop at ws) ≡ got v k.at (drop k.at ws)
     unfolding read_by
     value_there = (went_same (field n kind) ws at e o).0
 
-    pub guarded_no : test v ≡ false → Refused (why at v) ≡ step_of itself (guarded (field n kind) test why) ws at
+    pub guarded_no : test v ≡ false → Err (why at v) ≡ step_of itself (guarded (field n kind) test why) ws at
     unfolding read_by step_of
     guarded_no z = sym (simp (value_there, z))
 
-    pub guarded_on : test v ≡ true → On v k ≡ step_of itself (guarded (field n kind) test why) ws at
+    pub guarded_on : test v ≡ true → on v k ≡ step_of itself (guarded (field n kind) test why) ws at
     unfolding read_by step_of
     guarded_on z = sym (simp (value_there, z))
 
--- what a `return` of a reading function wants
-pub ruleset walks = (by-via, by_then, by_value, then_stop, last_on, last-stop, counted_stop, guarded-stop)
+-- ---- the same after a `?`, where what a call answered stands in what it promised
+
+-- what is handed on is the call's refusal
+pub handed : {T E : Type 0} {r z : Result T E} {e : E} → IsErrAnd r (λ x. x ≡ e) → Err e ≡ z → r ≡ z
+handed h p = exit h ∙ p
+
+module _ {A : Type 0} (f : A → ℕ) (F : Form A) (ws : List ℕ) (at : ℕ) where
+  pub last_err : (g : A → ℕ) {r : Refusal} → Err r ≡ step_of f F ws at → Err r ≡ step_of g F ws at
+  last_err g e = last-stop f F ws at e g refl
+
+  pub last_ok : (c : ℕ) {v : ℕ} {k : Cursor} → on v k ≡ step_of f F ws at → on c k ≡ step_of (λ a. c) F ws at
+  last_ok c e = last_on f F ws at e c refl
+
+  module _ {B : Type 0} (G : A → Form B) (g : A × B → ℕ) where
+    pub then_err : {r : Refusal} → Err r ≡ step_of f F ws at → Err r ≡ step_of g (F ▹ G) ws at
+    then_err e = then_stop f F ws at e G g refl
+
+    pub then_ok : {x : Step} {v : ℕ} {k : Cursor} → on v k ≡ step_of f F ws at → ((a : A) → x ≡ step_of (λ b. g (a, b)) (G a) ws k.at) → x ≡ step_of g (F ▹ G) ws at
+    then_ok e h = by_then f F ws at e G g refl h
+
+pub value_ok : {B : Type 0} (F : Form ℕ) (G : ℕ → Form B) (g : ℕ × B → ℕ) (ws : List ℕ) (at : ℕ) {x : Step} {v : ℕ} {k : Cursor}
+    → on v k ≡ step_of itself F ws at → x ≡ step_of (λ b. g (v, b)) (G v) ws k.at → x ≡ step_of g (F ▹ G) ws at
+value_ok F G g ws at e h = by_value F G g ws at e refl h
+
+pub counted_err : {S A C : Type 0} (H : Holder A C) (n kind : ℕ) (suits : Suits H (entry_of kind).values) (step : S → A → S) (F : S → Form A) (s : S) (ws : List ℕ) (at : ℕ) {r : Refusal}
+    → Err r ≡ field_step n kind ws at → Err r ≡ skip_over (counted_from H n kind suits step F s) ws at
+counted_err H n kind suits step F s ws at e = counted_stop H n kind suits step F s ws at e refl
+
+pub guarded_err : (n kind : ℕ) (test : ℕ → Bool) (why : ℕ → ℕ → Refusal) (ws : List ℕ) (at : ℕ) {r : Refusal} → Err r ≡ field_step n kind ws at → Err r ≡ step_of itself (guarded (field n kind) test why) ws at
+guarded_err n kind test why ws at e = guarded-stop n kind test why ws at e refl
+
+-- what a `return` and a `?` of a reading function want
+pub ruleset walks = (by-via, then_ok, value_ok, then_err, last_ok, last_err, counted_err, guarded_err)

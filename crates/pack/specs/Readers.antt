@@ -1,15 +1,22 @@
 -- What the functions that read a part of a pack answer: the forms' readers, of whose values a number is kept.
-use Rattle.std.specs.Prelude.{ℕ, ◌+◌, ◌-◌, ◌*◌, ◌/◌, ◌%◌, Bool, List, [], ◌∷◌, drop, get_or, ltb, eqb}
-use Rattle.pack.specs.declared.cursor.Step.{Step}
-use Rattle.pack.specs.declared.cursor.Step.TheVariants.{On, Refused}
+use Rattle.std.specs.Prelude.{ℕ, ◌+◌, ◌-◌, ◌*◌, ◌/◌, ◌%◌, Bool, List, [], ◌∷◌, drop, get_or, ltb, eqb, Result, Ok, Err}
+use Rattle.pack.specs.declared.cursor.Cursor.{Cursor}
+use Rattle.definitions.specs.declared.answer.Refusal.{Refusal}
 use Rattle.definitions.specs.Table.{pick, word_of}
 use Rattle.definitions.specs.Form.{Read, got, refused, Form, field, read_all, read_by}
 use Rattle.definitions.specs.Records.{Relation}
 
+-- a number that is kept of a value, and the place after it; or a refusal
+abbrev pub Step : Type 0
+Step = Result (ℕ × Cursor) Refusal
+
+abbrev pub on : ℕ → Cursor → Step
+on v k = Ok (v, k)
+
 -- the number that is kept of a value, and the place after it; or the refusal
 abbrev pub step_by : {A : Type 0} → (A → ℕ) → Read A → Step
-step_by f (got a at ws) = On (f a) (record { at = at })
-step_by f (refused r) = Refused r
+step_by f (got a at ws) = on (f a) (record { at = at })
+step_by f (refused r) = Err r
 
 -- a form that is read at a place of the words
 unfoldable pub step_of : {A : Type 0} → (A → ℕ) → Form A → List ℕ → ℕ → Step
@@ -27,8 +34,8 @@ abbrev pub field_step : ℕ → ℕ → List ℕ → ℕ → Step
 field_step n kind = step_of itself (field n kind)
 
 abbrev pub next_word : ℕ → List ℕ → Step
-next_word at [] = Refused (record { number = 3; place = at; name = 0; other = 0 })
-next_word at (w ∷ ws) = On w (record { at = at + 1 })
+next_word at [] = Err (record { number = 3; place = at; name = 0; other = 0 })
+next_word at (w ∷ ws) = on w (record { at = at + 1 })
 
 -- the word at a place, whatever it is
 unfoldable pub word_step : List ℕ → ℕ → Step
@@ -40,17 +47,17 @@ whole_word t = word_of t.0 t.1
 
 -- a step in one number: the place after what was read; from 65536 on, a refusal's number and place
 unfoldable pub coded_step : Step → ℕ
-coded_step (On v k) = k.at
-coded_step (Refused r) = 65536 * (r.number + 1) + r.place
+coded_step (Ok (v, k)) = k.at
+coded_step (Err r) = 65536 * (r.number + 1) + r.place
 
 -- the same of a word that is only tested: 0 where it was read
 unfoldable pub fault : Step → ℕ
-fault (On v k) = 0
-fault (Refused r) = 65536 * (r.number + 1) + r.place
+fault (Ok (v, k)) = 0
+fault (Err r) = 65536 * (r.number + 1) + r.place
 
 -- the step of a number
 unfoldable pub decoded : ℕ → Step
-decoded c = pick (ltb c 65536) (On 0 (record { at = c })) (Refused (record { number = c / 65536 - 1; place = c % 65536; name = 0; other = 0 }))
+decoded c = pick (ltb c 65536) (on 0 (record { at = c })) (Err (record { number = c / 65536 - 1; place = c % 65536; name = 0; other = 0 }))
 
 -- so many that follow one another
 unfoldable pub skip_all : {S A : Type 0} → (S → A → S) → (S → Form A) → ℕ → S → List ℕ → ℕ → Step

@@ -5,22 +5,19 @@ ghost use Rattle.definitions.specs.Form.{field, word, only};
 ghost use Rattle.pack.specs.Readers.{word_step, field_step, skip_over};
 
 use crate::kinds::Pack;
+use crate::refusal::refused;
 use crate::table::allows;
 use definitions::answer::{Number, Refusal};
 use definitions::table::Values;
 
 // A place of the pack. It starts at word 0 and moves on by whole words.
-#[derive(Clone, Copy)]
+#[derive(Clone, Copy, PartialEq, Eq)]
 pub struct Cursor {
     pub at: usize,
 }
 
 // What a reading step finds: a value and the place after it, or a refusal.
-#[derive(Clone, Copy)]
-pub enum Step {
-    On(u32, Cursor),
-    Refused(Refusal),
-}
+pub type Step = Result<(u32, Cursor), Refusal>;
 
 impl Pack {
     // The place where reading starts.
@@ -31,27 +28,15 @@ impl Pack {
     }
 }
 
-pub fn stop(number: u32, place: usize) -> Step
-    ensures { result ≡ Step.Refused (record { number = number; place = place; name = 0; other = 0 }) }
-{
-    Step::Refused(Refusal {
-        number,
-        place,
-        name: 0,
-        other: 0,
-    })
-}
-
 impl Cursor {
     // The word at this place, whatever it is.
     pub fn word(self, s: &[u32]) -> Step
         ensures { result ≡ word_step s.now self.at }
     {
         let at = self.at;
-        if at < s.len() {
-            Step::On(s[at], Cursor { at: at + 1 })
-        } else {
-            stop(Number::ENDED, at)
+        match s.get(at) {
+            Some(w) => Ok((*w, Cursor { at: at + 1 })),
+            None => Err(refused(Number::Ended, at)),
         }
     }
 
@@ -60,19 +45,15 @@ impl Cursor {
         requires { Ruled kind rule }
         ensures { result ≡ field_step n kind s.now self.at }
     {
-        let at = self.at;
-        let f = self.word(s);
-        let Step::On(w, c) = f else {
-            return f;
-        };
+        let (w, c) = self.word(s)?;
         if w / Pack::VALUES != kind {
-            return stop(Number::WRONG_KIND, at);
+            return Err(refused(Number::WrongKind, self.at));
         }
         let v = w % Pack::VALUES;
         if allows(rule, n, v) {
-            Step::On(v, c)
+            Ok((v, c))
         } else {
-            stop(Number::WRONG_VALUE, at)
+            Err(refused(Number::WrongValue, self.at))
         }
     }
 
@@ -81,11 +62,8 @@ impl Cursor {
         requires { Ruled kind rule }
         ensures { result ≡ skip_over (field n kind) s.now self.at }
     {
-        let f = self.field(s, n, kind, rule);
-        let Step::On(_, c) = f else {
-            return f;
-        };
-        Step::On(0, c)
+        let (_, c) = self.field(s, n, kind, rule)?;
+        Ok((0, c))
     }
 
     // A word of one of two kinds, which have the same rule.
@@ -93,21 +71,17 @@ impl Cursor {
         requires { Ruled a rule × Ruled b rule }
         ensures { result ≡ skip_over (word (only (a ∷ b ∷ [])) n) s.now self.at }
     {
-        let at = self.at;
-        let f = self.word(s);
-        let Step::On(w, c) = f else {
-            return f;
-        };
+        let (w, c) = self.word(s)?;
         let kind = w / Pack::VALUES;
         if kind != a {
             if kind != b {
-                return stop(Number::WRONG_KIND, at);
+                return Err(refused(Number::WrongKind, self.at));
             }
         }
         if allows(rule, n, w % Pack::VALUES) {
-            Step::On(0, c)
+            Ok((0, c))
         } else {
-            stop(Number::WRONG_VALUE, at)
+            Err(refused(Number::WrongValue, self.at))
         }
     }
 }

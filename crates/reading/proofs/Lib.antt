@@ -3,5 +3,4 @@ pub mod CodeLaws
 pub mod NotingLaws
 pub mod RowLaws
 pub mod NotesLaws
-pub mod BoundLaws
 pub mod PartLaws

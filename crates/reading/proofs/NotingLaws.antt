@@ -8,7 +8,7 @@ use lib.Dec.{ltb}
 use lib.ListN.{length, drop, get_or, replicate}
 use Rattle.definitions.specs.declared.table.Follows.{Follows}
 use Rattle.definitions.specs.declared.table.Follows.TheVariants.{Aggregate, Exists}
-use Rattle.pack.specs.declared.cursor.Step.TheVariants.{On}
+use Rattle.pack.specs.Readers.{on}
 use Rattle.definitions.specs.Table.{pick, kind_of, value_of, entry_of, table, fields_of, children_of, how_many, judgment}
 use Rattle.definitions.specs.Form.{Read, got, refused, map_read, Form, word, each, ◌▹◌, via, only, words_by, Fine, read_by}
 use Rattle.definitions.specs.Tree.{Tree, to_forest, to_tree, heads, last_field, fields, follow, tree}
@@ -161,7 +161,7 @@ module _ (n left : ℕ) (ws : List ℕ) (b : Bool) (w : Follows) (v c at : ℕ) 
       }
 
   -- fields, and then children
-  pub after-fields : (d : List ℕ) {k r x : ℕ} {e : List ℕ} → On x (record { at = k }) ≡ step_of last_field (fields n (fields_of w)) ws at
+  pub after-fields : (d : List ℕ) {k r x : ℕ} {e : List ℕ} → on x (record { at = k }) ≡ step_of last_field (fields n (fields_of w)) ws at
       → Rowed n left ws (child_in w (look_by w).first c d) (child_in w (look_by w).rest c d) (children_of w v x) k (pick b (push (at + c) d) d) r e → Came-after d r e
   unfolding follow note_follow past
   after-fields d {k} {r} {x} {e} s h =
@@ -188,7 +188,7 @@ module _ (n left : ℕ) (ws : List ℕ) (at : ℕ) where
   unfolding fields fields_of children_of child_in look_by
   where_came {a} {b} {d} {k} ea ha eb hb ed hd ek hk l c {r} {e₀} {e} h =
       let f = sym (kept (only (83 ∷ [])) n (λ t. t.1) ws d (code_stands (only (83 ∷ [])) n ws d ek l hk)) in
-      let s : On (value_of (get_or ws d 0)) (record { at = k }) ≡ step_of last_field (fields n (fields_of Aggregate)) ws at =
+      let s : on (value_of (get_or ws d 0)) (record { at = k }) ≡ step_of last_field (fields n (fields_of Aggregate)) ws at =
       by-each _ ws at _ _ (λ a. 0) _ refl (code_on (one 80) ws at ea ha) (λ t.
       by-each _ ws a _ _ (λ a. 0) _ refl (code_on (one 81) ws a eb hb) (λ t.
       by-each _ ws b _ _ (λ a. 0) _ refl (code_on (one 86) ws b ed hd) (λ t.
@@ -203,7 +203,7 @@ module _ (n left : ℕ) (ws : List ℕ) (at : ℕ) where
   unfolding fields fields_of children_of child_in look_by
   exists_came {k} ek hk l c {r} {d} {e} h =
       let f = sym (kept (only (85 ∷ [])) n (λ t. t.1) ws at (code_stands (only (85 ∷ [])) n ws at ek l hk)) in
-      let s : On (value_of (get_or ws at 0)) (record { at = k }) ≡ step_of last_field (fields n (fields_of Exists)) ws at = each_last _ ws at _ _ _ (λ a. refl) f in
+      let s : on (value_of (get_or ws at 0)) (record { at = k }) ≡ step_of last_field (fields n (fields_of Exists)) ws at = each_last _ ws at _ _ _ (λ a. refl) f in
       after-fields n left ws true Exists 0 c at d s h
 
 -- ---- by the kind

@@ -18,7 +18,7 @@ use Rattle.definitions.specs.Tree as trees
 use Rattle.pack.specs.Readers.{step_by, step_of, skip_over, coded_step}
 use Rattle.pack.proofs.FormLaws.{clash}
 use Rattle.reading.specs.Notes.{look_by, noted}
-use Rattle.reading.specs.Noting.{Ready, Based, Context, State, losing, push, in_next, past, child_in, note_tree, note_forest, Sorted, Rows}
+use Rattle.reading.specs.Noting.{Based, Context, State, losing, push, in_next, past, child_in, note_tree, note_forest, Sorted, Rows}
 
 -- ---- bases
 
@@ -214,9 +214,6 @@ part_of ws b = take (length ws - b) (drop b ws)
 
 pub part_long : (ws : List ℕ) (b : ℕ) → b ≤ length ws → length (part_of ws b) + b ≡ length ws
 part_long ws b h = omega (arith, ap (λ (l : List ℕ). length l) (part_to_end ws b), length-drop b ws)
-
-pub ready_part : (b : ℕ) {ws part t : List ℕ} → Ready ws t → length part + b ≡ length ws → Ready part t
-ready_part b h l = record { most = omega (arith, h.most); tabled = h.tabled; ended = h.ended }
 
 pub part_rows : (n left sort count c : ℕ) (ws : List ℕ) (b : ℕ) → c % 8192 + length ws ≤ 8192 → {part : List ℕ} → part ≡ drop b ws → {r : ℕ} {d e : List ℕ}
     → Rows n left sort count (c + b) part 0 d r e → Rows n left sort count c ws b d (r + b) e

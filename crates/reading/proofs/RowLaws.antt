@@ -1,4 +1,5 @@
 -- Laws of the walkers: a row of trees word by word, an aggregate with its where tree, a tree's step.
+use Rattle.std.specs.Prelude.{Err}
 use Prim.Native.Nat.{ℕ, ◌+◌, ◌-◌, ◌%◌, ◌≤◌, ◌<◌}
 use native.Mathlib.Omega.{arith}
 use mathlib.Core.Path.{◌≡◌, refl, ap, sym, ◌∙◌, subst}
@@ -10,8 +11,9 @@ use borrow.Author.Tests.{ltb-true, ltb-false, eqb-true, eqb-false, eq-eqb, ne_eq
 use Rattle.definitions.specs.declared.table.Follows.TheVariants.{Aggregate, Exists}
 use Rattle.definitions.specs.declared.answer.Refusal.{Refusal}
 use Rattle.pack.specs.declared.cursor.Cursor.{Cursor}
-use Rattle.pack.specs.declared.cursor.Step.{Step}
-use Rattle.pack.specs.declared.cursor.Step.TheVariants.{On, Refused}
+use Rattle.pack.proofs.StepLaws.{on_place}
+use Rattle.pack.specs.Readers.{Step}
+use Rattle.pack.specs.Readers.{on}
 use Rattle.definitions.specs.Table.{kind_of, value_of, entry_of, table, how_many, fields_of, children_of, scalar, judgment}
 use Rattle.pack.specs.Packed.{Compares}
 use Rattle.definitions.specs.Form.{Form, word, only, each, allowed_here}
@@ -257,17 +259,17 @@ compared_rows n left ws at m most p o c {next} {r} {d} {e} b q =
 
 -- ---- a tree's step
 
-no_step : {A : Type 0} {r : Refusal} {v : ℕ} {k : Cursor} → Refused r ≡ On v k → A
+no_step : {A : Type 0} {r : Refusal} {v : ℕ} {k : Cursor} → Err r ≡ on v k → A
 no_step e = let z : ◌≡◌ {A = ℕ} 0 1 = cc in absurd (omega arith)
 
 pub step_noted : (n left sort c : ℕ) (ws : List ℕ) (at : ℕ) {x : ℕ} {d e : List ℕ} {y : Step} → length ws ≤ 8192 → at ≤ length ws → Rows n left sort 1 c ws at d x e → y ≡ decoded x
     → NotedStep (tree n left sort) (λ u. note_tree c u) ws at d y e
 step_noted n left sort c ws at {x} {d} {e} {y} most l h q = record { answers = q ∙ (tree_code n left sort ws at most l h.answers).same; notes = λ o. go (ltb x 65536) refl o }
   where
-    go : (b : Bool) → ltb x 65536 ≡ b → {v : ℕ} {k : Cursor} → y ≡ On v k → Came (tree n left sort) (λ u. note_tree c u) ws at d k.at e
+    go : (b : Bool) → ltb x 65536 ≡ b → {v : ℕ} {k : Cursor} → y ≡ on v k → Came (tree n left sort) (λ u. note_tree c u) ws at d k.at e
     go true t {v} {k} o =
-        let z : On 0 (record { at = x }) ≡ On v k = sym (q ∙ decode_on x (ltb-true x 65536 t)) ∙ o in
-        let p : x ≡ k.at = ap (λ (j : Cursor). j.at) (cc) in
+        let z : on 0 (record { at = x }) ≡ on v k = sym (q ∙ decode_on x (ltb-true x 65536 t)) ∙ o in
+        let p : x ≡ k.at = ap (λ (j : Cursor). j.at) (on_place z) in
         subst (λ (j : ℕ). Came (tree n left sort) (λ u. note_tree c u) ws at d j e) p (rowed_one n left ws c c sort (h.notes (ltb-true x 65536 t)))
     go false t o = no_step (sym (q ∙ decode-stop x (ltb-false x 65536 t)) ∙ o)
 

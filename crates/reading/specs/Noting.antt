@@ -1,27 +1,15 @@
 -- The nodes that resolving looks at, noted by the readers of trees on their way, in an array whose word 0 is how many there are.
 use Rattle.std.specs.Prelude.{ℕ, ◌+◌, ◌-◌, ◌*◌, ◌/◌, ◌%◌, ◌<◌, ◌≤◌, ◌≡◌, List, [], ◌∷◌, map, Bool, length, get_or, set, drop, replicate, eqb}
 use Rattle.pack.specs.declared.cursor.Cursor.{Cursor}
-use Rattle.pack.specs.declared.cursor.Step.{Step}
-use Rattle.pack.specs.declared.cursor.Step.TheVariants.{On}
+use Rattle.pack.specs.Readers.{Step}
+use Rattle.pack.specs.Readers.{on}
 use Rattle.definitions.specs.declared.table.Follows.{Follows}
 use Rattle.definitions.specs.Table.{pick, kind_of, value_of, entry_of, fields_of}
-use Rattle.pack.specs.Packed.{Tabled, bound_of, Ended}
 use Rattle.definitions.specs.Form.{got, Form, each, read_by, word, only}
 use Rattle.definitions.specs.Tree.{Tree, Forest, node, more, to_forest, follow, tree, size}
 use Rattle.definitions.specs.Tree as trees
 use Rattle.pack.specs.Readers.{skip_over, coded_step, fault}
 use Rattle.reading.specs.Notes.{look_by, noted, notes_of, note_code}
-
--- what is lent to the readers of trees: words, of which there are no more than a pack may have, and the table of an operation
-pub record Ready (ws t : List ℕ) : Type 0 where
-  pub most : length ws ≤ 8192
-  pub tabled : Tabled t
-  pub ended : Ended (bound_of t) t
-
--- the same, of a pack of so many names
-pub record ReadyFor (ws t : List ℕ) (n : ℕ) : Type 0 where
-  pub ready : Ready ws t
-  pub names : bound_of t ≡ n
 
 -- ---- fields
 
@@ -113,7 +101,7 @@ pub record NotedCode {A : Type 0} (F : Form A) (note : A → State → State) (w
 -- the same of a step
 pub record NotedStep {A : Type 0} (F : Form A) (note : A → State → State) (ws : List ℕ) (at : ℕ) (d : List ℕ) (r : Step) (e : List ℕ) : Type 0 where
   pub answers : r ≡ skip_over F ws at
-  pub notes : {v : ℕ} {k : Cursor} → r ≡ On v k → Came F note ws at d k.at e
+  pub notes : {v : ℕ} {k : Cursor} → r ≡ on v k → Came F note ws at d k.at e
 
 -- a row of trees of these sorts, the first in one context and the others in another
 abbrev pub Sorted : ℕ → ℕ → List ℕ → ℕ → ℕ → List ℕ → ℕ → List ℕ → ℕ → List ℕ → Type 0

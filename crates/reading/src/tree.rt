@@ -1,53 +1,53 @@
 // Trees: scalar and judgment walkers, which call each other. With each level the number of levels left falls.
 // They answer a plain number: the place after the tree, or a refusal's code. On their way they note the nodes that resolving looks at.
-ghost use Rattle.std.specs.Prelude.{◌≡◌, ℕ, ◌+◌, ◌≤◌, ◌<◌, [], ◌∷◌, true, false, length, get_or, set, replicate};
-ghost use Rattle.pack.specs.declared.cursor.Step.TheVariants.{Refused};
+ghost use Rattle.std.specs.Prelude.{◌≡◌, ℕ, ◌+◌, ◌≤◌, ◌<◌, [], ◌∷◌, true, false, length, get_or, set, replicate, Err};
 ghost use Rattle.definitions.specs.declared.table.Follows.TheVariants.{Aggregate, OnlyRelated, Slots, Atom, Exists};
 ghost use Rattle.definitions.specs.Table.{scalar, judgment, kind_of, value_of, entry_of, how_many, fields_of};
-ghost use Rattle.pack.specs.Packed.{Tabled, bound_of, UpTo, Compares};
+ghost use Rattle.pack.specs.Packed.{UpTo, Compares};
 ghost use Rattle.definitions.specs.Form.{word, only};
-ghost use Rattle.definitions.specs.Tree.{heads, fields, root};
+ghost use Rattle.definitions.specs.Tree.{heads as begin_with, fields, root};
 ghost use Rattle.pack.specs.Readers.{skip_over, coded_step, fault, decoded};
 ghost use Rattle.reading.specs.Notes.{context_of, note_code, note};
-ghost use Rattle.reading.specs.Noting.{aggregate_fault, next_note, Ready, Based, Context, losing, push, in_next, note_tree, NotedStep, Sorted, Rows, Shape, OtherScalar, After};
+ghost use Rattle.reading.specs.Noting.{aggregate_fault, next_note, Based, Context, losing, push, in_next, note_tree, NotedStep, Sorted, Rows, Shape, OtherScalar, After};
 
-use definitions::answer::Number;
+use definitions::answer::{Number, Refusal};
 use definitions::table::Values;
-use pack::cursor::{Cursor, Step, stop};
+use pack::cursor::{Cursor, Step};
+use pack::heads::Heads;
 use pack::kinds::Pack;
-use pack::table::{begins, bound, children, entry_of, how_many, sort_of};
+use pack::table::{children, entry_of, how_many, sort_of};
 
 // The code of a refusal.
-fn refused(number: u32, at: usize) -> usize
+fn code_of(number: u32, at: usize) -> usize
     requires { (number ≤ 5) × (at ≤ 8192) }
-    ensures { result ≡ coded_step (Refused (record { number = number; place = at; name = 0; other = 0 })) }
+    ensures { result ≡ coded_step (Err (record { number = number; place = at; name = 0; other = 0 })) }
 {
     Pack::CODES * (number as usize + 1) + at
 }
 
 // The word that begins a tree of the sort, where so many levels are left: 0, or a refusal's code.
-fn head(s: &[u32], t: &[u32; Pack::KINDS], at: usize, sort: u32, left: u32) -> usize
-    requires { Ready s.now t.now × (at ≤ length s.now) × (sort < 2) }
-    ensures { result ≡ fault (skip_over (word (heads sort left) (bound_of t.now)) s.now at) }
+fn head(s: &[u32], heads: &Heads, at: usize, sort: u32, left: u32) -> usize
+    requires { (length s.now ≤ 8192) × (at ≤ length s.now) × (sort < 2) }
+    ensures { result ≡ fault (skip_over (word (begin_with sort left) heads.now.names) s.now at) }
 {
     if s.len() <= at {
-        return refused(Number::ENDED, at);
+        return code_of(Number::Ended as u32, at);
     }
     let w = s[at];
-    if begins(t, sort, w) {
+    if heads.begins(sort, w) {
         if 0 < left {
             return 0;
         }
-        return refused(Number::TOO_DEEP, at);
+        return code_of(Number::TooDeep as u32, at);
     }
-    let found = sort_of(t, w / Pack::VALUES);
+    let found = sort_of(w / Pack::VALUES);
     if found != sort {
-        return refused(Number::WRONG_KIND, at);
+        return code_of(Number::WrongKind as u32, at);
     }
     if left == 0 {
-        return refused(Number::TOO_DEEP, at);
+        return code_of(Number::TooDeep as u32, at);
     }
-    refused(Number::WRONG_VALUE, at)
+    code_of(Number::WrongValue as u32, at)
 }
 
 // A word of this kind, with any value up to a most: 0, or a refusal's code.
@@ -56,14 +56,14 @@ fn up_to(s: &[u32], at: usize, kind: u32, most: u32) -> usize
     ensures { (n : ℕ) → result ≡ fault (skip_over (word (only (kind ∷ [])) n) s.now at) }
 {
     if s.len() <= at {
-        return refused(Number::ENDED, at);
+        return code_of(Number::Ended as u32, at);
     }
     let w = s[at];
     if w / Pack::VALUES != kind {
-        return refused(Number::WRONG_KIND, at);
+        return code_of(Number::WrongKind as u32, at);
     }
     if most < w % Pack::VALUES {
-        return refused(Number::WRONG_VALUE, at);
+        return code_of(Number::WrongValue as u32, at);
     }
     0
 }
@@ -97,9 +97,9 @@ fn atom(s: &[u32], at: usize) -> usize
 }
 
 // The slots of an OnlyRelated, and its input's or derived name.
-fn only_related(s: &[u32], t: &[u32; Pack::KINDS], at: usize) -> usize
+fn only_related(s: &[u32], heads: &Heads, at: usize) -> usize
     requires { (length s.now ≤ 8192) × (at ≤ length s.now) }
-    ensures { result ≡ coded_step (skip_over (fields (bound_of t.now) (fields_of OnlyRelated)) s.now at) }
+    ensures { result ≡ coded_step (skip_over (fields heads.now.names (fields_of OnlyRelated)) s.now at) }
 {
     let f1 = up_to(s, at, Pack::CURRENT, Pack::ANY_VALUE);
     if f1 != 0 {
@@ -110,9 +110,9 @@ fn only_related(s: &[u32], t: &[u32; Pack::KINDS], at: usize) -> usize
         return f2;
     }
     let c = Cursor { at: at + 2 };
-    match c.either(s, bound(t), Pack::INPUT, Pack::DERIVED, Values::Name) {
-        Step::On(_, next) => next.at,
-        Step::Refused(r) => refused(r.number, r.place),
+    match c.either(s, heads.names, Pack::INPUT, Pack::DERIVED, Values::Name) {
+        Ok((_, next)) => next.at,
+        Err(r) => code_of(r.number, r.place),
     }
 }
 
@@ -170,11 +170,11 @@ fn compares(s: &[u32], at: usize, left: u32) -> bool
 }
 
 // How many follow a word, by the table.
-fn by_table(t: &[u32; Pack::KINDS], kind: u32, v: u32) -> u32
-    requires { (kind < 128) × Tabled t.now × (v < 16777216) }
+fn by_table(kind: u32, v: u32) -> u32
+    requires { (kind < 256) × (v < 16777216) }
     ensures { result ≡ how_many (entry_of kind).follows v }
 {
-    let e = entry_of(t, kind);
+    let e = entry_of(kind);
     let follows = e.follows;
     how_many(follows, v)
 }
@@ -228,21 +228,21 @@ fn lost(context: u32) -> u32
 #[cycle(walkers)]
 fn scalars(
     s: &[u32],
-    t: &[u32; Pack::KINDS],
+    heads: &Heads,
     start: usize,
     count: u32,
     levels: u32,
     context: u32,
     notes: &mut [u32],
 ) -> usize
-    requires { Ready s.now t.now × (start ≤ length s.now) × Based s.now context }
-    ensures { Rows (bound_of t.now) levels scalar count context s.now start notes.old result notes.new }
+    requires { (length s.now ≤ 8192) × (start ≤ length s.now) × Based s.now context }
+    ensures { Rows heads.now.names levels scalar count context s.now start notes.old result notes.new }
 {
     let mut at = start;
     let mut k = count;
     let mut left = levels;
     while 0 < k {
-        let f = head(s, t, at, Pack::SCALAR, left);
+        let f = head(s, heads, at, Pack::SCALAR, left);
         if f != 0 {
             return f;
         }
@@ -252,10 +252,10 @@ fn scalars(
         if Pack::ONE_CHILD <= kind {
             if k == 0 && kind <= Pack::MAX {
                 at += 1;
-                k = children(t, kind, w % Pack::VALUES);
+                k = children(kind, w % Pack::VALUES);
                 left -= 1;
             } else {
-                at = after_scalar(s, t, at, left - 1, context, notes);
+                at = after_scalar(s, heads, at, left - 1, context, notes);
                 if Pack::CODES <= at {
                     return at;
                 }
@@ -271,21 +271,21 @@ fn scalars(
 #[cycle(walkers)]
 fn judgments(
     s: &[u32],
-    t: &[u32; Pack::KINDS],
+    heads: &Heads,
     start: usize,
     count: u32,
     levels: u32,
     context: u32,
     notes: &mut [u32],
 ) -> usize
-    requires { Ready s.now t.now × (start ≤ length s.now) × Based s.now context }
-    ensures { Rows (bound_of t.now) levels judgment count context s.now start notes.old result notes.new }
+    requires { (length s.now ≤ 8192) × (start ≤ length s.now) × Based s.now context }
+    ensures { Rows heads.now.names levels judgment count context s.now start notes.old result notes.new }
 {
     let mut at = start;
     let mut k = count;
     let mut left = levels;
     while 0 < k {
-        let f = head(s, t, at, Pack::JUDGMENT, left);
+        let f = head(s, heads, at, Pack::JUDGMENT, left);
         if f != 0 {
             return f;
         }
@@ -295,10 +295,10 @@ fn judgments(
         if kind <= Pack::SAME_ENTITY {
             if k == 0 && Pack::AND <= kind && kind <= Pack::NOT {
                 at += 1;
-                k = children(t, kind, w % Pack::VALUES);
+                k = children(kind, w % Pack::VALUES);
                 left -= 1;
             } else {
-                at = after_judgment(s, t, at, left - 1, context, notes);
+                at = after_judgment(s, heads, at, left - 1, context, notes);
                 if Pack::CODES <= at {
                     return at;
                 }
@@ -312,44 +312,37 @@ fn judgments(
 
 // The condition and the two cases of an If.
 #[cycle(walkers)]
-fn choice(
-    s: &[u32],
-    t: &[u32; Pack::KINDS],
-    at: usize,
-    left: u32,
-    context: u32,
-    notes: &mut [u32],
-) -> usize
-    requires { Ready s.now t.now × (at ≤ length s.now) × Based s.now context }
-    ensures { Sorted (bound_of t.now) left (judgment ∷ scalar ∷ scalar ∷ []) context context s.now at notes.old result notes.new }
+fn choice(s: &[u32], heads: &Heads, at: usize, left: u32, context: u32, notes: &mut [u32]) -> usize
+    requires { (length s.now ≤ 8192) × (at ≤ length s.now) × Based s.now context }
+    ensures { Sorted heads.now.names left (judgment ∷ scalar ∷ scalar ∷ []) context context s.now at notes.old result notes.new }
 {
-    let next = judgments(s, t, at, 1, left, context, notes);
+    let next = judgments(s, heads, at, 1, left, context, notes);
     if Pack::CODES <= next {
         return next;
     }
-    scalars(s, t, next, 2, left, context, notes)
+    scalars(s, heads, next, 2, left, context, notes)
 }
 
 // The subject of a NoMatch, and so many patterns, which lose the membership.
 #[cycle(walkers)]
 fn patterns(
     s: &[u32],
-    t: &[u32; Pack::KINDS],
+    heads: &Heads,
     at: usize,
     count: u32,
     left: u32,
     context: u32,
     notes: &mut [u32],
 ) -> usize
-    requires { Ready s.now t.now × (at ≤ length s.now) × Based s.now context }
-    ensures { Sorted (bound_of t.now) left (replicate (count + 1) scalar) context (losing context) s.now at notes.old result notes.new }
+    requires { (length s.now ≤ 8192) × (at ≤ length s.now) × Based s.now context }
+    ensures { Sorted heads.now.names left (replicate (count + 1) scalar) context (losing context) s.now at notes.old result notes.new }
 {
-    let next = scalars(s, t, at, 1, left, context, notes);
+    let next = scalars(s, heads, at, 1, left, context, notes);
     if Pack::CODES <= next {
         return next;
     }
     let without = lost(context);
-    scalars(s, t, next, count, left, without, notes)
+    scalars(s, heads, next, count, left, without, notes)
 }
 
 // The fields of an aggregate, which is noted, and its where tree, which is handed on as the part of the words that starts at its root:
@@ -357,14 +350,14 @@ fn patterns(
 #[cycle(walkers)]
 fn aggregate(
     s: &[u32],
-    t: &[u32; Pack::KINDS],
+    heads: &Heads,
     at: usize,
     left: u32,
     context: u32,
     notes: &mut [u32],
 ) -> usize
-    requires { Ready s.now t.now × (at ≤ length s.now) × Based s.now context }
-    ensures { Shape (bound_of t.now) left true Aggregate 0 context s.now at notes.old result notes.new }
+    requires { (length s.now ≤ 8192) × (at ≤ length s.now) × Based s.now context }
+    ensures { Shape heads.now.names left true Aggregate 0 context s.now at notes.old result notes.new }
 {
     let f = aggregate_fields(s, at);
     if f != 0 {
@@ -374,57 +367,50 @@ fn aggregate(
     let flag = s[at + 3] % Pack::VALUES;
     if flag == 1 {
         if compares(s, at + 4, left) {
-            return scalars(s, t, at + 5, 2, left - 1, inner, notes);
+            return scalars(s, heads, at + 5, 2, left - 1, inner, notes);
         }
     }
     let root = at + 4;
-    judgments(&s[root..], t, 0, flag, left, inner + root as u32, notes) + root
+    judgments(&s[root..], heads, 0, flag, left, inner + root as u32, notes) + root
 }
 
 // The arguments of an Exists, which is noted, and its body.
 #[cycle(walkers)]
-fn exists(
-    s: &[u32],
-    t: &[u32; Pack::KINDS],
-    at: usize,
-    left: u32,
-    context: u32,
-    notes: &mut [u32],
-) -> usize
-    requires { Ready s.now t.now × (at ≤ length s.now) × Based s.now context }
-    ensures { Shape (bound_of t.now) left true Exists 0 context s.now at notes.old result notes.new }
+fn exists(s: &[u32], heads: &Heads, at: usize, left: u32, context: u32, notes: &mut [u32]) -> usize
+    requires { (length s.now ≤ 8192) × (at ≤ length s.now) × Based s.now context }
+    ensures { Shape heads.now.names left true Exists 0 context s.now at notes.old result notes.new }
 {
     let f1 = up_to(s, at, Pack::ARGUMENTS, Pack::ANY_VALUE);
     if f1 != 0 {
         return f1;
     }
     let _ = note(notes, at as u32 + context);
-    judgments(s, t, at + 1, 1, left, context, notes)
+    judgments(s, heads, at + 1, 1, left, context, notes)
 }
 
 // What follows the head word of a scalar at a place.
 #[cycle(walkers)]
 fn after_scalar(
     s: &[u32],
-    t: &[u32; Pack::KINDS],
+    heads: &Heads,
     at: usize,
     left: u32,
     context: u32,
     notes: &mut [u32],
 ) -> usize
-    requires { Ready s.now t.now × (at < length s.now) × (kind_of (get_or s.now at 0) ≤ 95) × Based s.now context }
-    ensures { After (bound_of t.now) left context s.now at notes.old result notes.new }
+    requires { (length s.now ≤ 8192) × (at < length s.now) × (kind_of (get_or s.now at 0) ≤ 95) × Based s.now context }
+    ensures { After heads.now.names left context s.now at notes.old result notes.new }
 {
     let w = s[at];
     let kind = w / Pack::VALUES;
     let v = w % Pack::VALUES;
     match kind {
-        Pack::COUNT..=Pack::SINGLE => aggregate(s, t, at + 1, left, context, notes),
+        Pack::COUNT..=Pack::SINGLE => aggregate(s, heads, at + 1, left, context, notes),
         Pack::ONE_CHILD..=Pack::MAX => {
-            let count = children(t, kind, v);
-            scalars(s, t, at + 1, count, left, context, notes)
+            let count = children(kind, v);
+            scalars(s, heads, at + 1, count, left, context, notes)
         }
-        _ => after_other(s, t, at, left, context, notes),
+        _ => after_other(s, heads, at, left, context, notes),
     }
 }
 
@@ -432,33 +418,33 @@ fn after_scalar(
 #[cycle(walkers)]
 fn after_other(
     s: &[u32],
-    t: &[u32; Pack::KINDS],
+    heads: &Heads,
     at: usize,
     left: u32,
     context: u32,
     notes: &mut [u32],
 ) -> usize
-    requires { Ready s.now t.now × (at < length s.now) × OtherScalar (kind_of (get_or s.now at 0)) × Based s.now context }
-    ensures { After (bound_of t.now) left context s.now at notes.old result notes.new }
+    requires { (length s.now ≤ 8192) × (at < length s.now) × OtherScalar (kind_of (get_or s.now at 0)) × Based s.now context }
+    ensures { After heads.now.names left context s.now at notes.old result notes.new }
 {
     let w = s[at];
     let kind = w / Pack::VALUES;
     let v = w % Pack::VALUES;
     match kind {
-        Pack::NO_MATCH => patterns(s, t, at + 1, v, left, context, notes),
+        Pack::NO_MATCH => patterns(s, heads, at + 1, v, left, context, notes),
         Pack::OVER_PERIODS => scalars(
             s,
-            t,
+            heads,
             at + 1,
-            by_table(t, kind, v),
+            by_table(kind, v),
             left,
             lost(context),
             notes,
         ),
-        Pack::IF => choice(s, t, at + 1, left, context, notes),
+        Pack::IF => choice(s, heads, at + 1, left, context, notes),
         Pack::ONLY_RELATED => {
             let _ = note(notes, at as u32 + 1 + context);
-            only_related(s, t, at + 1)
+            only_related(s, heads, at + 1)
         }
         _ => at + 1,
     }
@@ -468,24 +454,24 @@ fn after_other(
 #[cycle(walkers)]
 fn after_judgment(
     s: &[u32],
-    t: &[u32; Pack::KINDS],
+    heads: &Heads,
     at: usize,
     left: u32,
     context: u32,
     notes: &mut [u32],
 ) -> usize
-    requires { Ready s.now t.now × (at < length s.now) × (96 ≤ kind_of (get_or s.now at 0)) × Based s.now context }
-    ensures { After (bound_of t.now) left context s.now at notes.old result notes.new }
+    requires { (length s.now ≤ 8192) × (at < length s.now) × (96 ≤ kind_of (get_or s.now at 0)) × Based s.now context }
+    ensures { After heads.now.names left context s.now at notes.old result notes.new }
 {
     let w = s[at];
     let kind = w / Pack::VALUES;
     match kind {
-        Pack::COMPARISON => scalars(s, t, at + 1, 2, left, context, notes),
+        Pack::COMPARISON => scalars(s, heads, at + 1, 2, left, context, notes),
         Pack::AND..=Pack::NOT => judgments(
             s,
-            t,
+            heads,
             at + 1,
-            children(t, kind, w % Pack::VALUES),
+            children(kind, w % Pack::VALUES),
             left,
             context,
             notes,
@@ -498,7 +484,7 @@ fn after_judgment(
             let _ = note(notes, at as u32 + 1 + context);
             atom(s, at + 1)
         }
-        Pack::EXISTS => exists(s, t, at + 1, left, context, notes),
+        Pack::EXISTS => exists(s, heads, at + 1, left, context, notes),
         Pack::SAME_ENTITY => {
             let _ = note(notes, at as u32 + 1 + context);
             at + 1
@@ -513,35 +499,34 @@ fn step_of(code: usize) -> Step
     ensures { result ≡ decoded code }
 {
     if code < Pack::CODES {
-        return Step::On(0, Cursor { at: code });
+        return Ok((0, Cursor { at: code }));
     }
-    stop((code / Pack::CODES - 1) as u32, code % Pack::CODES)
+    Err(Refusal {
+        number: (code / Pack::CODES - 1) as u32,
+        place: code % Pack::CODES,
+        name: 0,
+        other: 0,
+    })
 }
 
 // The tree of a body or predicate in a context.
-pub fn scalar(s: &[u32], t: &[u32; Pack::KINDS], c: Cursor, context: u32, notes: &mut [u32]) -> Step
-    requires { Ready s.now t.now × (c.at ≤ length s.now) × Context context }
-    ensures { NotedStep (root (bound_of t.now) scalar) (λ u. note_tree context u) s.now c.at notes.old result notes.new }
+pub fn scalar(s: &[u32], heads: &Heads, c: Cursor, context: u32, notes: &mut [u32]) -> Step
+    requires { (length s.now ≤ 8192) × (c.at ≤ length s.now) × Context context }
+    ensures { NotedStep (root heads.now.names scalar) (λ u. note_tree context u) s.now c.at notes.old result notes.new }
 {
-    step_of(scalars(s, t, c.at, 1, Pack::DEPTH, context, notes))
+    step_of(scalars(s, heads, c.at, 1, Pack::DEPTH, context, notes))
 }
 
-pub fn judgment(
-    s: &[u32],
-    t: &[u32; Pack::KINDS],
-    c: Cursor,
-    context: u32,
-    notes: &mut [u32],
-) -> Step
-    requires { Ready s.now t.now × (c.at ≤ length s.now) × Context context }
-    ensures { NotedStep (root (bound_of t.now) judgment) (λ u. note_tree context u) s.now c.at notes.old result notes.new }
+pub fn judgment(s: &[u32], heads: &Heads, c: Cursor, context: u32, notes: &mut [u32]) -> Step
+    requires { (length s.now ≤ 8192) × (c.at ≤ length s.now) × Context context }
+    ensures { NotedStep (root heads.now.names judgment) (λ u. note_tree context u) s.now c.at notes.old result notes.new }
 {
     let at = c.at;
-    if head(s, t, at, Pack::JUDGMENT, Pack::DEPTH) == 0 {
+    if head(s, heads, at, Pack::JUDGMENT, Pack::DEPTH) == 0 {
         // many predicates are a leaf, for which a call would take longer than the work
         if Pack::SAME_ENTITY < s[at] / Pack::VALUES {
-            return Step::On(0, Cursor { at: at + 1 });
+            return Ok((0, Cursor { at: at + 1 }));
         }
     }
-    step_of(judgments(s, t, at, 1, Pack::DEPTH, context, notes))
+    step_of(judgments(s, heads, at, 1, Pack::DEPTH, context, notes))
 }

@@ -1,4 +1,5 @@
 -- Laws of the directory: what the readers of a relation keep of it, and what its words say of the names used before.
+use Rattle.std.specs.Prelude.{Ok, Err}
 use Prim.Native.Nat.{ℕ, ◌+◌, ◌-◌, ◌*◌, ◌≤◌, ◌<◌}
 use native.Mathlib.Omega.{arith}
 use mathlib.Core.Path.{◌≡◌, refl, ap, sym, ◌∙◌, subst}
@@ -11,12 +12,11 @@ use lib.Dec.{eqb, leb, ltb}
 use borrow.Author.Tests.{eq-eqb, ne_eqb, eqb-true, eqb-false, leb-true, ltb-true, lt-ltb}
 use Rattle.definitions.specs.declared.answer.Refusal.{Refusal}
 use Rattle.pack.specs.declared.cursor.Cursor.{Cursor}
-use Rattle.pack.specs.declared.cursor.Step.{Step}
-use Rattle.pack.specs.declared.cursor.Step.TheVariants.{On, Refused}
+use Rattle.pack.specs.Readers.{Step}
+use Rattle.pack.specs.Readers.{on}
 use Rattle.definitions.specs.Table.{pick, entry_of, table}
 use Rattle.definitions.specs.Form.{got, allowed_here, among, words_all, list, list_or_none, count, items, says, Form, field, Fine, words_by, read_by}
-use Rattle.records.specs.declared.directory.Laid.{Laid}
-use Rattle.records.specs.declared.directory.Laid.TheVariants.{Yes, No}
+use Rattle.records.specs.Directory.{Laid}
 use Rattle.pack.proofs.FormLaws.{clash}
 use Rattle.definitions.specs.Records.{undated, Hop, Derivation, Relation}
 use Rattle.definitions.specs.FieldRows.{RecordsRow, ChainRow, MemberRow, RelationTail, to_derivation}
@@ -24,10 +24,10 @@ use Rattle.definitions.specs.Pack.{defaulted, relations, rules, blocks, records,
 use Rattle.definitions.specs.Places.{hops, relation_words}
 use Rattle.pack.specs.Readers.{step_of, skip_over, itself, name_of, field_step}
 use Rattle.pack.proofs.StepLaws.{at_most, field-fine, step_no}
-use Rattle.records.specs.Directory.{Noted, lead_of, lead_in, chain_lead, entities, derived_note, note_in, tail_note, entered, entry, note_relation, Clear, note_relations, notes_all, relations_at, rules_at, blocks_at, layout_of, directory_of, step_in, refused_layout}
+use Rattle.records.specs.Directory.{Noted, lead_of, lead_in, chain_lead, entities, derived_note, note_in, tail_note, entered, entry, note_relation, Clear, note_relations, notes_all, relations_at, rules_at, blocks_at, layout_of, directory_of, step_in}
 use Rattle.records.specs.Notes.{note_rules, note_predicate, note_predicates, Both, note_both, note_all, relations_left, notes_left, LaidOut}
 use Rattle.records.proofs.KeptLaws.{there, within, noted-there}
-use Rattle.records.proofs.LoopLaws.{Left, left_all, left_turn}
+use Rattle.records.proofs.LoopLaws.{Left, left_start, left_next}
 use Rattle.records.proofs.RecordLaws.{name_alike, relation-below}
 
 -- ---- what the readers of a derivation keep
@@ -88,7 +88,7 @@ pub record ChainRead (n at v : ℕ) (k : Cursor) (ws : List ℕ) : Type 0 where
   pub near : k.at ≤ length ws
   pub leads : v ≤ n
 
-pub chain-read : (n : ℕ) (ws : List ℕ) (at : ℕ) {y : Step} {v : ℕ} {k : Cursor} → y ≡ step_of chain_lead (chain n) ws at → y ≡ On v k → ChainRead n at v k ws
+pub chain-read : (n : ℕ) (ws : List ℕ) (at : ℕ) {y : Step} {v : ℕ} {k : Cursor} → y ≡ step_of chain_lead (chain n) ws at → y ≡ on v k → ChainRead n at v k ws
 unfolding chain Fine
 chain-read n ws at {y} {v} {k} e o =
     let t = there chain_lead (chain n) ws at e o in
@@ -116,7 +116,7 @@ derived-small kinds slots many lead a b = go (eqb many 0) (eqb kinds 0) (eqb lea
     go false y z = omega arith
 
 -- a list of kinds that was read
-pub list-few : (n : ℕ) (ws : List ℕ) (at : ℕ) {y : Step} {v : ℕ} {k : Cursor} → y ≡ step_of (count list) (name_list n 9) ws at → y ≡ On v k → v ≤ 8
+pub list-few : (n : ℕ) (ws : List ℕ) (at : ℕ) {y : Step} {v : ℕ} {k : Cursor} → y ≡ step_of (count list) (name_list n 9) ws at → y ≡ on v k → v ≤ 8
 unfolding name_list Fine count items entry_of table
 list-few n ws at e o = let t = there (count list) (name_list n 9) ws at e o in omega (arith, t.kept, at_most n 9 8 refl (length t.value) t.fine.0.1)
 
@@ -142,7 +142,7 @@ note-small n t f m = go t.1.1.1 f.1.1.1
         (omega (arith, eight, few-hops n d.path g.2.0.0.1.0))
         (omega (arith, lead_most n d.source d.path g.2.0.0.0.1))
 
-pub note-fits : (n : ℕ) (ws : List ℕ) (at : ℕ) {y : Step} {v : ℕ} {k : Cursor} → y ≡ step_of tail_note (relation_tail n) ws at → y ≡ On v k → n ≤ 4096 → v < 266240
+pub note-fits : (n : ℕ) (ws : List ℕ) (at : ℕ) {y : Step} {v : ℕ} {k : Cursor} → y ≡ step_of tail_note (relation_tail n) ws at → y ≡ on v k → n ≤ 4096 → v < 266240
 note-fits n ws at e o m = let t = there tail_note (relation_tail n) ws at e o in omega (arith, t.kept, note-small n t.value t.fine m)
 
 -- ---- names used before
@@ -201,7 +201,7 @@ pub record NameRead (n at v : ℕ) (k : Cursor) (ws : List ℕ) : Type 0 where
   pub near : k.at ≤ length ws
   pub below : v < n
 
-pub name-read : (n : ℕ) (used : ℕ → Bool) (ws : List ℕ) (at : ℕ) {y : Step} {v : ℕ} {k : Cursor} → y ≡ step_of itself (new_name n used) ws at → y ≡ On v k → NameRead n at v k ws
+pub name-read : (n : ℕ) (used : ℕ → Bool) (ws : List ℕ) (at : ℕ) {y : Step} {v : ℕ} {k : Cursor} → y ≡ step_of itself (new_name n used) ws at → y ≡ on v k → NameRead n at v k ws
 unfolding new_name words_by Fine allowed_here entry_of table
 name-read n used ws at {v = v} e o =
     let t = there itself (new_name n used) ws at e o in
@@ -216,41 +216,41 @@ module _ (n : ℕ) (ws : List ℕ) where
   abbrev pub words_alike : (used : List ℕ) (r : Relation) → words_by (fresh used) r ≡ relation_words n r
   words_alike used r = relation-words n (λ v. among v used) r
 
-  -- relations are left to read and to note, of which none has a name used before
-  pub record Relating (d₀ : Both) (at₀ m₀ : ℕ) (d : Both) (at i m : ℕ) : Type 0 where
+  -- i relations are read and noted; of those that are left none has a name used before
+  pub record Relating (d₀ : Both) (at₀ m₀ : ℕ) (d : Both) (at i : ℕ) : Type 0 where
     pub used : List ℕ
-    pub work : Left next_used fresh (relation_words n) words_alike note_both ws m₀ [] at₀ d₀ m used at d
+    pub work : Left next_used fresh (relation_words n) words_alike note_both ws m₀ [] at₀ d₀ (m₀ - i) used at d
     pub names : Used n d.0 used
-    pub many : i + m ≡ m₀
+    pub many : i ≤ m₀
     pub few : m₀ ≤ 512
     pub late : 0 < at
     pub kept : length d.0 ≡ length d₀.0
     pub stays : length d.1 ≡ length d₀.1
 
-  pub relating : {d : Both} {at m : ℕ} → Clear n d.0 → m ≤ 512 → 0 < at → Relating d at m d at 0 m
+  pub relating : {d : Both} {at m : ℕ} → Clear n d.0 → m ≤ 512 → 0 < at → Relating d at m d at 0
   relating {d} {at} {m} c h l =
-      record { used = []; work = left_all; names = used-none c; many = omega arith; few = h; late = l; kept = refl; stays = refl }
+      record { used = []; work = left_start; names = used-none c; many = omega arith; few = h; late = l; kept = refl; stays = refl }
 
   -- the relation of a turn, by the names used before
-  pub its-turn : {d₀ d : Both} {at₀ m₀ at i m : ℕ} (g : Relating d₀ at₀ m₀ d at i m) {y : Step} {d' : Both} → Noted name_of (relation n (entered d.0)) (note_both i at) ws at d y d'
+  pub its-turn : {d₀ d : Both} {at₀ m₀ at i : ℕ} (g : Relating d₀ at₀ m₀ d at i) {y : Step} {d' : Both} → Noted name_of (relation n (entered d.0)) (note_both i at) ws at d y d'
       → Noted name_of (fresh g.used) (note_both g.work.i at) ws at d y d'
   its-turn {d = d} {at = at} {i = i} g {y} {d'} k =
       let same_turn : i ≡ g.work.i = omega (arith, g.many, g.work.many) in
       subst (λ (x : ℕ). Noted name_of (fresh g.used) (note_both x at) ws at d y d') same_turn (noted-used n i g.names k)
 
-  pub relating_on : {d₀ d : Both} {at₀ m₀ at i m : ℕ} → Relating d₀ at₀ m₀ d at i m → 0 < m → {y : Step} {d' : Both} → Noted name_of (relation n (entered d.0)) (note_both i at) ws at d y d'
-      → {v : ℕ} {k : Cursor} → y ≡ On v k → length d'.1 ≡ length d.1 → Relating d₀ at₀ m₀ d' k.at (i + 1) (m - 1)
+  pub relating_on : {d₀ d : Both} {at₀ m₀ at i : ℕ} → Relating d₀ at₀ m₀ d at i → i < m₀ → {v : ℕ} {k : Cursor} {d' : Both} → Noted name_of (relation n (entered d.0)) (note_both i at) ws at d (on v k) d'
+      → length d'.1 ≡ length d.1 → Relating d₀ at₀ m₀ d' k.at (i + 1)
   unfolding note_both
-  relating_on {d = d} {at = at} {i = i} {m = m} g h {d' = d'} k {v} o s =
+  relating_on {d = d} {at = at} {i = i} g h {v} {d' = d'} k s =
       let z = noted-used n i g.names k in
-      let p = noted-there z o in
+      let p = noted-there z refl in
       let q : d'.0 ≡ note_relation i at p.0.value d.0 = ap (λ (x : Both). x.0) p.1 in
-      let b = relation-below n (λ v. among v g.used) ws at z.answers o in
+      let b = relation-below n (λ v. among v g.used) ws at z.answers refl in
       record {
         used = v ∷ g.used;
-        work = left_turn g.work h (its-turn g k) o (λ a e. ap (λ (x : ℕ). x ∷ g.used) e);
+        work = left_next g.work h (its-turn g k) (λ a e. ap (λ (x : ℕ). x ∷ g.used) e);
         names = subst (λ (x : ℕ). Used n d'.0 (x ∷ g.used)) p.0.kept (used-more i at p.0.value (omega (arith, g.many, g.few)) g.late (omega (arith, p.0.kept)) g.names q);
-        many = omega (arith, g.many);
+        many = omega arith;
         few = g.few;
         late = omega (arith, p.0.on, g.late);
         kept = ap length q ∙ note-long i at p.0.value d.0 ∙ g.kept;
@@ -262,7 +262,7 @@ pub record CountRead (at v : ℕ) (k : Cursor) : Type 0 where
   pub few : v ≤ 512
   pub late : 0 < k.at
 
-pub count-read : (n : ℕ) (ws : List ℕ) (at : ℕ) {x : Step} {v : ℕ} {k : Cursor} → x ≡ field_step n 5 ws at → x ≡ On v k → CountRead at v k
+pub count-read : (n : ℕ) (ws : List ℕ) (at : ℕ) {x : Step} {v : ℕ} {k : Cursor} → x ≡ field_step n 5 ws at → x ≡ on v k → CountRead at v k
 unfolding entry_of table words_by
 count-read n ws at {v = v} e o = record { few = at_most n 5 512 refl v (field-fine n 5 ws at e o).1; late = omega (arith, (there itself (field n 5) ws at e o).on) }
 
@@ -276,28 +276,27 @@ both_apart n [] i at d e = refl
 both_apart n (r ∷ l) i at d e = both_apart n l (i + 1) (at + length (relation_words n r)) (note_relation i at r d) (note_predicate i at r e)
 
 layout_alike : (n e : ℕ) {a b c f g x y z u v : ℕ} → a ≡ x → b ≡ y → c ≡ z → f ≡ u → g ≡ v
-    → ◌≡◌ {A = Laid} (Yes (record { names = n; relations = a; rules = b; blocks = c; end = e; noted = f; all = g }))
-    (Yes (record { names = n; relations = x; rules = y; blocks = z; end = e; noted = u; all = v }))
+    → ◌≡◌ {A = Laid} (Ok (record { names = n; relations = a; rules = b; blocks = c; end = e; noted = f; all = g }))
+    (Ok (record { names = n; relations = x; rules = y; blocks = z; end = e; noted = u; all = v }))
 layout_alike n e p q r s t = rw (p, q, r, s, t) refl
 
 module _ (n : ℕ) (ws : List ℕ) (at : ℕ) (d e : List ℕ) {d' e' : List ℕ} where
-  pub laid_no : {x : Step} {w : Refusal} {r : Laid} → x ≡ skip_over (records undated n) ws at → x ≡ Refused w → r ≡ refused_layout x → LaidOut n ws at d e r d' e'
+  pub laid_no : {w : Refusal} {r : Laid} → Err w ≡ skip_over (records undated n) ws at → r ≡ Err w → LaidOut n ws at d e r d' e'
   unfolding step_of
-  laid_no {x} {w} {r} y o q =
-      let s : r ≡ No w = q ∙ ap refused_layout o in
-      let no = step_no (λ a. 0) (read_by (records undated n) at (drop at ws)) (sym y ∙ o) in
+  laid_no {w} {r} y q =
+      let no = step_no (λ a. 0) (read_by (records undated n) at (drop at ws)) (sym y) in
       record {
-        answers = ap step_in s ∙ sym o ∙ y;
+        answers = ap step_in q ∙ y;
         lays = λ t next rest h. absurd (clash (sym no ∙ h));
         enters = λ t next rest h. absurd (clash (sym no ∙ h));
         notes = λ t next rest h. absurd (clash (sym no ∙ h));
       }
 
   module _ {y₁ y₂ y₃ y₄ : Step} {v₁ v₂ v₃ v₄ : ℕ} {k₁ k₂ k₃ k₄ : Cursor} {e₁ : List ℕ} {first all : ℕ} where
-    pub laid_yes : y₁ ≡ skip_over (defaulted n) ws at → y₁ ≡ On v₁ k₁ → Noted (count list) (relations n) (note_all n k₁.at) ws k₁.at (d, e) y₂ (d', e₁) → y₂ ≡ On v₂ k₂
-        → Noted (count list) (rules n) (note_rules n k₂.at) ws k₂.at e₁ y₃ e' → y₃ ≡ On v₃ k₃ → y₄ ≡ skip_over (blocks n) ws k₃.at → y₄ ≡ On v₄ k₄
+    pub laid_yes : y₁ ≡ skip_over (defaulted n) ws at → y₁ ≡ on v₁ k₁ → Noted (count list) (relations n) (note_all n k₁.at) ws k₁.at (d, e) y₂ (d', e₁) → y₂ ≡ on v₂ k₂
+        → Noted (count list) (rules n) (note_rules n k₂.at) ws k₂.at e₁ y₃ e' → y₃ ≡ on v₃ k₃ → y₄ ≡ skip_over (blocks n) ws k₃.at → y₄ ≡ on v₄ k₄
         → first ≡ get_or e₁ 0 0 → all ≡ get_or e' 0 0
-        → LaidOut n ws at d e (Yes (record { names = n; relations = v₂; rules = k₂.at; blocks = k₃.at; end = k₄.at; noted = first; all = all })) d' e'
+        → LaidOut n ws at d e (Ok (record { names = n; relations = v₂; rules = k₂.at; blocks = k₃.at; end = k₄.at; noted = first; all = all })) d' e'
     unfolding records read_by step_of layout_of directory_of relations_at rules_at blocks_at relations_left notes_left count
     laid_yes x₁ o₁ n₂ o₂ n₃ o₃ x₄ o₄ c₁ c₂ =
         let a = there (λ a. 0) (defaulted n) ws at x₁ o₁ in

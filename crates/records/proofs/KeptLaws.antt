@@ -1,4 +1,6 @@
 -- Laws of readers that keep a number of what they read, and of readers that note.
+use Rattle.std.specs.Result.{IsErrAnd}
+use Rattle.std.specs.Prelude.{Err}
 use Prim.Native.Nat.{ℕ, ◌+◌, ◌≤◌, ◌<◌}
 use native.Mathlib.Omega.{arith}
 use mathlib.Core.Path.{◌≡◌, refl, ap, sym, ◌∙◌}
@@ -7,14 +9,14 @@ use mathlib.Core.Option.{Option, none, some}
 use lib.ListN.{length, drop, length-append, length-drop}
 use Rattle.definitions.specs.declared.answer.Refusal.{Refusal}
 use Rattle.pack.specs.declared.cursor.Cursor.{Cursor}
-use Rattle.pack.specs.declared.cursor.Step.{Step}
-use Rattle.pack.specs.declared.cursor.Step.TheVariants.{On, Refused}
+use Rattle.pack.specs.Readers.{Step}
+use Rattle.pack.specs.Readers.{on}
 use Rattle.definitions.specs.declared.table.Values.TheVariants.{AtMost}
 use Rattle.definitions.specs.Table.{entry_of}
 use Rattle.definitions.specs.Form.{Read, got, refused, bind, map_read, read_field, option, says, whole, Form, field, ◌▹◌, via, counted_from, words_by, Fine, read_by}
 use Rattle.pack.specs.Readers.{step_by, step_of, field_step}
 use Rattle.pack.proofs.FormLaws.{lawful, clash, map-got}
-use Rattle.pack.proofs.StepLaws.{went, went_same, step_no, by-via, field-fine, at_most}
+use Rattle.pack.proofs.StepLaws.{exit, went, went_same, step_no, by-via, field-fine, at_most}
 use Rattle.reading.specs.Noting.{State, NotedStep}
 use Rattle.records.specs.Directory.{Noted}
 
@@ -32,7 +34,7 @@ pub step_map : {A B : Type 0} (g : B → ℕ) (h : A → B) (m : Read A) → ste
 step_map g h (got a at ws) = refl
 step_map g h (refused r) = refl
 
-module _ {A : Type 0} (f : A → ℕ) (F : Form A) (ws : List ℕ) (at : ℕ) {y : Step} (e : y ≡ step_of f F ws at) {v : ℕ} {k : Cursor} (o : y ≡ On v k) where
+module _ {A : Type 0} (f : A → ℕ) (F : Form A) (ws : List ℕ) (at : ℕ) {y : Step} (e : y ≡ step_of f F ws at) {v : ℕ} {k : Cursor} (o : y ≡ on v k) where
   pub there : There f F ws at v k
   there =
       let t = went f F ws at e o in
@@ -66,12 +68,12 @@ module _ {A : Type 0} (f : A → ℕ) (F : Form A) (ws : List ℕ) (at : ℕ) {y
       }
 
   -- another number of the same value
-  pub kept_last : (g : A → ℕ) {c : ℕ} → ((t : There f F ws at v k) → g t.value ≡ c) → On c k ≡ step_of g F ws at
+  pub kept_last : (g : A → ℕ) {c : ℕ} → ((t : There f F ws at v k) → g t.value ≡ c) → on c k ≡ step_of g F ws at
   unfolding step_of
   kept_last g h = let t = there in sym (rw t.found (rw (h t) refl))
 
 -- a flag and what it says
-module _ {A : Type 0} (n kind : ℕ) (flag : (entry_of kind).values ≡ AtMost 1) (F : Form A) (ws : List ℕ) (at : ℕ) {y : Step} (e : y ≡ field_step n kind ws at) {v : ℕ} {k : Cursor} (o : y ≡ On v k) (g : Option A → ℕ) where
+module _ {A : Type 0} (n kind : ℕ) (flag : (entry_of kind).values ≡ AtMost 1) (F : Form A) (ws : List ℕ) (at : ℕ) {y : Step} (e : y ≡ field_step n kind ws at) {v : ℕ} {k : Cursor} (o : y ≡ on v k) (g : Option A → ℕ) where
   abbrev optional : Form (Option A)
   optional = counted_from {S = Unit {0}} option n kind flag (λ u a. u) (λ u. F) tt
 
@@ -79,7 +81,7 @@ module _ {A : Type 0} (n kind : ℕ) (flag : (entry_of kind).values ≡ AtMost 1
   unfolding read_by
   flag-there = (went_same (field n kind) ws at e o).0
 
-  pub flag-none : v ≡ 0 → {c : ℕ} → g none ≡ c → On c k ≡ step_of g optional ws at
+  pub flag-none : v ≡ 0 → {c : ℕ} → g none ≡ c → on c k ≡ step_of g optional ws at
   unfolding step_of read_by says whole
   flag-none z q = sym (rw flag-there (rw z (rw q refl)))
 
@@ -96,7 +98,7 @@ module _ {A : Type 0} (n kind : ℕ) (flag : (entry_of kind).values ≡ AtMost 1
 
   -- likewise of readers that note
   module _ {D : Type 0} (note : Option A → D → D) (d : D) {d' : D} where
-    pub noted-none : v ≡ 0 → {c : ℕ} → g none ≡ c → d' ≡ note none d → Noted g optional note ws at d (On c k) d'
+    pub noted-none : v ≡ 0 → {c : ℕ} → g none ≡ c → d' ≡ note none d → Noted g optional note ws at d (on c k) d'
     unfolding read_by says whole
     noted-none z q n =
         record {
@@ -148,7 +150,7 @@ tree-noted {A} F note ws at d {r} {e} h =
     record {
       answers = h.answers;
       notes = λ a next rest q.
-          (let o : r ≡ On 0 (record { at = next }) = h.answers ∙ rw q refl in
+          (let o : r ≡ on 0 (record { at = next }) = h.answers ∙ rw q refl in
           let c = h.notes o in
           let z : c.value ≡ a = cc (c.found, q) in
           sym (ap (λ (s : State). s.1) c.noted) ∙ ap (λ (a : A). (note a (at, d)).1) z);
@@ -156,22 +158,26 @@ tree-noted {A} F note ws at d {r} {e} h =
 
 module _ {A D : Type 0} {f : A → ℕ} {F : Form A} {note : A → D → D} {ws : List ℕ} {at : ℕ} {d : D} {y : Step} {d' : D} where
   -- of a refusal nothing is to be shown but the answer
-  pub noted_no : y ≡ step_of f F ws at → {r : Refusal} → y ≡ Refused r → Noted f F note ws at d y d'
+  pub noted_no : y ≡ step_of f F ws at → {r : Refusal} → y ≡ Err r → Noted f F note ws at d y d'
   unfolding step_of
   noted_no e {r} o = record { answers = e; notes = λ a next rest h. absurd (clash (sym (step_no f (read_by F at (drop at ws)) (sym e ∙ o)) ∙ h)) }
 
-  pub noted-there : Noted f F note ws at d y d' → {v : ℕ} {k : Cursor} → y ≡ On v k → (t : There f F ws at v k) × (d' ≡ note t.value d)
+  -- after a `?`
+  pub noted_err : {r : Refusal} → Err r ≡ step_of f F ws at → IsErrAnd y (λ x. x ≡ r) → Noted f F note ws at d y d'
+  noted_err e h = noted_no (exit h ∙ e) (exit h)
+
+  pub noted-there : Noted f F note ws at d y d' → {v : ℕ} {k : Cursor} → y ≡ on v k → (t : There f F ws at v k) × (d' ≡ note t.value d)
   noted-there n {v} {k} o = let t = there f F ws at n.answers o in (t, n.notes t.value k.at (drop k.at ws) t.found)
 
   -- another number of the same value
-  pub noted-last : Noted f F note ws at d y d' → {v : ℕ} {k : Cursor} → y ≡ On v k → (g : A → ℕ) {c : ℕ} → ((t : There f F ws at v k) → g t.value ≡ c) → Noted g F note ws at d (On c k) d'
+  pub noted-last : Noted f F note ws at d y d' → {v : ℕ} {k : Cursor} → y ≡ on v k → (g : A → ℕ) {c : ℕ} → ((t : There f F ws at v k) → g t.value ≡ c) → Noted g F note ws at d (on c k) d'
   noted-last n o g h = record { answers = kept_last f F ws at n.answers o g h; notes = n.notes }
 
 -- one form and then another, as one type: noted once both are read
 module _ {A B C D : Type 0} (to : A × B → C) (from : C → A × B) (tf : (c : C) → to (from c) ≡ c) (ft : (t : A × B) → from (to t) ≡ t) (f : A → ℕ) (F : Form A) (f₂ : B → ℕ) (G : A → Form B) (g : C → ℕ) (note : C → D → D) (ws : List ℕ) (at : ℕ) (d : D) where
-  pub noted-pair : {y z : Step} {v u : ℕ} {k j : Cursor} {d' : D} {c : ℕ} → y ≡ step_of f F ws at → y ≡ On v k → ((a : A) → z ≡ step_of f₂ (G a) ws k.at) → z ≡ On u j
+  pub noted-pair : {y z : Step} {v u : ℕ} {k j : Cursor} {d' : D} {c : ℕ} → y ≡ step_of f F ws at → y ≡ on v k → ((a : A) → z ≡ step_of f₂ (G a) ws k.at) → z ≡ on u j
       → ((t : There f F ws at v k) (s : There f₂ (G t.value) ws k.at u j) → (g (to (t.value, s.value)) ≡ c) × (d' ≡ note (to (t.value, s.value)) d))
-      → Noted g (via to from tf ft (F ▹ G)) note ws at d (On c j) d'
+      → Noted g (via to from tf ft (F ▹ G)) note ws at d (on c j) d'
   unfolding step_of read_by
   noted-pair {k = k} {j = j} {d' = d'} e o e₂ o₂ h =
       let t = there f F ws at e o in

@@ -1,5 +1,7 @@
 -- The law of counted loops: a count is read, and then as many elements, of which the first refusal is handed on. Each element moves
 -- a state on and may be noted; a loop without a state has the unit, and so has one that notes nothing.
+use Rattle.std.specs.Result.{IsErrAnd}
+use Rattle.std.specs.Prelude.{Err}
 use Prim.Native.Nat.{ℕ, suc, ◌+◌, ◌-◌, ◌≤◌, ◌<◌}
 use native.Mathlib.Omega.{arith}
 use mathlib.Core.Path.{◌≡◌, refl, ap, sym, ◌∙◌, subst}
@@ -7,8 +9,8 @@ use mathlib.Core.List.{List, [], ◌∷◌}
 use lib.ListN.{length, drop}
 use Rattle.definitions.specs.declared.answer.Refusal.{Refusal}
 use Rattle.pack.specs.declared.cursor.Cursor.{Cursor}
-use Rattle.pack.specs.declared.cursor.Step.{Step}
-use Rattle.pack.specs.declared.cursor.Step.TheVariants.{On, Refused}
+use Rattle.pack.specs.Readers.{Step}
+use Rattle.pack.specs.Readers.{on}
 use Rattle.definitions.specs.declared.table.Values.TheVariants.{FromOne}
 use Rattle.definitions.specs.Table.{word_of, entry_of}
 use Rattle.definitions.specs.Form.{Read, got, read_field, read_all, Holder, list, count, says, whole, Suits, Form, field, counted_from, one_and_more, words_by, read_by}
@@ -16,7 +18,7 @@ use Rattle.pack.specs.Readers.{step_of, itself, field_step, skip_all}
 use Rattle.pack.proofs.FormLaws.{map-got}
 use Rattle.pack.proofs.StepLaws.{went_same, last-stop, counted_stop, by_left, by-more, all-stop, all_done}
 use Rattle.records.specs.Directory.{Noted, notes_all}
-use Rattle.records.proofs.KeptLaws.{There, step_map, there, kept_last, noted_no, noted-there}
+use Rattle.records.proofs.KeptLaws.{There, step_map, there, kept_last, noted_no, noted_err, noted-there}
 
 -- nothing is noted
 abbrev pub nothing : {A : Type 0} → ℕ → ℕ → A → Unit {0} → Unit {0}
@@ -50,7 +52,7 @@ module _ {S A D : Type 0} {step : S → A → S} {F : S → Form A} {W : A → L
 
   module _ {m₀ : ℕ} {s₀ : S} {at₀ : ℕ} {d₀ : D} {m : ℕ} {s : S} {at : ℕ} {d : D} (left : Left step F W same-words note ws m₀ s₀ at₀ d₀ m s at d) where
     -- a turn: the number that is kept tells the next state
-    pub left_turn : 0 < m → {f : A → ℕ} {y : Step} {d' : D} → Noted f (F s) (note left.i at) ws at d y d' → {v : ℕ} {k : Cursor} → y ≡ On v k → {s' : S} → ((a : A) → f a ≡ v → step s a ≡ s')
+    pub left_turn : 0 < m → {f : A → ℕ} {y : Step} {d' : D} → Noted f (F s) (note left.i at) ws at d y d' → {v : ℕ} {k : Cursor} → y ≡ on v k → {s' : S} → ((a : A) → f a ≡ v → step s a ≡ s')
         → Left step F W same-words note ws m₀ s₀ at₀ d₀ (m - 1) s' k.at d'
     unfolding notes_all skip_all
     left_turn h {f} {y} {d'} n {v} {k} o {s'} q =
@@ -83,11 +85,11 @@ module _ {S A D : Type 0} {step : S → A → S} {F : S → Form A} {W : A → L
             )
 
     -- a refusal in a turn
-    left_stop : 0 < m → (f : A → ℕ) {y : Step} → y ≡ step_of f (F s) ws at → {r : Refusal} → y ≡ Refused r → y ≡ skip_all step F m₀ s₀ ws at₀
+    left_stop : 0 < m → (f : A → ℕ) {y : Step} → y ≡ step_of f (F s) ws at → {r : Refusal} → y ≡ Err r → y ≡ skip_all step F m₀ s₀ ws at₀
     left_stop h f e o = all-stop step F s ws at m h f e o ∙ sym left.walks
 
     -- the end
-    left_done : m ≤ 0 → On 0 (record { at = at }) ≡ skip_all step F m₀ s₀ ws at₀
+    left_done : m ≤ 0 → on 0 (record { at = at }) ≡ skip_all step F m₀ s₀ ws at₀
     left_done h = all_done step F s ws at m h ∙ sym left.walks
 
     left_none : m ≤ 0 → (L : List A) (next : ℕ) (rest : List ℕ) → reads step F ws m₀ s₀ at₀ ≡ got L next rest → d ≡ notes_all W note 0 at₀ L d₀
@@ -101,7 +103,7 @@ module _ {S A D : Type 0} {step : S → A → S} {F : S → Form A} {W : A → L
 
 -- the turn of a loop that notes nothing, by what the element's reader answers
 pub read-turn : {S A : Type 0} {step : S → A → S} {F : S → Form A} {W : A → List ℕ} {same-words : (s : S) (a : A) → words_by (F s) a ≡ W a} {ws : List ℕ} {m₀ : ℕ} {s₀ : S} {at₀ m : ℕ} {s : S} {at : ℕ}
-    → Left step F W same-words nothing ws m₀ s₀ at₀ tt m s at tt → 0 < m → (f : A → ℕ) {y : Step} → y ≡ step_of f (F s) ws at → {v : ℕ} {k : Cursor} → y ≡ On v k
+    → Left step F W same-words nothing ws m₀ s₀ at₀ tt m s at tt → 0 < m → (f : A → ℕ) {y : Step} → y ≡ step_of f (F s) ws at → {v : ℕ} {k : Cursor} → y ≡ on v k
     → {s' : S} → ((a : A) → f a ≡ v → step s a ≡ s') → Left step F W same-words nothing ws m₀ s₀ at₀ tt (m - 1) s' k.at tt
 read-turn left h f e o q = left_turn left h (record { answers = e; notes = λ a next rest r. refl }) o q
 
@@ -109,16 +111,16 @@ read-turn left h f e o q = left_turn left h (record { answers = e; notes = λ a 
 
 module _ {S A C : Type 0} (H : Holder A C) (n kind : ℕ) (suits : Suits H (entry_of kind).values) (step : S → A → S) (F : S → Form A) (s : S) (g : C → ℕ) (ws : List ℕ) (at : ℕ) {y : Step} where
   -- the count refused
-  pub count-refused : y ≡ field_step n kind ws at → {r : Refusal} → y ≡ Refused r → y ≡ step_of g (counted_from H n kind suits step F s) ws at
+  pub count-refused : y ≡ field_step n kind ws at → {r : Refusal} → y ≡ Err r → y ≡ step_of g (counted_from H n kind suits step F s) ws at
   count-refused e o = last-stop (λ c. 0) (counted_from H n kind suits step F s) ws at (counted_stop H n kind suits step F s ws at e o) g o
 
-  module _ {D : Type 0} {W : A → List ℕ} {same-words : (s : S) (a : A) → words_by (F s) a ≡ W a} {note : ℕ → ℕ → A → D → D} {v : ℕ} {k : Cursor} {m₀ m : ℕ} {u : S} {j : Cursor} {d₀ d : D} (left : Left step F W same-words note ws m₀ s k.at d₀ m u j.at d) (e : y ≡ field_step n kind ws at) (o : y ≡ On v k) (q : m₀ ≡ says H v) where
+  module _ {D : Type 0} {W : A → List ℕ} {same-words : (s : S) (a : A) → words_by (F s) a ≡ W a} {note : ℕ → ℕ → A → D → D} {v : ℕ} {k : Cursor} {m₀ m : ℕ} {u : S} {j : Cursor} {d₀ d : D} (left : Left step F W same-words note ws m₀ s k.at d₀ m u j.at d) (e : y ≡ field_step n kind ws at) (o : y ≡ on v k) (q : m₀ ≡ says H v) where
     -- an element refused
-    pub turn-refused : 0 < m → (f : A → ℕ) {x : Step} → x ≡ step_of f (F u) ws j.at → {r : Refusal} → x ≡ Refused r → x ≡ step_of g (counted_from H n kind suits step F s) ws at
+    pub turn-refused : 0 < m → (f : A → ℕ) {x : Step} → x ≡ step_of f (F u) ws j.at → {r : Refusal} → x ≡ Err r → x ≡ step_of g (counted_from H n kind suits step F s) ws at
     turn-refused h f i p = last-stop (λ c. 0) (counted_from H n kind suits step F s) ws at (by_left H n kind suits step F s ws at e o q (left_stop left h f i p)) g p
 
     -- all read: what is kept goes by the count
-    pub all_read : m ≤ 0 → {w : ℕ} → ((c : C) → count H c ≡ v → g c ≡ w) → On w j ≡ step_of g (counted_from H n kind suits step F s) ws at
+    pub all_read : m ≤ 0 → {w : ℕ} → ((c : C) → count H c ≡ v → g c ≡ w) → on w j ≡ step_of g (counted_from H n kind suits step F s) ws at
     unfolding words_by
     all_read h z =
         kept_last (λ c. 0) (counted_from H n kind suits step F s) ws at (by_left H n kind suits step F s ws at e o q (left_done left h)) refl g
@@ -129,8 +131,8 @@ module _ {S A C : Type 0} (H : Holder A C) (n kind : ℕ) (suits : Suits H (entr
 
 -- the same of a list that is noted
 module _ {S A D : Type 0} {n kind : ℕ} {suits : Suits {A = A} list (entry_of kind).values} {step : S → A → S} {F : S → Form A} {W : A → List ℕ} {same-words : (s : S) (a : A) → words_by (F s) a ≡ W a} {note : ℕ → ℕ → A → D → D} {s : S} {ws : List ℕ} {at : ℕ} {d : D} where
-  pub noted-all : {y : Step} → y ≡ field_step n kind ws at → {v : ℕ} {k : Cursor} → y ≡ On v k → {m : ℕ} {u : S} {j : Cursor} {d' : D} → Left step F W same-words note ws v s k.at d m u j.at d' → m ≤ 0
-      → Noted (count list) (counted_from list n kind suits step F s) (notes_all W note 0 (at + 1)) ws at d (On v j) d'
+  pub noted-all : {y : Step} → y ≡ field_step n kind ws at → {v : ℕ} {k : Cursor} → y ≡ on v k → {m : ℕ} {u : S} {j : Cursor} {d' : D} → Left step F W same-words note ws v s k.at d m u j.at d' → m ≤ 0
+      → Noted (count list) (counted_from list n kind suits step F s) (notes_all W note 0 (at + 1)) ws at d (on v j) d'
   unfolding read_by says whole words_by
   noted-all e {v} {k} o l h =
       record {
@@ -146,14 +148,14 @@ module _ {S A D : Type 0} {n kind : ℕ} {suits : Suits {A = A} list (entry_of k
 
 module _ {A B D : Type 0} {n kind most : ℕ} {rule : (entry_of kind).values ≡ FromOne most} {F : Form A} {G : Form B} {note : ℕ → ℕ → B → D → D} {ws : List ℕ} {at : ℕ} {y : Step} {v : ℕ} {k : Cursor} {d : D} {x : Step} {d₁ : D} {u : ℕ} {j : Cursor} {m : ℕ} {c : Cursor} {d' : D} where
   -- a later one refused
-  pub more-refused : y ≡ field_step n kind ws at → y ≡ On v k → {f₁ : A → ℕ} {first : A → D → D} → Noted f₁ F first ws k.at d x d₁ → x ≡ On u j → LeftOf G note ws (v - 1) j.at d₁ m c.at d' → 0 < m
-      → {f : B → ℕ} {here : B → D → D} {z : Step} {e : D} → Noted f G here ws c.at d' z e → {r : Refusal} → z ≡ Refused r
+  pub more-refused : y ≡ field_step n kind ws at → y ≡ on v k → {f₁ : A → ℕ} {first : A → D → D} → Noted f₁ F first ws k.at d x d₁ → x ≡ on u j → LeftOf G note ws (v - 1) j.at d₁ m c.at d' → 0 < m
+      → {f : B → ℕ} {here : B → D → D} {z : Step} {e : D} → Noted f G here ws c.at d' z e → {r : Refusal} → z ≡ Err r
       → {E : Type 0} {all : A × List B → E → E} {a b : E} → Noted (λ t. 0) (one_and_more n kind most rule F G) all ws at a z b
   more-refused e o {f₁} h p left l {f} i q = noted_no (by-more n kind most rule F G ws at e o f₁ h.answers p (left_stop left l f i.answers q)) q
 
   -- all read
-  pub noted_more : (first : ℕ → A → D → D) → y ≡ field_step n kind ws at → y ≡ On v k → Noted (λ a. 0) F (first k.at) ws k.at d x d₁ → x ≡ On u j → LeftOf G note ws (v - 1) j.at d₁ m c.at d' → m ≤ 0
-      → Noted (λ t. 0) (one_and_more n kind most rule F G) (λ t d. notes_all (words_by G) note 0 (at + 1 + length (words_by F t.0)) t.1 (first (at + 1) t.0 d)) ws at d (On 0 c) d'
+  pub noted_more : (first : ℕ → A → D → D) → y ≡ field_step n kind ws at → y ≡ on v k → Noted (λ a. 0) F (first k.at) ws k.at d x d₁ → x ≡ on u j → LeftOf G note ws (v - 1) j.at d₁ m c.at d' → m ≤ 0
+      → Noted (λ t. 0) (one_and_more n kind most rule F G) (λ t d. notes_all (words_by G) note 0 (at + 1 + length (words_by F t.0)) t.1 (first (at + 1) t.0 d)) ws at d (on 0 c) d'
   unfolding read_by words_by
   noted_more first e o h p left z =
       let a = noted-there h p in
@@ -171,3 +173,43 @@ module _ {A B D : Type 0} {n kind most : ℕ} {rule : (entry_of kind).values ≡
     where
       alike : (l : List B) {a b : ℕ} {x z : D} → a ≡ b → x ≡ z → notes_all (words_by G) note 0 a l x ≡ notes_all (words_by G) note 0 b l z
       alike l p q = λ i. notes_all (words_by G) note 0 (p i) l (q i)
+
+-- ---- the same in a `for` whose counter goes up to an end, after a `?`
+
+module _ {S A D : Type 0} {step : S → A → S} {F : S → Form A} {W : A → List ℕ} {same-words : (s : S) (a : A) → words_by (F s) a ≡ W a} {note : ℕ → ℕ → A → D → D} {ws : List ℕ} where
+  pub left_start : {m : ℕ} {s : S} {at : ℕ} {d : D} → Left step F W same-words note ws m s at d (m - 0) s at d
+  left_start {m} {s} {at} {d} = let e : m ≡ m - 0 = omega arith in subst (λ (i : ℕ). Left step F W same-words note ws m s at d i s at d) e left_all
+
+  pub left_next : {m₀ : ℕ} {s₀ : S} {at₀ : ℕ} {d₀ : D} {end i : ℕ} {s : S} {at : ℕ} {d : D} (left : Left step F W same-words note ws m₀ s₀ at₀ d₀ (end - i) s at d) → i < end
+      → {f : A → ℕ} {d' : D} {v : ℕ} {k : Cursor} → Noted f (F s) (note left.i at) ws at d (on v k) d' → {s' : S} → ((a : A) → f a ≡ v → step s a ≡ s')
+      → Left step F W same-words note ws m₀ s₀ at₀ d₀ (end - (i + 1)) s' k.at d'
+  left_next {m₀} {s₀} {at₀} {d₀} {end} {i} left h {f} {d'} {v} {k} n {s'} q =
+      let e : end - i - 1 ≡ end - (i + 1) = omega arith in
+      subst (λ (m : ℕ). Left step F W same-words note ws m₀ s₀ at₀ d₀ m s' k.at d') e (left_turn left (omega arith) n refl q)
+
+-- of a loop that notes nothing
+pub read_next : {S A : Type 0} {step : S → A → S} {F : S → Form A} {W : A → List ℕ} {same-words : (s : S) (a : A) → words_by (F s) a ≡ W a} {ws : List ℕ} {m₀ : ℕ} {s₀ : S} {at₀ end i : ℕ} {s : S} {at : ℕ}
+    → Left step F W same-words nothing ws m₀ s₀ at₀ tt (end - i) s at tt → i < end → (f : A → ℕ) {v : ℕ} {k : Cursor} → on v k ≡ step_of f (F s) ws at
+    → {s' : S} → ((a : A) → f a ≡ v → step s a ≡ s') → Left step F W same-words nothing ws m₀ s₀ at₀ tt (end - (i + 1)) s' k.at tt
+read_next left h f e q = left_next left h (record { answers = e; notes = λ a next rest r. refl }) q
+
+module _ {S A C : Type 0} (H : Holder A C) (n kind : ℕ) (suits : Suits H (entry_of kind).values) (step : S → A → S) (F : S → Form A) (s : S) (g : C → ℕ) (ws : List ℕ) (at : ℕ) where
+  -- the count refused
+  pub count_err : {r : Refusal} → Err r ≡ field_step n kind ws at → Err r ≡ step_of g (counted_from H n kind suits step F s) ws at
+  count_err e = count-refused H n kind suits step F s g ws at e refl
+
+  module _ {D : Type 0} {W : A → List ℕ} {same-words : (s : S) (a : A) → words_by (F s) a ≡ W a} {note : ℕ → ℕ → A → D → D} {v : ℕ} {k : Cursor} {m₀ end i : ℕ} {u : S} {j : Cursor} {d₀ d : D} (left : Left step F W same-words note ws m₀ s k.at d₀ (end - i) u j.at d) (e : on v k ≡ field_step n kind ws at) (q : m₀ ≡ says H v) where
+    -- an element refused
+    pub turn_err : i < end → (f : A → ℕ) {r : Refusal} → Err r ≡ step_of f (F u) ws j.at → Err r ≡ step_of g (counted_from H n kind suits step F s) ws at
+    turn_err h f p = turn-refused H n kind suits step F s g ws at left e refl q (omega arith) f p refl
+
+    -- all read
+    pub all_ok : end ≤ i → {w : ℕ} → ((c : C) → count H c ≡ v → g c ≡ w) → on w j ≡ step_of g (counted_from H n kind suits step F s) ws at
+    all_ok h z = all_read H n kind suits step F s g ws at left e refl q (omega arith) z
+
+-- a later one of a count, one and as many more refused
+pub more_err : {A B D : Type 0} {n kind most : ℕ} {rule : (entry_of kind).values ≡ FromOne most} {F : Form A} {G : Form B} {note : ℕ → ℕ → B → D → D} {ws : List ℕ} {at : ℕ} {y : Step} {v : ℕ} {k : Cursor} {d : D} {x : Step} {d₁ : D} {u : ℕ} {j : Cursor} {m : ℕ} {c : Cursor} {d' : D}
+    → y ≡ field_step n kind ws at → y ≡ on v k → {f₁ : A → ℕ} {first : A → D → D} → Noted f₁ F first ws k.at d x d₁ → x ≡ on u j → LeftOf G note ws (v - 1) j.at d₁ m c.at d' → 0 < m
+    → {f : B → ℕ} {here : B → D → D} {r : Refusal} {e : D} → Noted f G here ws c.at d' (Err r) e
+    → {E : Type 0} {all : A × List B → E → E} {a b : E} {z : Step} → IsErrAnd z (λ w. w ≡ r) → Noted (λ t. 0) (one_and_more n kind most rule F G) all ws at a z b
+more_err {n = n} {kind} {most} {rule} {F} {G} {ws = ws} {at = at} e o {f₁} h p left l {f} i q = noted_err (by-more n kind most rule F G ws at e o f₁ h.answers p (left_stop left l f i.answers refl)) q

@@ -6,29 +6,27 @@ use mathlib.Core.List.{List, [], ◌∷◌}
 use mathlib.Core.Option.{some}
 use lib.ListN.{length, set}
 use Rattle.pack.specs.declared.cursor.Cursor.{Cursor}
-use Rattle.pack.specs.declared.cursor.Step.{Step}
-use Rattle.pack.specs.declared.cursor.Step.TheVariants.{On}
+use Rattle.pack.specs.Readers.{Step}
+use Rattle.pack.specs.Readers.{on}
 use Rattle.definitions.specs.Form.{list, count, items, words_all, field, words_by}
 use Rattle.definitions.specs.Tree.{root}
 use Rattle.definitions.specs.FieldRows.{MemberRow, RelationTail, to_body, to_derivation, to_relation, to_rule}
 use Rattle.definitions.specs.Pack.{body, bodies, rule, name_list, chain, member, derivation, optional_derivation, relation_tail}
 use Rattle.definitions.specs.Places.{hops}
-use Rattle.pack.specs.Packed.{bound_of}
 use Rattle.pack.specs.Readers.{step_of, skip_over, itself, field_step}
-use Rattle.reading.specs.Noting.{ReadyFor, Context, note_tree, NotedStep}
+use Rattle.reading.specs.Noting.{Context, note_tree, NotedStep}
 use Rattle.records.specs.Directory.{Noted, chain_lead, derived_note, member_note, note_in, tail_note, note_relation}
 use Rattle.records.specs.Notes.{opened, inside, note_body, note_member, note_derivation, note_optional, note_tail, note_predicate, Both, note_both, note_bodies, note_rule}
 use Rattle.records.proofs.KeptLaws.{there, within, noted_then, noted-via, noted_as, noted-last, tree-noted}
 use Rattle.records.proofs.DirectoryLaws.{chain-words, derived-note}
 
--- a tree in the context of a body or predicate, by the number of names
-pub rooted : (n : ℕ) (ws t : List ℕ) → ReadyFor ws t n → (sort context at : ℕ) (d : List ℕ) {r : Step} {e : List ℕ} → NotedStep (root (bound_of t) sort) (λ u. note_tree context u) ws at d r e
+-- a tree in the context of a body or predicate
+pub rooted : (n : ℕ) (ws : List ℕ) (sort context at : ℕ) (d : List ℕ) {r : Step} {e : List ℕ} → NotedStep (root n sort) (λ u. note_tree context u) ws at d r e
     → Noted (λ a. 0) (root n sort) (λ u d. (note_tree context u (at, d)).1) ws at d r e
-rooted n ws t ready sort context at d {r} {e} h =
-    subst (λ (m : ℕ). Noted (λ a. 0) (root m sort) (λ u d. (note_tree context u (at, d)).1) ws at d r e) ready.names (tree-noted (root (bound_of t) sort) (λ u. note_tree context u) ws at d h)
+rooted n ws sort context at d h = tree-noted (root n sort) (λ u. note_tree context u) ws at d h
 
 -- a body: its sort and its tree
-pub body-noted : (n context : ℕ) (ws : List ℕ) (at : ℕ) (d : List ℕ) {y : Step} {v : ℕ} {k : Cursor} → y ≡ field_step n 27 ws at → y ≡ On v k → {x : Step} {e : List ℕ}
+pub body-noted : (n context : ℕ) (ws : List ℕ) (at : ℕ) (d : List ℕ) {y : Step} {v : ℕ} {k : Cursor} → y ≡ field_step n 27 ws at → y ≡ on v k → {x : Step} {e : List ℕ}
     → Noted (λ u. 0) (root n v) (λ u d. (note_tree context u (k.at, d)).1) ws k.at d x e → Noted (λ b. 0) (body n) (note_body context at) ws at d x e
 unfolding body words_by
 body-noted n context ws at d {k = k} q o {x} {e} h =
@@ -48,10 +46,10 @@ list-words n kind l = let e = names-words n l in omega arith
 
 -- what follows the chain of a derivation: its predicate is noted
 module _ (n context : ℕ) (ws : List ℕ) (at : ℕ) (d : List ℕ) {y₁ y₂ y₃ : Step} {v₁ v₂ v₃ : ℕ} {k₁ k₂ k₃ : Cursor} where
-  pub member-noted : y₁ ≡ skip_over (field n 19) ws at → y₁ ≡ On v₁ k₁ → y₂ ≡ skip_over (field n 20) ws k₁.at → y₂ ≡ On v₂ k₂ → y₃ ≡ step_of (count list) (name_list n 21) ws k₂.at → y₃ ≡ On v₃ k₃
+  pub member-noted : y₁ ≡ skip_over (field n 19) ws at → y₁ ≡ on v₁ k₁ → y₂ ≡ skip_over (field n 20) ws k₁.at → y₂ ≡ on v₂ k₂ → y₃ ≡ step_of (count list) (name_list n 21) ws k₂.at → y₃ ≡ on v₃ k₃
       → (kinds slots lead : ℕ) {s : ℕ} → s ≡ derived_note kinds slots v₃ lead
-      → {x : Step} {e : List ℕ} → Noted (λ u. 0) (root n 1) (λ u d. (note_tree context u (k₃.at, d)).1) ws k₃.at d x e → {v : ℕ} {k : Cursor} → x ≡ On v k
-      → Noted (member_note kinds slots lead) (member n) (note_member context at) ws at d (On s k) e
+      → {x : Step} {e : List ℕ} → Noted (λ u. 0) (root n 1) (λ u d. (note_tree context u (k₃.at, d)).1) ws k₃.at d x e → {v : ℕ} {k : Cursor} → x ≡ on v k
+      → Noted (member_note kinds slots lead) (member n) (note_member context at) ws at d (on s k) e
   unfolding member words_by count
   member-noted q₁ o₁ q₂ o₂ q₃ o₃ kinds slots lead {s} m h o =
       noted_then (λ a. 0) (field n 19) ws at q₁ o₁ _ _ (note_member context at) d
@@ -63,7 +61,7 @@ module _ (n context : ℕ) (ws : List ℕ) (at : ℕ) (d : List ℕ) {y₁ y₂ 
 
 -- a derivation, of a relation that starts at a place
 module _ (n kinds start : ℕ) (ws : List ℕ) (at : ℕ) (d : List ℕ) {y : Step} {lead : ℕ} {k : Cursor} where
-  pub derivation-noted : y ≡ step_of chain_lead (chain n) ws at → y ≡ On lead k → {context : ℕ} {d₁ : List ℕ} → context ≡ inside d → d₁ ≡ opened start d
+  pub derivation-noted : y ≡ step_of chain_lead (chain n) ws at → y ≡ on lead k → {context : ℕ} {d₁ : List ℕ} → context ≡ inside d → d₁ ≡ opened start d
       → (slots : ℕ) → slots ≡ 3 + kinds + (k.at - at)
       → {x : Step} {e : List ℕ} → Noted (member_note kinds slots lead) (member n) (note_member context k.at) ws k.at d₁ x e
       → Noted (λ a. note_in kinds (some a)) (derivation n) (note_derivation start at) ws at d x e
@@ -80,7 +78,7 @@ module _ (n kinds start : ℕ) (ws : List ℕ) (at : ℕ) (d : List ℕ) {y : St
 
 -- what follows the name of a relation
 module _ (n start : ℕ) (ws : List ℕ) (at : ℕ) (d : List ℕ) {y₁ y₂ y₃ : Step} {v₁ v₂ v₃ : ℕ} {k₁ k₂ k₃ : Cursor} where
-  pub tail_noted : y₁ ≡ skip_over (field n 7) ws at → y₁ ≡ On v₁ k₁ → y₂ ≡ skip_over (field n 8) ws k₁.at → y₂ ≡ On v₂ k₂ → y₃ ≡ step_of (count list) (name_list n 9) ws k₂.at → y₃ ≡ On v₃ k₃
+  pub tail_noted : y₁ ≡ skip_over (field n 7) ws at → y₁ ≡ on v₁ k₁ → y₂ ≡ skip_over (field n 8) ws k₁.at → y₂ ≡ on v₂ k₂ → y₃ ≡ step_of (count list) (name_list n 9) ws k₂.at → y₃ ≡ on v₃ k₃
       → {x : Step} {e : List ℕ} → Noted (note_in v₃) (optional_derivation n) (note_optional start k₃.at) ws k₃.at d x e
       → Noted tail_note (relation_tail n) (note_tail start at) ws at d x e
   unfolding relation_tail words_by count
@@ -95,18 +93,18 @@ module _ (n start : ℕ) (ws : List ℕ) (at : ℕ) (d : List ℕ) {y₁ y₂ y�
 
 -- ---- where words stand that were read
 
-pub field_on : (n kind : ℕ) (ws : List ℕ) (at : ℕ) {y : Step} {v : ℕ} {k : Cursor} → y ≡ skip_over (field n kind) ws at → y ≡ On v k → k.at ≡ at + 1
+pub field_on : (n kind : ℕ) (ws : List ℕ) (at : ℕ) {y : Step} {v : ℕ} {k : Cursor} → y ≡ skip_over (field n kind) ws at → y ≡ on v k → k.at ≡ at + 1
 unfolding words_by
 field_on n kind ws at e o = (there (λ a. 0) (field n kind) ws at e o).on
 
-pub flag_on : (n : ℕ) (ws : List ℕ) (at : ℕ) {y : Step} {v : ℕ} {k : Cursor} → y ≡ field_step n 11 ws at → y ≡ On v k → k.at ≡ at + 1
+pub flag_on : (n : ℕ) (ws : List ℕ) (at : ℕ) {y : Step} {v : ℕ} {k : Cursor} → y ≡ field_step n 11 ws at → y ≡ on v k → k.at ≡ at + 1
 unfolding words_by
 flag_on n ws at e o = (there itself (field n 11) ws at e o).on
 
-pub list_on : (n : ℕ) (ws : List ℕ) (at : ℕ) {y : Step} {v : ℕ} {k : Cursor} → y ≡ step_of (count list) (name_list n 9) ws at → y ≡ On v k → at ≤ k.at
+pub list_on : (n : ℕ) (ws : List ℕ) (at : ℕ) {y : Step} {v : ℕ} {k : Cursor} → y ≡ step_of (count list) (name_list n 9) ws at → y ≡ on v k → at ≤ k.at
 list_on n ws at e o = omega (arith, (there (count list) (name_list n 9) ws at e o).on)
 
-pub rule-place : (n : ℕ) (ws : List ℕ) (at : ℕ) {y : Step} {v : ℕ} {k : Cursor} → y ≡ skip_over (field n 23) ws at → y ≡ On v k → length ws ≤ 8192 → at ≤ 8192
+pub rule-place : (n : ℕ) (ws : List ℕ) (at : ℕ) {y : Step} {v : ℕ} {k : Cursor} → y ≡ skip_over (field n 23) ws at → y ≡ on v k → length ws ≤ 8192 → at ≤ 8192
 unfolding words_by
 rule-place n ws at e o m = omega (arith, field_on n 23 ws at e o, within (λ a. 0) (field n 23) ws at e o (λ a. omega arith))
 
@@ -116,7 +114,7 @@ rule_context d e = omega (arith, e)
 -- ---- a rule, and a relation
 
 module _ (n i : ℕ) (ws : List ℕ) (at : ℕ) (d : List ℕ) {y₁ y₂ y₃ : Step} {v₁ v₂ v₃ : ℕ} {k₁ k₂ k₃ : Cursor} where
-  pub rule-noted : y₁ ≡ skip_over (field n 23) ws at → y₁ ≡ On v₁ k₁ → y₂ ≡ skip_over (field n 24) ws k₁.at → y₂ ≡ On v₂ k₂ → y₃ ≡ skip_over (field n 25) ws k₂.at → y₃ ≡ On v₃ k₃
+  pub rule-noted : y₁ ≡ skip_over (field n 23) ws at → y₁ ≡ on v₁ k₁ → y₂ ≡ skip_over (field n 24) ws k₁.at → y₂ ≡ on v₂ k₂ → y₃ ≡ skip_over (field n 25) ws k₂.at → y₃ ≡ on v₃ k₃
       → {context : ℕ} {d₁ : List ℕ} → context ≡ inside d → d₁ ≡ opened at d → {x : Step} {e : List ℕ}
       → Noted (λ t. 0) (bodies n) (note_bodies n context k₃.at) ws k₃.at d₁ x e → Noted (λ r. 0) (rule n) (note_rule n i at) ws at d x e
   unfolding rule note_rule

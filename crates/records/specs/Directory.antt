@@ -1,10 +1,7 @@
 -- The directory that reading writes on its way: the relations in record order, and by name where each stands and what it declares.
-use Rattle.std.specs.Prelude.{ℕ, ◌+◌, ◌*◌, ◌≤◌, ◌≡◌, List, [], ◌∷◌, Bool, length, get_or, set, drop, eqb, ltb}
+use Rattle.std.specs.Prelude.{ℕ, ◌+◌, ◌*◌, ◌≤◌, ◌≡◌, List, [], ◌∷◌, Bool, length, get_or, set, drop, eqb, ltb, Result, Ok, Err}
 use Rattle.std.proofs.Math.Option.{Option, none, some}
-use Rattle.pack.specs.declared.cursor.Step.{Step}
-use Rattle.pack.specs.declared.cursor.Step.TheVariants.{On, Refused}
-use Rattle.records.specs.declared.directory.Laid.{Laid}
-use Rattle.records.specs.declared.directory.Laid.TheVariants.{Yes, No}
+use Rattle.definitions.specs.declared.answer.Refusal.{Refusal}
 use Rattle.records.specs.declared.directory.Layout.{Layout}
 use Rattle.definitions.specs.Table.{pick}
 use Rattle.definitions.specs.Table as table
@@ -13,7 +10,7 @@ use Rattle.definitions.specs.Records.{Hop, Derivation, Relation}
 use Rattle.definitions.specs.FieldRows.{ChainRow, MemberRow, RelationTail, RecordsRow}
 use Rattle.definitions.specs.Pack.{defaulted, relations, rules}
 use Rattle.definitions.specs.Places.{hops, relation_words}
-use Rattle.pack.specs.Readers.{step_of}
+use Rattle.pack.specs.Readers.{Step, on, step_of}
 
 -- ---- readers that note
 
@@ -110,12 +107,11 @@ layout_of n at end t first all =
 unfoldable pub directory_of : ℕ → ℕ → RecordsRow → List ℕ → List ℕ
 directory_of n at t d = note_relations n (relations_at n at t) t.1.0 d
 
+-- where the records stand, or a refusal
+abbrev pub Laid : Type 0
+Laid = Result Layout Refusal
+
 -- a layout as a step
 abbrev pub step_in : Laid → Step
-step_in (Yes l) = On 0 (record { at = l.end })
-step_in (No r) = Refused r
-
--- a refused step as a layout
-abbrev pub refused_layout : Step → Laid
-refused_layout (On v k) = No (record { number = 0; place = 0; name = 0; other = 0 })
-refused_layout (Refused r) = No r
+step_in (Ok l) = on 0 (record { at = l.end })
+step_in (Err r) = Err r

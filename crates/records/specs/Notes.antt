@@ -1,8 +1,6 @@
 -- What the readers of records leave in the array of notes: each rule and each derived relation is noted, and then the nodes of its trees.
-use Rattle.std.specs.Prelude.{ℕ, ◌+◌, ◌*◌, List, false, ◌≡◌, length, get_or, drop}
+use Rattle.std.specs.Prelude.{ℕ, ◌+◌, ◌*◌, List, false, ◌≡◌, length, get_or, drop, Ok}
 use Rattle.std.proofs.Math.Option.{Option, none, some}
-use Rattle.records.specs.declared.directory.Laid.{Laid}
-use Rattle.records.specs.declared.directory.Laid.TheVariants.{Yes}
 use Rattle.definitions.specs.Form.{got, words_by, read_by}
 use Rattle.pack.specs.Readers.{skip_over}
 use Rattle.definitions.specs.Records.{Body, Rule, Derivation, Relation, undated}
@@ -11,7 +9,7 @@ use Rattle.definitions.specs.Pack.{body, rule, records}
 use Rattle.definitions.specs.Places.{hops, relation_words}
 use Rattle.reading.specs.Notes.{note, context_of, note_code}
 use Rattle.reading.specs.Noting.{push, next_note, note_tree}
-use Rattle.records.specs.Directory.{notes_all, note_relation, relations_at, rules_at, layout_of, directory_of, step_in}
+use Rattle.records.specs.Directory.{Laid, notes_all, note_relation, relations_at, rules_at, layout_of, directory_of, step_in}
 
 -- a rule or relation at a place, inside no other note
 abbrev pub opened : ℕ → List ℕ → List ℕ
@@ -89,6 +87,6 @@ notes_left n at t e = note_rules n (rules_at n at t) t.1.1.0 (relations_left n a
 pub record LaidOut (n : ℕ) (ws : List ℕ) (at : ℕ) (d e : List ℕ) (r : Laid) (d' e' : List ℕ) : Type 0 where
   pub answers : step_in r ≡ skip_over (records undated n) ws at
   pub lays : (t : RecordsRow) (next : ℕ) (rest : List ℕ) → read_by (records undated n) at (drop at ws) ≡ got t next rest
-      → r ≡ Yes (layout_of n at next t (get_or (relations_left n at t e) 0 0) (get_or (notes_left n at t e) 0 0))
+      → r ≡ Ok (layout_of n at next t (get_or (relations_left n at t e) 0 0) (get_or (notes_left n at t e) 0 0))
   pub enters : (t : RecordsRow) (next : ℕ) (rest : List ℕ) → read_by (records undated n) at (drop at ws) ≡ got t next rest → d' ≡ directory_of n at t d
   pub notes : (t : RecordsRow) (next : ℕ) (rest : List ℕ) → read_by (records undated n) at (drop at ws) ≡ got t next rest → e' ≡ notes_left n at t e

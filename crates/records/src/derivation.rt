@@ -1,12 +1,14 @@
 // Derivations: lists of names, paths, and what else a derivation says.
-ghost use Rattle.std.specs.Prelude.{◌≡◌, ◌≤◌};
+#![tactic(auto, unfolding(definitions::specs::Table::entry_of, definitions::specs::Table::table))]
+
+ghost use Rattle.std.specs.Prelude.{◌≡◌, ◌≤◌, length};
 ghost use Rattle.definitions.specs.declared.table.Values.TheVariants.{AtMost};
 ghost use Rattle.pack.specs.Packed.{Ruled};
 ghost use Rattle.definitions.specs.Pack.{name_list, hop, path, chain, member, derivation, optional_derivation};
 ghost use Rattle.pack.specs.Readers.{skip_over, step_of};
 ghost use Rattle.definitions.specs.Form.{count, list, list_or_none};
 ghost use Rattle.std.proofs.Math.Option.{some};
-ghost use Rattle.reading.specs.Noting.{ReadyFor, Context};
+ghost use Rattle.reading.specs.Noting.{Context};
 ghost use Rattle.records.specs.Directory.{Noted, lead_in, chain_lead, plain_by, derived_note, member_note, note_in};
 ghost use Rattle.records.specs.Notes.{note_member, note_derivation, note_optional};
 
@@ -14,6 +16,7 @@ use crate::count::repeats;
 use crate::directory::Directory;
 use definitions::table::Values;
 use pack::cursor::{Cursor, Step};
+use pack::heads::Heads;
 use pack::kinds::Pack;
 use reading::tree::{judgment, open};
 
@@ -22,35 +25,21 @@ pub fn name_list(from: Cursor, s: &[u32], n: u32, kind: u32) -> Step
     requires { Ruled kind (AtMost 8) }
     ensures { result ≡ step_of (count list) (name_list n kind) s.now from.at }
 {
-    let f = from.field(s, n, kind, Values::AtMost(Pack::MOST_SLOTS));
-    let Step::On(count, first) = f else {
-        return f;
-    };
+    let (count, first) = from.field(s, n, kind, Values::AtMost(Pack::MOST_SLOTS))?;
     let mut c = first;
-    let mut left = count;
-    while 0 < left {
-        let g = c.field(s, n, Pack::SLOT_KIND, Values::Name);
-        let Step::On(_, next) = g else {
-            return g;
-        };
+    for _ in 0..count {
+        let (_, next) = c.field(s, n, Pack::SLOT_KIND, Values::Name)?;
         c = next;
-        left -= 1;
     }
-    Step::On(count, c)
+    Ok((count, c))
 }
 
 // A step of a path.
 fn hop(from: Cursor, s: &[u32], n: u32) -> Step
     ensures { result ≡ skip_over (hop n) s.now from.at }
 {
-    let f1 = from.skip(s, n, Pack::STEP_RELATION, Values::Name);
-    let Step::On(_, c1) = f1 else {
-        return f1;
-    };
-    let f2 = c1.skip(s, n, Pack::STEP_CURRENT, Values::Any);
-    let Step::On(_, c2) = f2 else {
-        return f2;
-    };
+    let (_, c1) = from.skip(s, n, Pack::STEP_RELATION, Values::Name)?;
+    let (_, c2) = c1.skip(s, n, Pack::STEP_CURRENT, Values::Any)?;
     c2.skip(s, n, Pack::STEP_RELATED, Values::Any)
 }
 
@@ -58,21 +47,13 @@ fn hop(from: Cursor, s: &[u32], n: u32) -> Step
 fn path(from: Cursor, s: &[u32], n: u32) -> Step
     ensures { result ≡ step_of (count list_or_none) (path n) s.now from.at }
 {
-    let f = from.field(s, n, Pack::PATH, Values::AtMostOrNone(Pack::MOST_STEPS));
-    let Step::On(count, first) = f else {
-        return f;
-    };
+    let (count, first) = from.field(s, n, Pack::PATH, Values::AtMostOrNone(Pack::MOST_STEPS))?;
     let mut c = first;
-    let mut left = repeats(count);
-    while 0 < left {
-        let g = hop(c, s, n);
-        let Step::On(_, next) = g else {
-            return g;
-        };
+    for _ in 0..repeats(count) {
+        let (_, next) = hop(c, s, n)?;
         c = next;
-        left -= 1;
     }
-    Step::On(count, c)
+    Ok((count, c))
 }
 
 // The name that a source leads on to and 1, if the path is none; else 0.
@@ -93,23 +74,11 @@ fn lead(source: u32, steps: u32) -> u32
 fn chain(from: Cursor, s: &[u32], n: u32) -> Step
     ensures { result ≡ step_of chain_lead (chain n) s.now from.at }
 {
-    let f1 = from.field(s, n, Pack::SOURCE, Values::NameOrNone);
-    let Step::On(source, c1) = f1 else {
-        return f1;
-    };
-    let f2 = path(c1, s, n);
-    let Step::On(steps, c2) = f2 else {
-        return f2;
-    };
-    let f3 = c2.skip(s, n, Pack::CURRENT_SLOT, Values::Any);
-    let Step::On(_, c3) = f3 else {
-        return f3;
-    };
-    let f4 = c3.skip(s, n, Pack::RELATED_SLOT, Values::Any);
-    let Step::On(_, c4) = f4 else {
-        return f4;
-    };
-    Step::On(lead(source, steps), c4)
+    let (source, c1) = from.field(s, n, Pack::SOURCE, Values::NameOrNone)?;
+    let (steps, c2) = path(c1, s, n)?;
+    let (_, c3) = c2.skip(s, n, Pack::CURRENT_SLOT, Values::Any)?;
+    let (_, c4) = c3.skip(s, n, Pack::RELATED_SLOT, Values::Any)?;
+    Ok((lead(source, steps), c4))
 }
 
 // What is known of a derivation before its 19: how many kinds its relation has, how far behind the relation's place its slots
@@ -153,78 +122,58 @@ fn derived(front: Front, many: u32) -> u32
 fn member(
     from: Cursor,
     s: &[u32],
-    t: &[u32; Pack::KINDS],
-    n: u32,
+    heads: &Heads,
     front: Front,
     context: u32,
     notes: &mut [u32],
 ) -> Step
-    requires { ReadyFor s.now t.now n × Context context × (front.slots ≤ 8300) × (front.lead ≤ 4096) }
-    ensures { Noted (member_note front.kinds front.slots front.lead) (member n) (note_member context from.at) s.now from.at notes.old result notes.new }
+    requires { (length s.now ≤ 8192) × Context context × (front.slots ≤ 8300) × (front.lead ≤ 4096) }
+    ensures { Noted (member_note front.kinds front.slots front.lead) (member heads.now.names) (note_member context from.at) s.now from.at notes.old result notes.new }
 {
-    let f1 = from.skip(s, n, Pack::ENTITY, Values::NameOrNone);
-    let Step::On(_, c1) = f1 else {
-        return f1;
-    };
-    let f2 = c1.skip(s, n, Pack::MEMBER, Values::NameOrNone);
-    let Step::On(_, c2) = f2 else {
-        return f2;
-    };
-    let f3 = name_list(c2, s, n, Pack::SLOT_ENTITIES);
-    let Step::On(many, c3) = f3 else {
-        return f3;
-    };
+    let n = heads.names;
+    let (_, c1) = from.skip(s, n, Pack::ENTITY, Values::NameOrNone)?;
+    let (_, c2) = c1.skip(s, n, Pack::MEMBER, Values::NameOrNone)?;
+    let (many, c3) = name_list(c2, s, n, Pack::SLOT_ENTITIES)?;
     let noted = derived(front, many);
-    let f4 = judgment(s, t, c3, context, notes);
-    let Step::On(_, c4) = f4 else {
-        return f4;
-    };
-    Step::On(noted, c4)
+    let (_, c4) = judgment(s, heads, c3, context, notes)?;
+    Ok((noted, c4))
 }
 
 // A derivation of the relation that starts at a place and has so many kinds: what is noted of it. It stands among the notes too.
 fn derivation(
     from: Cursor,
     s: &[u32],
-    t: &[u32; Pack::KINDS],
-    n: u32,
+    heads: &Heads,
     kinds: u32,
     start: usize,
     notes: &mut [u32],
 ) -> Step
-    requires { ReadyFor s.now t.now n × (n ≤ 4096) × (kinds ≤ 8) × (start ≤ from.at) }
-    ensures { Noted (λ d. note_in kinds (some d)) (derivation n) (note_derivation start from.at) s.now from.at notes.old result notes.new }
+    requires { (length s.now ≤ 8192) × (kinds ≤ 8) × (start ≤ from.at) }
+    ensures { Noted (λ d. note_in kinds (some d)) (derivation heads.now.names) (note_derivation start from.at) s.now from.at notes.old result notes.new }
 {
     let first = from.at;
-    let f1 = chain(from, s, n);
-    let Step::On(lead, c1) = f1 else {
-        return f1;
-    };
+    let (lead, c1) = chain(from, s, heads.names)?;
     let context = open(notes, start);
     // before a derivation stand 6 to 9, the kinds and 11; the slots are the last two words of the chain
     let slots = 3 + kinds + (c1.at - first) as u32;
-    member(c1, s, t, n, Front { kinds, slots, lead }, context, notes)
+    member(c1, s, heads, Front { kinds, slots, lead }, context, notes)
 }
 
 // A flag, and a derivation where it is 1: what is noted of the relation.
 pub fn optional_derivation(
     from: Cursor,
     s: &[u32],
-    t: &[u32; Pack::KINDS],
-    n: u32,
+    heads: &Heads,
     kinds: u32,
     start: usize,
     notes: &mut [u32],
 ) -> Step
-    requires { ReadyFor s.now t.now n × (n ≤ 4096) × (kinds ≤ 8) × (start ≤ from.at) }
-    ensures { Noted (note_in kinds) (optional_derivation n) (note_optional start from.at) s.now from.at notes.old result notes.new }
+    requires { (length s.now ≤ 8192) × (kinds ≤ 8) × (start ≤ from.at) }
+    ensures { Noted (note_in kinds) (optional_derivation heads.now.names) (note_optional start from.at) s.now from.at notes.old result notes.new }
 {
-    let f = from.field(s, n, Pack::DERIVATION, Values::AtMost(1));
-    let Step::On(flag, c) = f else {
-        return f;
-    };
+    let (flag, c) = from.field(s, heads.names, Pack::DERIVATION, Values::AtMost(1))?;
     if flag == 0 {
-        return Step::On(plain(kinds), c);
+        return Ok((plain(kinds), c));
     }
-    derivation(c, s, t, n, kinds, start, notes)
+    derivation(c, s, heads, kinds, start, notes)
 }

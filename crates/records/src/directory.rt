@@ -57,8 +57,5 @@ pub struct Layout {
     pub all: u32,
 }
 
-#[derive(Clone, Copy)]
-pub enum Laid {
-    Yes(Layout),
-    No(Refusal),
-}
+// What checking finds: where the records stand, or the first refusal.
+pub type Laid = Result<Layout, Refusal>;

@@ -1,6 +1,6 @@
 -- `checking::rewrite::write_again` meets its contract.
 use mathlib.Core.Path.{◌≡◌}
-use Prim.Native.Nat.{ℕ, ◌-◌, ◌≤◌}
+use Prim.Native.Nat.{ℕ, ◌≤◌}
 use mathlib.Core.List.{List, ◌++◌}
 use lib.ListN.{length, take, drop}
 use Rattle.checking.proofs.rewrite.write_again.Given as goal
@@ -15,6 +15,3 @@ pub record Copied (pack out₀ out : List ℕ) (count i : ℕ) : Type 0 where
 
 abbrev pub invariant-loop-i : goal.invariant-loop-i
 invariant-loop-i l = Copied l.pack l.initial.out l.out l.count l.i
-
-abbrev pub decreases-loop-i : goal.decreases-loop-i
-decreases-loop-i l = l.count - l.i

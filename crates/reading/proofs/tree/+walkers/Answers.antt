@@ -7,7 +7,6 @@ use lib.ListN.{get_or}
 use borrow.Author.Rules.{part_to_end}
 use Rattle.definitions.specs.declared.table.Follows.TheVariants.{Patterns, Periods, Choice, Aggregate, OnlyRelated, Slots, Atom, Exists}
 use Rattle.definitions.specs.Table.{kind_of, value_of, entry_of, table, fields_of, children_of, how_many, scalar as scalar-sort, judgment as judgment-sort}
-use Rattle.pack.specs.Packed.{bound_of}
 use Rattle.definitions.specs.Tree.{fields, follow}
 use Rattle.reading.specs.Notes.{look_by, noted}
 use Rattle.reading.proofs.TreeLaws.{aggregate-kind, scalars_in_row, judgments_in_row, other_leaf, scalar_row, comparison_row, judgment_row, leaf_low, leaf_last, leaf_between, compared, scalar-kind, judgment-kind}
@@ -22,7 +21,6 @@ pub after_judgment-children-requires : goal.after_judgment-children-requires
 after_judgment-children-requires t c =
     let k : ℕ = kind_of (get_or c.args.s.now c.args.at 0) in (
       omega (arith, c.type_inv.s c.args.at),
-      c.requires.0.tabled,
       judgments_in_row k
           (omega arith) (omega arith),
     )
@@ -116,7 +114,7 @@ after_other-returns-in_default t c =
 pub after_scalar-children-count-requires : goal.after_scalar-children-count-requires
 after_scalar-children-count-requires t c =
     let k : ℕ = kind_of (get_or c.args.s.now c.args.at 0) in
-    (omega arith, c.requires.0.tabled, scalars_in_row k (omega arith) (omega arith))
+    (omega arith, scalars_in_row k (omega arith) (omega arith))
 
 pub after_scalar-returns-in-66-to-70 : goal.after_scalar-returns-in-66-to-70
 after_scalar-returns-in-66-to-70 t c =
@@ -133,43 +131,43 @@ after_scalar-returns-in-74-to-77 t c =
 
 pub aggregate-returns-then-f-ne0 : goal.aggregate-returns-then-f-ne0
 aggregate-returns-then-f-ne0 t c =
-    aggregate-refused _ _ _ c.requires.0.most c.requires.1 (c.aggregate_fields-f.ensures _) c.if-f-ne0.true _ _
+    aggregate-refused _ _ _ c.requires.0 c.requires.1 (c.aggregate_fields-f.ensures _) c.if-f-ne0.true _ _
 
 pub aggregate-bounds-s-at : goal.aggregate-bounds-s-at
 aggregate-bounds-s-at t c =
-    let f = fields_read (bound_of c.args.t.now) _ _ c.requires.0.most c.requires.1 (c.aggregate_fields-f.ensures _) c.if-f-ne0.false in
+    let f = fields_read c.args.heads.now.names _ _ c.requires.0 c.requires.1 (c.aggregate_fields-f.ensures _) c.if-f-ne0.false in
     omega (arith, f.flag.there)
 
 pub aggregate-returns-then-compares : goal.aggregate-returns-then-compares
 aggregate-returns-then-compares t c =
-    let f = fields_read (bound_of c.args.t.now) _ _ c.requires.0.most c.requires.1 (c.aggregate_fields-f.ensures _) c.if-f-ne0.false in
+    let f = fields_read c.args.heads.now.names _ _ c.requires.0 c.requires.1 (c.aggregate_fields-f.ensures _) c.if-f-ne0.false in
     where_rows _ _ c.args.context _ _ f
     (ap (λ (i : ℕ). i + c.args.context % 8192) c.note.ensures.0) c.note.ensures.1
-    (compared_rows _ _ _ _ _ c.requires.0.most (c.compares.ensures c.if-compares.true) c.if-flag-eq1.true _ (omega arith) c.scalars.ensures)
+    (compared_rows _ _ _ _ _ c.requires.0 (c.compares.ensures c.if-compares.true) c.if-flag-eq1.true _ (omega arith) c.scalars.ensures)
 
 pub aggregate-slice_bounds-judgments-count : goal.aggregate-slice_bounds-judgments-count
 aggregate-slice_bounds-judgments-count t c =
-    let f = fields_read (bound_of c.args.t.now) _ _ c.requires.0.most c.requires.1 (c.aggregate_fields-f.ensures _) c.if-f-ne0.false in
-    omega (arith, f.flag.there, c.requires.0.most)
+    let f = fields_read c.args.heads.now.names _ _ c.requires.0 c.requires.1 (c.aggregate_fields-f.ensures _) c.if-f-ne0.false in
+    omega (arith, f.flag.there, c.requires.0)
 
 pub aggregate-slice_bounds-judgments-start : goal.aggregate-slice_bounds-judgments-start
 aggregate-slice_bounds-judgments-start t c =
-    let f = fields_read (bound_of c.args.t.now) _ _ c.requires.0.most c.requires.1 (c.aggregate_fields-f.ensures _) c.if-f-ne0.false in
-    omega (arith, f.flag.there, c.requires.0.most)
+    let f = fields_read c.args.heads.now.names _ _ c.requires.0 c.requires.1 (c.aggregate_fields-f.ensures _) c.if-f-ne0.false in
+    omega (arith, f.flag.there, c.requires.0)
 
 pub aggregate-overflow_add-result : goal.aggregate-overflow_add-result
 aggregate-overflow_add-result t c =
-    let f = fields_read (bound_of c.args.t.now) _ _ c.requires.0.most c.requires.1 (c.aggregate_fields-f.ensures _) c.if-f-ne0.false in
+    let f = fields_read c.args.heads.now.names _ _ c.requires.0 c.requires.1 (c.aggregate_fields-f.ensures _) c.if-f-ne0.false in
     let l = part_long c.args.s.now (c.args.at + 4) f.flag.there in omega (
       arith,
-      row_small _ _ _ _ _ (omega (arith, l, c.requires.0.most)) (omega arith) c.judgments.ensures.answers,
+      row_small _ _ _ _ _ (omega (arith, l, c.requires.0)) (omega arith) c.judgments.ensures.answers,
       f.flag.there,
-      c.requires.0.most,
+      c.requires.0,
     )
 
 pub aggregate-returns : goal.aggregate-returns
 aggregate-returns t c =
-    let f = fields_read (bound_of c.args.t.now) _ _ c.requires.0.most c.requires.1 (c.aggregate_fields-f.ensures _) c.if-f-ne0.false in
+    let f = fields_read c.args.heads.now.names _ _ c.requires.0 c.requires.1 (c.aggregate_fields-f.ensures _) c.if-f-ne0.false in
     let i = ap (λ (i : ℕ). i + c.args.context % 8192) c.note.ensures.0 in
     let g = based_inside _ c.requires.2 c.args.notes.now c.note.ensures.0 in
     where_rows _ _ c.args.context _ _ f i c.note.ensures.1
@@ -178,7 +176,7 @@ aggregate-returns t c =
 
 pub choice-returns-then-next-ge-CODES : goal.choice-returns-then-next-ge-CODES
 choice-returns-then-next-ge-CODES t c =
-    first-refused _ _ _ _ _ judgment-sort _ c.judgments-next.ensures c.requires.0.most c.requires.1 c.if-next-ge-CODES.true _
+    first-refused _ _ _ _ _ judgment-sort _ c.judgments-next.ensures c.requires.0 c.requires.1 c.if-next-ge-CODES.true _
 
 pub choice-scalars-requires : goal.choice-scalars-requires
 choice-scalars-requires t c =
@@ -190,47 +188,46 @@ choice-returns t c =
 
 pub exists-up_to-f1-requires : goal.exists-up_to-f1-requires
 unfolding entry_of table
-exists-up_to-f1-requires t c = (c.requires.0.most, c.requires.1, up_to-any 85 refl)
+exists-up_to-f1-requires t c = (c.requires.0, c.requires.1, up_to-any 85 refl)
 
 pub exists-returns-then-f1-ne0 : goal.exists-returns-then-f1-ne0
 unfolding follow fields fields_of
 exists-returns-then-f1-ne0 t c =
-    let g = fault_large _ _ _ _ (c.up_to-f1.ensures (bound_of c.args.t.now)) c.if-f1-ne0.true in let q = fault_code _ _ _ _
-    (c.up_to-f1.ensures (bound_of c.args.t.now)) c.if-f1-ne0.true in refuses _ (then_code _ _ _ _ (last_code _ _ _ _ q) c.requires.0.most c.requires.1 g) g
+    let g = fault_large _ _ _ _ (c.up_to-f1.ensures c.args.heads.now.names) c.if-f1-ne0.true in let q = fault_code _ _ _ _
+    (c.up_to-f1.ensures c.args.heads.now.names) c.if-f1-ne0.true in refuses _ (then_code _ _ _ _ (last_code _ _ _ _ q) c.requires.0 c.requires.1 g) g
 
 pub exists-judgments-requires : goal.exists-judgments-requires
 exists-judgments-requires t c =
-    let m = passed _ _ _ _ (c.up_to-f1.ensures (bound_of c.args.t.now)) c.requires.0.most c.requires.1 c.if-f1-ne0.false
+    let m = passed _ _ _ _ (c.up_to-f1.ensures c.args.heads.now.names) c.requires.0 c.requires.1 c.if-f1-ne0.false
     (c.args.at + 1) refl in (omega arith, (c.requires.0, m.there, c.requires.2))
 
 pub exists-returns : goal.exists-returns
 exists-returns t c =
-    let m = passed _ _ _ _ (c.up_to-f1.ensures (bound_of c.args.t.now)) c.requires.0.most c.requires.1 c.if-f1-ne0.false
+    let m = passed _ _ _ _ (c.up_to-f1.ensures c.args.heads.now.names) c.requires.0 c.requires.1 c.if-f1-ne0.false
     (c.args.at + 1) refl in exists_rows _ _ _ _ _ m c.requires.1 c.note.ensures.1 c.judgments.ensures
 
 pub judgments-returns-then-f-ne0 : goal.judgments-returns-then-f-ne0
-judgments-returns-then-f-ne0 t c = head_refused c.loop-k.invariant.0 c.requires.0.most (omega arith) c.head-f.ensures c.if-f-ne0.true
+judgments-returns-then-f-ne0 t c = head_refused c.loop-k.invariant.0 c.requires.0 (omega arith) c.head-f.ensures c.if-f-ne0.true
 
 pub judgments-bounds-s-at : goal.judgments-bounds-s-at
 judgments-bounds-s-at t c =
-    (begun c.loop-k.invariant.0 c.requires.0.most (omega arith) c.head-f.ensures c.if-f-ne0.false).inside
+    (begun c.loop-k.invariant.0 c.requires.0 (omega arith) c.head-f.ensures c.if-f-ne0.false).inside
 
 pub judgments-children-k-requires : goal.judgments-children-k-requires
 judgments-children-k-requires t c =
     let k : ℕ = kind_of (get_or c.args.s.now c.loop-k.at 0) in (
       omega arith,
-      c.requires.0.tabled,
       judgments_in_row k (omega arith) (omega arith),
     )
 
 pub judgments-overflow_sub-left : goal.judgments-overflow_sub-left
 judgments-overflow_sub-left t c =
-    (begun c.loop-k.invariant.0 c.requires.0.most (omega arith) c.head-f.ensures c.if-f-ne0.false).level
+    (begun c.loop-k.invariant.0 c.requires.0 (omega arith) c.head-f.ensures c.if-f-ne0.false).level
 
 pub judgments-loop-k-preserved-then-kind-le-NOT : goal.judgments-loop-k-preserved-then-kind-le-NOT
 judgments-loop-k-preserved-then-kind-le-NOT t c = (
   let k : ℕ = kind_of (get_or c.args.s.now c.loop-k.at 0) in let lo : 97 ≤ k = omega arith in let hi : k < 101 = omega arith in
-      let one : c.loop-k.k ≡ 1 = omega arith in past-last c.loop-k.invariant.0 c.requires.0.most (omega arith)
+      let one : c.loop-k.k ≡ 1 = omega arith in past-last c.loop-k.invariant.0 c.requires.0 (omega arith)
       c.head-f.ensures c.if-f-ne0.false one (judgment_row (value_of (get_or c.args.s.now c.loop-k.at 0)) k lo hi)
       c.children-k.ensures (steady_judgment k (omega (arith, lo)) hi),
   omega (arith, c.loop-k.invariant.1),
@@ -238,27 +235,27 @@ judgments-loop-k-preserved-then-kind-le-NOT t c = (
 
 pub judgments-overflow_sub-left-else-k-eq0 : goal.judgments-overflow_sub-left-else-k-eq0
 judgments-overflow_sub-left-else-k-eq0 t c =
-    (begun c.loop-k.invariant.0 c.requires.0.most (omega arith) c.head-f.ensures c.if-f-ne0.false).level
+    (begun c.loop-k.invariant.0 c.requires.0 (omega arith) c.head-f.ensures c.if-f-ne0.false).level
 
 pub judgments-after_judgment-at-requires : goal.judgments-after_judgment-at-requires
 judgments-after_judgment-at-requires t c =
-    let u = begun c.loop-k.invariant.0 c.requires.0.most (omega arith) c.head-f.ensures c.if-f-ne0.false in (
+    let u = begun c.loop-k.invariant.0 c.requires.0 (omega arith) c.head-f.ensures c.if-f-ne0.false in (
       omega (arith, u.level, c.loop-k.invariant.0.deep),
       (c.requires.0, u.inside, judgment-kind (kind_of (get_or c.args.s.now c.loop-k.at 0)) u.kind, c.requires.2),
     )
 
 pub judgments-returns-then-at-ge-CODES : goal.judgments-returns-then-at-ge-CODES
 judgments-returns-then-at-ge-CODES t c =
-    node-refused c.loop-k.invariant.0 c.requires.0.most (omega arith) c.head-f.ensures c.if-f-ne0.false c.after_judgment-at.ensures c.if-at-ge-CODES.true
+    node-refused c.loop-k.invariant.0 c.requires.0 (omega arith) c.head-f.ensures c.if-f-ne0.false c.after_judgment-at.ensures c.if-at-ge-CODES.true
 
 pub judgments-loop-k-smaller-else-at-ge-CODES : goal.judgments-loop-k-smaller-else-at-ge-CODES
 judgments-loop-k-smaller-else-at-ge-CODES t c =
-    let w = forward c.loop-k.invariant.0 c.requires.0.most (omega arith) c.head-f.ensures c.if-f-ne0.false c.after_judgment-at.ensures
+    let w = forward c.loop-k.invariant.0 c.requires.0 (omega arith) c.head-f.ensures c.if-f-ne0.false c.after_judgment-at.ensures
     c.if-at-ge-CODES.false in omega (arith, w.0, w.1)
 
 pub judgments-loop-k-preserved-else-at-ge-CODES : goal.judgments-loop-k-preserved-else-at-ge-CODES
 judgments-loop-k-preserved-else-at-ge-CODES t c = (
-  past-node c.loop-k.invariant.0 c.requires.0.most (omega arith) c.head-f.ensures c.if-f-ne0.false c.after_judgment-at.ensures
+  past-node c.loop-k.invariant.0 c.requires.0 (omega arith) c.head-f.ensures c.if-f-ne0.false c.after_judgment-at.ensures
       c.if-at-ge-CODES.false,
   omega (arith, c.loop-k.invariant.1),
 )
@@ -266,7 +263,7 @@ judgments-loop-k-preserved-else-at-ge-CODES t c = (
 pub judgments-loop-k-preserved : goal.judgments-loop-k-preserved
 judgments-loop-k-preserved t c = (
   let k : ℕ = kind_of (get_or c.args.s.now c.loop-k.at 0) in let lo : 104 < k = c.if-kind-le-SAME_ENTITY.false in let hi : k < 256 = omega
-      (arith, c.shared_slice_known-in-loop-k-1.given c.loop-k.at) in past_leaf c.loop-k.invariant.0 c.requires.0.most (omega arith)
+      (arith, c.shared_slice_known-in-loop-k-1.given c.loop-k.at) in past_leaf c.loop-k.invariant.0 c.requires.0 (omega arith)
       c.head-f.ensures c.if-f-ne0.false (leaf_last (value_of (get_or c.args.s.now c.loop-k.at 0)) k (omega (arith, lo)) hi) (plain-last k lo hi),
   omega
       (arith, c.loop-k.invariant.1),
@@ -278,7 +275,7 @@ judgments-returns t c = walked c.loop-k.invariant.0 (omega arith)
 pub patterns-returns-then-next-ge-CODES : goal.patterns-returns-then-next-ge-CODES
 patterns-returns-then-next-ge-CODES t c =
     let z : c.args.count + 1 ≡ suc c.args.count = omega arith in rw z
-    (first-refused _ _ _ _ _ scalar-sort _ c.scalars-next.ensures c.requires.0.most c.requires.1 c.if-next-ge-CODES.true _)
+    (first-refused _ _ _ _ _ scalar-sort _ c.scalars-next.ensures c.requires.0 c.requires.1 c.if-next-ge-CODES.true _)
 
 pub patterns-scalars-requires : goal.patterns-scalars-requires
 patterns-scalars-requires t c = (
@@ -298,28 +295,27 @@ patterns-returns t c =
     (rows_as _ _ scalar-sort _ {m = c.args.count} refl c.lost-without.ensures c.scalars.ensures))
 
 pub scalars-returns-then-f-ne0 : goal.scalars-returns-then-f-ne0
-scalars-returns-then-f-ne0 t c = head_refused c.loop-k.invariant.0 c.requires.0.most (omega arith) c.head-f.ensures c.if-f-ne0.true
+scalars-returns-then-f-ne0 t c = head_refused c.loop-k.invariant.0 c.requires.0 (omega arith) c.head-f.ensures c.if-f-ne0.true
 
 pub scalars-bounds-s-at : goal.scalars-bounds-s-at
 scalars-bounds-s-at t c =
-    (begun c.loop-k.invariant.0 c.requires.0.most (omega arith) c.head-f.ensures c.if-f-ne0.false).inside
+    (begun c.loop-k.invariant.0 c.requires.0 (omega arith) c.head-f.ensures c.if-f-ne0.false).inside
 
 pub scalars-children-k-requires : goal.scalars-children-k-requires
 scalars-children-k-requires t c =
     let k : ℕ = kind_of (get_or c.args.s.now c.loop-k.at 0) in (
       omega arith,
-      c.requires.0.tabled,
       scalars_in_row k c.if-kind-ge-ONE_CHILD.true
           (omega arith),
     )
 
 pub scalars-overflow_sub-left : goal.scalars-overflow_sub-left
 scalars-overflow_sub-left t c =
-    (begun c.loop-k.invariant.0 c.requires.0.most (omega arith) c.head-f.ensures c.if-f-ne0.false).level
+    (begun c.loop-k.invariant.0 c.requires.0 (omega arith) c.head-f.ensures c.if-f-ne0.false).level
 
 pub scalars-loop-k-preserved-then-kind-le-MAX : goal.scalars-loop-k-preserved-then-kind-le-MAX
 scalars-loop-k-preserved-then-kind-le-MAX t c = (
-  let k : ℕ = kind_of (get_or c.args.s.now c.loop-k.at 0) in let lo : 66 ≤ k = c.if-kind-ge-ONE_CHILD.true in let hi : k < 71 = omega arith in let one : c.loop-k.k ≡ 1 = omega arith in past-last c.loop-k.invariant.0 c.requires.0.most (omega arith)
+  let k : ℕ = kind_of (get_or c.args.s.now c.loop-k.at 0) in let lo : 66 ≤ k = c.if-kind-ge-ONE_CHILD.true in let hi : k < 71 = omega arith in let one : c.loop-k.k ≡ 1 = omega arith in past-last c.loop-k.invariant.0 c.requires.0 (omega arith)
       c.head-f.ensures c.if-f-ne0.false one (scalar_row (value_of (get_or c.args.s.now c.loop-k.at 0)) k lo (omega (arith, hi)) (λ z. omega (arith, hi)))
       c.children-k.ensures (steady_scalar k lo hi),
   omega (arith, c.loop-k.invariant.1),
@@ -327,11 +323,11 @@ scalars-loop-k-preserved-then-kind-le-MAX t c = (
 
 pub scalars-overflow_sub-left-else-k-eq0 : goal.scalars-overflow_sub-left-else-k-eq0
 scalars-overflow_sub-left-else-k-eq0 t c =
-    (begun c.loop-k.invariant.0 c.requires.0.most (omega arith) c.head-f.ensures c.if-f-ne0.false).level
+    (begun c.loop-k.invariant.0 c.requires.0 (omega arith) c.head-f.ensures c.if-f-ne0.false).level
 
 pub scalars-after_scalar-at-requires : goal.scalars-after_scalar-at-requires
 scalars-after_scalar-at-requires t c =
-    let u = begun c.loop-k.invariant.0 c.requires.0.most (omega arith) c.head-f.ensures c.if-f-ne0.false in (
+    let u = begun c.loop-k.invariant.0 c.requires.0 (omega arith) c.head-f.ensures c.if-f-ne0.false in (
       omega (arith, u.level, c.loop-k.invariant.0.deep),
       (
         c.requires.0,
@@ -344,27 +340,27 @@ scalars-after_scalar-at-requires t c =
 
 pub scalars-returns-then-at-ge-CODES : goal.scalars-returns-then-at-ge-CODES
 scalars-returns-then-at-ge-CODES t c =
-    node-refused c.loop-k.invariant.0 c.requires.0.most (omega arith) c.head-f.ensures c.if-f-ne0.false c.after_scalar-at.ensures c.if-at-ge-CODES.true
+    node-refused c.loop-k.invariant.0 c.requires.0 (omega arith) c.head-f.ensures c.if-f-ne0.false c.after_scalar-at.ensures c.if-at-ge-CODES.true
 
 pub scalars-loop-k-smaller-else-at-ge-CODES : goal.scalars-loop-k-smaller-else-at-ge-CODES
 scalars-loop-k-smaller-else-at-ge-CODES t c =
-    let w = forward c.loop-k.invariant.0 c.requires.0.most (omega arith) c.head-f.ensures c.if-f-ne0.false c.after_scalar-at.ensures
+    let w = forward c.loop-k.invariant.0 c.requires.0 (omega arith) c.head-f.ensures c.if-f-ne0.false c.after_scalar-at.ensures
     c.if-at-ge-CODES.false in omega (arith, w.0, w.1)
 
 pub scalars-loop-k-preserved-else-at-ge-CODES : goal.scalars-loop-k-preserved-else-at-ge-CODES
 scalars-loop-k-preserved-else-at-ge-CODES t c = (
-  past-node c.loop-k.invariant.0 c.requires.0.most (omega arith) c.head-f.ensures c.if-f-ne0.false c.after_scalar-at.ensures
+  past-node c.loop-k.invariant.0 c.requires.0 (omega arith) c.head-f.ensures c.if-f-ne0.false c.after_scalar-at.ensures
       c.if-at-ge-CODES.false,
   omega (arith, c.loop-k.invariant.1),
 )
 
 pub scalars-loop-k-smaller : goal.scalars-loop-k-smaller
 scalars-loop-k-smaller t c =
-    omega (arith, (begun c.loop-k.invariant.0 c.requires.0.most (omega arith) c.head-f.ensures c.if-f-ne0.false).inside)
+    omega (arith, (begun c.loop-k.invariant.0 c.requires.0 (omega arith) c.head-f.ensures c.if-f-ne0.false).inside)
 
 pub scalars-loop-k-preserved : goal.scalars-loop-k-preserved
 scalars-loop-k-preserved t c = (
-  past_leaf c.loop-k.invariant.0 c.requires.0.most (omega arith) c.head-f.ensures c.if-f-ne0.false
+  past_leaf c.loop-k.invariant.0 c.requires.0 (omega arith) c.head-f.ensures c.if-f-ne0.false
       (leaf_low (value_of (get_or c.args.s.now c.loop-k.at 0)) (kind_of (get_or c.args.s.now c.loop-k.at 0)) c.if-kind-ge-ONE_CHILD.false)
       (plain-low (kind_of (get_or c.args.s.now c.loop-k.at 0)) c.if-kind-ge-ONE_CHILD.false),
   omega (arith, c.loop-k.invariant.1),

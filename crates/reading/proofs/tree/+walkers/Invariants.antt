@@ -3,7 +3,6 @@ use Prim.Native.Nat.{◌+◌, ◌-◌, ◌*◌}
 use mathlib.Core.Path.{◌≡◌}
 use lib.ListN.{length}
 use Rattle.definitions.specs.Table.{scalar as scalar-sort, judgment as judgment-sort}
-use Rattle.pack.specs.Packed.{bound_of}
 use Rattle.reading.proofs.RowLaws.{Walking}
 use Rattle.reading.proofs.tree.+walkers.Given as goal
 
@@ -36,14 +35,14 @@ decreases-scalars l = l.levels * 8 + 1
 
 abbrev pub invariant-judgments-loop-k : goal.invariant-judgments-loop-k
 invariant-judgments-loop-k l =
-    Walking (bound_of l.t) judgment-sort l.context l.s l.levels l.count l.start l.initial.notes l.left l.k l.at l.notes × (length l.notes ≡ length l.initial.notes)
+    Walking (l.heads.names) judgment-sort l.context l.s l.levels l.count l.start l.initial.notes l.left l.k l.at l.notes × (length l.notes ≡ length l.initial.notes)
 
 abbrev pub decreases-judgments-loop-k : goal.decreases-judgments-loop-k
 decreases-judgments-loop-k l = length l.s - l.at
 
 abbrev pub invariant-scalars-loop-k : goal.invariant-scalars-loop-k
 invariant-scalars-loop-k l =
-    Walking (bound_of l.t) scalar-sort l.context l.s l.levels l.count l.start l.initial.notes l.left l.k l.at l.notes × (length l.notes ≡ length l.initial.notes)
+    Walking (l.heads.names) scalar-sort l.context l.s l.levels l.count l.start l.initial.notes l.left l.k l.at l.notes × (length l.notes ≡ length l.initial.notes)
 
 abbrev pub decreases-scalars-loop-k : goal.decreases-scalars-loop-k
 decreases-scalars-loop-k l = length l.s - l.at

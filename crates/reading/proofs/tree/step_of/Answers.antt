@@ -1,5 +1,5 @@
 -- `reading::tree::step_of` meets its contract.
-use mathlib.Core.Path.{sym, ◌∙◌}
+use mathlib.Core.Path.{sym}
 use Rattle.reading.proofs.CodeLaws.{decode_on, decode-stop}
 use Rattle.reading.proofs.tree.step_of.Goals as goal
 
@@ -7,4 +7,4 @@ pub returns-then-code-lt-CODES : goal.returns-then-code-lt-CODES
 returns-then-code-lt-CODES c = sym (decode_on _ c.if-code-lt-CODES.true)
 
 pub returns : goal.returns
-returns c = c.stop.ensures ∙ sym (decode-stop _ c.if-code-lt-CODES.false)
+returns c = sym (decode-stop _ c.if-code-lt-CODES.false)

@@ -5,13 +5,13 @@ use Rattle.reading.proofs.CodeLaws.{fault-ended, fault_turned, fault-value, faul
 use Rattle.reading.proofs.tree.up_to.Goals as goal
 
 pub returns-then-s-at : goal.returns-then-s-at
-returns-then-s-at c = λ n. fault-ended _ _ _ _ (omega arith) c.refused.ensures
+returns-then-s-at c = λ n. fault-ended _ _ _ _ (omega arith) c.code_of.ensures
 
 pub returns-then-w-kind : goal.returns-then-w-kind
-returns-then-w-kind c = λ n. fault_turned _ _ _ _ (omega arith) c.refused-then-w-kind.ensures (only-other _ _ c.if-w-kind.true) (λ h. omega arith)
+returns-then-w-kind c = λ n. fault_turned _ _ _ _ (omega arith) c.code_of-then-w-kind.ensures (only-other _ _ c.if-w-kind.true) (λ h. omega arith)
 
 pub returns-then-most-w : goal.returns-then-most-w
-returns-then-most-w c = λ n. fault-value _ _ _ _ (omega arith) c.refused-then-most-w.ensures (only_same _ _ c.if-w-kind.false) (up_over _ _ _ _ c.requires.2 c.if-w-kind.false c.if-most-w.true)
+returns-then-most-w c = λ n. fault-value _ _ _ _ (omega arith) c.code_of-then-most-w.ensures (only_same _ _ c.if-w-kind.false) (up_over _ _ _ _ c.requires.2 c.if-w-kind.false c.if-most-w.true)
 
 pub returns : goal.returns
 returns c = λ n. fault-read _ _ _ _ (omega arith) (only_same _ _ c.if-w-kind.false) (up_within _ _ _ _ c.requires.2 c.if-w-kind.false (omega arith))

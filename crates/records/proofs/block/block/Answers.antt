@@ -1,18 +1,12 @@
 -- `records::block::block` meets its contract.
-use mathlib.Core.Path.{refl}
 use Rattle.definitions.specs.Pack.{block}
-use Rattle.pack.proofs.StepLaws.{walks}
-use Rattle.definitions.specs.Table.{entry_of, table}
+use Rattle.pack.proofs.StepLaws.{walks, handed}
 use Rattle.records.proofs.block.block.Goals as goal
 
-pub skip-f1-requires : goal.skip-f1-requires
-unfolding entry_of table
-skip-f1-requires c = refl
-
-pub returns-in_default : goal.returns-in_default
+pub returns-in_err-c1 : goal.returns-in_err-c1
 unfolding block
-returns-in_default c = search walks depth 16
+returns-in_err-c1 c = handed c.from_residual.ensures.1 (search (walks, c.in_err-c1.ensures) depth 12)
 
 pub returns : goal.returns
 unfolding block
-returns c = search walks depth 16
+returns c = search (walks, c.in_ok-c1.ensures, c.items.ensures) depth 16

@@ -1,32 +1,27 @@
 -- `records::block::blocks` meets its contract.
-use mathlib.Core.Path.{refl}
-use native.Mathlib.Omega.{arith}
+use Rattle.std.proofs.Common.{arith}
 use Rattle.definitions.specs.Pack.{blocks}
 use Rattle.definitions.specs.Form.{says}
-use Rattle.definitions.specs.Table.{entry_of, table}
-use Rattle.records.proofs.LoopLaws.{left_all, count-refused, turn-refused, read-turn, all_read}
+use Rattle.pack.proofs.StepLaws.{handed}
+use Rattle.records.proofs.LoopLaws.{left_start, count_err, turn_err, read_next, all_ok}
 use Rattle.records.proofs.block.blocks.Goals as goal
 
-pub field-f-requires : goal.field-f-requires
-unfolding blocks says entry_of table
-field-f-requires c = refl
+pub returns-in_err-count : goal.returns-in_err-count
+unfolding blocks says
+returns-in_err-count c = handed c.from_residual.ensures.1 (search (count_err, c.in_err-count.ensures))
 
-pub returns-in_default : goal.returns-in_default
-unfolding blocks says entry_of table
-returns-in_default c = search count-refused
+pub loop-init : goal.loop-init
+unfolding blocks says
+loop-init c = left_start
 
-pub loop-left-init : goal.loop-left-init
-unfolding blocks says entry_of table
-loop-left-init c = left_all
+pub returns-in_err-next : goal.returns-in_err-next
+unfolding blocks says
+returns-in_err-next c = handed c.from_residual-in_err-next.ensures.1 (search (turn_err, c.loop.invariant, c.in_ok-count.ensures, c.in_err-next.ensures, arith))
 
-pub returns-in_default-g : goal.returns-in_default-g
-unfolding blocks says entry_of table
-returns-in_default-g c = search (turn-refused, arith)
-
-pub loop-left-preserved : goal.loop-left-preserved
-unfolding blocks says entry_of table
-loop-left-preserved c = search (read-turn, arith)
+pub loop-preserved : goal.loop-preserved
+unfolding blocks says
+loop-preserved c = search (read_next, c.loop.invariant, c.in_ok-next.ensures, arith)
 
 pub returns : goal.returns
-unfolding blocks says entry_of table
-returns c = search (all_read, arith)
+unfolding blocks says
+returns c = search (all_ok, c.loop.invariant, c.in_ok-count.ensures, arith)

@@ -1,37 +1,30 @@
 -- `records::defaulted::defaulted` meets its contract.
-use mathlib.Core.Path.{refl, ap}
-use native.Mathlib.Omega.{arith}
-use Prim.Native.Nat.{ℕ, ◌+◌}
+use Rattle.std.proofs.Common.{arith, ap, ℕ, ◌+◌}
 use Rattle.definitions.specs.Pack.{defaulted}
 use Rattle.definitions.specs.Form.{says}
+use Rattle.pack.proofs.StepLaws.{handed}
 use Rattle.records.proofs.RecordLaws.{defaulted-small}
-use Rattle.definitions.specs.Table.{entry_of, table}
-use Rattle.records.proofs.LoopLaws.{left_all, count-refused, turn-refused, read-turn, all_read}
+use Rattle.records.proofs.LoopLaws.{left_start, count_err, turn_err, read_next, all_ok}
 use Rattle.records.proofs.defaulted.defaulted.Goals as goal
 
+pub returns-in_err-count : goal.returns-in_err-count
+unfolding defaulted says
+returns-in_err-count c = handed c.from_residual.ensures.1 (search (count_err, c.in_err-count.ensures))
+
+pub loop-init : goal.loop-init
+unfolding defaulted says
+loop-init c = left_start
+
+pub returns-in_err-v : goal.returns-in_err-v
+unfolding defaulted says
+returns-in_err-v c = handed c.from_residual-in_err-v.ensures.1 (search (turn_err, c.loop.invariant, c.in_ok-count.ensures, c.in_err-v.ensures, arith))
+
 pub overflow_add-low : goal.overflow_add-low
-overflow_add-low c = omega (arith, defaulted-small _ _ _ _ c.defaulted_name-g.ensures c.in-On-g.is)
+overflow_add-low c = omega (arith, defaulted-small _ _ _ _ c.defaulted_name.ensures c.in_ok-v.was)
 
-pub loop-left-preserved : goal.loop-left-preserved
-loop-left-preserved c =
-    read-turn c.loop-left.invariant (omega arith) _ c.defaulted_name-g.ensures c.in-On-g.is (λ _ e. ap (λ (v : ℕ). v + 1) e)
-
-pub field-f-requires : goal.field-f-requires
-unfolding defaulted says entry_of table
-field-f-requires c = refl
-
-pub returns-in_default : goal.returns-in_default
-unfolding defaulted says entry_of table
-returns-in_default c = search count-refused
-
-pub loop-left-init : goal.loop-left-init
-unfolding defaulted says entry_of table
-loop-left-init c = left_all
-
-pub returns-in_default-g : goal.returns-in_default-g
-unfolding defaulted says entry_of table
-returns-in_default-g c = search (turn-refused, arith)
+pub loop-preserved : goal.loop-preserved
+loop-preserved c = read_next c.loop.invariant (omega arith) _ c.in_ok-v.ensures (λ _ e. ap (λ (v : ℕ). v + 1) e)
 
 pub returns : goal.returns
-unfolding defaulted says entry_of table
-returns c = search (all_read, arith)
+unfolding defaulted says
+returns c = search (all_ok, c.loop.invariant, c.in_ok-count.ensures, arith)

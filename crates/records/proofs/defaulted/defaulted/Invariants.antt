@@ -1,4 +1,5 @@
 -- `records::defaulted::defaulted` meets its contract.
+use Rattle.std.proofs.Common.{◌-◌}
 use mathlib.Core.Path.{◌≡◌, refl}
 use Prim.Native.Nat.{ℕ}
 use Rattle.definitions.specs.Pack.{defaulted_name, above}
@@ -10,8 +11,5 @@ pub words_alike : (n low v : ℕ) → words_by (defaulted_name n low) v ≡ word
 unfolding defaulted_name words_by
 words_alike n low v = refl
 
-abbrev pub invariant-loop-left : goal.invariant-loop-left
-invariant-loop-left l = Left above (defaulted_name l.n) (words_by (field l.n 4)) (words_alike l.n) nothing l.s l.initial.left l.initial.low l.initial.c.at tt l.left l.low l.c.at tt
-
-abbrev pub decreases-loop-left : goal.decreases-loop-left
-decreases-loop-left l = l.left
+abbrev pub invariant-loop : goal.invariant-loop
+invariant-loop l = Left above (defaulted_name l.n) (words_by (field l.n 4)) (words_alike l.n) nothing l.s l.count l.initial.low l.initial.c.at tt (l.count - l.counter) l.low l.c.at tt

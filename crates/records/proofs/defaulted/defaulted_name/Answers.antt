@@ -1,23 +1,19 @@
 -- `records::defaulted::defaulted_name` meets its contract.
-use mathlib.Core.Path.{◌∙◌, refl}
+use Rattle.std.proofs.Common.{◌∙◌, ap}
+use Rattle.std.specs.Prelude.{Err}
 use borrow.Author.Tests.{lt-leb, le-leb}
 use Rattle.definitions.specs.Pack.{defaulted_name}
-use Rattle.pack.proofs.StepLaws.{guarded-stop, guarded_no, guarded_on}
-use Rattle.definitions.specs.Table.{entry_of, table}
+use Rattle.pack.proofs.StepLaws.{handed, guarded_err, guarded_no, guarded_on}
 use Rattle.records.proofs.defaulted.defaulted_name.Goals as goal
 
-pub field-f-requires : goal.field-f-requires
-unfolding entry_of table
-field-f-requires c = refl
-
-pub returns-in_default : goal.returns-in_default
+pub returns-in_err-v : goal.returns-in_err-v
 unfolding defaulted_name
-returns-in_default c = guarded-stop _ _ _ _ _ _ c.field-f.ensures c.in_default.is
+returns-in_err-v c = handed c.from_residual.ensures.1 (guarded_err _ _ _ _ _ _ c.in_err-v.ensures)
 
 pub returns-then-v-low : goal.returns-then-v-low
 unfolding defaulted_name
-returns-then-v-low c = c.stop.ensures ∙ guarded_no _ _ _ _ _ _ c.field-f.ensures c.in-On.is (lt-leb _ _ c.if-v-low.true)
+returns-then-v-low c = ap Err c.refused.ensures ∙ guarded_no _ _ _ _ _ _ c.field.ensures c.in_ok-v.was (lt-leb _ _ c.if-v-low.true)
 
 pub returns : goal.returns
 unfolding defaulted_name
-returns c = guarded_on _ _ _ _ _ _ c.field-f.ensures c.in-On.is (le-leb _ _ c.if-v-low.false)
+returns c = guarded_on _ _ _ _ _ _ c.field.ensures c.in_ok-v.was (le-leb _ _ c.if-v-low.false)

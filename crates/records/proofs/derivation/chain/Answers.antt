@@ -1,54 +1,36 @@
 -- `records::derivation::chain` meets its contract.
-use mathlib.Core.Path.{refl}
-use native.Mathlib.Omega.{arith}
+use Rattle.std.proofs.Common.{arith}
 use Rattle.definitions.specs.Pack.{chain}
-use Rattle.pack.proofs.StepLaws.{by_then, then_stop, last-stop, field-fine}
+use Rattle.pack.proofs.StepLaws.{handed, last_err, then_ok, then_err, field-fine}
 use Rattle.records.proofs.KeptLaws.{kept_then, kept_last}
 use Rattle.records.proofs.DirectoryLaws.{chain-leads}
-use Rattle.definitions.specs.Table.{entry_of, table}
 use Rattle.records.proofs.derivation.chain.Goals as goal
 
-pub field-f1-requires : goal.field-f1-requires
-unfolding entry_of table
-field-f1-requires c = refl
-
-pub returns-in_default : goal.returns-in_default
+pub returns-in_err-source : goal.returns-in_err-source
 unfolding chain
-returns-in_default c = last-stop (λ a. 0) _ _ _ (search (by_then, then_stop) depth 16) _ c.in_default.is
+returns-in_err-source c = handed c.from_residual.ensures.1 (last_err (λ a. 0) _ _ _ _ (search (then_ok, then_err, c.in_err-source.ensures) depth 16))
 
-pub returns-in_default-f2 : goal.returns-in_default-f2
+pub returns-in_err-steps : goal.returns-in_err-steps
 unfolding chain
-returns-in_default-f2 c = last-stop (λ a. 0) _ _ _ (search (by_then, then_stop) depth 16) _ c.in_default-f2.is
+returns-in_err-steps c = handed c.from_residual-in_err-steps.ensures.1 (last_err (λ a. 0) _ _ _ _ (search (then_ok, then_err, c.in_ok-source.ensures, c.in_err-steps.ensures) depth 16))
 
-pub skip-f3-requires : goal.skip-f3-requires
-unfolding entry_of table
-skip-f3-requires c = refl
-
-pub returns-in_default-f3 : goal.returns-in_default-f3
+pub returns-in_err-c3 : goal.returns-in_err-c3
 unfolding chain
-returns-in_default-f3 c =
-    last-stop (λ a. 0) _ _ _ (by_then _ _ _ _ c.field-f1.ensures _ _ c.in-On.is
-    (λ _. by_then _ _ _ _ c.path-f2.ensures _ _ c.in-On-f2.is (λ _. then_stop _ _ _ _ c.skip-f3.ensures _ _ c.in_default-f3.is))) _ c.in_default-f3.is
+returns-in_err-c3 c = handed c.from_residual-in_err-c3.ensures.1 (last_err (λ a. 0) _ _ _ _ (search (then_ok, then_err, c.in_ok-source.ensures, c.in_ok-steps.ensures, c.in_err-c3.ensures) depth 16))
 
-pub skip-f4-requires : goal.skip-f4-requires
-unfolding entry_of table
-skip-f4-requires c = refl
-
-pub returns-in_default-f4 : goal.returns-in_default-f4
+pub returns-in_err-c4 : goal.returns-in_err-c4
 unfolding chain
-returns-in_default-f4 c =
-    last-stop (λ a. 0) _ _ _ (by_then _ _ _ _ c.field-f1.ensures _ _ c.in-On.is
-    (λ _. by_then _ _ _ _ c.path-f2.ensures _ _ c.in-On-f2.is
-    (λ _. by_then _ _ _ _ c.skip-f3.ensures _ _ c.in-On-f3.is (λ _. c.skip-f4.ensures)))) _ c.in_default-f4.is
+returns-in_err-c4 c =
+    handed c.from_residual-in_err-c4.ensures.1 (last_err (λ a. 0) _ _ _ _ (then_ok _ _ _ _ _ _ c.in_ok-source.ensures
+    (λ _. then_ok _ _ _ _ _ _ c.in_ok-steps.ensures (λ _. then_ok _ _ _ _ _ _ c.in_ok-c3.ensures (λ _. c.in_err-c4.ensures)))))
 
 pub lead-requires : goal.lead-requires
-lead-requires c =
-    omega (arith, (field-fine _ _ _ _ c.field-f1.ensures c.in-On.is).0)
+lead-requires c = omega (arith, (field-fine _ _ _ _ c.field.ensures c.in_ok-source.was).0)
 
 pub returns : goal.returns
 unfolding chain
 returns c =
-    kept_then _ _ _ _ c.field-f1.ensures c.in-On.is _ _
-    (λ a. kept_then _ _ _ _ c.path-f2.ensures c.in-On-f2.is _ _
-    (λ p. kept_then _ _ _ _ c.skip-f3.ensures c.in-On-f3.is _ _
-    (λ _. kept_last _ _ _ _ c.skip-f4.ensures c.in-On-f4.is _ (λ _. chain-leads _ p.value p.fine a.kept p.kept c.lead.ensures))))
+    kept_then _ _ _ _ c.field.ensures c.in_ok-source.was _ _
+    (λ a. kept_then _ _ _ _ c.path.ensures c.in_ok-steps.was _ _
+    (λ p. kept_then _ _ _ _ c.skip.ensures c.in_ok-c3.was _ _
+    (λ _. kept_last _ _ _ _ c.skip-2.ensures c.in_ok-c4.was _ (λ _. chain-leads _ p.value p.fine a.kept p.kept c.lead.ensures))))

@@ -1,59 +1,39 @@
 -- `records::derivation::member` meets its contract.
-use mathlib.Core.Path.{refl}
 use Rattle.definitions.specs.Pack.{member}
 use Rattle.definitions.specs.Tree.{root}
-use Rattle.definitions.specs.Table.{entry_of, table}
-use Rattle.pack.proofs.StepLaws.{by_then, then_stop, last-stop}
+use Rattle.pack.proofs.StepLaws.{last_err, then_ok, then_err}
 use Rattle.reading.proofs.CodeLaws.{field-within, step_within}
-use Rattle.records.proofs.KeptLaws.{noted_no}
+use Rattle.records.proofs.KeptLaws.{noted_err}
 use Rattle.records.proofs.NotesLaws.{rooted, member-noted}
 use Rattle.records.proofs.derivation.member.Goals as goal
 
-pub skip-f1-requires : goal.skip-f1-requires
-unfolding entry_of table
-skip-f1-requires c = refl
-
-pub returns-in_default : goal.returns-in_default
+pub returns-in_err-c1 : goal.returns-in_err-c1
 unfolding member root
-returns-in_default c = noted_no (last-stop (λ a. 0) _ _ _ (search (by_then, then_stop) depth 16) _ c.in_default.is) c.in_default.is
+returns-in_err-c1 c = noted_err (last_err (λ a. 0) _ _ _ _ (search (then_ok, then_err, c.in_err-c1.ensures) depth 16)) c.from_residual.ensures.1
 
-pub skip-f2-requires : goal.skip-f2-requires
-unfolding entry_of table
-skip-f2-requires c = refl
-
-pub returns-in_default-f2 : goal.returns-in_default-f2
+pub returns-in_err-c2 : goal.returns-in_err-c2
 unfolding member root
-returns-in_default-f2 c = noted_no (last-stop (λ a. 0) _ _ _ (search (by_then, then_stop) depth 16) _ c.in_default-f2.is) c.in_default-f2.is
+returns-in_err-c2 c = noted_err (last_err (λ a. 0) _ _ _ _ (search (then_ok, then_err, c.in_ok-c1.ensures, c.in_err-c2.ensures) depth 16)) c.from_residual-in_err-c2.ensures.1
 
-pub name_list-f3-requires : goal.name_list-f3-requires
-unfolding entry_of table
-name_list-f3-requires c = refl
-
-pub returns-in_default-f3 : goal.returns-in_default-f3
+pub returns-in_err-many : goal.returns-in_err-many
 unfolding member root
-returns-in_default-f3 c = noted_no (last-stop (λ a. 0) _ _ _ (search (by_then, then_stop) depth 16) _ c.in_default-f3.is) c.in_default-f3.is
+returns-in_err-many c = noted_err (last_err (λ a. 0) _ _ _ _ (search (then_ok, then_err, c.in_ok-c1.ensures, c.in_ok-c2.ensures, c.in_err-many.ensures) depth 16)) c.from_residual-in_err-many.ensures.1
 
 pub derived-noted-requires : goal.derived-noted-requires
-derived-noted-requires c =
-    let pre = c.requires in (pre.2, pre.3)
+derived-noted-requires c = let pre = c.requires in (pre.2, pre.3)
 
-pub judgment-f4-requires : goal.judgment-f4-requires
-judgment-f4-requires c = (
-  c.requires.0.ready,
-  step_within _ _ _ _ (field-within _ _ _ _ _ c.skip-f2.ensures c.in-On-f2.is) c.name_list-f3.ensures c.in-On-f3.is,
-  c.requires.1,
-)
+pub judgment-requires : goal.judgment-requires
+judgment-requires c = (c.requires.0, step_within _ _ _ _ (field-within _ _ _ _ _ c.skip-2.ensures c.in_ok-c2.was) c.name_list.ensures c.in_ok-many.was, c.requires.1)
 
-pub returns-in_default-f4 : goal.returns-in_default-f4
+pub returns-in_err-c4 : goal.returns-in_err-c4
 unfolding member
-returns-in_default-f4 c =
-    noted_no (last-stop (λ a. 0) _ _ _ (by_then _ _ _ _ c.skip-f1.ensures _ _ c.in-On.is
-    (λ _. by_then _ _ _ _ c.skip-f2.ensures _ _ c.in-On-f2.is
-    (λ _. by_then _ _ _ _ c.name_list-f3.ensures _ _ c.in-On-f3.is (λ _. (rooted _ _ _ c.requires.0 _ _ _ _ c.judgment-f4.ensures).answers)))) _
-    c.in_default-f4.is) c.in_default-f4.is
+returns-in_err-c4 c =
+    noted_err (last_err (λ a. 0) _ _ _ _ (then_ok _ _ _ _ _ _ c.in_ok-c1.ensures
+    (λ _. then_ok _ _ _ _ _ _ c.in_ok-c2.ensures
+    (λ _. then_ok _ _ _ _ _ _ c.in_ok-many.ensures (λ _. (rooted _ _ _ _ _ _ c.in_err-c4.ensures).answers))))) c.from_residual-in_err-c4.ensures.1
 
 pub returns : goal.returns
 returns c =
-    member-noted _ _ _ _ _ c.skip-f1.ensures c.in-On.is c.skip-f2.ensures c.in-On-f2.is c.name_list-f3.ensures c.in-On-f3.is
+    member-noted _ _ _ _ _ c.skip.ensures c.in_ok-c1.was c.skip-2.ensures c.in_ok-c2.was c.name_list.ensures c.in_ok-many.was
     c.args.front.kinds c.args.front.slots c.args.front.lead c.derived-noted.ensures
-    (rooted _ _ _ c.requires.0 _ _ _ _ c.judgment-f4.ensures) c.in-On-f4.is
+    (rooted _ _ _ _ _ _ c.judgment.ensures) c.in_ok-c4.was

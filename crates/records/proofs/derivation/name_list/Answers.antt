@@ -1,32 +1,27 @@
 -- `records::derivation::name_list` meets its contract.
-use mathlib.Core.Path.{refl}
-use native.Mathlib.Omega.{arith}
+use Rattle.std.proofs.Common.{arith}
 use Rattle.definitions.specs.Pack.{name_list}
 use Rattle.definitions.specs.Form.{says}
-use Rattle.definitions.specs.Table.{entry_of, table}
-use Rattle.records.proofs.LoopLaws.{left_all, count-refused, turn-refused, read-turn, all_read}
+use Rattle.pack.proofs.StepLaws.{handed}
+use Rattle.records.proofs.LoopLaws.{left_start, count_err, turn_err, read_next, all_ok}
 use Rattle.records.proofs.derivation.name_list.Goals as goal
 
-pub returns-in_default : goal.returns-in_default
-unfolding name_list says entry_of table
-returns-in_default c = search count-refused
+pub returns-in_err-count : goal.returns-in_err-count
+unfolding name_list says
+returns-in_err-count c = handed c.from_residual.ensures.1 (search (count_err, c.in_err-count.ensures))
 
-pub loop-left-init : goal.loop-left-init
-unfolding name_list says entry_of table
-loop-left-init c = left_all
+pub loop-init : goal.loop-init
+unfolding name_list says
+loop-init c = left_start
 
-pub field-g-requires : goal.field-g-requires
-unfolding name_list says entry_of table
-field-g-requires c = refl
+pub returns-in_err-next : goal.returns-in_err-next
+unfolding name_list says
+returns-in_err-next c = handed c.from_residual-in_err-next.ensures.1 (search (turn_err, c.loop.invariant, c.in_ok-count.ensures, c.in_err-next.ensures, arith))
 
-pub returns-in_default-g : goal.returns-in_default-g
-unfolding name_list says entry_of table
-returns-in_default-g c = search (turn-refused, arith)
-
-pub loop-left-preserved : goal.loop-left-preserved
-unfolding name_list says entry_of table
-loop-left-preserved c = search (read-turn, arith)
+pub loop-preserved : goal.loop-preserved
+unfolding name_list says
+loop-preserved c = search (read_next, c.loop.invariant, c.in_ok-next.ensures, arith)
 
 pub returns : goal.returns
-unfolding name_list says entry_of table
-returns c = search (all_read, arith)
+unfolding name_list says
+returns c = search (all_ok, c.loop.invariant, c.in_ok-count.ensures, arith)

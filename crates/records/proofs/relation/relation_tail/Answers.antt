@@ -1,45 +1,30 @@
 -- `records::relation::relation_tail` meets its contract.
-use mathlib.Core.Path.{refl}
-use native.Mathlib.Omega.{arith}
+use Rattle.std.proofs.Common.{arith}
 use Rattle.definitions.specs.Pack.{relation_tail}
-use Rattle.definitions.specs.Table.{entry_of, table}
-use Rattle.pack.proofs.StepLaws.{by_then, then_stop, last-stop}
-use Rattle.records.proofs.KeptLaws.{noted_no}
+use Rattle.pack.proofs.StepLaws.{last_err, then_ok, then_err}
+use Rattle.records.proofs.KeptLaws.{noted_err}
+use Rattle.records.proofs.NotesLaws.{field_on, list_on, tail_noted}
 use Rattle.records.proofs.DirectoryLaws.{list-few}
-use Rattle.records.proofs.NotesLaws.{tail_noted, list_on, field_on}
 use Rattle.records.proofs.relation.relation_tail.Goals as goal
 
-pub skip-f1-requires : goal.skip-f1-requires
-unfolding entry_of table
-skip-f1-requires c = refl
-
-pub returns-in_default : goal.returns-in_default
+pub returns-in_err-c1 : goal.returns-in_err-c1
 unfolding relation_tail
-returns-in_default c = noted_no (last-stop (λ a. 0) _ _ _ (search (by_then, then_stop) depth 16) _ c.in_default.is) c.in_default.is
+returns-in_err-c1 c = noted_err (last_err (λ a. 0) _ _ _ _ (search (then_ok, then_err, c.in_err-c1.ensures) depth 16)) c.from_residual.ensures.1
 
-pub skip-f2-requires : goal.skip-f2-requires
-unfolding entry_of table
-skip-f2-requires c = refl
-
-pub returns-in_default-f2 : goal.returns-in_default-f2
+pub returns-in_err-c2 : goal.returns-in_err-c2
 unfolding relation_tail
-returns-in_default-f2 c = noted_no (last-stop (λ a. 0) _ _ _ (search (by_then, then_stop) depth 16) _ c.in_default-f2.is) c.in_default-f2.is
+returns-in_err-c2 c = noted_err (last_err (λ a. 0) _ _ _ _ (search (then_ok, then_err, c.in_ok-c1.ensures, c.in_err-c2.ensures) depth 16)) c.from_residual-in_err-c2.ensures.1
 
-pub name_list-f3-requires : goal.name_list-f3-requires
-unfolding entry_of table
-name_list-f3-requires c = refl
-
-pub returns-in_default-f3 : goal.returns-in_default-f3
+pub returns-in_err-kinds : goal.returns-in_err-kinds
 unfolding relation_tail
-returns-in_default-f3 c = noted_no (last-stop (λ a. 0) _ _ _ (search (by_then, then_stop) depth 16) _ c.in_default-f3.is) c.in_default-f3.is
+returns-in_err-kinds c = noted_err (last_err (λ a. 0) _ _ _ _ (search (then_ok, then_err, c.in_ok-c1.ensures, c.in_ok-c2.ensures, c.in_err-kinds.ensures) depth 16)) c.from_residual-in_err-kinds.ensures.1
 
 pub optional_derivation-requires : goal.optional_derivation-requires
 optional_derivation-requires c =
-    let a = field_on _ _ _ _ c.skip-f1.ensures c.in-On.is in let b = field_on _ _ _ _ c.skip-f2.ensures c.in-On-f2.is in let l = list_on _ _ _
-    c.name_list-f3.ensures c.in-On-f3.is in
-    (c.requires.0, c.requires.1, list-few _ _ _ c.name_list-f3.ensures c.in-On-f3.is, omega (arith, a, b, l, c.requires.2))
+    let a = field_on _ _ _ _ c.skip.ensures c.in_ok-c1.was in
+    let b = field_on _ _ _ _ c.skip-2.ensures c.in_ok-c2.was in
+    let l = list_on _ _ _ c.name_list.ensures c.in_ok-kinds.was in
+    (c.requires.0, list-few _ _ _ c.name_list.ensures c.in_ok-kinds.was, omega (arith, a, b, l, c.requires.1))
 
 pub returns : goal.returns
-returns c =
-    tail_noted _ _ _ _ _ c.skip-f1.ensures c.in-On.is c.skip-f2.ensures c.in-On-f2.is c.name_list-f3.ensures c.in-On-f3.is
-    c.optional_derivation.ensures
+returns c = tail_noted _ _ _ _ _ c.skip.ensures c.in_ok-c1.was c.skip-2.ensures c.in_ok-c2.was c.name_list.ensures c.in_ok-kinds.was c.optional_derivation.ensures

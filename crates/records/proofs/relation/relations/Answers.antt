@@ -1,37 +1,33 @@
 -- `records::relation::relations` meets its contract.
-use mathlib.Core.Path.{refl}
-use native.Mathlib.Omega.{arith}
+use Rattle.std.proofs.Common.{arith}
 use Rattle.definitions.specs.Pack.{relations}
 use Rattle.definitions.specs.Form.{says}
-use Rattle.definitions.specs.Table.{entry_of, table}
-use Rattle.records.proofs.KeptLaws.{noted_no}
-use Rattle.records.proofs.LoopLaws.{count-refused, turn-refused, noted-all}
-use Rattle.records.proofs.DirectoryLaws.{relating, its-turn, relating_on, count-read}
+use Rattle.records.proofs.KeptLaws.{noted_err}
+use Rattle.records.proofs.DirectoryLaws.{count-read, relating, its-turn, relating_on}
+use Rattle.records.proofs.LoopLaws.{count_err, turn_err, noted-all}
 use Rattle.records.proofs.relation.relations.Goals as goal
 
-pub loop-left-init : goal.loop-left-init
-loop-left-init c =
-    let r = count-read _ _ _ c.field-f.ensures c.in-On.is in relating _ _ c.requires.2 r.few r.late
+pub returns-in_err-count : goal.returns-in_err-count
+unfolding relations
+returns-in_err-count c = noted_err (search (count_err, c.in_err-count.ensures)) c.from_residual.ensures.1
 
-pub returns-in_default-g : goal.returns-in_default-g
+pub loop-i-init : goal.loop-i-init
+loop-i-init c = let r = count-read _ _ _ c.field.ensures c.in_ok-count.was in relating _ _ c.requires.1 r.few r.late
+
+pub relation-requires : goal.relation-requires
+relation-requires c =
+    let g = c.loop-i.invariant in (c.requires.0, omega (arith, g.few), omega (arith, g.kept, c.requires.1.long))
+
+pub returns-in_err-next : goal.returns-in_err-next
 unfolding relations says
-returns-in_default-g c =
-    let g = c.loop-left.invariant in
-    let answers = (its-turn _ _ g c.relation-g.ensures).answers in search (noted_no, turn-refused, answers, arith)
+returns-in_err-next c =
+    let g = c.loop-i.invariant in
+    let answers = (its-turn _ _ g c.in_err-next.ensures).answers in
+    noted_err (search (turn_err, g.work, c.in_ok-count.ensures, answers, arith)) c.from_residual-in_err-next.ensures.1
 
-pub loop-left-preserved : goal.loop-left-preserved
-loop-left-preserved c =
-    relating_on _ _ c.loop-left.invariant (omega arith) c.relation-g.ensures c.in-On-g.is (omega arith)
+pub loop-i-preserved : goal.loop-i-preserved
+loop-i-preserved c = relating_on _ _ c.loop-i.invariant (omega arith) c.in_ok-next.ensures (omega arith)
 
 pub returns : goal.returns
 unfolding relations
-returns c =
-    noted-all c.field-f.ensures c.in-On.is c.loop-left.invariant.work (omega arith)
-
-pub field-f-requires : goal.field-f-requires
-unfolding relations entry_of table
-field-f-requires c = refl
-
-pub returns-in_default : goal.returns-in_default
-unfolding relations entry_of table
-returns-in_default c = search (noted_no, count-refused)
+returns c = noted-all c.field.ensures c.in_ok-count.was c.loop-i.invariant.work (omega arith)

@@ -1,44 +1,34 @@
 -- `records::rule::bodies` meets its contract.
-use mathlib.Core.Path.{refl}
-use native.Mathlib.Omega.{arith}
+use Rattle.std.proofs.Common.{arith, refl}
 use Rattle.definitions.specs.Pack.{bodies}
-use Rattle.definitions.specs.Table.{entry_of, table}
 use Rattle.pack.proofs.StepLaws.{more-stop, first-stop}
 use Rattle.records.specs.Notes.{note_body, note_bodies}
 use Rattle.records.proofs.RecordLaws.{bodies_one}
-use Rattle.records.proofs.KeptLaws.{noted_no}
-use Rattle.records.proofs.LoopLaws.{left_all, left_turn, more-refused, noted_more}
+use Rattle.records.proofs.KeptLaws.{noted_err}
+use Rattle.records.proofs.LoopLaws.{left_all, left_next, more_err, noted_more}
 use Rattle.records.proofs.rule.bodies.Goals as goal
 
-pub overflow_sub-left : goal.overflow_sub-left
-overflow_sub-left c =
-    omega (arith, bodies_one _ _ _ c.field-f.ensures c.in-On.is)
+pub returns-in_err-count : goal.returns-in_err-count
+unfolding bodies
+returns-in_err-count c = noted_err (more-stop _ _ _ _ _ _ _ _ c.in_err-count.ensures refl) c.from_residual.ensures.1
 
-pub loop-left-preserved : goal.loop-left-preserved
-loop-left-preserved c =
-    (left_turn c.loop-left.invariant.0 (omega arith) c.body-g.ensures c.in-On-g.is (λ _ _. refl), omega (arith, c.loop-left.invariant.1))
+pub returns-in_err-first : goal.returns-in_err-first
+unfolding bodies
+returns-in_err-first c = noted_err (first-stop _ _ _ _ _ _ _ _ c.field.ensures c.in_ok-count.was _ c.in_err-first.ensures.answers refl) c.from_residual-in_err-first.ensures.1
+
+pub loop-init : goal.loop-init
+unfolding bodies
+loop-init c = (left_all, refl)
+
+pub returns-in_err-next : goal.returns-in_err-next
+unfolding bodies
+returns-in_err-next c = more_err c.field.ensures c.in_ok-count.was c.body.ensures c.in_ok-first.was c.loop.invariant.0 (omega arith) c.in_err-next.ensures c.from_residual-in_err-next.ensures.1
+
+pub loop-preserved : goal.loop-preserved
+loop-preserved c = (left_next c.loop.invariant.0 (omega arith) c.in_ok-next.ensures (λ _ _. refl), omega (arith, c.loop.invariant.1))
 
 pub returns : goal.returns
 unfolding bodies note_bodies
 returns c =
-    noted_more (note_body c.args.context) c.field-f.ensures c.in-On.is c.body-f1.ensures c.in-On-f1.is c.loop-left.invariant.0 (omega arith)
-
-pub field-f-requires : goal.field-f-requires
-unfolding bodies entry_of table
-field-f-requires c = refl
-
-pub returns-in_default : goal.returns-in_default
-unfolding bodies entry_of table
-returns-in_default c = search (noted_no, more-stop)
-
-pub returns-in_default-f1 : goal.returns-in_default-f1
-unfolding bodies entry_of table
-returns-in_default-f1 c = search (noted_no, first-stop)
-
-pub loop-left-init : goal.loop-left-init
-unfolding bodies entry_of table
-loop-left-init c = (left_all, refl)
-
-pub returns-in_default-g : goal.returns-in_default-g
-unfolding bodies entry_of table
-returns-in_default-g c = search (more-refused, arith)
+    let one = bodies_one _ _ _ c.field.ensures c.in_ok-count.was in
+    noted_more (note_body c.args.context) c.field.ensures c.in_ok-count.was c.body.ensures c.in_ok-first.was c.loop.invariant.0 (omega arith)

@@ -1,11 +1,11 @@
 -- `pack::cursor::Cursor::word` meets its contract.
-use mathlib.Core.Path.{◌∙◌}
-use native.Mathlib.Omega.{arith}
+use Rattle.std.proofs.Common.{◌∙◌, ap, arith}
+use Rattle.std.specs.Prelude.{Err}
 use Rattle.pack.proofs.StepLaws.{word-there, word-ended}
 use Rattle.pack.proofs.cursor.Cursor.word.Goals as goal
 
-pub returns-then-at-s : goal.returns-then-at-s
-returns-then-at-s c = word-there _ _ (omega arith)
+pub returns-in-Some : goal.returns-in-Some
+returns-in-Some c = let h = c.in-Some.ensures.lookup in rw (h.3.1 0) (word-there _ _ h.3.0)
 
-pub returns-else-at-s : goal.returns-else-at-s
-returns-else-at-s c = c.stop.ensures ∙ word-ended _ _ (omega arith)
+pub returns-in-None : goal.returns-in-None
+returns-in-None c = ap Err c.refused.ensures ∙ word-ended _ _ c.in-None.ensures.lookup.3
