@@ -38,6 +38,9 @@ pub fn judge(
         .split_at_mut_checked(entry.room as usize)
         .ok_or(Difference::IllFormed)?;
     let came = answer_of(call, entry, pack, lent);
-    difference::compare(entry.expected, came)?;
+    let expected = entry.expected;
+    if came != expected {
+        return Err(Difference::Answer { expected, came });
+    }
     difference::compare_words(out, words)
 }

@@ -1,5 +1,5 @@
 // Answers and buffers, expected and found.
-use definitions::answer::{Answer, Refusal};
+use definitions::answer::{Answer, Given, Refusal};
 use std::fmt;
 
 // What a buffer holds before a call: words of the kind 222, which no pack has, that begin with this one and grow by 1.
@@ -27,8 +27,8 @@ struct Shown(Answer);
 impl fmt::Display for Shown {
     fn fmt<W: fmt::Write>(&self, f: &mut fmt::Formatter<W>) -> fmt::Result {
         match self.0 {
-            Answer::Given(value, steps) => write!(f, "given {value} {steps}"),
-            Answer::Refused(
+            Ok(Given { value, steps }) => write!(f, "given {value} {steps}"),
+            Err(
                 Refusal {
                     number,
                     place,
@@ -53,26 +53,6 @@ impl fmt::Display for Difference {
             } => write!(f, "word {place}: expected {expected:08x}, came {came:08x}"),
             Difference::IllFormed => f.write_str("the list is ill-formed"),
         }
-    }
-}
-
-fn same(a: Answer, b: Answer) -> bool {
-    match (a, b) {
-        (Answer::Given(value, steps), Answer::Given(other_value, other_steps)) => value
-            == other_value
-            && steps == other_steps,
-        (Answer::Refused(a), Answer::Refused(b)) => {
-            a.number == b.number && a.place == b.place && a.name == b.name && a.other == b.other
-        }
-        _ => false,
-    }
-}
-
-pub fn compare(expected: Answer, came: Answer) -> Result<(), Difference> {
-    if same(expected, came) {
-        Ok(())
-    } else {
-        Err(Difference::Answer { expected, came })
     }
 }
 

@@ -1,6 +1,6 @@
 // Entries of the list, as words of four bytes, low byte first.
 use crate::operation::Operation;
-use definitions::answer::{Answer, Refusal};
+use definitions::answer::{Answer, Given, Refusal};
 use std::alloc::{AllocError, Global};
 use std::io;
 use std::io::{BufRead, Read};
@@ -38,9 +38,12 @@ pub struct Entry {
 // Of an answer that is given the number and the place are 0, the name is the value and the other the steps.
 fn answer(number: u32, place: u32, name: u32, other: u32) -> Answer {
     if number == 0 && place == 0 {
-        return Answer::Given(name, other);
+        return Ok(Given {
+            value: name,
+            steps: other,
+        });
     }
-    Answer::Refused(Refusal {
+    Err(Refusal {
         number,
         place: place as usize,
         name,

@@ -7,7 +7,7 @@ ghost use Rattle.resolve_main.specs.Printing.{number_bytes, first_line_bytes, wo
 
 use arrayvec::ArrayVec;
 use cogunwa::cogunwa_resolve;
-use definitions::answer::{Answer, Refusal};
+use definitions::answer::{Given, Refusal};
 use itoa::Buffer;
 use pack::kinds::Pack;
 use wire::answer::decode;
@@ -89,14 +89,14 @@ fn put_lines<const N: usize>(out: &[u8], count: usize, text: &mut ArrayVec<u8, N
     }
 }
 
-fn put_ok_line<const N: usize>(count: u32, steps: u32, text: &mut ArrayVec<u8, N>)
+fn put_ok_line<const N: usize>(given: Given, text: &mut ArrayVec<u8, N>)
     requires { array_vec_len text.old + first_line_bytes ≤ N }
-    ensures added { text.new.items ≡ text.old.items ++ ok_line count steps }
+    ensures added { text.new.items ≡ text.old.items ++ ok_line given.value given.steps }
     ensures few { array_vec_len text.new ≤ array_vec_len text.old + first_line_bytes }
 {
     put(b"ok", text);
-    put_number(u64::from(count), text);
-    put_number(u64::from(steps), text);
+    put_number(u64::from(given.value), text);
+    put_number(u64::from(given.steps), text);
     text.push(b'\n');
 }
 
@@ -120,11 +120,11 @@ pub fn report<const N: usize>(answer: u64, out: &[u8]) -> ArrayVec<u8, N>
 {
     let mut text = ArrayVec::new();
     match decode(answer) {
-        Answer::Given(count, steps) => {
-            put_ok_line(count, steps, &mut text);
-            put_lines(out, count as usize, &mut text);
+        Ok(given) => {
+            put_ok_line(given, &mut text);
+            put_lines(out, given.value as usize, &mut text);
         }
-        Answer::Refused(r) => put_refused_line(r, &mut text),
+        Err(r) => put_refused_line(r, &mut text),
     }
     text
 }
