@@ -2,7 +2,7 @@
 use Prim.Native.Nat.{ℕ, ◌+◌, ◌/◌, ◌%◌, ◌^◌, ◌<◌, ◌≤◌}
 use native.Mathlib.Nat.{div-div-eq-div-mul}
 use native.Mathlib.Omega.{arith}
-use mathlib.Core.Path.{◌≡◌, refl, ap, sym, ◌∙◌}
+use mathlib.Core.Path.{◌≡◌, refl, ap, sym}
 use mathlib.Core.Bool.{Bool}
 use mathlib.Core.List.{◌∷◌}
 use borrow.Author.Tests.{lt-ltb}
@@ -71,11 +71,3 @@ word_line w =
     (ap digit_of (low (w / 256)))
     (ap digit_of (high w (w / 16) refl))
     (ap digit_of (low w)))
-
--- the digits of the bytes, the high one first
-pub line_as : (w : ℕ) {r7 r6 r5 r4 r3 r2 r1 r0 : ℕ} → r7 ≡ digit_of (w / 16777216 % 256 / 16) → r6 ≡ digit_of (w / 16777216 % 256 % 16) → r5 ≡ digit_of (w / 65536 % 256 / 16)
-    → r4 ≡ digit_of (w / 65536 % 256 % 16) → r3 ≡ digit_of (w / 256 % 256 / 16) → r2 ≡ digit_of (w / 256 % 256 % 16) → r1 ≡ digit_of (w % 256 / 16) → r0 ≡ digit_of (w % 256 % 16)
-    → r7 ∷ r6 ∷ r5 ∷ r4 ∷ r3 ∷ r2 ∷ r1 ∷ r0 ∷ codes "\n" ≡ line_of w
-line_as w e7 e6 e5 e4 e3 e2 e1 e0 =
-    line_from (w % 256) (w / 256 % 256) (w / 65536 % 256) (w / 16777216 % 256) (omega arith) (omega arith) (omega arith) (omega arith) e7 e6 e5 e4 e3 e2 e1 e0
-    ∙ word_line w

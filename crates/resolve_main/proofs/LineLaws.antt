@@ -54,8 +54,8 @@ line_more before chunks i {w = w} h t e a =
     rw (more, lines_append (words_in (take i chunks)) (from_le_bytes w32 (get_or chunks i []) ∷ []), one_line (from_le_bytes w32 (get_or chunks i [])), ← e, a, t)
     (append_assoc before (lines_of (words_in (take i chunks))) (line_of w))
 
-pub line-long : (text : List ℕ) (w : ℕ) {after : List ℕ} → after ≡ text ++ line_of w → length after ≡ length text + 9
-line-long text w e = ap length e ∙ length-append text (line_of w)
+pub line_long : (text : List ℕ) (w : ℕ) {after : List ℕ} → after ≡ text ++ line_of w → length after ≡ length text + 9
+line_long text w e = ap length e ∙ length-append text (line_of w)
 
 -- at the end those of the first n words are there, as far as there are words
 pub lines_all : (out : List ℕ) (n : ℕ) {chunks : List (List ℕ)} {m i : ℕ} → chunks ≡ first_chunks 4 (length out / 4) out → m ≡ min n (length chunks)

@@ -41,6 +41,7 @@ fn put<const N: usize>(bytes: &[u8], text: &mut ArrayVec<u8, N>)
 }
 
 // A number after a space.
+#[tactic(auto, using(crate::proofs::DecimalLaws::spaced_as))]
 fn put_number<const N: usize>(n: u64, text: &mut ArrayVec<u8, N>)
     requires { array_vec_len text.old + number_bytes ≤ N }
     ensures added { text.new.items ≡ text.old.items ++ spaced n }
@@ -51,11 +52,15 @@ fn put_number<const N: usize>(n: u64, text: &mut ArrayVec<u8, N>)
 }
 
 // An upper-case hexadecimal digit.
-fn digit(d: u8) -> u8
+fn digit(d: u32) -> u8
     requires { d < 16 }
     ensures { result ≡ digit_of d }
 {
-    if d < 10 { b'0' + d } else { b'A' - 10 + d }
+    if d < 10 {
+        b'0' + d as u8
+    } else {
+        b'A' - 10 + d as u8
+    }
 }
 
 // A word on a line of its own.
@@ -63,22 +68,22 @@ fn put_line<const N: usize>(word: u32, text: &mut ArrayVec<u8, N>)
     requires { array_vec_len text.old + word_line_bytes ≤ N }
     ensures { text.new.items ≡ text.old.items ++ line_of word }
 {
-    let [a, b, c, d] = word.to_be_bytes();
     let digits = [
-        digit(a / 16),
-        digit(a % 16),
-        digit(b / 16),
-        digit(b % 16),
-        digit(c / 16),
-        digit(c % 16),
-        digit(d / 16),
-        digit(d % 16),
+        digit(word / 0x1000_0000 % 16),
+        digit(word / 0x100_0000 % 16),
+        digit(word / 0x10_0000 % 16),
+        digit(word / 0x1_0000 % 16),
+        digit(word / 0x1000 % 16),
+        digit(word / 0x100 % 16),
+        digit(word / 0x10 % 16),
+        digit(word % 16),
         b'\n',
     ];
     put(&digits, text)
 }
 
 // The first words of the output, or all where there are fewer.
+#[tactic(auto, using(crate::proofs::LineLaws::no_lines, crate::proofs::LineLaws::line_more, crate::proofs::LineLaws::line_long, crate::proofs::LineLaws::lines_all))]
 fn put_lines<const N: usize>(out: &[u8], count: usize, text: &mut ArrayVec<u8, N>)
     requires { array_vec_len text.old + word_line_bytes * (length out.now / 4) ≤ N }
     ensures { text.new.items ≡ text.old.items ++ lines_of (take count (words_of out.now)) }
