@@ -5,7 +5,7 @@ use std::fmt;
 // What a buffer holds before a call: words of the kind 222, which no pack has, that begin with this one and grow by 1.
 const MARK: u32 = 0xDEAD0000;
 
-// What came of a call is another than the one expected.
+// What differs: the answer of a call, a word that it leaves, or the list itself, which asks for what there is not.
 #[derive(Clone, Copy)]
 pub enum Difference {
     Answer {

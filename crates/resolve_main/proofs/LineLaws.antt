@@ -1,6 +1,5 @@
 -- Laws of words on lines.
-use Prim.Native.Nat.{ℕ, zero, suc, ◌+◌, ◌/◌, ◌<◌, ◌≤◌, min}
-use native.Mathlib.Omega.{arith}
+use Prim.Native.Nat.{ℕ, ◌+◌, ◌/◌, ◌<◌, ◌≤◌, min}
 use mathlib.Core.Path.{◌≡◌, refl, ap, ◌∙◌}
 use mathlib.Core.List.{List, [], ◌∷◌, ◌++◌, append-nil, append_assoc, map}
 use lib.ListN.{length, take, get_or, length-append}
@@ -8,8 +7,9 @@ use mir.Syntax.{w32}
 use Rattle.std.specs.Int.{from_le_bytes}
 use Rattle.std.specs.Simd.{first_chunks}
 use Rattle.std.proofs.lemmas.List.{map_more, take-map, take_all, take_min}
-use Rattle.definitions.specs.Bytes.{word_from, words_of}
+use Rattle.definitions.specs.Bytes.{words_of}
 use Rattle.definitions.specs.Text.{line_of, lines_of}
+use Rattle.wire.proofs.ByteLaws.{words-fours}
 
 lines_append : (ws vs : List ℕ) → lines_of (ws ++ vs) ≡ lines_of ws ++ lines_of vs
 unfolding lines_of
@@ -24,27 +24,11 @@ pub no_lines : (before : List ℕ) → before ≡ before ++ lines_of []
 unfolding lines_of
 no_lines before = simp append-nil
 
--- ---- the words of bytes are those of their chunks of four
-
+-- the words of chunks of four bytes each
 abbrev pub words_in : List (List ℕ) → List ℕ
 words_in chunks = map (from_le_bytes w32) chunks
 
-chunk_words : (k : ℕ) (bytes : List ℕ) → k ≡ length bytes / 4 → words_in (first_chunks 4 k bytes) ≡ words_of bytes
-unfolding words_of
-chunk_words zero [] e = refl
-chunk_words zero (a ∷ []) e = refl
-chunk_words zero (a ∷ b ∷ []) e = refl
-chunk_words zero (a ∷ b ∷ c ∷ []) e = refl
-chunk_words zero (a ∷ b ∷ c ∷ d ∷ bytes) e = absurd (omega arith)
-chunk_words (suc k) [] e = absurd (omega arith)
-chunk_words (suc k) (a ∷ []) e = absurd (omega arith)
-chunk_words (suc k) (a ∷ b ∷ []) e = absurd (omega arith)
-chunk_words (suc k) (a ∷ b ∷ c ∷ []) e = absurd (omega arith)
-chunk_words (suc k) (a ∷ b ∷ c ∷ d ∷ bytes) e =
-    let there : k ≡ length bytes / 4 = omega arith in
-    ap (λ (l : List ℕ). word_from a b c d ∷ l) (chunk_words k bytes there)
-
--- ---- a turn
+-- a turn
 
 pub line_more : (before : List ℕ) (chunks : List (List ℕ)) (i : ℕ) {text after : List ℕ} {w : ℕ} → i < length chunks
     → text ≡ before ++ lines_of (words_in (take i chunks)) → w ≡ from_le_bytes w32 (get_or chunks i []) → after ≡ text ++ line_of w
@@ -63,4 +47,4 @@ pub lines_all : (out : List ℕ) (n : ℕ) {chunks : List (List ℕ)} {m i : ℕ
 lines_all out n {chunks} {m} {i} c e h =
     ap words_in (take_all i (take m chunks) h ∙ ap (λ (k : ℕ). take k chunks) e ∙ take_min n chunks)
     ∙ ap (λ (l : List (List ℕ)). words_in (take n l)) c
-    ∙ rw (← take-map (from_le_bytes w32) n (first_chunks 4 (length out / 4) out), chunk_words (length out / 4) out refl)
+    ∙ rw (← take-map (from_le_bytes w32) n (first_chunks 4 (length out / 4) out), words-fours out (length out / 4) refl)
