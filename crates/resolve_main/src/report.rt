@@ -1,4 +1,5 @@
-// An answer as text. Each function adds to a text what it says.
+// An answer as text. Each function adds to a text what it says. `write!` may fail, and what is printed never does, so the pieces are put
+// one behind the other.
 ghost use Rattle.std.specs.Prelude.{◌≡◌, ◌++◌, ◌+◌, ◌*◌, ◌/◌, ◌<◌, ◌≤◌, length, take};
 ghost use Rattle.arrayvec.specs.ArrayVec.{array_vec_len};
 ghost use Rattle.definitions.specs.Bytes.{words_of, decode};
@@ -51,7 +52,7 @@ fn put_number<const N: usize>(n: u64, text: &mut ArrayVec<u8, N>)
     put(Buffer::new().format(n).as_bytes(), text)
 }
 
-// An upper-case hexadecimal digit.
+// An upper-case hexadecimal digit; those of `char::from_digit` are lower-case.
 fn digit(d: u32) -> u8
     requires { d < 16 }
     ensures { result ≡ digit_of d }
