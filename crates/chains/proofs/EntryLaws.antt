@@ -1,4 +1,5 @@
 -- The directory that Check writes says of every name what its record says.
+use Rattle.std.specs.Prelude.{Ok}
 use Prim.Native.Nat.{ℕ, zero, suc, ◌+◌, ◌-◌, ◌*◌, ◌/◌, ◌%◌, ◌<◌, ◌≤◌}
 use native.Mathlib.Omega.{arith}
 use native.Mathlib.Numerals.{add-one}
@@ -17,9 +18,7 @@ use Rattle.definitions.specs.Records.{Hop, Derivation, Relation, Pack}
 use Rattle.definitions.specs.FieldRows.{to_row}
 use Rattle.definitions.specs.Pack.{WellFormed, yes, read, new_name, relation, relations, defaulted}
 use Rattle.records.specs.declared.directory.Layout.{Layout}
-use Rattle.records.specs.declared.directory.Laid.{Laid}
-use Rattle.records.specs.declared.directory.Laid.TheVariants.{Yes}
-use Rattle.records.specs.Directory.{notes_all, note_relation, directory_of, layout_of, relations_at, rules_at, blocks_at, entry, derived_note, note_in, lead_of, Clear}
+use Rattle.records.specs.Directory.{Laid, notes_all, note_relation, directory_of, layout_of, relations_at, rules_at, blocks_at, entry, derived_note, note_in, lead_of, Clear}
 use Rattle.checking.specs.CheckPromises.{names_said, DirectoryChecked, answer_in}
 use Rattle.definitions.specs.Chain.{mapped, end, next}
 use Rattle.definitions.specs.Kinds.{list21, inherits, plain, derived, declares, declared, find, read_at, kind_step}
@@ -27,9 +26,8 @@ use Rattle.definitions.specs.Places.{start_of, first_relation, relations_end, co
 use Rattle.definitions.specs.Places as places
 use Rattle.chains.specs.Declaration.{coded_link, placed, declaration_at}
 use Rattle.definitions.specs.Answers.{table_from}
-use Rattle.chains.specs.Settle.{ReadOne}
 use Rattle.chains.specs.DirectoryWord.{Reaches, word_in, start_by, slots_by, declared_by, start_in, slot_in, declared_in, starts_in, slots_in, declarations_in, names_in}
-use Rattle.chains.specs.PackDirectory.{place_in, record_of, slots_for, slots_of, IsPack, ClearTable, DirectoryRoom, IsDirectory}
+use Rattle.chains.specs.PackDirectory.{place_in, record_of, slots_for, slots_of, IsPack, ClearTable, DirectoryRoom, IsDirectory, Sized}
 use Rattle.pack.proofs.PackLaws.{words-read}
 use Rattle.checking.proofs.CheckLaws.{clear-zeros, said-most}
 use Rattle.chains.proofs.FillLaws.{whole_at, whole-past, table-length}
@@ -113,10 +111,13 @@ pub name-here : (dir : List ℕ) (count j : ℕ) → j < count → get_or (names
 unfolding names_in
 name-here dir count j h = whole_at (λ j. get_or dir j 0) count j h
 
-names-front : (dir : List ℕ) (count : ℕ) → count ≤ length dir → names_in dir count ≡ take count dir
+pub names-front : (dir : List ℕ) (count : ℕ) → count ≤ length dir → names_in dir count ≡ take count dir
 names-front dir many h =
     let l = length-take-le many dir h in
     ext_get_or 0 (names_in dir many) (take many dir) (names-long dir many ∙ sym l) (λ j k. name-here dir many j (omega (arith, names-long dir many)) ∙ sym (get_or-take many dir j 0 (omega (arith, names-long dir many))))
+
+pub front-long : (dir : List ℕ) (count : ℕ) → count ≤ length dir → length (take count dir) ≡ length (names_in dir count)
+front-long dir count h = ap length (sym (names-front dir count h))
 
 -- ---- what a word says
 
@@ -327,18 +328,13 @@ module _ (p : Pack) (w : WellFormed p) (d : List ℕ) (clear : Clear p.names d) 
           declared-said (starts_at m) (start_low m) r b.few b.short
           ∙ ap coded_link (mapped_alike (placed (starts_at m) r) (place_of p) r.name refl (λ c. rw (f, s) refl) r.slot_kinds r.derivation)
 
--- one name read
-pub read_one : (dir : List ℕ) {n steps : ℕ} → Reaches dir (n + 1) → {r : ℕ} → r ≡ declared_in dir n → ReadOne (declarations_in dir) n steps r (steps + 1)
-unfolding declarations_in
-read_one dir {n} h e = record { says = e ∙ sym (whole_at (declared_in dir) 4096 n (omega (arith, h.most))); counts = refl }
-
 -- what reaches so many names reaches each
 pub reaches_one : {dir : List ℕ} {names n : ℕ} → Reaches dir names → n < names → Reaches dir (n + 1)
 reaches_one r h = record { most = omega (arith, r.most); long = omega (arith, r.long) }
 
 -- ---- what Check gives
 
-module _ {ws d : List ℕ} (clear : Clear (names_said ws) d) {r : Laid} {d' : List ℕ} (c : DirectoryChecked ws d r d') {l : Layout} (o : r ≡ Yes l) where
+module _ {ws d : List ℕ} (clear : Clear (names_said ws) d) {r : Laid} {d' : List ℕ} (c : DirectoryChecked ws d r d') {l : Layout} (o : r ≡ Ok l) where
   it : IsPack ws
   it = checked ws c.answers (ap answer_in o)
 
@@ -358,7 +354,7 @@ module _ {ws d : List ℕ} (clear : Clear (names_said ws) d) {r : Laid} {d' : Li
   all = (c.lays p it.reads).1
 
   laid : l ≡ layout_of p.names 2 (length ws) (to_row p).1 first all
-  laid = let e : Yes l ≡ Yes (layout_of p.names 2 (length ws) (to_row p).1 first all) = sym o ∙ (c.lays p it.reads).2 in cc
+  laid = let e : Ok l ≡ Ok (layout_of p.names 2 (length ws) (to_row p).1 first all) = sym o ∙ (c.lays p it.reads).2 in cc
 
   same-directory : d' ≡ directory_of p.names 2 (to_row p).1 d
   same-directory = c.enters p it.reads
@@ -394,10 +390,6 @@ module _ {ws d : List ℕ} (clear : Clear (names_said ws) d) {r : Laid} {d' : Li
             (λ m. ap (λ (x : List ℕ). get_or (declarations_in x) m 0) same-directory ∙ says_there p fine d clear-names m);
       }
 
--- a cleared directory for all names
-pub clear-all : (ws : List ℕ) → Clear (names_said ws) (replicate 4608 0)
-clear-all ws = clear-zeros (names_said ws) 4608 (omega (arith, said-most ws))
-
 -- ---- tables as long as the words ask
 
 pub room_for : {ws : List ℕ} {n : ℕ} (k : ℕ) → n ≡ names_said ws → n ≤ k → k ≤ 4096 → DirectoryRoom ws (replicate (512 + k) 0) (replicate k 0)
@@ -410,6 +402,12 @@ room_for {ws} k e h m =
 
 pub room-all : (ws : List ℕ) → DirectoryRoom ws (replicate 4608 0) (replicate 4096 0)
 room-all ws = room_for {n = names_said ws} 4096 refl (said-most ws) (omega arith)
+
+pub room_sized : {ws : List ℕ} {words names : ℕ} → Sized ws words names → DirectoryRoom ws (replicate words 0) (replicate names 0)
+room_sized {ws} {names = k} s = rw s.both (room_for {n = names_said ws} k refl s.enough s.most)
+
+pub sized_all : (ws : List ℕ) → Sized ws 4608 4096
+sized_all ws = record { enough = said-most ws; most = omega arith; both = omega arith }
 
 -- of a checked pack they are as long as N asks
 pub lent-said : {ws dir t : List ℕ} {l : Layout} → IsDirectory ws l dir → ClearTable (names_said ws) t → ClearTable l.names t

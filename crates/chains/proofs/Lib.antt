@@ -16,5 +16,6 @@ pub mod RecordLaws
 pub mod DeclarationLaws
 pub mod EntryLaws
 pub mod FillLaws
+pub mod ByName
 pub mod AnswerLaws
 pub mod RefusalNumbers

@@ -1,5 +1,5 @@
 -- A relation that stands at a place of the words: what the code reads there is what its record says.
-use Prim.Native.Nat.{ℕ, zero, suc, ◌+◌, ◌*◌, ◌<◌, ◌≤◌}
+use Prim.Native.Nat.{ℕ, ◌+◌, ◌*◌, ◌<◌, ◌≤◌}
 use native.Mathlib.Omega.{arith}
 use mathlib.Core.Path.{◌≡◌, refl, ap, sym, ◌∙◌}
 use mathlib.Core.List.{List, [], ◌∷◌, ◌++◌, map, append_assoc}
@@ -19,38 +19,6 @@ use Rattle.chains.specs.Record.{value_at, kind_count, flag_at, slots_place, step
 use Rattle.chains.proofs.Names.{or_left, or_right}
 use Rattle.chains.proofs.RelationForm.{Fitting, Kept, kept}
 use Rattle.chains.proofs.ListAt.{name_words, list-words, path-words, early, late, option-words, InWords}
-
--- ---- what is read, in each way out
-
-beyond : (ws : List ℕ) (at : ℕ) → length ws ≤ at → get_or ws at 0 ≡ 0
-beyond [] at h = refl
-beyond (w ∷ ws) zero h = absurd (omega arith)
-beyond (w ∷ ws) (suc at) h = beyond ws at (omega arith)
-
-pub past_end : (ws : List ℕ) (at : ℕ) → length ws ≤ at → 0 ≡ value_at ws at
-unfolding value_at
-past_end ws at h = sym (rw (beyond ws at h) refl)
-
-pub in_words : (ws : List ℕ) (at : ℕ) → value_of (get_or ws at 0) ≡ value_at ws at
-unfolding value_at
-in_words ws at = refl
-
-module _ (ws : List ℕ) (start : ℕ) where
-  pub no_steps : {count steps : ℕ} → count ≡ kind_count ws start → steps ≡ value_at ws (start + 4 + count + 2) → steps ≡ 16777215 → start + 4 + count + 3 ≡ slots_place ws start
-  unfolding slots_place
-  no_steps {count} {steps} k s e = sym (rw (← k, ← s, eq-eqb steps 16777215 e) (omega arith))
-
-  pub some_steps : {count steps : ℕ} → count ≡ kind_count ws start → steps ≡ value_at ws (start + 4 + count + 2) → (steps ≡ 16777215 → ⊥) → start + 4 + count + 3 + 3 * steps ≡ slots_place ws start
-  unfolding slots_place
-  some_steps {count} {steps} k s e = sym (rw (← k, ← s, ne_eqb steps 16777215 e) refl)
-
-  pub the_flag : {count flag : ℕ} → count ≡ kind_count ws start → flag ≡ value_at ws (start + 4 + count) → flag ≡ flag_at ws start
-  unfolding flag_at
-  the_flag k f = rw (← k) f
-
-  pub the_count : {count : ℕ} → count ≡ value_at ws (start + 3) → count ≡ kind_count ws start
-  unfolding kind_count
-  the_count e = e
 
 -- ---- a relation that stands there
 

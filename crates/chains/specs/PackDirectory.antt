@@ -72,6 +72,12 @@ pub record DirectoryRoom (ws dir t : List ℕ) : Type 0 where
   pub lent : ClearTable (names_said ws) t
   pub reaches : Reaches dir (length t)
 
+-- so many words of a directory and so many names are as long as the words ask
+pub record Sized (ws : List ℕ) (words names : ℕ) : Type 0 where
+  pub enough : names_said ws ≤ names
+  pub most : names ≤ 4096
+  pub both : words ≡ 512 + names
+
 -- the layout and the directory of a pack: what they say of its records
 pub record IsDirectory (ws : List ℕ) (l : Layout) (dir : List ℕ) : Type 0 where
   pub checked : IsPack ws

@@ -1,20 +1,47 @@
 // What the directory of a pack says of a name, and its relations in record order.
-ghost use Rattle.std.specs.Prelude.{◌≡◌, ◌+◌, ◌/◌, ◌<◌, length, get_or};
+ghost use Rattle.std.specs.Prelude.{◌≡◌, ◌+◌, ◌-◌, ◌/◌, ◌<◌, length, get_or};
 ghost use Rattle.chains.specs.DirectoryWord.{Reaches, starts_in, slots_in, declared_in};
+ghost use Rattle.chains.specs.Declaration.{Noted, Ends, number_of};
 
 use records::directory::Directory;
 
-// A declaration in one number: the place of the count word of the list that settles it, 0 for no kinds, or LEADS and the name that it leads on to.
-#[derive(Clone, Copy)]
-pub struct Declaration {}
-
-impl Declaration {
-    pub const NO_KINDS: u32 = 0;
-
-    pub const LEADS: u32 = 65536;
+// A declaration: no kinds, the place of the count word of the list that settles it, or the name that it leads on to.
+#[derive(Clone, Copy, PartialEq, Eq)]
+pub enum Declaration {
+    NoKinds,
+    At(u32),
+    Leads(u32),
 }
 
-// The place where the record of its relation starts, 0 for a name that no relation has.
+impl Declaration {
+    // Every place is below this. In the definitions, a declaration that leads on is the number of the name and this.
+    pub const LEADS: u32 = 65536;
+
+    // The name that it leads on to, 0 if it does not.
+    pub fn next_name(self) -> usize
+        requires { Ends self }
+        ensures { result ≡ number_of self - 65536 }
+    {
+        match self {
+            Declaration::NoKinds => 0,
+            Declaration::At(_) => 0,
+            Declaration::Leads(name) => name as usize,
+        }
+    }
+}
+
+// What a word of the directory notes of a derivation: there is none, how far behind the place of the relation its slots stand,
+// or the name that it leads on to.
+#[derive(Clone, Copy, PartialEq, Eq)]
+enum Link {
+    NoDerivation,
+    Slots(u32),
+    Leads(u32),
+}
+
+// The place where the record of its relation starts. For a name that no relation has it is 0, and no Option, since tables of places
+// hold it so.
+#[tactic(auto, using(crate::proofs::ByName::starts_by), unfolding(crate::specs::DirectoryWord::start_in))]
 pub fn start(dir: &[u32], name: usize) -> usize
     requires { Reaches dir.now (name + 1) }
     ensures { (result ≡ get_or (starts_in dir.now) name 0) × (result < 8192) }
@@ -22,45 +49,48 @@ pub fn start(dir: &[u32], name: usize) -> usize
     (dir[Directory::NAMES + name] % Directory::PLACES) as usize
 }
 
-// The link in a word of the directory.
-fn link(word: u32) -> u32
-    ensures { (result ≡ word / 8192 / 64) × (result < 8192) }
+fn link_of(word: u32) -> Link
+    ensures { Noted result (word / 8192 / 64) }
 {
-    word / Directory::PLACES / Directory::OFFSETS
+    match word / Directory::PLACES / Directory::OFFSETS {
+        0 => Link::NoDerivation,
+        link if link < Directory::OFFSETS => Link::Slots(link),
+        link => Link::Leads(link - Directory::OFFSETS),
+    }
 }
 
-// The place of its slots, 0 without a derivation.
+// The place of its slots. Without a derivation it is 0, as with `start`.
+#[tactic(auto, using(crate::proofs::ByName::slots_by), unfolding(crate::specs::DirectoryWord::slot_in))]
 pub fn slots(dir: &[u32], name: usize) -> usize
     requires { Reaches dir.now (name + 1) }
     ensures { (result ≡ get_or (slots_in dir.now) name 0) × (result < 16384) }
 {
     let word = dir[Directory::NAMES + name];
-    let link = link(word);
-    if link == 0 {
-        return 0;
+    let at = word % Directory::PLACES;
+    match link_of(word) {
+        Link::NoDerivation => 0,
+        Link::Slots(behind) => (at + behind) as usize,
+        Link::Leads(_) => (at + Directory::LEADING_SLOTS) as usize,
     }
-    let at = (word % Directory::PLACES) as usize;
-    if link < Directory::OFFSETS {
-        return at + link as usize;
-    }
-    at + Directory::LEADING_SLOTS as usize
 }
 
 // Its declaration; without a relation it has no kinds.
-pub fn declared(dir: &[u32], name: usize) -> u32
+#[tactic(auto, unfolding(crate::specs::DirectoryWord::declared_in))]
+pub fn declared(dir: &[u32], name: usize) -> Declaration
     requires { Reaches dir.now (name + 1) }
-    ensures { result ≡ declared_in dir.now name }
+    ensures says { number_of result ≡ declared_in dir.now name }
+    ensures ends { Ends result }
 {
     let word = dir[Directory::NAMES + name];
     let list = word / Directory::PLACES % Directory::OFFSETS;
     if list != 0 {
-        return word % Directory::PLACES + list;
+        return Declaration::At(word % Directory::PLACES + list);
     }
-    let link = link(word);
-    if link < Directory::OFFSETS {
-        return Declaration::NO_KINDS;
+    match link_of(word) {
+        Link::NoDerivation => Declaration::NoKinds,
+        Link::Slots(_) => Declaration::NoKinds,
+        Link::Leads(name) => Declaration::Leads(name),
     }
-    Declaration::LEADS + (link - Directory::OFFSETS)
 }
 
 // The name of the relation with a number.
@@ -68,11 +98,5 @@ pub fn name_at(dir: &[u32], i: usize) -> usize
     requires { i < length dir.now }
     ensures { result ≡ get_or dir.now i 0 }
 {
-    wide(dir[i])
-}
-
-fn wide(x: u32) -> usize
-    ensures { result ≡ x }
-{
-    x as usize
+    dir[i] as usize
 }

@@ -1,13 +1,20 @@
 // The chain walk over the declarations of the directory: each name's answer is the place of the list that settles it, 0 for no kinds.
-// Marks by name say what is known: unseen, on the path of the walk that is going on, or settled.
 ghost use Rattle.std.specs.Prelude.{◌≡◌, ◌+◌, ◌-◌, ◌<◌, ◌≤◌, length};
+ghost use Rattle.chains.specs.Declaration.{Ends, number_of};
 ghost use Rattle.chains.specs.DirectoryWord.{Reaches, declarations_in, names_in};
+ghost use Rattle.chains.specs.Mark.{number_of_mark};
 ghost use Rattle.chains.specs.Settle.{Leading, ReadOne, marked_path, Walkable, WentAhead, WalkedHere, Settleable, SettledAll};
 
 use crate::entry::{Declaration, declared, name_at};
 
-#[derive(Clone, Copy)]
-pub struct Mark {}
+// What is known of a name: nothing, that it is on the path of the walk that is going on, or its answer. Tables of marks by name hold
+// it as a number, since they stand on the stack, where words of two numbers would take twice the room.
+#[derive(Clone, Copy, PartialEq, Eq)]
+pub enum Mark {
+    Unseen,
+    OnPath,
+    Settled(u32),
+}
 
 impl Mark {
     pub const UNSEEN: u32 = 0;
@@ -16,12 +23,35 @@ impl Mark {
 
     // A settled name's mark is this and its answer.
     pub const SETTLED: u32 = 2;
+
+    pub fn of(number: u32) -> Mark
+        ensures { number_of_mark result ≡ number }
+    {
+        match number {
+            Mark::UNSEEN => Mark::Unseen,
+            Mark::ON_PATH => Mark::OnPath,
+            _ => Mark::Settled(number - Mark::SETTLED),
+        }
+    }
+
+    // The answer of a settled name, 0 where none is known.
+    pub fn answer(self) -> u32
+        ensures { result ≡ number_of_mark self - 2 }
+    {
+        match self {
+            Mark::Unseen => 0,
+            Mark::OnPath => 0,
+            Mark::Settled(answer) => answer,
+        }
+    }
 }
 
 // One declaration read at a name: the only place that adds to the steps.
-fn read_name(dir: &[u32], n: usize, steps: &mut u32) -> u32
+#[tactic(auto, using(crate::proofs::ByName::declarations_by))]
+fn read_name(dir: &[u32], n: usize, steps: &mut u32) -> Declaration
     requires { Reaches dir.now (n + 1) × (steps.old < 4294967295) }
-    ensures { ReadOne (declarations_in dir.now) n steps.old result steps.new }
+    ensures reads { ReadOne (declarations_in dir.now) n steps.old (number_of result) steps.new }
+    ensures ends { Ends result }
 {
     *steps += 1;
     declared(dir, n)
@@ -34,34 +64,19 @@ fn ahead(dir: &[u32], marks: &mut [u32], steps: &mut u32, start: usize, fuel: u3
     ensures { WentAhead (declarations_in dir.now) marks.old steps.old start fuel result marks.new steps.new }
 {
     let mut n = start;
-    let mut left = fuel;
-    while 0 < left {
-        let m = marks[n];
-        if Mark::SETTLED <= m {
-            return m - Mark::SETTLED;
+    for _ in 0..fuel {
+        match Mark::of(marks[n]) {
+            Mark::Settled(answer) => return answer,
+            Mark::OnPath => return 0,
+            Mark::Unseen => marks[n] = Mark::ON_PATH,
         }
-        if m == Mark::ON_PATH {
-            return Declaration::NO_KINDS;
+        match read_name(dir, n, steps) {
+            Declaration::NoKinds => return 0,
+            Declaration::At(place) => return place,
+            Declaration::Leads(name) => n = name as usize,
         }
-        marks[n] = Mark::ON_PATH;
-        let x = read_name(dir, n, steps);
-        if x < Declaration::LEADS {
-            return x;
-        }
-        n = next_name(x);
-        left -= 1;
     }
-    Declaration::NO_KINDS
-}
-
-// The name that a declaration leads on to; 0 where it does not.
-fn next_name(x: u32) -> usize
-    ensures { result ≡ x - 65536 }
-{
-    if x < Declaration::LEADS {
-        return 0;
-    }
-    (x - Declaration::LEADS) as usize
+    0
 }
 
 // So many names along the chain from a name get a mark.
@@ -70,11 +85,9 @@ fn mark_path(dir: &[u32], marks: &mut [u32], start: usize, count: u32, mark: u32
     ensures { marks.new ≡ marked_path (declarations_in dir.now) mark count start marks.old }
 {
     let mut n = start;
-    let mut left = count;
-    while 0 < left {
+    for _ in 0..count {
         marks[n] = mark;
-        n = next_name(declared(dir, n));
-        left -= 1;
+        n = declared(dir, n).next_name();
     }
 }
 
@@ -95,10 +108,8 @@ pub fn settle_all(dir: &[u32], marks: &mut [u32], count: u32) -> u32
     ensures { SettledAll (declarations_in dir.now) marks.old (names_in dir.now count) 0 (count + 1) marks.new result }
 {
     let mut steps: u32 = 0;
-    let mut j: u32 = 0;
-    while j < count {
-        walk(dir, marks, &mut steps, name_at(dir, j as usize), count + 1);
-        j += 1;
+    for name in &dir[..count as usize] {
+        walk(dir, marks, &mut steps, *name as usize, count + 1);
     }
     steps
 }

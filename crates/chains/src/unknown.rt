@@ -2,16 +2,15 @@
 ghost use Rattle.std.specs.Prelude.{◌≡◌};
 ghost use Rattle.definitions.specs.Answers.{unknown};
 
-use definitions::answer::{Answer, Number, Refusal};
+use definitions::answer::{Number, Refusal};
+use pack::refusal::refused;
 
 // The refusal of a name that is not below N.
-pub fn unknown_name(name: u32) -> Answer
-    ensures { result ≡ unknown name }
+pub fn unknown_name(name: u32) -> Refusal
+    ensures { Err result ≡ unknown name }
 {
-    Answer::Refused(Refusal {
-        number: Number::NOT_A_NAME,
-        place: 0,
+    Refusal {
         name,
-        other: 0,
-    })
+        ..refused(Number::NotAName, 0)
+    }
 }

@@ -3,12 +3,9 @@ use Prim.Native.Nat.{ℕ, suc, ◌+◌, ◌<◌, ◌≤◌}
 use native.Mathlib.Omega.{arith}
 use mathlib.Core.Path.{◌≡◌, refl, ap, sym, ◌∙◌}
 use mathlib.Core.List.{List, [], ◌∷◌, ◌++◌, append_assoc}
-use mathlib.Core.Bool.{Bool, true, false}
-use mathlib.Core.Option.{Option, none, some}
 use lib.ListN.{length, get_or, length-append}
 use lib.Seq.{get_or_at}
-use Rattle.definitions.specs.Table.{pick, value_of, word_of}
-use Rattle.definitions.specs.Table as tables
+use Rattle.definitions.specs.Table.{value_of, word_of}
 use Rattle.definitions.specs.Form.{Fine, FineAll, words_all, words_by}
 use Rattle.definitions.specs.Records.{Pack}
 use Rattle.definitions.specs.Pack.{yes, read, total, defaulted_name, above}
@@ -19,11 +16,6 @@ use Rattle.definitions.specs.Resolving.{equal_kinds, defaulted_equal}
 use Rattle.directions.specs.Words.{derived_in, equal_in, first_equal}
 use Rattle.chains.specs.Record.{value_at}
 use Rattle.definitions.specs.Answers.{table_from}
-
--- a name, or the number for none
-abbrev pub or_none : Option ℕ → ℕ
-or_none none = tables.none
-or_none (some n) = n
 
 module _ (ws : List ℕ) (n : ℕ) (most : n ≤ 4096) where
   abbrev NamesFine : ℕ → List ℕ → Type 0
@@ -56,18 +48,14 @@ module _ (ws : List ℕ) (n : ℕ) (most : n ≤ 4096) where
     unfolding equal_in
     equal_is m = ap equal_kinds (same m)
 
-    pick_is : (b : Bool) (v : ℕ) (o : Option ℕ) → pick b v (or_none o) ≡ or_none (pick b (some v) o)
-    pick_is true v o = refl
-    pick_is false v o = refl
-
     first-is : (ns : List ℕ) (low : ℕ) (front rest : List ℕ) (at : ℕ) → at ≡ length front → NamesFine low ns → ws ≡ front ++ (name_words low ns ++ rest)
-        → first_equal ws acts at (length ns) ≡ or_none (defaulted_equal T ns)
+        → first_equal ws acts at (length ns) ≡ defaulted_equal T ns
     unfolding defaulted_name Fine words_by first_equal defaulted_equal
     first-is [] low front rest at e f s = refl
     first-is (v ∷ ns) low front rest at e f s =
         let q = name_at front (name_words (above low v) ns ++ rest) v at f.0.0.0 e s in
         let r = first-is ns (above low v) (front ++ (word_of 4 v ∷ [])) rest (at + 1) (front_length front (word_of 4 v) at e) f.1 (after front (name_words (above low v) ns ++ rest) (word_of 4 v) s) in
-        rw (q, equal_is v, r) (pick_is (equal_kinds (T.derived v)) v (defaulted_equal T ns))
+        rw (q, equal_is v, r) refl
 
 -- ---- of a checked pack
 
@@ -93,6 +81,6 @@ module _ (ws : List ℕ) (p : Pack) (h : read ws ≡ yes p) where
   defaulted-are = ap (table_from (value_at ws) 3) count-is ∙ names-are ws p.names its.most p.defaulted 0 front rest 3 refl its.defaulted-fine stands
 
   pub first_equal-is : (acts : List ℕ) (T : Tables) → ((m : ℕ) → derived_in ws (get_or acts m 0) ≡ T.derived m)
-      → first_equal ws acts 3 (value_at ws 2) ≡ or_none (defaulted_equal T p.defaulted)
+      → first_equal ws acts 3 (value_at ws 2) ≡ defaulted_equal T p.defaulted
   first_equal-is acts T same =
       ap (first_equal ws acts 3) count-is ∙ first-is ws p.names its.most acts T same p.defaulted 0 front rest 3 refl its.defaulted-fine stands

@@ -1,4 +1,3 @@
-pub mod WordLaws
 pub mod TablesLaws
 pub mod CheckedTables
 pub mod EqualLaws

@@ -2,15 +2,12 @@
 use Rattle.std.specs.Prelude.{ℕ, zero, suc, ◌+◌, ◌<◌, ◌≡◌, List, [], ◌∷◌, Bool, get_or, eqb, ltb}
 use Rattle.std.proofs.Math.Option.{Option, none, some}
 use Rattle.definitions.specs.Table.{pick}
-use Rattle.definitions.specs.Table as table
 use Rattle.definitions.specs.Places.{names_at}
 use Rattle.chains.specs.Record.{value_at}
 use Rattle.filtered.specs.Acts.{act_part, act_list}
 use Rattle.filtered.specs.Said.{direct_in}
 use Rattle.definitions.specs.declared.direction.Direction.{Direction}
 use Rattle.definitions.specs.declared.direction.Direction.TheVariants.{Directed, Open}
-use Rattle.directions.specs.declared.direction.Membership as direction
-use Rattle.directions.specs.declared.direction.Membership.TheVariants.{Kinds, Unknown}
 use Rattle.definitions.specs.Tables.{Derived, Tables}
 use Rattle.definitions.specs.Direction.{Membership, member_kinds, member_direction}
 use Rattle.definitions.specs.Resolving.{equal_kinds}
@@ -25,16 +22,6 @@ derived_in ws x = pick (ltb (act_part x) 2) none (some (record { current = value
 -- the tables, from the words, what aggregates do by name, and what is known of entities
 unfoldable pub tables_in : List ℕ → List ℕ → List ℕ → Tables
 tables_in ws acts taken = record { typed = λ n. typed_in ws (get_or acts n 0); derived = λ n. derived_in ws (get_or acts n 0); direct = direct_in taken }
-
--- the code's membership
-abbrev pub membership_of : direction.Membership → Membership
-membership_of (Kinds c r) = some (c, r)
-membership_of Unknown = none
-
--- its kinds are values
-abbrev pub MembershipFits : direction.Membership → Type 0
-MembershipFits (Kinds c r) = (c < 16777216) × (r < 16777216)
-MembershipFits Unknown = Unit {0}
 
 -- the membership of what stands in the predicate of a relation, by its number; with 0 there is none
 unfoldable pub member_in : List ℕ → ℕ → Membership
@@ -54,6 +41,6 @@ unfoldable pub equal_in : List ℕ → List ℕ → ℕ → Bool
 equal_in ws acts n = equal_kinds (derived_in ws (get_or acts n 0))
 
 -- the first of so many names from a place on with equal kinds, or none
-unfoldable pub first_equal : List ℕ → List ℕ → ℕ → ℕ → ℕ
-first_equal ws acts at zero = table.none
-first_equal ws acts at (suc k) = pick (equal_in ws acts (value_at ws at)) (value_at ws at) (first_equal ws acts (at + 1) k)
+unfoldable pub first_equal : List ℕ → List ℕ → ℕ → ℕ → Option ℕ
+first_equal ws acts at zero = none
+first_equal ws acts at (suc k) = pick (equal_in ws acts (value_at ws at)) (some (value_at ws at)) (first_equal ws acts (at + 1) k)

@@ -1,35 +1,35 @@
 // Derived relations with equal kinds in both slots.
 ghost use Rattle.std.specs.Prelude.{◌≡◌};
 ghost use Rattle.chains.specs.Record.{value_at};
+ghost use Rattle.filtered.specs.Taking.{option_in};
 ghost use Rattle.directions.specs.Words.{equal_in, first_equal};
 
-use crate::direction::{Membership, slot_kinds};
+use crate::direction::slot_kinds;
 use chains::record::value_at;
 use filtered::act::act_of;
-use pack::kinds::Pack;
 
 // Whether a name is that of a derived relation with equal kinds there.
+#[tactic(auto, using(crate::proofs::EqualLaws::equal_known, crate::proofs::EqualLaws::equal_unknown))]
 pub fn equal_kinds(pack: &[u32], acts: &[u32], name: usize) -> bool
     ensures { result ≡ equal_in pack.now acts.now name }
 {
-    let Membership::Kinds(c, r) = slot_kinds(pack, act_of(acts, name)) else {
-        return false;
-    };
-    c == r
+    match slot_kinds(pack, act_of(acts, name)) {
+        Some((c, r)) => c == r,
+        None => false,
+    }
 }
 
-// The first defaulted name of a checked pack with equal kinds, or NONE.
-pub fn first_equal(pack: &[u32], acts: &[u32]) -> u32
-    ensures { result ≡ first_equal pack.now acts.now 3 (value_at pack.now 2) }
+// The first defaulted name of a checked pack with equal kinds.
+#[tactic(auto, using(crate::proofs::EqualLaws::look, crate::proofs::EqualLaws::found, crate::proofs::EqualLaws::look_on, crate::proofs::EqualLaws::looked))]
+pub fn first_equal(pack: &[u32], acts: &[u32]) -> Option<u32>
+    ensures { option_in result ≡ first_equal pack.now acts.now 3 (value_at pack.now 2) }
 {
     let count = value_at(pack, 2) as usize;
-    let mut i: usize = 0;
-    while i < count {
+    for i in 0..count {
         let name = value_at(pack, 3 + i);
         if equal_kinds(pack, acts, name as usize) {
-            return name;
+            return Some(name);
         }
-        i += 1;
     }
-    Pack::NONE
+    None
 }

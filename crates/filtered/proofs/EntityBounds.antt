@@ -1,7 +1,7 @@
 -- The entities of a checked pack are its names: past them no derivation names one, and none takes a kind.
 use Prim.Native.Nat.{ℕ, ◌≤◌}
 use native.Mathlib.Omega.{arith}
-use mathlib.Core.Path.{◌≡◌, refl, ap}
+use mathlib.Core.Path.{◌≡◌, refl}
 use mathlib.Core.List.{List, [], ◌∷◌}
 use mathlib.Core.Bool.{Bool, true, false, ◌||◌}
 use mathlib.Core.Option.{Option, none, some}
@@ -13,7 +13,7 @@ use Rattle.definitions.specs.Form.{among, allowed_here, items, Fine}
 use Rattle.definitions.specs.Records.{Derivation, Relation, Pack}
 use Rattle.definitions.specs.Pack.{WellFormed, derivation, member, optional_derivation, relation_tail}
 use Rattle.definitions.specs.Lean.{any}
-use Rattle.definitions.specs.Filtered.{entity_is, takes, taken_from, taken, single, direct, names_entity}
+use Rattle.definitions.specs.Filtered.{entity_is, takes, taken_from, taken, names_entity}
 use Rattle.chains.proofs.RelationForm.{RelationsFine, kept}
 use Rattle.chains.proofs.PackParts.{parts}
 
@@ -68,7 +68,3 @@ module _ (p : Pack) (w : WellFormed p) (e : ℕ) (past : p.names ≤ e) where
 
   pub nobody_names : any (λ (r : Relation). names_entity e r.derivation) p.relations ≡ false
   nobody_names = none_named p.names e past [] p.relations (parts p w).relations-fine
-
-  pub no_direct : direct p.relations e ≡ none
-  unfolding direct
-  no_direct = ap single takes-nothing

@@ -1,4 +1,5 @@
 -- What the filtered tables answer and leave, in each of their ways out.
+use Rattle.std.specs.Prelude.{Err}
 use Prim.Native.Nat.{ℕ, ◌-◌, ◌<◌, ◌≤◌}
 use mathlib.Core.Path.{◌≡◌, refl, sym, ◌∙◌}
 use mathlib.Core.List.{List}
@@ -6,8 +7,8 @@ use mathlib.Core.Logic.{◌⊎◌}
 use lib.ListN.{length}
 use borrow.Rule.Slice.PartMut.{put_mid}
 use Rattle.definitions.specs.declared.answer.Refusal.{Refusal}
-use Rattle.definitions.specs.declared.answer.Answer.{Answer}
-use Rattle.definitions.specs.declared.answer.Answer.TheVariants.{Given, Refused}
+use Rattle.definitions.specs.Answers.{Answer}
+use Rattle.definitions.specs.Answers.{gives}
 use Rattle.definitions.specs.Records.{Pack}
 use Rattle.definitions.specs.Answers.{out_of_room, write_answer, Answered}
 use Rattle.definitions.specs.Checking.{check_answer}
@@ -25,7 +26,7 @@ abbrev no_steps : Pack → ℕ
 no_steps p = 0
 
 module _ (f : Filter) (ws lent : List ℕ) where
-  pub filter-refused : {a : Answer} {r : Refusal} → a ≡ check_answer ws → a ≡ Refused r → Answered (filter_answer f) (filter_buffer f) ws lent a lent
+  pub filter-refused : {a : Answer} {r : Refusal} → a ≡ check_answer ws → a ≡ Err r → Answered (filter_answer f) (filter_buffer f) ws lent a lent
   unfolding filter_answer filter_buffer
   filter-refused e o = made_refused (filter_words f) no_steps ws lent e o
 
@@ -37,11 +38,11 @@ module _ (f : Filter) (ws lent : List ℕ) where
     unfolding filter_answer filter_buffer
     filter-room h e = made_room (filter_words f) no_steps ws lent c one_name h e
 
-    pub filter-done : n ≤ length lent → {out : List ℕ} → FilterLeft f ws out → Answered (filter_answer f) (filter_buffer f) ws lent (Given n 0) (put_mid 0 (n - 0) lent out)
+    pub filter-done : n ≤ length lent → {out : List ℕ} → FilterLeft f ws out → Answered (filter_answer f) (filter_buffer f) ws lent (gives n 0) (put_mid 0 (n - 0) lent out)
     unfolding filter_answer filter_buffer
     filter-done h l = made_done (filter_words f) no_steps ws lent c one_name h refl (l.holds c.pack c.reads)
 
 -- they refuse by Check's numbers and 16 alone
-pub filter_numbers : (f : Filter) (ws : List ℕ) (room : ℕ) (r : Refusal) → filter_answer f ws room ≡ Refused r → CheckRefuses ws r ⊎ NoRoom r
+pub filter_numbers : (f : Filter) (ws : List ℕ) (room : ℕ) (r : Refusal) → filter_answer f ws room ≡ Err r → CheckRefuses ws r ⊎ NoRoom r
 unfolding filter_answer
 filter_numbers f ws room r e = refuses NoRoom (λ p. write_answer (filter_words f p) 0 room) (λ p r. writing_refuses (filter_words f p) 0 room r) ws r e

@@ -6,7 +6,8 @@ use mathlib.Core.Path.{◌≡◌, refl, ap, sym, ◌∙◌, subst}
 use mathlib.Core.List.{List}
 use mathlib.Core.Bool.{Bool, true, false}
 use mathlib.Core.Option.{Option, none, some, map}
-use lib.ListN.{length, get_or, set, get_or-eq_default}
+use lib.ListN.{length, get_or, set, replicate, length-replicate, get_or-eq_default}
+use Rattle.std.proofs.lemmas.List.{get_or-replicate}
 use lib.Seq.{get_or-set_same, get_or-set_other}
 use lib.Dec.{eqb, ltb}
 use borrow.Author.Tests.{eq-eqb, eqb-true, eqb-false, lt-ltb, le-ltb, ltb-true, ltb-false}
@@ -17,15 +18,15 @@ use Rattle.definitions.specs.Chain.{end, next, mapped, Settled, nothing, AllWalk
 use Rattle.definitions.specs.Filtered.{inner_at, up_to, inner_step}
 use Rattle.definitions.specs.Answers.{table_from}
 use Rattle.chains.specs.DirectoryWord.{word_in, declared_by, declared_in, declarations_in}
-use Rattle.chains.specs.Settle.{link_at, Leading, settled_in, walks_in, Walkable, WalkedHere, SettledAll}
+use Rattle.chains.specs.Settle.{link_at, Leading, settled_in, walks_in, WalkedHere, SettledAll}
 use Rattle.chains.specs.PackDirectory.{ClearTable}
-use Rattle.filtered.specs.Said.{direct_of, inner_entry, plainly, unseen, direct_in, InnerAsked, InnerWords, InnerSettleable, InnerSettled, answered, InnerMarked}
+use Rattle.filtered.specs.Said.{direct_of, direct_by, inner_entry, plainly, direct_in, InnerAsked, InnerWords, InnerSettleable, InnerSettled, answered, InnerMarked}
 use Rattle.chains.proofs.Names.{or_left, or_right}
 use Rattle.chains.proofs.MappedLaws.{AnswersMapped, answers-mapped}
 use Rattle.filtered.proofs.FilteredLaws.{inner-own}
 use Rattle.chains.proofs.AllKindsLaws.{clear-nothing, settled_mark}
 use Rattle.chains.proofs.CheckedLaws.{settleable-clear}
-use Rattle.chains.proofs.SettleLaws.{Settling, walkable, walk_on}
+use Rattle.chains.proofs.SettleLaws.{Settling, walk_on}
 use Rattle.chains.proofs.FillLaws.{table-length, whole_at, whole-past}
 
 up_to-length : (n : ℕ) → length (up_to n) ≡ n
@@ -78,7 +79,7 @@ module _ (taken : List ℕ) (n : ℕ) (asked : InnerAsked taken n) (dir : List �
   ends m x a e q l = record { step = rw (lt-ltb x 65536 l, e, q) refl; small = omega arith }
 
   entry-says : (m : ℕ) → m < n → Says m (inner_entry (get_or taken m 0) m)
-  unfolding inner_entry direct_in
+  unfolding inner_entry direct_in direct_by
   entry-says m h = go (eqb (direct_of (get_or taken m 0)) table.none) refl
     where
       d : ℕ
@@ -121,12 +122,12 @@ module _ (taken : List ℕ) (n : ℕ) (asked : InnerAsked taken n) (dir : List �
       go true e = let h = ltb-true j n e in rw (whole_at plainly n j h) h
       go false e = omega (arith, whole-past plainly n j (ltb-false j n e), asked.least)
 
-  lent-unseen : ClearTable n (table_from unseen 0 n)
-  lent-unseen = record { long = omega (arith, table-length unseen 0 n); short = omega (arith, table-length unseen 0 n, asked.most); clear = λ m. go m (ltb m n) refl }
+  lent-unseen : ClearTable n (replicate n 0)
+  lent-unseen = record { long = omega (arith, length-replicate {A = ℕ} n 0); short = omega (arith, length-replicate {A = ℕ} n 0, asked.most); clear = λ m. go m (ltb m n) refl }
     where
-      go : (m : ℕ) (c : Bool) → ltb m n ≡ c → get_or (table_from unseen 0 n) m 0 ≡ 0
-      go m true e = whole_at unseen n m (ltb-true m n e)
-      go m false e = whole-past unseen n m (ltb-false m n e)
+      go : (m : ℕ) (c : Bool) → ltb m n ≡ c → get_or (replicate {A = ℕ} n 0) m 0 ≡ 0
+      go m true e = get_or-replicate n m 0 0 (ltb-true m n e)
+      go m false e = get_or-eq_default (replicate {A = ℕ} n 0) 0 (omega (arith, length-replicate {A = ℕ} n 0, ltb-false m n e))
 
   over_index : AnswersMapped answered none same (inner_step n (direct_in taken)) 0 same (link_at index) (up_to n) names
   over_index = answers-mapped answered none 0 refl same same (λ r. refl) (inner_step n (direct_in taken)) (link_at index) steps-are (up_to n) names
@@ -142,9 +143,9 @@ module _ (taken : List ℕ) (n : ℕ) (asked : InnerAsked taken n) (dir : List �
       (ap (λ (t : Settled ℕ). t e) (s.settles ∙ ap (λ (a : AllWalked ℕ). a.settled) over) ∙ over_index.settled e ∙ ap (map answered) ((inner-own (direct_in taken) n names).each e i))
 
   -- the same of the code's values
-  module _ {marks : List ℕ} (cleared : marks ≡ table_from unseen 0 n) where
+  module _ {marks : List ℕ} (cleared : marks ≡ replicate n 0) where
     as_many : length marks ≡ n
-    as_many = ap length cleared ∙ table-length unseen 0 n
+    as_many = ap length cleared ∙ length-replicate {A = ℕ} n 0
 
     pub walks_asked : InnerSettleable dir marks
     walks_asked =
@@ -165,9 +166,6 @@ module _ {dir marks₀ : List ℕ} (asked : InnerSettleable dir marks₀) {marks
 
   within : j < length (table_from plainly 0 (length marks₀))
   within = omega (arith, table-length plainly 0 (length marks₀))
-
-  pub name_walkable : Walkable (declarations_in dir) marks steps j (length marks₀ + 1)
-  name_walkable = subst (λ (n : ℕ). Walkable (declarations_in dir) marks steps n (length marks₀ + 1)) here (walkable _ _ _ _ _ asked.settleable s within)
 
   pub name-walked : {r : ℕ} {marks' : List ℕ} {steps' : ℕ} → WalkedHere (declarations_in dir) marks steps j (length marks₀ + 1) r marks' steps' → Settling (declarations_in dir) marks₀ (table_from plainly 0 (length marks₀)) 0 (length marks₀ + 1) marks' steps' (j + 1)
   name-walked {r} {marks'} {steps'} w = walk_on _ _ _ _ _ asked.settleable s within (subst (λ (n : ℕ). WalkedHere (declarations_in dir) marks steps n (length marks₀ + 1) r marks' steps') (sym here) w)

@@ -1,11 +1,22 @@
 -- What the filtered tables say of a name, in each way out of the code that says it.
 use Prim.Native.Nat.{ℕ, ◌+◌, ◌-◌, ◌*◌, ◌/◌, ◌%◌, ◌<◌, ◌≤◌}
 use mathlib.Core.Path.{◌≡◌, refl, sym, ◌∙◌}
+use mathlib.Core.Bool.{Bool, true, false}
+use mathlib.Core.Option.{none, some}
 use native.Mathlib.Omega.{arith}
-use borrow.Author.Tests.{eq-eqb, ne_eqb, lt-ltb, le-ltb, le-leb, lt-leb}
+use lib.Dec.{eqb}
+use borrow.Author.Tests.{eq-eqb, ne_eqb, eqb-true, eqb-false, le-ltb, le-leb, lt-leb}
+use Rattle.std.specs.Prelude as code
+use Rattle.std.specs.Prelude.{Some, None, unwrap_or}
+use Rattle.std.specs.Option.{SomeIff}
+use Rattle.definitions.specs.Table.{pick}
+use Rattle.definitions.specs.Filtered.{or_none}
 use Rattle.chains.specs.DirectoryWord.{declared_by}
-use Rattle.filtered.specs.Taking.{several}
-use Rattle.filtered.specs.Said.{direct_of, alias_of, unresolved_of, inner_entry, inner_of, KnownName}
+use Rattle.filtered.specs.Taking.{option_in}
+use Rattle.filtered.specs.Said.{direct_of, direct_by, inner_entry, inner_of, KnownName}
+
+none-some : {a : ℕ} → none ≡ some a → ⊥
+none-some q = let z : ◌≡◌ {A = ℕ} 0 1 = cc in omega arith
 
 -- a word of the directory that has a name for its place and a list 1 behind it
 ends_at : (e : ℕ) → e < 4096 → declared_by (e + 8192) ≡ e + 1
@@ -19,65 +30,54 @@ leads-to d =
     let c : 64 + d - 64 ≡ d = omega arith in
     rw (a, b, le-ltb (64 + d) 64 (omega arith), c) refl
 
+-- the one kind that an entity takes, as a word and as an option
 module _ (x : ℕ) where
-  pub direct-few : x < 2 → 16777215 ≡ direct_of x
-  unfolding direct_of
-  direct-few h = sym (simp (lt-ltb x 2 h))
+  pub no-direct : none ≡ direct_by x → direct_of x ≡ 16777215
+  unfolding direct_by
+  no-direct q = go (eqb (direct_of x) 16777215) refl q
+    where
+      go : (b : Bool) → eqb (direct_of x) 16777215 ≡ b → none ≡ pick b none (some (direct_of x)) → direct_of x ≡ 16777215
+      go true e q = eqb-true (direct_of x) 16777215 e
+      go false e q = absurd (none-some q)
 
-  pub direct-many : 2 ≤ x → x ≡ several → 16777215 ≡ direct_of x
-  unfolding direct_of
-  direct-many h e = sym (simp (le-ltb x 2 h, eq-eqb x several e))
+  pub is-direct : {d : ℕ} → some d ≡ direct_by x → (d ≡ direct_of x) × (d ≡ 16777215 → ⊥)
+  unfolding direct_by
+  is-direct {d = d} q = go (eqb (direct_of x) 16777215) refl q
+    where
+      go : (b : Bool) → eqb (direct_of x) 16777215 ≡ b → some d ≡ pick b none (some (direct_of x)) → (d ≡ direct_of x) × (d ≡ 16777215 → ⊥)
+      go true e q = absurd (none-some (sym q))
+      go false e q = let s : d ≡ direct_of x = cc in (s, λ z. eqb-false (direct_of x) 16777215 e (sym s ∙ z))
 
-  pub direct_one : 2 ≤ x → (x ≡ several → ⊥) → x - 2 ≡ direct_of x
-  unfolding direct_of
-  direct_one h e = sym (simp (le-ltb x 2 h, ne_eqb x several e))
-
-  pub unresolved-yes : x ≡ 1 → 1 ≡ unresolved_of x
-  unfolding unresolved_of
-  unresolved-yes e = sym (simp (eq-eqb x 1 e))
-
-  pub unresolved_no : (x ≡ 1 → ⊥) → 0 ≡ unresolved_of x
-  unfolding unresolved_of
-  unresolved_no e = sym (simp (ne_eqb x 1 e))
+  pub said-direct : (o : code.Option ℕ) → option_in o ≡ direct_by x → unwrap_or o 16777215 ≡ direct_of x
+  said-direct None q = sym (no-direct q)
+  said-direct (Some d) q = (is-direct q).0
 
   module _ (e : ℕ) where
-    pub alias-few : x < 2 → 0 ≡ alias_of x e
-    unfolding alias_of
-    alias-few h = sym (simp (lt-ltb x 2 h))
+    pub direct-low : {d : ℕ} → some d ≡ direct_by x → KnownName x e → d < 4096
+    direct-low q n = let i = is-direct q in omega (arith, i.0, n.leads (λ z. i.1 (i.0 ∙ z)))
 
-    pub alias-itself : 2 ≤ x → x ≡ 2 + e → 0 ≡ alias_of x e
-    unfolding alias_of
-    alias-itself h q = sym (simp (le-ltb x 2 h, eq-eqb x (2 + e) q))
+    pub word_none : none ≡ direct_by x → e < 4096 → declared_by (e + 8192) ≡ inner_entry x e
+    unfolding inner_entry
+    word_none q l = ends_at e l ∙ sym (rw (eq-eqb (direct_of x) 16777215 (no-direct q)) refl)
 
-    pub alias-other : 2 ≤ x → (x ≡ 2 + e → ⊥) → 1 ≡ alias_of x e
-    unfolding alias_of
-    alias-other h q = sym (simp (le-ltb x 2 h, ne_eqb x (2 + e) q))
+    pub word-itself : some e ≡ direct_by x → e < 4096 → declared_by (e + 8192) ≡ inner_entry x e
+    unfolding inner_entry
+    word-itself q l = let i = is-direct q in ends_at e l ∙ sym (rw (← i.0, ne_eqb e 16777215 i.1, eq-eqb e e refl) refl)
 
-    module _ {d : ℕ} (k : d ≡ direct_of x) where
-      pub direct-low : KnownName x e → (d ≡ 16777215 → ⊥) → d < 4096
-      direct-low n z = omega (arith, n.leads (λ q. z (k ∙ q)))
+    pub word-leads : {d : ℕ} → some d ≡ direct_by x → (d ≡ e → ⊥) → declared_by (524288 * (64 + d)) ≡ inner_entry x e
+    unfolding inner_entry
+    word-leads {d = d} q z = let i = is-direct q in leads-to d ∙ sym (rw (← i.0, ne_eqb d 16777215 i.1, ne_eqb d e z) refl)
 
-      pub word_none : e < 4096 → d ≡ 16777215 → declared_by (e + 8192) ≡ inner_entry x e
-      unfolding inner_entry
-      word_none l q = ends_at e l ∙ sym (rw (← k, eq-eqb d 16777215 q) refl)
-
-      pub word-itself : e < 4096 → (d ≡ 16777215 → ⊥) → d ≡ e → declared_by (e + 8192) ≡ inner_entry x e
-      unfolding inner_entry
-      word-itself l z q = ends_at e l ∙ sym (rw (← k, ne_eqb d 16777215 z, eq-eqb d e q) refl)
-
-      pub word-leads : (d ≡ 16777215 → ⊥) → (d ≡ e → ⊥) → declared_by (524288 * (64 + d)) ≡ inner_entry x e
-      unfolding inner_entry
-      word-leads z q = leads-to d ∙ sym (rw (← k, ne_eqb d 16777215 z, ne_eqb d e q) refl)
-
-  module _ (mark : ℕ) {d : ℕ} (k : d ≡ direct_of x) where
-    pub inner-none : d ≡ 16777215 → 16777215 ≡ inner_of x mark
+  module _ (mark : ℕ) where
+    pub inner-none : none ≡ direct_by x → 16777215 ≡ inner_of x mark
     unfolding inner_of
-    inner-none q = sym (rw (← k, eq-eqb d 16777215 q) refl)
+    inner-none q = sym (rw (eq-eqb (direct_of x) 16777215 (no-direct q)) refl)
 
-    pub inner-ring : (d ≡ 16777215 → ⊥) → mark ≤ 2 → 16777215 ≡ inner_of x mark
+    pub inner_some : {d : ℕ} → some d ≡ direct_by x → {answer : ℕ} → answer ≡ mark - 2 → (o : code.Option ℕ) → SomeIff o (1 ≤ answer) (answer - 1) → or_none (option_in o) ≡ inner_of x mark
     unfolding inner_of
-    inner-ring z h = sym (rw (← k, ne_eqb d 16777215 z, le-leb mark 2 h) refl)
-
-    pub inner_some : (d ≡ 16777215 → ⊥) → 2 < mark → mark - 2 - 1 ≡ inner_of x mark
-    unfolding inner_of
-    inner_some z h = sym (rw (← k, ne_eqb d 16777215 z, lt-leb mark 2 h) (omega arith))
+    inner_some q e None s =
+        let i = is-direct q in sym (rw (← i.0, ne_eqb _ 16777215 i.1, le-leb mark 2 (omega (arith, s))) refl)
+    inner_some q e (Some m) s =
+        let i = is-direct q in
+        let n : m ≡ mark - 3 = omega (arith, s.0, s.1) in
+        n ∙ sym (rw (← i.0, ne_eqb _ 16777215 i.1, lt-leb mark 2 (omega (arith, s.0))) refl)

@@ -21,7 +21,7 @@ use Rattle.definitions.specs.Filtered.{taken, single, direct, alias, names_entit
 use Rattle.chains.specs.PackDirectory.{IsPack, Named}
 use Rattle.definitions.specs.Answers.{yes_no, table_from}
 use Rattle.filtered.specs.Taking.{several, known, KnowsEntities}
-use Rattle.filtered.specs.Said.{direct_of, alias_of, unresolved_of, inner_of, said_in, direct_in, InnerAsked, answered, InnerMarked, InnerFor, FilterLeft}
+use Rattle.filtered.specs.Said.{direct_of, direct_by, alias_of, unresolved_of, inner_of, said_in, direct_in, InnerAsked, answered, InnerMarked, InnerFor, FilterLeft}
 use Rattle.chains.proofs.PackParts.{parts}
 use Rattle.filtered.proofs.KindBounds.{Below, taken-below, direct-below}
 
@@ -134,7 +134,7 @@ module _ {ws t : List ℕ} (p : Pack) (h : read ws ≡ yes p) (k : KnowsEntities
         go (some j) q = let d : direct_of (get_or t e 0) ≡ j = directly ∙ ap or_none q in omega (arith, direct-below p fine e j q)
 
     pub direct-in : direct_in t e ≡ direct rs e
-    unfolding direct_in
+    unfolding direct_in direct_by
     direct-in = go (direct rs e) refl
       where
         go : (o : Option ℕ) → direct rs e ≡ o → pick (eqb (direct_of (get_or t e 0)) table.none) none (some (direct_of (get_or t e 0))) ≡ o

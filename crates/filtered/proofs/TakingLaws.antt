@@ -1,110 +1,80 @@
 -- Laws of taking kinds: what one relation does, and all relations in record order.
-use Prim.Native.Nat.{ℕ, suc, ◌+◌, ◌-◌, ◌*◌, ◌%◌, ◌<◌, ◌≤◌, min}
+use Prim.Native.Nat.{ℕ, zero, suc, ◌+◌, ◌-◌, ◌*◌, ◌%◌, ◌<◌, ◌≤◌, min}
 use native.Mathlib.Omega.{arith}
 use native.Mathlib.Numerals.{add-one}
 use mathlib.Core.Path.{◌≡◌, refl, ap, sym, ◌∙◌}
-use mathlib.Core.List.{List, map}
+use mathlib.Core.List.{List, [], map}
 use mathlib.Core.Bool.{Bool, true, false}
-use mathlib.Core.Option.{Option, none, some}
-use lib.ListN.{length, get_or, take, drop, set, length-map, length-take, length-drop, length-set, get_or-map, get_or-eq_default, drop_of_length-le}
-use lib.Seq.{get_or-take, get_or-drop, get_or-set_same, get_or-set_other, drop-cons}
+use mathlib.Core.Option as math
+use mathlib.Core.Option.{none, some}
+use Rattle.std.specs.Prelude.{Option, Some, None, IfSome}
+use lib.ListN.{length, get_or, take, drop, set, length-take, length-drop, length-set, get_or-eq_default, drop_of_length-le}
+use lib.Seq.{take_all, get_or-set_same, get_or-set_other, drop-cons}
 use lib.Dec.{eqb, ltb}
 use borrow.Author.Tests.{eq-eqb, ne_eqb, eqb-true, eqb-false, lt-ltb, le-ltb, ltb-true, ltb-false}
+use Rattle.std.proofs.lemmas.List.{take_min}
+use Rattle.std.proofs.lemmas.Bool.Decides.{nat_tests}
 use Rattle.definitions.specs.Table.{pick, value_of}
-use Rattle.filtered.specs.declared.taking.Kind.{Kind}
-use Rattle.filtered.specs.declared.taking.Kind.TheVariants.{Is, Unknown}
 use Rattle.definitions.specs.Filtered.{kind_at}
 use Rattle.definitions.specs.Places.{names_at}
 use Rattle.chains.specs.Record.{value_at, kind_count}
 use Rattle.chains.specs.DirectoryWord.{names_in}
 use Rattle.chains.proofs.EntryLaws.{name-here}
 use Rattle.filtered.specs.Acts.{act_list, part_for, act_for, acts_from}
-use Rattle.filtered.specs.Taking.{kind_in, Small, KindFound, several, named_after, taken_after, take_at, taken_by, kind_marked, taken_in, RelationRead, RelationsRead, NamesLow}
+use Rattle.filtered.specs.Taking.{ListFound, KindFound, names_or, option_in, names_or, named_after, taken_after, take_at, taken_by, kind_marked, taken_in, RelationRead, RelationsRead, NamesLow}
 
--- ---- the kind at a slot
+-- ---- the list at a place
 
-module _ (ws : List ℕ) (place slot : ℕ) where
-  unknown : kind_at (names_at ws place) slot ≡ none → KindFound ws place slot Unknown
-  unknown e = record { is = sym e; small = tt }
-
-  pub no_list : place ≡ 0 → KindFound ws place slot Unknown
+module _ (ws : List ℕ) (place : ℕ) where
+  pub no_list : place ≡ 0 → ListFound ws place []
   unfolding names_at
-  no_list z = unknown (rw (eq-eqb place 0 z) refl)
+  no_list z = record { names = rw (eq-eqb place 0 z) refl; few = omega arith; within = omega arith }
 
-  abbrev names : List ℕ
-  names = map value_of (take (value_of (get_or ws place 0)) (drop (suc place) ws))
+  abbrev behind : List ℕ
+  behind = take (length ws - (place + 1)) (drop (place + 1) ws)
 
-  names-long : length names ≡ min (value_of (get_or ws place 0)) (length ws - suc place)
-  names-long = length-map (take (value_of (get_or ws place 0)) (drop (suc place) ws)) value_of ∙ simp (length-take, length-drop)
+  all_behind : behind ≡ drop (suc place) ws
+  all_behind = take_all (length ws - (place + 1)) (drop (place + 1) ws) (omega (arith, length-drop (place + 1) ws)) ∙ ap (λ (n : ℕ). drop n ws) (add-one place)
 
-  listed : (place ≡ 0 → ⊥) → kind_at (names_at ws place) slot ≡ pick (ltb slot (length names)) (some (get_or names slot 0)) none
+  pub names-there : (place ≡ 0 → ⊥) → names_or (names_at ws place) ≡ map value_of (take (value_of (get_or ws place 0)) (drop (suc place) ws))
   unfolding names_at
-  listed z = rw (ne_eqb place 0 z) refl
+  names-there z = rw (ne_eqb place 0 z) refl
 
-  pub past_the_list : (place ≡ 0 → ⊥) → length names ≤ slot → KindFound ws place slot Unknown
-  past_the_list z h = unknown (listed z ∙ rw (le-ltb slot (length names) h) refl)
+  pub its_list : (place ≡ 0 → ⊥) → (n : ℕ) → n ≡ min (value_of (get_or ws place 0)) (length behind) → ListFound ws place (take n behind)
+  its_list z n e =
+      let many : length (take n behind) ≡ min n (length behind) = length-take n behind in
+      record {
+        names = sym (names-there z ∙ rw (e, all_behind, take_min (value_of (get_or ws place 0)) (drop (suc place) ws)) refl);
+        few = omega arith;
+        within = omega (arith, ap length all_behind, length-drop (suc place) ws);
+      }
 
-  pub past_the_words : (place ≡ 0 → ⊥) → length ws - place - 1 ≤ slot → KindFound ws place slot Unknown
-  past_the_words z h = past_the_list z (omega (arith, names-long))
-
-  pub past_the_count : (place ≡ 0 → ⊥) → value_of (get_or ws place 0) ≤ slot → KindFound ws place slot Unknown
-  past_the_count z h = past_the_list z (omega (arith, names-long))
-
-  pub in_the_list : (place ≡ 0 → ⊥) → slot < value_of (get_or ws place 0) → slot < length ws - place - 1 → KindFound ws place slot (Is (value_of (get_or ws (place + 1 + slot) 0)))
-  in_the_list z h l =
-      let m : suc place + slot ≡ place + 1 + slot = omega arith in
-      let e : get_or names slot 0 ≡ value_of (get_or ws (place + 1 + slot) 0) =
-      get_or-map value_of (take (value_of (get_or ws place 0)) (drop (suc place) ws)) slot 0
-      ∙ ap value_of (get_or-take (value_of (get_or ws place 0)) (drop (suc place) ws) slot 0 h ∙ get_or-drop (suc place) ws slot 0 ∙ ap (λ (k : ℕ). get_or ws k 0) m) in
-      record { is = sym (listed z ∙ rw (lt-ltb slot (length names) (omega (arith, names-long)), e) refl); small = omega arith }
+  pub past_the_words : (place ≡ 0 → ⊥) → length ws ≤ place → ListFound ws place []
+  past_the_words z h =
+      let far : length ws ≤ suc place = omega arith in
+      record { names = sym (names-there z ∙ rw (drop_of_length-le ws far) (none_of (value_of (get_or ws place 0)))); few = omega arith; within = omega arith }
+    where
+      none_of : (n : ℕ) → map value_of (take n []) ≡ []
+      none_of zero = refl
+      none_of (suc n) = refl
 
 -- ---- one entity
 
-pub not_named : (x : ℕ) → x ≡ 0 → 1 ≡ named_after x
-unfolding named_after
-not_named x e = sym (simp (eq-eqb x 0 e))
+-- what is known of one fits into a word
+pub taken_fits : (x : ℕ) (kind : Option ℕ) → x < 4294967296 → IfSome kind (λ k. k < 16777216) → taken_after (named_after x) (option_in kind) < 4294967296
+unfolding taken_after named_after
+taken_fits x None h s = grind (arith, nat_tests)
+taken_fits x (Some k) h s = grind (arith, nat_tests)
 
-pub named-before : (x : ℕ) → (x ≡ 0 → ⊥) → x ≡ named_after x
-unfolding named_after
-named-before x e = sym (simp (ne_eqb x 0 e))
-
-module _ (x : ℕ) where
-  pub nothing-taken : {kind : Kind} → kind ≡ Unknown → x ≡ taken_after x (kind_in kind)
-  unfolding taken_after
-  nothing-taken e = rw e refl
-
-  module _ {kind : Kind} {k : ℕ} (e : kind ≡ Is k) where
-    pub first_taken : x < 2 → 2 + k ≡ taken_after x (kind_in kind)
-    unfolding taken_after
-    first_taken h = sym (rw (e, lt-ltb x 2 h) refl)
-
-    pub same_taken : 2 ≤ x → x ≡ 2 + k → x ≡ taken_after x (kind_in kind)
-    unfolding taken_after
-    same_taken h q = sym (rw (e, le-ltb x 2 h, eq-eqb x (2 + k) q) refl)
-
-    pub other-taken : 2 ≤ x → (x ≡ 2 + k → ⊥) → several ≡ taken_after x (kind_in kind)
-    unfolding taken_after
-    other-taken h q = sym (rw (e, le-ltb x 2 h, ne_eqb x (2 + k) q) refl)
-
-pub small-kind : {kind : Kind} {k : ℕ} → kind ≡ Is k → Small kind → k < 16777216
-small-kind e s = rw e at s
-
-pub no_entity : (t : List ℕ) (e : ℕ) (kind : Option ℕ) → length t ≤ e → t ≡ take_at t e kind
+pub no_entity : (t : List ℕ) (e : ℕ) (kind : math.Option ℕ) → length t ≤ e → t ≡ take_at t e kind
 unfolding take_at
 no_entity t e kind h = sym (rw (le-ltb e (length t) h) refl)
 
-pub an_entity : (t : List ℕ) (e : ℕ) (kind : Option ℕ) → e < length t → {x y : ℕ} → x ≡ named_after (get_or t e 0) → y ≡ taken_after x kind → set t e y ≡ take_at t e kind
+pub an_entity : (t : List ℕ) (e : ℕ) (kind : math.Option ℕ) → e < length t → {x y : ℕ} → x ≡ named_after (get_or t e 0) → y ≡ taken_after x kind → set t e y ≡ take_at t e kind
 unfolding take_at
 an_entity t e kind h n k = sym (rw (lt-ltb e (length t) h, ← n, ← k) refl)
 
 -- ---- one relation
-
-module _ (ws : List ℕ) (start : ℕ) {count : ℕ} (e : count ≡ kind_count ws start) where
-  pub two_kinds : count ≡ 2 → (◌≡◌ {A = ℕ} 1 (pick (eqb (kind_count ws start) 2) 1 0)) × (1 ≤ 1)
-  two_kinds z = (sym (rw (← e, z) refl), omega arith)
-
-  pub other-kinds : (count ≡ 2 → ⊥) → (◌≡◌ {A = ℕ} 0 (pick (eqb (kind_count ws start) 2) 1 0)) × (0 ≤ 1)
-  other-kinds z = (sym (rw (← e, ne_eqb count 2 z) refl), omega arith)
 
 module _ (ws starts slots acts t : List ℕ) (name : ℕ) {at x : ℕ} (s : at ≡ get_or slots name 0) (m : x ≡ get_or acts name 0 % 131072) where
   part_none : at ≡ 0 → part_for ws (get_or starts name 0) (get_or slots name 0) ≡ pick (eqb (kind_count ws (get_or starts name 0)) 2) 1 0
@@ -122,8 +92,8 @@ module _ (ws starts slots acts t : List ℕ) (name : ℕ) {at x : ℕ} (s : at �
       let is : y ≡ act_for ws starts slots name (get_or acts name 0) = q ∙ rw (part_none z, ← b, ← e, ← m) refl in
       record { tells = ap (set acts name) is; takes = sym (rw (← s, eq-eqb at 0 z) refl) }
 
-  pub derived-read : (at ≡ 0 → ⊥) → {list slot entity y : ℕ} {kind : Kind} {t' : List ℕ} → list ≡ x % 131072 - 2 → slot ≡ value_at ws at → KindFound ws list slot kind
-      → entity ≡ value_at ws (at + 2) → t' ≡ take_at t entity (kind_in kind) → y ≡ x + 131072 * at → RelationRead ws starts slots acts t name (set acts name y) t'
+  pub derived-read : (at ≡ 0 → ⊥) → {list slot entity y : ℕ} {kind : Option ℕ} {t' : List ℕ} → list ≡ x % 131072 - 2 → slot ≡ value_at ws at → KindFound ws list slot kind
+      → entity ≡ value_at ws (at + 2) → t' ≡ take_at t entity (option_in kind) → y ≡ x + 131072 * at → RelationRead ws starts slots acts t name (set acts name y) t'
   unfolding act_for taken_by kind_marked
   derived-read z {list} {slot} {entity} {y} q o k e h w =
       let l : list ≡ act_list (get_or acts name 0) = omega arith in

@@ -1,5 +1,5 @@
 -- What an aggregate over a relation does, as one number for each name: a part, and the mark of the list that settles the name.
-use Rattle.std.specs.Prelude.{ℕ, ◌+◌, ◌-◌, ◌*◌, ◌/◌, ◌%◌, ◌≡◌, List, [], ◌∷◌, true, length, get_or, set, eqb}
+use Rattle.std.specs.Prelude.{ℕ, ◌+◌, ◌-◌, ◌*◌, ◌/◌, ◌%◌, ◌<◌, ◌≤◌, ◌≡◌, List, [], ◌∷◌, true, length, get_or, set, eqb}
 use Rattle.std.proofs.Math.Option.{Option, none, some}
 use Rattle.definitions.specs.Table.{pick}
 use Rattle.definitions.specs.Form.{among}
@@ -9,6 +9,8 @@ use Rattle.definitions.specs.Kinds.{find, declared, own_answer}
 use Rattle.definitions.specs.Places.{start_of, first_relation, place_of}
 use Rattle.chains.specs.Record.{kind_count}
 use Rattle.chains.specs.PackDirectory.{slots_for}
+use Rattle.filtered.specs.declared.act.Part.{Part}
+use Rattle.filtered.specs.declared.act.Part.TheVariants.{Neither, Typed, Derived}
 
 -- 0 if it is neither typed nor derived, 1 if it is typed by the two names of its list, else the place of its slots
 abbrev pub act_part : ℕ → ℕ
@@ -17,6 +19,18 @@ act_part x = x / 131072
 -- the place of the list, 0 for none
 abbrev pub act_list : ℕ → ℕ
 act_list x = x % 131072 - 2
+
+-- the code's part as a number
+abbrev pub part_number : Part → ℕ
+part_number Neither = 0
+part_number Typed = 1
+part_number (Derived at) = at
+
+-- the place of slots is none of the other numbers, and fits
+abbrev pub PartFits : Part → Type 0
+PartFits Neither = Unit {0}
+PartFits Typed = Unit {0}
+PartFits (Derived at) = (2 ≤ at) × (at < 32768)
 
 -- ---- in the words
 

@@ -18,6 +18,9 @@ use Rattle.filtered.specs.Taking.{several}
 unfoldable pub direct_of : ℕ → ℕ
 direct_of x = pick (ltb x 2) table.none (pick (eqb x several) table.none (x - 2))
 
+unfoldable pub direct_by : ℕ → Option ℕ
+direct_by x = pick (eqb (direct_of x) table.none) none (some (direct_of x))
+
 unfoldable pub alias_of : ℕ → ℕ → ℕ
 alias_of x e = pick (ltb x 2) 0 (pick (eqb x (2 + e)) 0 1)
 
@@ -50,13 +53,9 @@ pub record KnownName (x e : ℕ) : Type 0 where
 abbrev pub plainly : ℕ → ℕ
 plainly e = e
 
--- the mark of each before the walks
-abbrev pub unseen : ℕ → ℕ
-unseen e = 0
-
 -- the direct kinds of a table
 unfoldable pub direct_in : List ℕ → ℕ → Option ℕ
-direct_in taken e = pick (eqb (direct_of (get_or taken e 0)) table.none) none (some (direct_of (get_or taken e 0)))
+direct_in taken e = direct_by (get_or taken e 0)
 
 -- what the walks along those of n names ask for: each is one of the names
 pub record InnerAsked (taken : List ℕ) (n : ℕ) : Type 0 where

@@ -1,11 +1,12 @@
 -- The kinds that entities take, by name, read at the records of relations.
-use Rattle.std.specs.Prelude.{ℕ, ◌+◌, ◌<◌, ◌≡◌, List, [], ◌∷◌, Bool, not, length, get_or, set, ltb, eqb}
-use Rattle.std.proofs.Math.Option.{Option, none, some}
-use Rattle.definitions.specs.Table.{pick}
+use Rattle.std.specs.Prelude.{ℕ, suc, ◌+◌, ◌-◌, ◌<◌, ◌≤◌, ◌≡◌, map, List, [], ◌∷◌, Bool, not, length, get_or, set, ltb, eqb, Option, Some, None, IfSome}
+use Rattle.std.proofs.Math.Option as math
+use Rattle.std.proofs.Math.Option.{none, some}
+use Rattle.definitions.specs.Table.{pick, value_of}
 use Rattle.definitions.specs.Records.{Pack}
 use Rattle.definitions.specs.Pack.{yes, read}
-use Rattle.filtered.specs.declared.taking.Kind.{Kind}
-use Rattle.filtered.specs.declared.taking.Kind.TheVariants.{Is, Unknown}
+use Rattle.filtered.specs.declared.taking.Taken.{Taken}
+use Rattle.filtered.specs.declared.taking.Taken.TheVariants.{Nothing, Named, One, Several}
 use Rattle.definitions.specs.Lean.{any}
 use Rattle.definitions.specs.Filtered.{kind_at, taken, names_entity}
 use Rattle.definitions.specs.Places.{names_at}
@@ -14,19 +15,26 @@ use Rattle.definitions.specs.Kinds.{all_kinds}
 use Rattle.chains.specs.PackDirectory.{RelationsNoted}
 use Rattle.filtered.specs.Acts.{act_list, act_for, acts_from, ActsOf}
 
--- the code's kind as an option
-abbrev pub kind_in : Kind → Option ℕ
-kind_in (Is k) = some k
-kind_in Unknown = none
+-- the code's option as that of the definitions
+abbrev pub option_in : {A : Type 0} → Option A → math.Option A
+option_in (Some a) = some a
+option_in None = none
 
-abbrev pub Small : Kind → Type 0
-Small (Is k) = k < 16777216
-Small Unknown = Unit {0}
+-- the names of a list, none where there is no list
+abbrev pub names_or : math.Option (List ℕ) → List ℕ
+names_or none = []
+names_or (some ks) = ks
+
+-- the words of the list whose count word stands at a place
+pub record ListFound (ws : List ℕ) (place : ℕ) (words : List ℕ) : Type 0 where
+  pub names : map value_of words ≡ names_or (names_at ws place)
+  pub few : length words < 16777216
+  pub within : length words ≤ length ws - suc place
 
 -- the kind at a slot of the list whose count word stands at a place
-pub record KindFound (ws : List ℕ) (place slot : ℕ) (kind : Kind) : Type 0 where
-  pub is : kind_in kind ≡ kind_at (names_at ws place) slot
-  pub small : Small kind
+pub record KindFound (ws : List ℕ) (place slot : ℕ) (kind : Option ℕ) : Type 0 where
+  pub is : option_in kind ≡ kind_at (names_at ws place) slot
+  pub small : IfSome kind (λ k. k < 16777216)
 
 -- What is known of an entity, as one number: 0 no derivation names it, 1 one does and no kind is taken, 2 and the one kind taken, 16777218 several kinds.
 abbrev pub several : ℕ
@@ -36,20 +44,34 @@ abbrev pub known : Bool → List ℕ → ℕ
 known named [] = pick named 1 0
 known named (k ∷ ks) = pick (any (λ x. not (eqb x k)) ks) several (2 + k)
 
+-- what the code knows of an entity, as that number
+abbrev pub number_of : Taken → ℕ
+number_of Nothing = 0
+number_of Named = 1
+number_of (One k) = 2 + k
+number_of Several = several
+
+-- its one kind is not the number of several
+abbrev pub Plain : Taken → Type 0
+Plain Nothing = Unit {0}
+Plain Named = Unit {0}
+Plain (One k) = 2 + k ≡ several → ⊥
+Plain Several = Unit {0}
+
 -- after one more derivation that names it, and after one more kind
 unfoldable pub named_after : ℕ → ℕ
 named_after x = pick (eqb x 0) 1 x
 
-unfoldable pub taken_after : ℕ → Option ℕ → ℕ
+unfoldable pub taken_after : ℕ → math.Option ℕ → ℕ
 taken_after x none = x
 taken_after x (some k) = pick (ltb x 2) (2 + k) (pick (eqb x (2 + k)) x several)
 
 -- an entity past the table is passed over
-unfoldable pub take_at : List ℕ → ℕ → Option ℕ → List ℕ
+unfoldable pub take_at : List ℕ → ℕ → math.Option ℕ → List ℕ
 take_at t e kind = pick (ltb e (length t)) (set t e (taken_after (named_after (get_or t e 0)) kind)) t
 
 -- the kind at a slot of a name, from what is known of all names
-unfoldable pub kind_marked : List ℕ → List ℕ → ℕ → ℕ → Option ℕ
+unfoldable pub kind_marked : List ℕ → List ℕ → ℕ → ℕ → math.Option ℕ
 kind_marked ws acts name slot = kind_at (names_at ws (act_list (get_or acts name 0))) slot
 
 -- after the relation of a name, whose slots stand at a place, 0 without a derivation: its entity (19) takes the kind at its current slot (17)

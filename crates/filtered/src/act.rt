@@ -1,21 +1,46 @@
 // What an aggregate over a relation does, in one number for each name.
 ghost use Rattle.std.specs.Prelude.{◌≡◌, ◌<◌, get_or};
-ghost use Rattle.filtered.specs.Acts.{act_part, act_list};
+ghost use Rattle.filtered.specs.Acts.{act_part, act_list, part_number, PartFits};
 
 use chains::entry::Declaration;
 use chains::settle::Mark;
 
-// A part, and the mark of the list that settles the name. At NEITHER the relation is neither typed nor derived, and at TYPED it is
-// typed by the two names of its list; else the part is the place of its slots.
-#[derive(Clone, Copy)]
-pub struct Act {}
+// What it does by the relation's slots. A table packs it into one number with the mark of the list that settles the relation's name.
+#[derive(Clone, Copy, PartialEq, Eq)]
+pub enum Part {
+    // The relation is neither typed nor derived.
+    Neither,
+    // It is typed by the two names of its list.
+    Typed,
+    // It is derived, and its slots stand at a place.
+    Derived(usize),
+}
 
-impl Act {
-    pub const NEITHER: u32 = 0;
-
-    pub const TYPED: u32 = 1;
-
+impl Part {
     pub const MARKS: u32 = 2 * Declaration::LEADS;
+
+    // The part in the number of a name.
+    pub fn of(x: u32) -> Part
+        ensures { (part_number result ≡ act_part x) × PartFits result }
+    {
+        match x / Part::MARKS {
+            0 => Part::Neither,
+            1 => Part::Typed,
+            at => Part::Derived(at as usize),
+        }
+    }
+
+    // As it is packed.
+    pub fn number(self) -> u32
+        requires { part_number self < 32768 }
+        ensures { result ≡ part_number self }
+    {
+        match self {
+            Part::Neither => 0,
+            Part::Typed => 1,
+            Part::Derived(at) => at as u32,
+        }
+    }
 }
 
 // The number of a name; past the table it is 0.
@@ -28,19 +53,9 @@ pub fn act_of(acts: &[u32], name: usize) -> u32
     acts[name]
 }
 
-pub fn part(x: u32) -> u32
-    ensures { (result ≡ act_part x) × (result < 32768) }
-{
-    x / Act::MARKS
-}
-
-// The place of the list, 0 for none.
+// The place of the list; 0, as everywhere a list is looked up by its place, for none.
 pub fn list(x: u32) -> u32
     ensures { (result ≡ act_list x) × (result < 131072) }
 {
-    let m = x % Act::MARKS;
-    if m < Mark::SETTLED {
-        return 0;
-    }
-    m - Mark::SETTLED
+    Mark::of(x % Part::MARKS).answer()
 }

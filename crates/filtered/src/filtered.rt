@@ -2,65 +2,30 @@
 ghost use Rattle.std.specs.Prelude.{◌≡◌, ◌+◌, ◌<◌, ◌≤◌, length};
 ghost use Rattle.definitions.specs.Answers.{table_from, Answered};
 ghost use Rattle.chains.specs.DirectoryWord.{Reaches, declared_by};
-ghost use Rattle.chains.specs.PackDirectory.{ClearTable, DirectoryRoom, IsDirectory};
+ghost use Rattle.chains.specs.PackDirectory.{ClearTable, DirectoryRoom, IsDirectory, Sized};
 ghost use Rattle.checking.specs.CheckPromises.{names_said};
+ghost use Rattle.definitions.specs.Filtered.{or_none};
 ghost use Rattle.definitions.specs.Operations.{filter_answer, filter_buffer};
-ghost use Rattle.filtered.specs.Said.{direct_of, alias_of, unresolved_of, inner_entry, inner_of, said, said_in, unseen, InnerAsked, InnerWords, InnerMarked, InnerFor, FilterLeft, KnownName};
+ghost use Rattle.filtered.specs.Said.{inner_entry, inner_of, said, said_in, InnerAsked, InnerWords, InnerMarked, InnerFor, FilterLeft, KnownName};
+ghost use Rattle.filtered.specs.Taking.{option_in, number_of, Plain};
 
 use crate::inner::settle_all;
 use crate::taking::{Taken, take_kinds};
 use chains::settle::Mark;
-use checking::check::{answer, check_directory, names_said, refuse};
-use definitions::answer::{Answer, Number};
+use checking::check::{check_directory, names_said};
+use definitions::answer::{Answer, Given, Number};
 use definitions::operation::Filter;
 use pack::kinds::Pack;
-use records::directory::{Directory, Laid, Layout};
-
-// The one kind that an entity takes, or none.
-pub fn direct_of(x: u32) -> u32
-    ensures { result ≡ direct_of x }
-{
-    if x < Taken::ONE {
-        return Pack::NONE;
-    }
-    if x == Taken::SEVERAL {
-        return Pack::NONE;
-    }
-    x - Taken::ONE
-}
-
-// Whether it takes a kind other than itself.
-fn alias_of(x: u32, e: u32) -> u32
-    requires { e < 4096 }
-    ensures { result ≡ alias_of x e }
-{
-    if x < Taken::ONE {
-        return 0;
-    }
-    if x == Taken::ONE + e {
-        return 0;
-    }
-    1
-}
-
-// Whether a derivation names it and it takes no kind.
-fn unresolved_of(x: u32) -> u32
-    ensures { result ≡ unresolved_of x }
-{
-    if x == Taken::NAMED { 1 } else { 0 }
-}
+use pack::refusal::refused;
+use records::directory::{Directory, Layout};
 
 // Its innermost kind, by the mark of its walk; a name that has no direct kind gets none.
-fn inner_of(x: u32, mark: u32) -> u32
-    ensures { result ≡ inner_of x mark }
+fn inner_of(taken: Taken, mark: u32) -> Option<u32>
+    requires { Plain taken }
+    ensures { or_none (option_in result) ≡ inner_of (number_of taken) mark }
 {
-    if direct_of(x) == Pack::NONE {
-        return Pack::NONE;
-    }
-    if mark <= Mark::SETTLED {
-        return Pack::NONE;
-    }
-    mark - Mark::SETTLED - 1
+    taken.direct()?;
+    Mark::of(mark).answer().checked_sub(1)
 }
 
 // What a table says of a name.
@@ -68,11 +33,12 @@ fn say(filter: Filter, x: u32, mark: u32, e: u32) -> u32
     requires { e < 4096 }
     ensures { result ≡ said filter x mark e }
 {
+    let taken = Taken::from(x);
     match filter {
-        Filter::Direct => direct_of(x),
-        Filter::Innermost => inner_of(x, mark),
-        Filter::Alias => alias_of(x, e),
-        Filter::Unresolved => unresolved_of(x),
+        Filter::Direct => taken.direct().unwrap_or(Pack::NONE),
+        Filter::Innermost => inner_of(taken, mark).unwrap_or(Pack::NONE),
+        Filter::Alias => u32::from(taken.is_alias(e)),
+        Filter::Unresolved => u32::from(taken.is_unresolved()),
     }
 }
 
@@ -81,10 +47,8 @@ fn say_all(taken: &[u32], filter: Filter, out: &mut [u32])
     requires { (length out.old ≤ length taken.now) × (length out.old ≤ 4096) }
     ensures { out.new ≡ table_from (said_in filter taken.now out.old) 0 (length out.old) }
 {
-    let mut j: usize = 0;
-    while j < out.len() {
+    for j in 0..out.len() {
         out[j] = say(filter, taken[j], out[j], j as u32);
-        j += 1;
     }
 }
 
@@ -93,14 +57,10 @@ fn inner_word(x: u32, e: u32) -> u32
     requires { KnownName x e }
     ensures { declared_by result ≡ inner_entry x e }
 {
-    let d = direct_of(x);
-    if d == Pack::NONE {
-        return e + Directory::PLACES;
+    match Taken::from(x).direct() {
+        Some(d) if d != e => Directory::PLACES * Directory::OFFSETS * (Directory::OFFSETS + d),
+        _ => e + Directory::PLACES,
     }
-    if d == e {
-        return e + Directory::PLACES;
-    }
-    Directory::PLACES * Directory::OFFSETS * (Directory::OFFSETS + d)
 }
 
 // The direct kinds of so many names as words of a directory.
@@ -108,21 +68,8 @@ fn inner_words(taken: &[u32], dir: &mut [u32], count: usize)
     requires { InnerAsked taken.now count × (length dir.old ≡ 512 + count) }
     ensures { InnerWords taken.now count dir.new }
 {
-    let mut j: usize = 0;
-    while j < count {
+    for j in 0..count {
         dir[Directory::NAMES + j] = inner_word(taken[j], j as u32);
-        j += 1;
-    }
-}
-
-// No name is seen.
-fn clear(marks: &mut [u32])
-    ensures { marks.new ≡ table_from unseen 0 (length marks.old) }
-{
-    let mut j: usize = 0;
-    while j < marks.len() {
-        marks[j] = Mark::UNSEEN;
-        j += 1;
     }
 }
 
@@ -132,7 +79,7 @@ fn walk_inner(taken: &[u32], dir: &mut [u32], marks: &mut [u32])
     ensures { InnerMarked taken.now (length marks.old) marks.new }
 {
     inner_words(taken, dir, marks.len());
-    clear(marks);
+    marks.fill(Mark::UNSEEN);
     settle_all(dir, marks);
 }
 
@@ -141,16 +88,13 @@ fn mark_inner(filter: Filter, taken: &[u32], dir: &mut [u32], marks: &mut [u32])
     requires { InnerAsked taken.now (length marks.old) × (length dir.old ≡ 512 + length marks.old) }
     ensures { InnerFor filter taken.now (length marks.old) marks.new }
 {
-    match filter {
-        Filter::Direct => {}
-        Filter::Innermost => walk_inner(taken, dir, marks),
-        Filter::Alias => {}
-        Filter::Unresolved => {}
+    if let Filter::Innermost = filter {
+        walk_inner(taken, dir, marks);
     }
 }
 
 // A table of a checked pack into a slice with one word for each name. When the kinds are taken the directory is free for the
-// walks along them.
+// walks along them; so what it says is asked for here, and no promise of a struct round it.
 fn fill(
     pack: &[u32],
     l: Layout,
@@ -181,17 +125,32 @@ fn filtered_in(
     requires { DirectoryRoom pack.now dir.old marks.old × ClearTable (names_said pack.now) taken.old }
     ensures { Answered (filter_answer filter) (filter_buffer filter) pack.now out.old result out.new }
 {
-    let r = check_directory(pack, dir);
-    let Laid::Yes(l) = r else {
-        return answer(r);
-    };
+    let l = check_directory(pack, dir)?;
     let names = l.names;
     let count = names as usize;
     if out.len() < count {
-        return refuse(Number::NO_ROOM, 0);
+        return Err(refused(Number::NoRoom, 0));
     }
     fill(pack, l, dir, filter, marks, taken, &mut out[0..count]);
-    Answer::Given(names, 0)
+    Ok(Given {
+        value: names,
+        steps: 0,
+    })
+}
+
+// The same with a directory and tables of its own.
+fn filtered_sized<const WORDS: usize, const NAMES: usize>(
+    pack: &[u32],
+    filter: Filter,
+    out: &mut [u32],
+) -> Answer
+    requires { Sized pack.now WORDS NAMES }
+    ensures { Answered (filter_answer filter) (filter_buffer filter) pack.now out.old result out.new }
+{
+    let mut dir = [0u32; WORDS];
+    let mut marks = [0u32; NAMES];
+    let mut taken = [0u32; NAMES];
+    filtered_in(pack, filter, &mut dir, &mut marks, &mut taken, out)
 }
 
 // A table, one word for each name of the pack.
@@ -200,19 +159,10 @@ pub fn filtered(pack: &[u32], filter: Filter, out: &mut [u32]) -> Answer
 {
     let n = names_said(pack);
     if n <= Directory::FEW {
-        let mut dir = [0u32; Directory::NAMES + Directory::FEW];
-        let mut marks = [0u32; Directory::FEW];
-        let mut taken = [0u32; Directory::FEW];
-        return filtered_in(pack, filter, &mut dir, &mut marks, &mut taken, out);
+        filtered_sized::<{ Directory::FEW_WORDS }, { Directory::FEW }>(pack, filter, out)
+    } else if n <= Directory::SOME {
+        filtered_sized::<{ Directory::SOME_WORDS }, { Directory::SOME }>(pack, filter, out)
+    } else {
+        filtered_sized::<{ Directory::WORDS }, { Directory::ALL }>(pack, filter, out)
     }
-    if n <= Directory::SOME {
-        let mut dir = [0u32; Directory::NAMES + Directory::SOME];
-        let mut marks = [0u32; Directory::SOME];
-        let mut taken = [0u32; Directory::SOME];
-        return filtered_in(pack, filter, &mut dir, &mut marks, &mut taken, out);
-    }
-    let mut dir = [0u32; Directory::WORDS];
-    let mut marks = [0u32; Pack::MOST_NAMES as usize];
-    let mut taken = [0u32; Pack::MOST_NAMES as usize];
-    filtered_in(pack, filter, &mut dir, &mut marks, &mut taken, out)
 }

@@ -1,107 +1,167 @@
 // The kinds that entities take from the derivations that name them, by name.
-ghost use Rattle.std.specs.Prelude.{◌≡◌, ◌+◌, ◌<◌, ◌≤◌, length, eqb};
+ghost use Rattle.std.specs.Prelude.{◌≡◌, ◌+◌, ◌<◌, ◌≤◌, ◌^◌, length, eqb, true, IfSome};
+ghost use Rattle.definitions.specs.Answers.{yes_no};
 ghost use Rattle.definitions.specs.Table.{pick};
 ghost use Rattle.chains.specs.Record.{kind_count};
 ghost use Rattle.chains.specs.DirectoryWord.{Reaches, starts_in, slots_in, names_in};
 ghost use Rattle.chains.specs.PackDirectory.{ClearTable, IsDirectory};
-ghost use Rattle.filtered.specs.Taking.{kind_in, Small, KindFound, named_after, taken_after, take_at, RelationRead, RelationsRead, NamesLow, KnowsEntities, Filled};
+ghost use Rattle.filtered.specs.Acts.{part_number};
+ghost use Rattle.filtered.specs.Said.{direct_by, alias_of, unresolved_of};
+ghost use Rattle.filtered.specs.Taking.{option_in, ListFound, KindFound, number_of, Plain, named_after, taken_after, take_at, RelationRead, RelationsRead, NamesLow, KnowsEntities, Filled};
 
-use crate::act::{Act, list};
+use crate::act::{Part, list};
 use chains::entry::{name_at, slots, start};
 use chains::record::{kind_count, value_at};
 use chains::settle::settle_all;
 use pack::kinds::Pack;
 use records::directory::Layout;
 
-// A relation's kind at a slot, where it is known.
-#[derive(Clone, Copy)]
-pub enum Kind {
-    Is(u32),
-    Unknown,
-}
-
-// What is known of an entity in one number: 0, NAMED, ONE and the kind, or SEVERAL.
-#[derive(Clone, Copy)]
-pub struct Taken {}
-
-impl Taken {
-    // A derivation names it.
-    pub const NAMED: u32 = 1;
-
+// What is known of an entity. A table packs it into one number.
+#[derive(Clone, Copy, PartialEq, Eq)]
+pub enum Taken {
+    // No derivation names it.
+    Nothing,
+    // A derivation names it, and it takes no kind.
+    Named,
     // It takes one kind.
-    pub const ONE: u32 = 2;
-
+    One(u32),
     // It takes several.
-    pub const SEVERAL: u32 = Taken::ONE + Pack::VALUES;
+    Several,
 }
 
-// The kind at a slot of the list whose count word stands at a place; at place 0 there is none.
-pub fn kind_at(pack: &[u32], place: u32, slot: u32) -> Kind
+#[tactic(auto, using(std::proofs::lemmas::Bool::Decides::nat_tests), unfolding(crate::specs::Said::direct_by, crate::specs::Said::direct_of, crate::specs::Said::alias_of, crate::specs::Said::unresolved_of, crate::specs::Taking::named_after, crate::specs::Taking::taken_after))]
+impl Taken {
+    const ONE: u32 = 2;
+
+    const SEVERAL: u32 = Taken::ONE + Pack::VALUES;
+
+    // As it is packed.
+    fn number(self) -> u32
+        requires { number_of self < 2 ^ 32 }
+        ensures { result ≡ number_of self }
+    {
+        match self {
+            Taken::Nothing => 0,
+            Taken::Named => 1,
+            Taken::One(k) => Taken::ONE + k,
+            Taken::Several => Taken::SEVERAL,
+        }
+    }
+
+    // After one more derivation that names it.
+    fn named(self) -> Taken
+        ensures { number_of result ≡ named_after (number_of self) }
+    {
+        match self {
+            Taken::Nothing => Taken::Named,
+            _ => self,
+        }
+    }
+
+    // With one more kind; where none is known it stays as it is.
+    fn with(self, kind: Option<u32>) -> Taken
+        requires { IfSome kind (λ k. k < 16777216) }
+        ensures { number_of result ≡ taken_after (number_of self) (option_in kind) }
+    {
+        let Some(k) = kind else {
+            return self;
+        };
+        match self {
+            Taken::Nothing | Taken::Named => Taken::One(k),
+            Taken::One(only) if only == k => self,
+            _ => Taken::Several,
+        }
+    }
+
+    // The one kind that it takes, where it takes one.
+    pub fn direct(self) -> Option<u32>
+        requires { Plain self }
+        ensures { option_in result ≡ direct_by (number_of self) }
+    {
+        match self {
+            Taken::One(k) if k != Pack::NONE => Some(k),
+            _ => None,
+        }
+    }
+
+    // Whether the entity takes a kind other than itself.
+    pub fn is_alias(self, e: u32) -> bool
+        requires { e < 4096 }
+        ensures { yes_no result ≡ alias_of (number_of self) e }
+    {
+        match self {
+            Taken::Nothing | Taken::Named => false,
+            Taken::One(k) => k != e,
+            Taken::Several => true,
+        }
+    }
+
+    // Whether a derivation names it and it takes no kind.
+    pub fn is_unresolved(self) -> bool
+        ensures { yes_no result ≡ unresolved_of (number_of self) }
+    {
+        self == Taken::Named
+    }
+}
+
+// What a number of a table says.
+impl From<u32> for Taken {
+    ghost from_gives = { λ x taken. (number_of taken ≡ x) × Plain taken };
+
+    fn from(x: u32) -> Taken {
+        match x {
+            0 => Taken::Nothing,
+            1 => Taken::Named,
+            Taken::SEVERAL => Taken::Several,
+            _ => Taken::One(x - Taken::ONE),
+        }
+    }
+}
+
+// The words of the list whose count word stands at a place, as far as they stand in the pack; at place 0 there is none.
+pub fn list_at(pack: &[u32], place: u32) -> &[u32]
+    ensures { ListFound pack.now place result.now }
+{
+    let at = place as usize;
+    if at == 0 || pack.len() <= at {
+        return &[];
+    }
+    let words = &pack[at + 1..];
+    let count = (pack[at] % Pack::VALUES) as usize;
+    &words[..count.min(words.len())]
+}
+
+// The kind at a slot of that list.
+pub fn kind_at(pack: &[u32], place: u32, slot: u32) -> Option<u32>
     ensures { KindFound pack.now place slot result }
 {
-    if place == 0 {
-        return Kind::Unknown;
-    }
-    let at = place as usize;
-    if pack.len() <= at {
-        return Kind::Unknown;
-    }
-    if pack[at] % Pack::VALUES <= slot {
-        return Kind::Unknown;
-    }
-    let after = pack.len() - at - 1;
-    if after <= slot as usize {
-        return Kind::Unknown;
-    }
-    Kind::Is(pack[at + 1 + slot as usize] % Pack::VALUES)
-}
-
-// An entity that one more derivation names.
-fn named_after(x: u32) -> u32
-    ensures { result ≡ named_after x }
-{
-    if x == 0 { Taken::NAMED } else { x }
-}
-
-// An entity with one more kind; where none is known it stays as it is.
-fn taken_after(x: u32, kind: Kind) -> u32
-    requires { Small kind }
-    ensures { result ≡ taken_after x (kind_in kind) }
-{
-    let Kind::Is(k) = kind else {
-        return x;
-    };
-    if x < Taken::ONE {
-        return Taken::ONE + k;
-    }
-    if x == Taken::ONE + k {
-        return x;
-    }
-    Taken::SEVERAL
+    list_at(pack, place)
+        .get(slot as usize)
+        .map(|word| word % Pack::VALUES)
 }
 
 // An entity of a derivation and the kind that it takes there; one past the table is none and passed over.
-pub fn take_at(table: &mut [u32], entity: u32, kind: Kind)
-    requires { Small kind }
-    ensures { table.new ≡ take_at table.old entity (kind_in kind) }
+pub fn take_at(table: &mut [u32], entity: u32, kind: Option<u32>)
+    requires { IfSome kind (λ k. k < 16777216) }
+    ensures { table.new ≡ take_at table.old entity (option_in kind) }
 {
     let e = entity as usize;
     if table.len() <= e {
         return;
     }
-    let x = named_after(table[e]);
-    table[e] = taken_after(x, kind);
+    table[e] = Taken::from(table[e]).named().with(kind).number();
 }
 
 // The part of a relation without derivation, whose record starts at a place: it is typed with two slot kinds.
-fn typed(pack: &[u32], start: usize) -> u32
+fn typed(pack: &[u32], start: usize) -> Part
     requires { start ≤ 65536 }
-    ensures { (result ≡ pick (eqb (kind_count pack.now start) 2) 1 0) × (result ≤ 1) }
+    ensures { part_number result ≡ pick (eqb (kind_count pack.now start) 2) 1 0 }
 {
     if kind_count(pack, start) == 2 {
-        return Act::TYPED;
+        Part::Typed
+    } else {
+        Part::Neither
     }
-    Act::NEITHER
 }
 
 // The relation of a name: what an aggregate over it does; and with a derivation its entity takes the kind at its current slot.
@@ -110,14 +170,14 @@ fn read_relation(pack: &[u32], dir: &[u32], acts: &mut [u32], taken: &mut [u32],
     ensures { RelationRead pack.now (starts_in dir.now) (slots_in dir.now) acts.old taken.old name acts.new taken.new }
 {
     let at = slots(dir, name);
-    let x = acts[name] % Act::MARKS;
+    let x = acts[name] % Part::MARKS;
     if at == 0 {
-        acts[name] = x + Act::MARKS * typed(pack, start(dir, name));
+        acts[name] = x + Part::MARKS * typed(pack, start(dir, name)).number();
         return;
     }
     let kind = kind_at(pack, list(x), value_at(pack, at));
     take_at(taken, value_at(pack, at + 2), kind);
-    acts[name] = x + Act::MARKS * at as u32;
+    acts[name] = x + Part::MARKS * Part::Derived(at).number();
 }
 
 // So many relations in record order.
@@ -125,10 +185,8 @@ fn read_relations(pack: &[u32], dir: &[u32], count: u32, acts: &mut [u32], taken
     requires { (count ≤ 512) × NamesLow (length acts.old) (names_in dir.now count) × Reaches dir.now (length acts.old) }
     ensures { RelationsRead pack.now (starts_in dir.now) (slots_in dir.now) (names_in dir.now count) acts.old taken.old acts.new taken.new }
 {
-    let mut j: u32 = 0;
-    while j < count {
-        read_relation(pack, dir, acts, taken, name_at(dir, j as usize));
-        j += 1;
+    for j in 0..count as usize {
+        read_relation(pack, dir, acts, taken, name_at(dir, j));
     }
 }
 

@@ -1,3 +1,3 @@
+pub mod Loops
 pub mod InputRead
-pub mod InputWords
 pub mod BlocksStand

@@ -1,67 +1,73 @@
 -- What the code reads of blocks from the words of a pack.
-use Rattle.std.specs.Prelude.{ℕ, zero, suc, ◌+◌, ◌*◌, ◌^◌, ◌≤◌, ◌≡◌, List, Bool, ◌||◌, not, eqb}
-use Rattle.definitions.specs.Table.{pick, kind_of}
+use Rattle.std.specs.Prelude.{ℕ, zero, suc, ◌+◌, ◌*◌, ◌^◌, ◌≤◌, ◌≡◌, List, ◌||◌, not, eqb, Result, Ok, Err, Some, None}
+use Rattle.std.proofs.Math.Option.{Option, none, some}
+use Rattle.std.specs.declared.option.Option as code
+use Rattle.definitions.specs.declared.answer.Number.{Number}
+use Rattle.definitions.specs.declared.answer.Number.TheVariants.{NoSequence, NotDeclaredOnce, NotBoolean, WrongOwner}
+use Rattle.definitions.specs.Answers.{number_of}
+use Rattle.definitions.specs.Table.{pick}
 use Rattle.definitions.specs.Table as table
 use Rattle.definitions.specs.Form.{repeats}
 use Rattle.chains.specs.Record.{value_at}
+use Rattle.inputs.specs.declared.inputs.Declaration.{Declaration}
+use Rattle.inputs.specs.declared.inputs.Seen.{Seen}
+use Rattle.inputs.specs.declared.inputs.Seen.TheVariants.{Never, Once, Several}
 
--- the declarations of a name so far: 0 none, the place of the only one, or 1
-unfoldable pub seen_after : ℕ → ℕ → Bool → ℕ
-seen_after seen at named = pick named (pick (eqb seen 0) at 1) seen
+-- the declaration in an item that starts at a place
+abbrev pub declaration_at : List ℕ → ℕ → Declaration
+declaration_at ws at = record { boolean = eqb (value_at ws (at + 1)) 1; entity = value_at ws (at + 2) }
+
+-- the declarations of a name so far, and one more
+abbrev pub seen_after : Seen → Declaration → Seen
+seen_after Never d = Once d
+seen_after (Once e) d = Several
+seen_after Several d = Several
 
 -- after so many items from a place on
-unfoldable pub seen_items : List ℕ → ℕ → ℕ → ℕ → ℕ → ℕ
+unfoldable pub seen_items : List ℕ → ℕ → ℕ → ℕ → Seen → Seen
 seen_items ws name at zero seen = seen
-seen_items ws name at (suc k) seen = seen_items ws name (at + 3) k (seen_after seen at (eqb (value_at ws at) name))
+seen_items ws name at (suc k) seen = seen_items ws name (at + 3) k (pick (eqb (value_at ws at) name) (seen_after seen (declaration_at ws at)) seen)
 
--- a block of the origin: 2 if it has no sequence
-unfoldable pub seen_block : List ℕ → ℕ → ℕ → ℕ → ℕ → ℕ
+-- how many items a block has, if it has a sequence
+abbrev pub item_count : List ℕ → ℕ → code.Option ℕ
+item_count ws at = pick (eqb (value_at ws (at + 1)) table.none) None (Some (value_at ws (at + 1)))
+
+-- a block of the origin: refused if it has no sequence
+abbrev pub seen_block : List ℕ → ℕ → ℕ → ℕ → Seen → Result Seen Number
 seen_block ws origin name at seen =
-    pick (eqb (value_at ws at) origin) (pick (eqb (value_at ws (at + 1)) table.none) 2 (seen_items ws name (at + 2) (value_at ws (at + 1)) seen)) seen
+    pick (eqb (value_at ws at) origin) (pick (eqb (value_at ws (at + 1)) table.none) (Err NoSequence) (Ok (seen_items ws name (at + 2) (value_at ws (at + 1)) seen))) (Ok seen)
 
--- after so many blocks from a place on; one without a sequence ends it
-unfoldable pub seen_blocks : List ℕ → ℕ → ℕ → ℕ → ℕ → ℕ → ℕ
-seen_blocks ws origin name at zero seen = seen
+-- what follows what came, or its refusal
+abbrev pub then_so : {A B : Type 0} → Result A Number → (A → Result B Number) → Result B Number
+then_so (Ok a) f = f a
+then_so (Err number) f = Err number
+
+-- after so many blocks from a place on
+unfoldable pub seen_blocks : List ℕ → ℕ → ℕ → ℕ → ℕ → Seen → Result Seen Number
+seen_blocks ws origin name at zero seen = Ok seen
 seen_blocks ws origin name at (suc k) seen =
-    pick (eqb (seen_block ws origin name at seen) 2) 2 (seen_blocks ws origin name (at + 2 + 3 * repeats (value_at ws (at + 1))) k (seen_block ws origin name at seen))
+    then_so (seen_block ws origin name at seen) (seen_blocks ws origin name (at + 2 + 3 * repeats (value_at ws (at + 1))) k)
 
--- the number by which an input is refused, 0 if it is not
-unfoldable pub input_number : List ℕ → ℕ → ℕ → ℕ
-input_number ws seen owner =
-    pick (eqb seen 2) 12
-    (pick (eqb seen 0 || eqb seen 1) 13 (pick (eqb (value_at ws (seen + 1)) 1) (pick (eqb owner 0 || not (eqb (value_at ws (seen + 2)) owner)) 15 0) 14))
+-- the only declaration, as an input of an owner
+abbrev pub allowed_as : Seen → ℕ → Result (Unit {0}) Number
+allowed_as Never owner = Err NotDeclaredOnce
+allowed_as (Once d) owner = pick d.boolean (pick (eqb owner 0 || not (eqb d.entity owner)) (Err WrongOwner) (Ok tt)) (Err NotBoolean)
+allowed_as Several owner = Err NotDeclaredOnce
 
 -- of the blocks that stand from a place on
-unfoldable pub input_in : List ℕ → ℕ → ℕ → ℕ → ℕ → ℕ → ℕ
-input_in ws at count origin owner name = input_number ws (seen_blocks ws origin name at count 0) owner
+unfoldable pub input_in : List ℕ → ℕ → ℕ → ℕ → ℕ → ℕ → Result (Unit {0}) Number
+input_in ws at count origin owner name = then_so (seen_blocks ws origin name at count Never) (λ (s : Seen). allowed_as s owner)
+
+-- the number by which an input is refused, if it is
+abbrev pub refused_by : Result (Unit {0}) Number → Option ℕ
+refused_by (Ok u) = none
+refused_by (Err number) = some (number_of number)
 
 -- no place is further than this: the code's sums stay below 2^64
 abbrev pub far : ℕ
 far = 2 ^ 60
 
--- a place, the number of items from it on, and what was seen before
-pub record Near (at count seen : ℕ) : Type 0 where
-  pub place : at + 3 * count ≤ far
-  pub before : seen ≤ far
-
--- what was seen after it
-pub record SeenItems (ws : List ℕ) (name at count before seen : ℕ) : Type 0 where
-  pub is : seen ≡ seen_items ws name at count before
-  pub near : seen ≤ far
-
--- the same of a block, of the place after it, and of so many blocks
-pub record NearBlock (at seen : ℕ) : Type 0 where
-  pub place : at ≤ 4294967296
-  pub before : seen ≤ far
-
-pub record SeenBlock (ws : List ℕ) (origin name at before seen : ℕ) : Type 0 where
-  pub is : seen ≡ seen_block ws origin name at before
-  pub near : seen ≤ far
-
+-- the place after a block
 pub record AfterBlock (ws : List ℕ) (at next : ℕ) : Type 0 where
   pub is : next ≡ at + 2 + 3 * repeats (value_at ws (at + 1))
   pub near : next ≤ at + 50331650
-
-pub record SeenBlocks (ws : List ℕ) (origin name at count seen : ℕ) : Type 0 where
-  pub is : seen ≡ seen_blocks ws origin name at count 0
-  pub near : seen ≤ far

@@ -1,5 +1,5 @@
 -- Laws of the search along edges: what is reached is led to, and where nothing in the queue is left to enter, all that is led to is reached.
-use Prim.Native.Nat.{ℕ, zero, suc, ◌+◌, ◌-◌, ◌*◌, ◌<◌, ◌≤◌}
+use Prim.Native.Nat.{ℕ, zero, suc, ◌+◌, ◌-◌, ◌<◌, ◌≤◌}
 use native.Mathlib.Omega.{arith}
 use mathlib.Core.Path.{◌≡◌, refl, ap, sym, ◌∙◌, subst}
 use mathlib.Core.Logic.{◌⊎◌, inl, inr}
@@ -17,7 +17,7 @@ use Rattle.chains.proofs.Names.{apart, among-append, or_left, or_right, or_false
 use Rattle.chains.specs.DirectoryWord.{Reaches, starts_in}
 use Rattle.kinds.specs.Edges.{derived_edges, edges_in, edges_by}
 use Rattle.kinds.proofs.EdgeLaws.{at_none}
-use Rattle.kinds.specs.Search.{Search, searched, reached, reached_all, unmarked, Reachable, Searchable, Computes}
+use Rattle.kinds.specs.Search.{Search, searched, reached, reached_all, unmarked, HasRoom, Reachable, Searchable, Computes}
 
 -- ---- marks that are clear
 
@@ -47,7 +47,7 @@ module _ (n : ℕ) (s : Search) where
   unfolding reached
   reached-before h = rw (ne_eqb (get_or s.marks n 0) 0 h) refl
 
-  pub reached_now : get_or s.marks n 0 ≡ 0 → reached n s ≡ searched (set s.marks n 1) (set s.queue s.count n) (s.count + 1)
+  pub reached_now : get_or s.marks n 0 ≡ 0 → reached n s ≡ searched (set s.marks n 1) (set s.queue s.count n) (s.count + 1) s.entered
   unfolding reached
   reached_now z = rw (eq-eqb (get_or s.marks n 0) 0 z) refl
 
@@ -64,9 +64,10 @@ pub record Onward (s t : Search) : Type 0 where
   pub marks : length t.marks ≡ length s.marks
   pub queue : length t.queue ≡ length s.queue
   pub room : unmarked t.marks + t.count ≡ unmarked s.marks + s.count
+  pub entered : t.entered ≡ s.entered
 
 stays : (s : Search) → Onward s s
-stays s = record { more = omega arith; queued = λ j h. refl; marked = λ m h. h; marks = refl; queue = refl; room = refl }
+stays s = record { more = omega arith; queued = λ j h. refl; marked = λ m h. h; marks = refl; queue = refl; room = refl; entered = refl }
 
 after : {s t u : Search} → Onward s t → Onward t u → Onward s u
 after f g =
@@ -77,7 +78,11 @@ after f g =
       marks = g.marks ∙ f.marks;
       queue = g.queue ∙ f.queue;
       room = g.room ∙ f.room;
+      entered = g.entered ∙ f.entered;
     }
+
+pub room_kept : {s t : Search} → HasRoom s → Onward s t → HasRoom t
+room_kept r o = omega (arith, r, o.room, o.queue)
 
 -- the marks after a store
 module _ (l : List ℕ) (n : ℕ) (inside : n < length l) where
@@ -104,10 +109,10 @@ module _ (n : ℕ) (s : Search) (asked : Reachable (n ∷ []) s) where
   pub inside : n < length s.marks
   inside = asked.below n (or_left false (eq-eqb n n refl))
 
-  pub fits : get_or s.marks n 0 ≡ 0 → s.count < length s.queue
-  fits z = omega (arith, asked.room, unmarked-set s.marks n inside z)
+  pub fits : HasRoom s → get_or s.marks n 0 ≡ 0 → s.count < length s.queue
+  fits r z = omega (arith, r, unmarked-set s.marks n inside z)
 
-  added : get_or s.marks n 0 ≡ 0 → Onward s (searched (set s.marks n 1) (set s.queue s.count n) (s.count + 1))
+  pub added : get_or s.marks n 0 ≡ 0 → Onward s (searched (set s.marks n 1) (set s.queue s.count n) (s.count + 1) s.entered)
   added z =
       record {
         more = omega arith;
@@ -116,10 +121,11 @@ module _ (n : ℕ) (s : Search) (asked : Reachable (n ∷ []) s) where
         marks = length-set s.marks n 1;
         queue = length-set s.queue s.count n;
         room = omega (arith, unmarked-set s.marks n inside z);
+        entered = refl;
       }
 
   -- whether it was reached before or is now
-  either_way : (P : Search → Type 0) → (Marked s n → P s) → (get_or s.marks n 0 ≡ 0 → P (searched (set s.marks n 1) (set s.queue s.count n) (s.count + 1))) → P (reached n s)
+  either_way : (P : Search → Type 0) → (Marked s n → P s) → (get_or s.marks n 0 ≡ 0 → P (searched (set s.marks n 1) (set s.queue s.count n) (s.count + 1) s.entered)) → P (reached n s)
   either_way P before now = go (eqb (get_or s.marks n 0) 0) refl
     where
       go : (t : Bool) → eqb (get_or s.marks n 0) 0 ≡ t → P (reached n s)
@@ -134,10 +140,10 @@ module _ (n : ℕ) (s : Search) (asked : Reachable (n ∷ []) s) where
 
 -- of a row of names the first, and the others once it is reached
 pub first-asked : {n : ℕ} {ns : List ℕ} {s : Search} → Reachable (n ∷ ns) s → Reachable (n ∷ []) s
-first-asked {n} {ns} r = record { below = λ m i. r.below m (or_left (among m ns) (sym (or_false (eqb m n)) ∙ i)); room = r.room }
+first-asked {n} {ns} r = record { below = λ m i. r.below m (or_left (among m ns) (sym (or_false (eqb m n)) ∙ i)) }
 
 pub others-asked : {ns ms : List ℕ} {s t : Search} → Reachable ns s → Onward s t → ((m : ℕ) → among m ms ≡ true → among m ns ≡ true) → Reachable ms t
-others-asked r o h = record { below = λ m i. omega (arith, r.below m (h m i), o.marks); room = omega (arith, r.room, o.room, o.queue) }
+others-asked r o h = record { below = λ m i. omega (arith, r.below m (h m i), o.marks) }
 
 pub rest-asked : {n : ℕ} {ns : List ℕ} {s : Search} → Reachable (n ∷ ns) s → Reachable ns (reached n s)
 rest-asked {n} {s = s} r = others-asked r (reach_onward n s (first-asked r)) (λ m i. or_right (eqb m n) i)
@@ -185,59 +191,39 @@ module _ (ws : List ℕ) (at : ℕ) (s₀ : Search) where
   pub record Reaching (s : Search) (place left : ℕ) : Type 0 where
     pub asked : Reachable (steps_in ws place left) s
     pub todo : reached_all (steps_in ws place left) s ≡ reached_all (path_in ws at) s₀
-    pub near : place + 3 * left ≤ 100000000
-    pub marks : length s.marks ≡ length s₀.marks
-    pub queue : length s.queue ≡ length s₀.queue
 
-  pub path_begin : {steps : ℕ} → steps ≡ value_at ws at → (steps ≡ 16777215 → ⊥) → steps < 16777216 → at ≤ 33554432 → Reachable (path_in ws at) s₀ → Reaching s₀ (at + 1) steps
+  pub path_begin : {steps place left : ℕ} → steps ≡ value_at ws at → (steps ≡ 16777215 → ⊥) → Reachable (path_in ws at) s₀ → place ≡ at + 1 → left ≡ steps → Reaching s₀ place left
   unfolding path_in
-  path_begin {steps} e u h k r =
+  path_begin {steps} e u r p l =
       let q : repeats (value_at ws at) ≡ steps = rw (← e, ne_eqb steps 16777215 u) refl in
-      record {
+      rw (p, l)
+      (record {
         asked = subst (λ (n : ℕ). Reachable (steps_in ws (at + 1) n) s₀) q r;
         todo = ap (λ (n : ℕ). reached_all (steps_in ws (at + 1) n) s₀) (sym q);
-        near = omega arith;
-        marks = refl;
-        queue = refl;
-      }
+      })
 
   module _ {s : Search} {place left : ℕ} (f : Reaching s place left) where
-    pub path-end : left ≤ 0 → s ≡ reached_all (path_in ws at) s₀
+    pub path-end : left ≡ 0 → s ≡ reached_all (path_in ws at) s₀
     unfolding steps_in reached_all
-    path-end h = go left h f.todo
-      where
-        go : (k : ℕ) → k ≤ 0 → reached_all (steps_in ws place k) s ≡ reached_all (path_in ws at) s₀ → s ≡ reached_all (path_in ws at) s₀
-        go zero h e = e
-        go (suc k) h e = absurd (omega arith)
+    path-end h = sym (ap (λ (k : ℕ). reached_all (steps_in ws place k) s) h) ∙ f.todo
 
-    module _ (h : 0 < left) {x : ℕ} (q : x ≡ value_at ws place) where
+    module _ {x : ℕ} (q : x ≡ value_at ws place) {place' left' : ℕ} (on : place' ≡ place + 3) (one : left ≡ suc left') where
       -- the next of them
-      next_step : steps_in ws place left ≡ x ∷ steps_in ws (place + 3) (left - 1)
+      next_step : steps_in ws place left ≡ x ∷ steps_in ws place' left'
       unfolding steps_in
-      next_step = go left h
-        where
-          go : (k : ℕ) → 0 < k → steps_in ws place k ≡ x ∷ steps_in ws (place + 3) (k - 1)
-          go zero h = absurd (omega arith)
-          go (suc k) h = let m : suc k - 1 ≡ k = omega arith in rw (m, ← q) refl
+      next_step = rw (on, one, ← q) refl
 
-      both_asked : Reachable (x ∷ steps_in ws (place + 3) (left - 1)) s
+      both_asked : Reachable (x ∷ steps_in ws place' left') s
       both_asked = subst (λ (ns : List ℕ). Reachable ns s) next_step f.asked
 
-      pub step_asked : Reachable (x ∷ []) s
-      step_asked = first-asked both_asked
-
-      pub step_reached : {t : Search} → t ≡ reached x s → Reaching t (place + 3) (left - 1)
+      pub step_reached : {t : Search} → t ≡ reached x s → Reaching t place' left'
       unfolding reached_all
       step_reached {t} e =
-          let o = reach_onward x s step_asked in
-          subst (λ (u : Search). Reaching u (place + 3) (left - 1)) (sym e)
-          (record {
-            asked = rest-asked both_asked;
-            todo = ap (λ (ns : List ℕ). reached_all ns s) (sym next_step) ∙ f.todo;
-            near = omega (arith, f.near);
-            marks = o.marks ∙ f.marks;
-            queue = o.queue ∙ f.queue;
-          })
+          subst (λ (u : Search). Reaching u place' left') (sym e)
+          (record { asked = rest-asked both_asked; todo = ap (λ (ns : List ℕ). reached_all ns s) (sym next_step) ∙ f.todo })
+
+    pub step_asked : {x : ℕ} → x ≡ value_at ws place → 0 < left → Reachable (x ∷ []) s
+    step_asked q h = first-asked (both_asked q refl (let e : left ≡ suc (left - 1) = omega arith in e))
 
 -- ---- a record entered
 
@@ -275,12 +261,12 @@ module _ (edges : ℕ → List ℕ) (a : ℕ) where
     pub queued : (j : ℕ) → j < s.count → Leads edges a (get_or s.queue j 0)
 
   -- a name that is led to may be reached
-  reach_sound : (n : ℕ) (s : Search) → Reachable (n ∷ []) s → Leads edges a n → Sound s → Sound (reached n s)
-  reach_sound n s r l w = either_way n s r Sound (λ h. w) new
+  reach_sound : (n : ℕ) (s : Search) → HasRoom s → Reachable (n ∷ []) s → Leads edges a n → Sound s → Sound (reached n s)
+  reach_sound n s room r l w = either_way n s r Sound (λ h. w) new
     where
-      new : get_or s.marks n 0 ≡ 0 → Sound (searched (set s.marks n 1) (set s.queue s.count n) (s.count + 1))
+      new : get_or s.marks n 0 ≡ 0 → Sound (searched (set s.marks n 1) (set s.queue s.count n) (s.count + 1) s.entered)
       new z =
-          let here : get_or (set s.queue s.count n) s.count 0 ≡ n = get_or-set_same s.queue s.count n 0 (fits n s r z) in
+          let here : get_or (set s.queue s.count n) s.count 0 ≡ n = get_or-set_same s.queue s.count n 0 (fits n s r room z) in
           record { leads = λ m h. led m (old m h); listed = λ m h. place here m (old m h); queued = λ j h. entry here j (eqb j s.count) refl h }
         where
           old : (m : ℕ) → (get_or (set s.marks n 1) m 0 ≡ 0 → ⊥) → (m ≡ n) ⊎ Marked s m
@@ -304,12 +290,12 @@ module _ (edges : ℕ → List ℕ) (a : ℕ) where
               let v : j < s.count = omega (arith, u) in
               subst (Leads edges a) (sym (kept j v)) (w.queued j v)
 
-  all_sound : (ns : List ℕ) (s : Search) → Reachable ns s → ((m : ℕ) → among m ns ≡ true → Leads edges a m) → Sound s → Sound (reached_all ns s)
+  all_sound : (ns : List ℕ) (s : Search) → HasRoom s → Reachable ns s → ((m : ℕ) → among m ns ≡ true → Leads edges a m) → Sound s → Sound (reached_all ns s)
   unfolding reached_all
-  all_sound [] s r l w = w
-  all_sound (n ∷ ns) s r l w =
-      all_sound ns (reached n s) (rest-asked r) (λ m i. l m (or_right (eqb m n) i))
-      (reach_sound n s (first-asked r) (l n (or_left (among n ns) (eq-eqb n n refl))) w)
+  all_sound [] s room r l w = w
+  all_sound (n ∷ ns) s room r l w =
+      all_sound ns (reached n s) (room_kept room (reach_onward n s (first-asked r))) (rest-asked r) (λ m i. l m (or_right (eqb m n) i))
+      (reach_sound n s room (first-asked r) (l n (or_left (among n ns) (eq-eqb n n refl))) w)
 
 -- one edge more
 leads_on : {edges : ℕ → List ℕ} {a n m : ℕ} → Leads edges a n → among m (edges n) ≡ true → Leads edges a m
@@ -336,63 +322,55 @@ module _ (ws dir : List ℕ) (a b : ℕ) where
       leaves (straight e) = apart (sym (ap (among b) none-there) ∙ e) refl
       leaves (onward {m = m} e l) = apart (sym (ap (among m) none-there) ∙ e) refl
 
-  -- so many names of the queue are entered; there are marks and a queue for so many names
-  pub record Searching (names long i : ℕ) (s : Search) : Type 0 where
+  -- the names of the queue that are entered
+  pub record Searching (s : Search) : Type 0 where
     pub sound : Sound edges a s
-    pub most : unmarked s.marks + s.count ≤ names
-    pub room : names ≤ long
-    pub marks : length s.marks ≡ names
-    pub queue : length s.queue ≡ long
+    pub room : HasRoom s
     pub first : (m : ℕ) → among m (edges a) ≡ true → Marked s m
-    pub entered : (j : ℕ) → j < i → (m : ℕ) → among m (edges (get_or s.queue j 0)) ≡ true → Marked s m
-    pub sofar : i ≤ s.count
-    pub reaches : Reaches dir names
-    pub to : b < names
-    pub low : (n m : ℕ) → among m (edges n) ≡ true → m < names
+    pub entered : (j : ℕ) → j < s.entered → (m : ℕ) → among m (edges (get_or s.queue j 0)) ≡ true → Marked s m
+    pub sofar : s.entered ≤ s.count
+    pub reaches : Reaches dir (length s.marks)
+    pub to : b < length s.marks
+    pub low : (n m : ℕ) → among m (edges n) ≡ true → m < length s.marks
 
   module _ {marks₀ queue₀ : List ℕ} (asked : Searchable ws dir a b marks₀ queue₀) where
     abbrev s₀ : Search
-    s₀ = searched marks₀ queue₀ 0
+    s₀ = searched marks₀ queue₀ 0 0
+
+    pub room-first : HasRoom s₀
+    room-first = omega (arith, unmarked-clear marks₀ asked.clear, asked.room)
 
     all_asked : Reachable (edges a) s₀
-    all_asked = record { below = λ n i. asked.edges a n i; room = omega (arith, unmarked-clear marks₀ asked.clear, asked.room) }
+    all_asked = record { below = λ n i. asked.edges a n i }
 
-    start_reached : Searching (length marks₀) (length queue₀) 0 (reached_all (edges a) s₀)
+    start_reached : Searching (reached_all (edges a) s₀)
     start_reached =
         let o = all-onward (edges a) s₀ all_asked in
         record {
-          sound = all_sound edges a (edges a) s₀ all_asked (λ m i. straight i)
+          sound = all_sound edges a (edges a) s₀ room-first all_asked (λ m i. straight i)
               (record { leads = λ m h. absurd (h (asked.clear m)); listed = λ m h. absurd (h (asked.clear m)); queued = λ j h. absurd (omega arith) });
-          most = omega (arith, unmarked-clear marks₀ asked.clear, o.room);
-          room = asked.room;
-          marks = o.marks;
-          queue = o.queue;
+          room = room_kept room-first o;
           first = all-marks (edges a) s₀ all_asked;
-          entered = λ j h. absurd (omega arith);
-          sofar = omega arith;
-          reaches = asked.reaches;
-          to = asked.to;
-          low = asked.edges;
+          entered = λ j h. absurd (omega (arith, o.entered));
+          sofar = omega (arith, o.entered);
+          reaches = subst (Reaches dir) (sym o.marks) asked.reaches;
+          to = omega (arith, o.marks, asked.to);
+          low = λ n m e. omega (arith, o.marks, asked.edges n m e);
         }
 
     module _ {start : ℕ} (p : start ≡ get_or (starts_in dir) a 0) where
       pub asked-first : Reachable (edges_in ws start) s₀
       asked-first = subst (λ (ns : List ℕ). Reachable ns s₀) (sym (by_start ws dir a p)) all_asked
 
-      pub begun : {s : Search} → s ≡ reached_all (edges_in ws start) s₀ → Searching (length s.marks) (length s.queue) 0 s
-      begun {s} q =
-          let f = subst (Searching (length marks₀) (length queue₀) 0) (sym (q ∙ ap (λ (ns : List ℕ). reached_all ns s₀) (by_start ws dir a p))) start_reached in
-          subst (λ (n : ℕ). Searching n (length s.queue) 0 s) (sym f.marks) (subst (λ (n : ℕ). Searching (length marks₀) n 0 s) (sym f.queue) f)
+      pub begun : {s : Search} → s ≡ reached_all (edges_in ws start) s₀ → Searching s
+      begun {s} q = subst Searching (sym (q ∙ ap (λ (ns : List ℕ). reached_all ns s₀) (by_start ws dir a p))) start_reached
 
-  module _ {names long i : ℕ} {s : Search} (f : Searching names long i s) where
-    pub at_length : b < length s.marks
-    at_length = omega (arith, f.to, f.marks)
-
+  module _ {s : Search} (f : Searching s) where
     pub arrived : Marked s b → Computes true edges a b
     arrived h = record { sound = λ e. f.sound.leads b h; complete = λ l. refl }
 
     -- where all are entered, all that is led to is marked
-    pub not_there : s.count ≤ i → get_or s.marks b 0 ≡ 0 → Computes false edges a b
+    pub not_there : s.count ≤ s.entered → get_or s.marks b 0 ≡ 0 → Computes false edges a b
     not_there h z = record { sound = λ e. apart e refl; complete = λ l. absurd (on f.first l z) }
       where
         on : {n : ℕ} → ((m : ℕ) → among m (edges n) ≡ true → Marked s m) → Leads edges n b → Marked s b
@@ -401,54 +379,61 @@ module _ (ws dir : List ℕ) (a b : ℕ) where
             let p = f.sound.listed m (all m e) in
             on (λ k j. f.entered p.0 (omega (arith, p.1)) k (subst (λ (n : ℕ). among k (edges n) ≡ true) (sym p.2) j)) l
 
-    module _ (h : i < s.count) where
-      pub queued_there : i < length s.queue
-      queued_there = omega (arith, f.most, f.room, f.queue)
+    module _ {n : ℕ} (h : s.entered < s.count) (q : n ≡ get_or s.queue s.entered 0) {s' : Search} (step : s' ≡ searched s.marks s.queue s.count (s.entered + 1)) where
+      led : Leads edges a n
+      led = subst (Leads edges a) (sym q) (f.sound.queued s.entered h)
 
-      module _ {n : ℕ} (q : n ≡ get_or s.queue i 0) where
-        led : Leads edges a n
-        led = subst (Leads edges a) (sym q) (f.sound.queued i h)
+      -- what is led to has a mark
+      pub queued_below : n < length s.marks
+      queued_below = go led
+        where
+          go : {k : ℕ} → Leads edges k n → n < length s.marks
+          go {k} (straight e) = f.low k n e
+          go (onward e l) = go l
 
-        -- what is led to has a mark
-        pub queued_below : n < names
-        queued_below = go led
-          where
-            go : {k : ℕ} → Leads edges k n → n < names
-            go {k} (straight e) = f.low k n e
-            go (onward e l) = go l
+      abbrev t : Search
+      t = searched s.marks s.queue s.count (s.entered + 1)
 
-        next-asked : Reachable (edges n) s
-        next-asked = record { below = λ m j. omega (arith, f.low n m j, f.marks); room = omega (arith, f.most, f.room, f.queue) }
+      next-asked : Reachable (edges n) t
+      next-asked = record { below = λ m j. f.low n m j }
 
-        next-reached : Searching names long (i + 1) (reached_all (edges n) s)
-        next-reached =
-            let o = all-onward (edges n) s next-asked in
-            record {
-              sound = all_sound edges a (edges n) s next-asked (λ m j. leads_on led j) f.sound;
-              most = omega (arith, f.most, o.room);
-              room = f.room;
-              marks = o.marks ∙ f.marks;
-              queue = o.queue ∙ f.queue;
-              first = λ m j. o.marked m (f.first m j);
-              entered = λ j k m e. ways o j k m e (eqb j i) refl;
-              sofar = omega (arith, o.more);
-              reaches = f.reaches;
-              to = f.to;
-              low = f.low;
-            }
-          where
-            ways : Onward s (reached_all (edges n) s) → (j : ℕ) → j < i + 1 → (m : ℕ) → among m (edges (get_or (reached_all (edges n) s).queue j 0)) ≡ true → (t : Bool) → eqb j i ≡ t → Marked (reached_all (edges n) s) m
-            ways o j k m e true u =
-                let v = eqb-true j i u in
-                all-marks (edges n) s next-asked m (subst (λ (x : ℕ). among m (edges x) ≡ true) (o.queued j (omega (arith, v)) ∙ ap (λ (x : ℕ). get_or s.queue x 0) v ∙ sym q) e)
-            ways o j k m e false u =
-                let v = eqb-false j i u in
-                let w : j < i = omega (arith, v) in
-                o.marked m (f.entered j w m (subst (λ (x : ℕ). among m (edges x) ≡ true) (o.queued j (omega arith)) e))
+      next-reached : Searching (reached_all (edges n) t)
+      next-reached =
+          let o = all-onward (edges n) t next-asked in
+          record {
+            sound = all_sound edges a (edges n) t f.room next-asked (λ m j. leads_on led j) (record { leads = f.sound.leads; listed = f.sound.listed; queued = f.sound.queued });
+            room = room_kept f.room o;
+            first = λ m j. o.marked m (f.first m j);
+            entered = λ j k m e. ways o j (omega (arith, o.entered)) m e (eqb j s.entered) refl;
+            sofar = omega (arith, o.more, o.entered);
+            reaches = subst (Reaches dir) (sym o.marks) f.reaches;
+            to = omega (arith, o.marks, f.to);
+            low = λ n m e. omega (arith, o.marks, f.low n m e);
+          }
+        where
+          ways : Onward t (reached_all (edges n) t) → (j : ℕ) → j < s.entered + 1 → (m : ℕ) → among m (edges (get_or (reached_all (edges n) t).queue j 0)) ≡ true → (b : Bool) → eqb j s.entered ≡ b → Marked (reached_all (edges n) t) m
+          ways o j k m e true u =
+              let v = eqb-true j s.entered u in
+              all-marks (edges n) t next-asked m (subst (λ (x : ℕ). among m (edges x) ≡ true) (o.queued j (omega (arith, v)) ∙ ap (λ (x : ℕ). get_or s.queue x 0) v ∙ sym q) e)
+          ways o j k m e false u =
+              let v = eqb-false j s.entered u in
+              let w : j < s.entered = omega (arith, v) in
+              o.marked m (f.entered j w m (subst (λ (x : ℕ). among m (edges x) ≡ true) (o.queued j (omega arith)) e))
 
-        module _ {start : ℕ} (p : start ≡ get_or (starts_in dir) n 0) where
-          pub asked-next : Reachable (edges_in ws start) s
-          asked-next = subst (λ (ns : List ℕ). Reachable ns s) (sym (by_start ws dir n p)) next-asked
+      module _ {start : ℕ} (p : start ≡ get_or (starts_in dir) n 0) where
+        pub asked-next : Reachable (edges_in ws start) s'
+        asked-next = rw step (subst (λ (ns : List ℕ). Reachable ns t) (sym (by_start ws dir n p)) next-asked)
 
-          pub entered_one : {t : Search} → t ≡ reached_all (edges_in ws start) s → Searching names long (i + 1) t
-          entered_one {t} r = subst (Searching names long (i + 1)) (sym (r ∙ ap (λ (ns : List ℕ). reached_all ns s) (by_start ws dir n p))) next-reached
+        module _ {u : Search} (r : u ≡ reached_all (edges_in ws start) s') where
+          same : u ≡ reached_all (edges n) t
+          unfolding reached_all
+          same = r ∙ ap (reached_all (edges_in ws start)) step ∙ ap (λ (ns : List ℕ). reached_all ns t) (by_start ws dir n p)
+
+          pub entered_one : Searching u
+          entered_one = subst Searching (sym same) next-reached
+
+          -- one fewer of the queue is left
+          pub fewer : length u.queue - u.entered < length s.queue - s.entered
+          fewer =
+              let o = all-onward (edges n) t next-asked in
+              rw same (omega (arith, o.queue, o.entered, f.room, h))

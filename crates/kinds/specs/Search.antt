@@ -1,23 +1,24 @@
 -- The search along edges: marks by name say which names are reached, and the queue has them in the order in which they were.
-use Rattle.std.specs.Prelude.{ℕ, suc, ◌+◌, ◌<◌, ◌≤◌, ◌≡◌, List, [], ◌∷◌, Bool, true, length, get_or, set, eqb}
+use Rattle.std.specs.Prelude.{ℕ, suc, ◌+◌, ◌<◌, ◌≤◌, ◌≡◌, List, [], ◌∷◌, Bool, true, Option, Some, None, length, get_or, set, eqb}
 use Rattle.definitions.specs.Table.{pick}
 use Rattle.definitions.specs.Form.{among}
 use Rattle.definitions.specs.Lean.{Leads}
 use Rattle.chains.specs.DirectoryWord.{Reaches}
 use Rattle.kinds.specs.Edges.{edges_by}
 
--- how far a search is: the marks, the queue and how many names are in it
+-- how far a search is: the marks, the queue, how many names are in it, and how many of these are entered
 pub record Search : Type 0 where
   pub marks : List ℕ
   pub queue : List ℕ
   pub count : ℕ
+  pub entered : ℕ
 
-abbrev pub searched : List ℕ → List ℕ → ℕ → Search
-searched marks queue count = record { marks = marks; queue = queue; count = count }
+abbrev pub searched : List ℕ → List ℕ → ℕ → ℕ → Search
+searched marks queue count entered = record { marks = marks; queue = queue; count = count; entered = entered }
 
 -- a name is reached: it is marked and queued if it was not before
 unfoldable pub reached : ℕ → Search → Search
-reached n s = pick (eqb (get_or s.marks n 0) 0) (searched (set s.marks n 1) (set s.queue s.count n) (s.count + 1)) s
+reached n s = pick (eqb (get_or s.marks n 0) 0) (searched (set s.marks n 1) (set s.queue s.count n) (s.count + 1) s.entered) s
 
 -- some names, one after the other
 unfoldable pub reached_all : List ℕ → Search → Search
@@ -29,10 +30,18 @@ unfoldable pub unmarked : List ℕ → ℕ
 unmarked [] = 0
 unmarked (m ∷ ms) = pick (eqb m 0) (suc (unmarked ms)) (unmarked ms)
 
--- what reaching some names asks for: each has a mark, and the queue has room for all that are not reached
+-- the queue has room for all names that are not reached
+abbrev pub HasRoom : Search → Type 0
+HasRoom s = unmarked s.marks + s.count ≤ length s.queue
+
+-- what reaching some names asks for: each has a mark
 pub record Reachable (names : List ℕ) (s : Search) : Type 0 where
   pub below : (n : ℕ) → among n names ≡ true → n < length s.marks
-  pub room : unmarked s.marks + s.count ≤ length s.queue
+
+-- the next name in the queue is taken to be entered, if there is one
+abbrev pub NextTaken : Search → Option ℕ → Search → Type 0
+NextTaken s None t = (s.count ≤ s.entered) × (t ≡ s)
+NextTaken s (Some n) t = (s.entered < s.count) × (n ≡ get_or s.queue s.entered 0) × (t ≡ searched s.marks s.queue s.count (s.entered + 1))
 
 -- what a search from a name to another asks for: marks that are clear, for both and for all names to which edges lead, and room to queue them
 pub record Searchable (ws dir : List ℕ) (a b : ℕ) (marks queue : List ℕ) : Type 0 where

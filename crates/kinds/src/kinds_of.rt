@@ -1,31 +1,31 @@
 // Kinds of one name: those of its own walk.
 ghost use Rattle.std.specs.Prelude.{◌≡◌};
-ghost use Rattle.chains.specs.PackDirectory.{DirectoryRoom};
+ghost use Rattle.chains.specs.PackDirectory.{Sized};
 ghost use Rattle.definitions.specs.Operations.{kinds_of_answer};
 
 use chains::settle::walk;
 use chains::unknown::unknown_name;
-use checking::check::{answer, check_directory, names_said};
-use definitions::answer::Answer;
-use pack::kinds::Pack;
-use records::directory::{Directory, Laid};
+use checking::check::{check_directory, names_said};
+use definitions::answer::{Answer, Given};
+use records::directory::Directory;
 
-// The place of a name's list, by a directory and marks that are lent.
-fn place_in(pack: &[u32], name: u32, dir: &mut [u32], marks: &mut [u32]) -> Answer
-    requires { DirectoryRoom pack.now dir.old marks.old }
+// The place of a name's list, by a directory and marks for so many names.
+fn place_sized<const WORDS: usize, const NAMES: usize>(pack: &[u32], name: u32) -> Answer
+    requires { Sized pack.now WORDS NAMES }
     ensures { result ≡ kinds_of_answer pack.now name }
 {
-    let r = check_directory(pack, dir);
-    let Laid::Yes(l) = r else {
-        return answer(r);
-    };
+    let mut dir = [0u32; WORDS];
+    let l = check_directory(pack, &mut dir)?;
     if l.names <= name {
-        return unknown_name(name);
+        return Err(unknown_name(name));
     }
+    let mut marks = [0u32; NAMES];
     let mut steps: u32 = 0;
-    let fuel = l.relations + 1;
-    let place = walk(dir, marks, &mut steps, name as usize, fuel);
-    Answer::Given(place, 0)
+    let place = walk(&dir, &mut marks, &mut steps, name as usize, l.relations + 1);
+    Ok(Given {
+        value: place,
+        steps: 0,
+    })
 }
 
 // The place of the list that settles a name, 0 for none.
@@ -34,16 +34,10 @@ pub fn kinds_of(pack: &[u32], name: u32) -> Answer
 {
     let n = names_said(pack);
     if n <= Directory::FEW {
-        let mut dir = [0u32; Directory::NAMES + Directory::FEW];
-        let mut marks = [0u32; Directory::FEW];
-        return place_in(pack, name, &mut dir, &mut marks);
+        return place_sized::<{ Directory::FEW_WORDS }, { Directory::FEW }>(pack, name);
     }
     if n <= Directory::SOME {
-        let mut dir = [0u32; Directory::NAMES + Directory::SOME];
-        let mut marks = [0u32; Directory::SOME];
-        return place_in(pack, name, &mut dir, &mut marks);
+        return place_sized::<{ Directory::SOME_WORDS }, { Directory::SOME }>(pack, name);
     }
-    let mut dir = [0u32; Directory::WORDS];
-    let mut marks = [0u32; Pack::MOST_NAMES as usize];
-    place_in(pack, name, &mut dir, &mut marks)
+    place_sized::<{ Directory::WORDS }, { Directory::ALL }>(pack, name)
 }

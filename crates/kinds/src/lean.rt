@@ -1,41 +1,34 @@
 // Lean: whether a name leans on another.
-ghost use Rattle.std.specs.Prelude.{◌≡◌, ◌≤◌, length};
-ghost use Rattle.chains.specs.PackDirectory.{DirectoryRoom};
+ghost use Rattle.std.specs.Prelude.{◌≡◌};
+ghost use Rattle.chains.specs.PackDirectory.{Sized};
 ghost use Rattle.definitions.specs.Operations.{lean_answer};
 
 use crate::search::leads;
 use chains::unknown::unknown_name;
-use checking::check::{answer, check_directory, names_said};
-use definitions::answer::Answer;
-use pack::kinds::Pack;
-use records::directory::{Directory, Laid};
+use checking::check::{check_directory, names_said};
+use definitions::answer::{Answer, Given};
+use records::directory::Directory;
 
-// Whether a name leans on another, by a directory, marks and a queue that are lent.
-fn lean_in(
-    pack: &[u32],
-    a: u32,
-    b: u32,
-    dir: &mut [u32],
-    marks: &mut [u8],
-    queue: &mut [u32],
-) -> Answer
-    requires { DirectoryRoom pack.now dir.old marks.old × (length marks.old ≤ length queue.old) }
+// Whether a name leans on another, by a directory, marks and a queue for so many names.
+fn lean_sized<const WORDS: usize, const NAMES: usize>(pack: &[u32], a: u32, b: u32) -> Answer
+    requires { Sized pack.now WORDS NAMES }
     ensures { result ≡ lean_answer pack.now a b }
 {
-    let r = check_directory(pack, dir);
-    let Laid::Yes(l) = r else {
-        return answer(r);
-    };
+    let mut dir = [0u32; WORDS];
+    let l = check_directory(pack, &mut dir)?;
     if l.names <= a {
-        return unknown_name(a);
+        return Err(unknown_name(a));
     }
     if l.names <= b {
-        return unknown_name(b);
+        return Err(unknown_name(b));
     }
-    if leads(pack, dir, a as usize, b as usize, marks, queue) {
-        return Answer::Given(1, 0);
-    }
-    Answer::Given(0, 0)
+    let mut marks = [0u8; NAMES];
+    let mut queue = [0u32; NAMES];
+    let leans = leads(pack, &dir, a as usize, b as usize, &mut marks, &mut queue);
+    Ok(Given {
+        value: leans as u32,
+        steps: 0,
+    })
 }
 
 // 1 if the first name leans on the second, 0 if not.
@@ -44,19 +37,10 @@ pub fn lean(pack: &[u32], a: u32, b: u32) -> Answer
 {
     let n = names_said(pack);
     if n <= Directory::FEW {
-        let mut dir = [0u32; Directory::NAMES + Directory::FEW];
-        let mut marks = [0u8; Directory::FEW];
-        let mut queue = [0u32; Directory::FEW];
-        return lean_in(pack, a, b, &mut dir, &mut marks, &mut queue);
+        return lean_sized::<{ Directory::FEW_WORDS }, { Directory::FEW }>(pack, a, b);
     }
     if n <= Directory::SOME {
-        let mut dir = [0u32; Directory::NAMES + Directory::SOME];
-        let mut marks = [0u8; Directory::SOME];
-        let mut queue = [0u32; Directory::SOME];
-        return lean_in(pack, a, b, &mut dir, &mut marks, &mut queue);
+        return lean_sized::<{ Directory::SOME_WORDS }, { Directory::SOME }>(pack, a, b);
     }
-    let mut dir = [0u32; Directory::WORDS];
-    let mut marks = [0u8; Pack::MOST_NAMES as usize];
-    let mut queue = [0u32; Pack::MOST_NAMES as usize];
-    lean_in(pack, a, b, &mut dir, &mut marks, &mut queue)
+    lean_sized::<{ Directory::WORDS }, { Directory::ALL }>(pack, a, b)
 }

@@ -1,74 +1,106 @@
 // The search along edges: from a relation to its source (12) and to the relations that the steps of its path name (14), read at its
 // record. Each name that is reached is marked and queued once, and so entered once.
-ghost use Rattle.std.specs.Prelude.{◌≡◌, [], ◌∷◌, ◌≤◌};
+ghost use Rattle.std.specs.Prelude.{◌≡◌, ◌≢◌, ◌<◌, ◌≤◌, ◌↔◌, IsTrue, length, get_or, [], ◌∷◌};
 ghost use Rattle.chains.specs.Record.{path_in};
 ghost use Rattle.kinds.specs.Edges.{edges_in, edges_by};
-ghost use Rattle.kinds.specs.Search.{searched, reached, reached_all, Reachable, Searchable, Computes};
+ghost use Rattle.kinds.specs.Search.{Search as Searched, HasRoom, NextTaken, Reachable, Searchable, Computes, searched, reached, reached_all};
 ghost use Rattle.definitions.specs.Lean.{source_name};
 
-use chains::entry::{name_at, start};
+use chains::entry::start;
 use chains::record::{flag_at, kind_count, value_at};
 use pack::kinds::Pack;
+use std::marker::Model;
 
-// A name is reached: the number of names in the queue.
-fn reach(name: u32, marks: &mut [u8], queue: &mut [u32], count: usize) -> usize
-    requires { Reachable (name ∷ []) (searched marks.old queue.old count) }
-    ensures { searched marks.new queue.new result ≡ reached name (searched marks.old queue.old count) }
-{
-    let n = name as usize;
-    if marks[n] != 0 {
-        return count;
-    }
-    marks[n] = 1;
-    queue[count] = name;
-    count + 1
+// Marks by name say which names are reached. The queue has them in the order in which they were, and room for all others too; so
+// many of them are entered.
+#[derive(Drop)]
+struct Search<'a> {
+    marks: &'a mut [u8],
+    queue: &'a mut [u32],
+    count: usize,
+    entered: usize,
 }
 
-// A source is reached, if it is a name.
-fn reach_source(source: u32, marks: &mut [u8], queue: &mut [u32], count: usize) -> usize
-    requires { Reachable (source_name source) (searched marks.old queue.old count) }
-    ensures { searched marks.new queue.new result ≡ reached_all (source_name source) (searched marks.old queue.old count) }
-{
-    if source == Pack::NONE {
-        return count;
-    }
-    reach(source, marks, queue, count)
+impl<'a> Model for Search<'a> {
+    ghost Value = { Searched };
+
+    ghost view = { λ s. searched s.marks.now s.queue.now s.count s.entered };
+
+    ghost invariant = { λ s. HasRoom (searched s.marks.now s.queue.now s.count s.entered) };
 }
 
-// The relations that the steps of a path name are reached, by the place of its count (13).
-fn reach_path(pack: &[u32], at: usize, marks: &mut [u8], queue: &mut [u32], count: usize) -> usize
-    requires { (at ≤ 33554432) × Reachable (path_in pack.now at) (searched marks.old queue.old count) }
-    ensures { searched marks.new queue.new result ≡ reached_all (path_in pack.now at) (searched marks.old queue.old count) }
-{
-    let steps = value_at(pack, at);
-    if steps == Pack::NONE {
-        return count;
+impl<'a> Search<'a> {
+    fn has_reached(&self, name: usize) -> bool
+        requires { name < length self.now.marks }
+        ensures { IsTrue result ↔ (get_or self.now.marks name 0 ≢ 0) }
+    {
+        self.marks[name] != 0
     }
-    let mut found = count;
-    let mut place = at + 1;
-    let mut left = steps;
-    while 0 < left {
-        found = reach(value_at(pack, place), marks, queue, found);
-        place += 3;
-        left -= 1;
-    }
-    found
-}
 
-// All names to which the relation leads whose record starts at a place are reached. At 0 there is none.
-fn enter(pack: &[u32], start: usize, marks: &mut [u8], queue: &mut [u32], count: usize) -> usize
-    requires { (start ≤ 65536) × Reachable (edges_in pack.now start) (searched marks.old queue.old count) }
-    ensures { searched marks.new queue.new result ≡ reached_all (edges_in pack.now start) (searched marks.old queue.old count) }
-{
-    if start == 0 {
-        return count;
+    // The next name to enter, if one is left.
+    fn take_next(&mut self) -> Option<usize>
+        ensures { NextTaken self.old result self.new }
+    {
+        if self.count <= self.entered {
+            return None;
+        }
+        let name = self.queue[self.entered] as usize;
+        self.entered += 1;
+        Some(name)
     }
-    if flag_at(pack, start) != 1 {
-        return count;
+
+    // A name is reached.
+    fn reach(&mut self, name: u32)
+        requires { Reachable (name ∷ []) self.old }
+        ensures { self.new ≡ reached name self.old }
+    {
+        let n = name as usize;
+        if self.marks[n] == 0 {
+            self.marks[n] = 1;
+            self.queue[self.count] = name;
+            self.count += 1;
+        }
     }
-    let at = start + 4 + kind_count(pack, start);
-    let found = reach_source(value_at(pack, at + 1), marks, queue, count);
-    reach_path(pack, at + 2, marks, queue, found)
+
+    // A source is reached, if it is a name.
+    fn reach_source(&mut self, source: u32)
+        requires { Reachable (source_name source) self.old }
+        ensures { self.new ≡ reached_all (source_name source) self.old }
+    {
+        if source != Pack::NONE {
+            self.reach(source);
+        }
+    }
+
+    // The relations that the steps of a path name are reached, by the place of its count (13).
+    fn reach_path(&mut self, pack: &[u32], at: usize)
+        requires { (at ≤ 33554432) × Reachable (path_in pack.now at) self.old }
+        ensures { self.new ≡ reached_all (path_in pack.now at) self.old }
+    {
+        let steps = value_at(pack, at);
+        if steps == Pack::NONE {
+            return;
+        }
+        for k in 0..steps as usize {
+            self.reach(value_at(pack, at + 1 + 3 * k));
+        }
+    }
+
+    // All names to which the relation leads whose record starts at a place are reached. At 0 there is none.
+    fn enter(&mut self, pack: &[u32], start: usize)
+        requires { (start ≤ 65536) × Reachable (edges_in pack.now start) self.old }
+        ensures { self.new ≡ reached_all (edges_in pack.now start) self.old }
+    {
+        if start == 0 {
+            return;
+        }
+        if flag_at(pack, start) != 1 {
+            return;
+        }
+        let at = start + 4 + kind_count(pack, start);
+        self.reach_source(value_at(pack, at + 1));
+        self.reach_path(pack, at + 2);
+    }
 }
 
 // Whether one or more edges lead from a name to another. An undeclared name leads to none, and others may lead to it.
@@ -86,15 +118,18 @@ pub fn leads(
     if start(dir, a) == 0 {
         return false;
     }
-    let mut count = enter(pack, start(dir, a), marks, queue, 0);
-    let mut i: usize = 0;
-    while marks[b] == 0 {
-        if count <= i {
+    let mut search = Search {
+        marks,
+        queue,
+        count: 0,
+        entered: 0,
+    };
+    search.enter(pack, start(dir, a));
+    while !search.has_reached(b) {
+        let Some(n) = search.take_next() else {
             return false;
-        }
-        let n = name_at(queue, i);
-        count = enter(pack, start(dir, n), marks, queue, count);
-        i += 1;
+        };
+        search.enter(pack, start(dir, n));
     }
     true
 }

@@ -62,11 +62,8 @@ module _ {bytes words : List ℕ} {n : ℕ} (l : Loaded bytes n words) {made : L
               ∙ ap (λ (x : ℕ). out_after (resolve_answer ws x) (resolve_buffer ws (words_of out)) out) m₂;
         }
 
--- of another slice for the words, as long
-pub room_as : {words many most : ℕ} {made : List ℕ} → RoomIn words made most → many ≡ words → RoomIn many made most
-room_as {made = made} r e = record { blank = r.blank; noted = omega (arith, e, r.noted); fits = r.fits }
-
-pub made_room : (words most : ℕ) → words ≤ most → RoomIn words (replicate (most + 1) 0) most
-made_room words most h =
-    let l = length-replicate {A = ℕ} (most + 1) 0 in
-    record { blank = get_or-replicate {A = ℕ} (most + 1) 0 0 0 (omega arith); noted = h; fits = omega arith }
+-- of cleared words
+pub made_room : (words most : ℕ) {made : ℕ} → made ≡ most + 1 → words ≤ most → RoomIn words (replicate made 0) most
+made_room words most {made} e h =
+    let l = length-replicate {A = ℕ} made 0 in
+    record { blank = get_or-replicate {A = ℕ} made 0 0 0 (omega arith); noted = h; fits = omega arith }

@@ -1,14 +1,14 @@
 -- What the parts of the operations over bytes promise each other.
 use Rattle.std.specs.Prelude.{ℕ, ◌<◌, ◌≤◌, ◌≡◌, List, length, get_or}
+use Rattle.std.specs.Borrow.{Bor, MutBor}
+use Rattle.definitions.specs.declared.answer.Answer.{Answer}
 use Rattle.definitions.specs.declared.operation.Writing.{Writing}
-use Rattle.definitions.specs.declared.operation.Writing.TheVariants.{Rewrite, AllKinds, Filtered}
-use Rattle.over_bytes.specs.declared.operations.Plain.{Plain}
-use Rattle.over_bytes.specs.declared.operations.Plain.TheVariants as plain
+use Rattle.definitions.specs.Answers.{Answered}
+use Rattle.definitions.specs.Operations.{answer_of, buffer_of}
 
-abbrev pub as_writing : Plain → Writing
-as_writing plain.Rewrite = Rewrite
-as_writing plain.AllKinds = AllKinds
-as_writing (plain.Filtered f) = Filtered f
+-- what is known after each call is that it was that operation
+abbrev pub Runs : (Bor (List ℕ) → MutBor (List ℕ) → Answer → MutBor (List ℕ) → Type 0) → Writing → Type 0
+Runs post w = (words : Bor (List ℕ)) (lent : MutBor (List ℕ)) (a : Answer) (left : MutBor (List ℕ)) → post words lent a left → Answered (answer_of w) (buffer_of w) words.now lent.now a left.now
 
 -- a slice without notes, with room for those of a pack of so many words and for as many words as may be written
 pub record RoomIn (words : ℕ) (made : List ℕ) (most : ℕ) : Type 0 where

@@ -1,16 +1,17 @@
 // The operations over bytes: each loads the pack's words and answers by one number. Clearing large arrays would take longer
 // than the work on a small pack: it has small ones.
-ghost use Rattle.std.specs.Prelude.{◌≡◌, length};
+ghost use Rattle.std.specs.Prelude.{◌≡◌, ◌+◌, ◌≤◌, length};
 ghost use Rattle.definitions.specs.Bytes.{encode, over_bytes, Gives};
 ghost use Rattle.wire.specs.Loading.{Holds, Tried};
-ghost use Rattle.definitions.specs.Operations.{resolve_answer, resolve_buffer, answer_to, answer_of, buffer_of};
+ghost use Rattle.definitions.specs.Operations.{filter_answer, filter_buffer, resolve_answer, resolve_buffer, answer_to, answer_of, buffer_of};
 ghost use Rattle.definitions.specs.Answers.{Answered};
-ghost use Rattle.over_bytes.specs.BytesPromises.{as_writing, RoomIn};
+ghost use Rattle.definitions.specs.declared.operation.Writing.{Writing};
+ghost use Rattle.over_bytes.specs.BytesPromises.{Runs, RoomIn};
 
 use checking::check::check;
 use checking::rewrite::rewrite;
 use definitions::answer::{Answer, Number};
-use definitions::operation::{Filter, Question, Writing};
+use definitions::operation::{Question, Writing};
 use filtered::filtered::filtered;
 use kinds::all_kinds::all_kinds;
 use kinds::kinds_of::kinds_of;
@@ -20,14 +21,6 @@ use resolve::resolve::resolve_into;
 use wire::answer::{encode, give};
 use wire::bytes::{load, room};
 
-// Those of them that leave their slice alone where they refuse.
-#[derive(Clone, Copy)]
-pub enum Plain {
-    Rewrite,
-    AllKinds,
-    Filtered(Filter),
-}
-
 // How many words small packs have, and how many most of what they give has.
 #[derive(Clone, Copy)]
 pub struct Short {}
@@ -36,6 +29,11 @@ impl Short {
     pub const BYTES: usize = 4 * Pack::FEW_WORDS;
 
     pub const WRITTEN: usize = 1024;
+
+    // Room for what Resolve makes, there and at most.
+    pub const MADE: usize = Short::WRITTEN + 1;
+
+    pub const MOST_MADE: usize = Pack::MOST_WORDS + 1;
 
     // What is answered where they do not suffice.
     pub const NO_ROOM: u64 = Number::NO_ROOM as u64;
@@ -51,11 +49,13 @@ fn answer_to(q: Question, words: &[u32]) -> Answer
     }
 }
 
-// With a slice for the words of the pack.
-fn ask_in(q: Question, pack: &[u8], words: &mut [u32]) -> u64
-    requires { Holds (length pack.now) (length words.old) }
+// With room for the words of the pack.
+fn ask_in<const WORDS: usize>(q: Question, pack: &[u8]) -> u64
+    requires { Holds (length pack.now) WORDS × (WORDS ≤ 8192) }
     ensures { result ≡ encode (over_bytes (answer_to q) pack.now) }
 {
+    let mut words = [0u32; WORDS];
+    let words = &mut words[..];
     let n = load(pack, words);
     encode(answer_to(q, &words[..n]))
 }
@@ -64,59 +64,60 @@ pub fn ask(q: Question, pack: &[u8]) -> u64
     ensures { result ≡ encode (over_bytes (answer_to q) pack.now) }
 {
     if pack.len() <= Short::BYTES {
-        let mut few = [0u32; Pack::FEW_WORDS];
-        return ask_in(q, pack, &mut few);
+        return ask_in::<{ Pack::FEW_WORDS }>(q, pack);
     }
-    let mut words = [0u32; Pack::MOST_WORDS];
-    ask_in(q, pack, &mut words)
+    ask_in::<{ Pack::MOST_WORDS }>(q, pack)
 }
 
-fn run(w: Plain, words: &[u32], out: &mut [u32]) -> Answer
-    ensures { Answered (answer_of (as_writing w)) (buffer_of (as_writing w)) words.now out.old result out.new }
+// With room for the words of the pack and for those that are written, of which the output is given as many as are answered.
+fn write_in<F: Fn(&[u32], &mut [u32]) -> Answer, const WORDS: usize, const ROOM: usize>(
+    run: &F,
+    pack: &[u8],
+    out: &mut [u8],
+) -> u64
+    requires { Holds (length pack.now) WORDS × (WORDS ≤ 8192) × (ROOM ≤ 8192) × F.IsAlwaysCallable run.now × ((w : Writing) × Runs (F.post run.now) w) }
+    ensures { (w : Writing) → Runs (F.post run.now) w → Tried (answer_of w) (buffer_of w) pack.now ROOM out.old result out.new }
 {
-    match w {
-        Plain::Rewrite => rewrite(words, out),
-        Plain::AllKinds => all_kinds(words, out),
-        Plain::Filtered(filter) => filtered(words, filter, out),
-    }
-}
-
-// With slices for the words of the pack and for those that are written, of which the output is given as many as are answered.
-fn write_in(w: Plain, pack: &[u8], words: &mut [u32], written: &mut [u32], out: &mut [u8]) -> u64
-    requires { Holds (length pack.now) (length words.old) }
-    ensures { Tried (answer_of (as_writing w)) (buffer_of (as_writing w)) pack.now (length written.old) out.old result out.new }
-{
+    let mut words = [0u32; WORDS];
+    let words = &mut words[..];
+    let mut written = [0u32; ROOM];
+    let written = &mut written[..];
     let n = load(pack, words);
     let m = room(out.len(), written.len());
-    let a = run(w, &words[..n], &mut written[..m]);
+    let a = run(&words[..n], &mut written[..m]);
     give(a, written, out)
 }
 
 // No operation writes more than 8,192 words. What a small pack gives most often fits the short slice: only where that is
-// refused for want of room, by 16, it is run again.
-fn written(w: Plain, pack: &[u8], out: &mut [u8]) -> u64
-    ensures { Gives (answer_of (as_writing w)) (buffer_of (as_writing w)) pack.now out.old result out.new }
+// refused for want of room, by 16, it is run again. This is for those that leave their slice alone where they refuse.
+fn written<F: Fn(&[u32], &mut [u32]) -> Answer>(run: F, pack: &[u8], out: &mut [u8]) -> u64
+    requires { F.IsAlwaysCallable run × ((w : Writing) × Runs (F.post run) w) }
+    ensures { (w : Writing) → Runs (F.post run) w → Gives (answer_of w) (buffer_of w) pack.now out.old result out.new }
 {
     if pack.len() <= Short::BYTES {
-        let mut few = [0u32; Pack::FEW_WORDS];
-        let mut short = [0u32; Short::WRITTEN];
-        let r = write_in(w, pack, &mut few, &mut short, out);
+        let r = write_in::<F, { Pack::FEW_WORDS }, { Short::WRITTEN }>(&run, pack, out);
         if r != Short::NO_ROOM {
             return r;
         }
     }
-    let mut words = [0u32; Pack::MOST_WORDS];
-    let mut written = [0u32; Pack::MOST_WORDS];
-    write_in(w, pack, &mut words, &mut written, out)
+    write_in::<F, { Pack::MOST_WORDS }, { Pack::MOST_WORDS }>(&run, pack, out)
 }
 
-// Resolve likewise, whose notes stand in the slice before what is written; so it has one word more than may be written.
-fn resolve_in(pack: &[u8], words: &mut [u32], made: &mut [u32], most: usize, out: &mut [u8]) -> u64
-    requires { Holds (length pack.now) (length words.old) × RoomIn (length words.old) made.old most }
-    ensures { Tried resolve_answer resolve_buffer pack.now most out.old result out.new }
+// Resolve likewise, whose notes stand in the slice before what is written; so it has one word more than may be written, and is
+// passed the whole slice with the room.
+fn resolve_in<const WORDS: usize, const ROOM: usize, const MADE: usize>(
+    pack: &[u8],
+    out: &mut [u8],
+) -> u64
+    requires { Holds (length pack.now) WORDS × (WORDS ≤ ROOM) × (ROOM ≤ 8192) × (MADE ≡ ROOM + 1) }
+    ensures { Tried resolve_answer resolve_buffer pack.now ROOM out.old result out.new }
 {
+    let mut words = [0u32; WORDS];
+    let words = &mut words[..];
+    let mut made = [0u32; MADE];
+    let made = &mut made[..];
     let n = load(pack, words);
-    let m = room(out.len(), most);
+    let m = room(out.len(), ROOM);
     let a = resolve_into(&words[..n], made, m);
     give(a, made, out)
 }
@@ -125,25 +126,28 @@ fn resolved(pack: &[u8], out: &mut [u8]) -> u64
     ensures { Gives resolve_answer resolve_buffer pack.now out.old result out.new }
 {
     if pack.len() <= Short::BYTES {
-        let mut few = [0u32; Pack::FEW_WORDS];
-        let mut short = [0u32; Short::WRITTEN + 1];
-        let given = resolve_in(pack, &mut few, &mut short, Short::WRITTEN, out);
+        let given = resolve_in::<{ Pack::FEW_WORDS }, { Short::WRITTEN }, { Short::MADE }>(
+            pack, out,
+        );
         if given != Short::NO_ROOM {
             return given;
         }
     }
-    let mut words = [0u32; Pack::MOST_WORDS];
-    let mut made = [0u32; Pack::MOST_WORDS + 1];
-    resolve_in(pack, &mut words, &mut made, Pack::MOST_WORDS, out)
+    resolve_in::<{ Pack::MOST_WORDS }, { Pack::MOST_WORDS }, { Short::MOST_MADE }>(pack, out)
 }
 
 pub fn write(w: Writing, pack: &[u8], out: &mut [u8]) -> u64
     ensures { Gives (answer_of w) (buffer_of w) pack.now out.old result out.new }
 {
     match w {
-        Writing::Rewrite => written(Plain::Rewrite, pack, out),
-        Writing::AllKinds => written(Plain::AllKinds, pack, out),
-        Writing::Filtered(filter) => written(Plain::Filtered(filter), pack, out),
+        Writing::Rewrite => written(rewrite, pack, out),
+        Writing::AllKinds => written(all_kinds, pack, out),
+        Writing::Filtered(filter) => {
+            let run = move |words: &[u32], lent: &mut [u32]| -> Answer
+                ensures { Answered (filter_answer filter) (filter_buffer filter) words.now lent.old result lent.new }
+            { filtered(words, filter, lent) };
+            written(run, pack, out)
+        }
         Writing::Resolve => resolved(pack, out),
     }
 }

@@ -1,6 +1,6 @@
 -- What the table says of words that begin trees, by one computation over all kinds; and where the words of a kind that do end.
 -- Assumes nothing.
-use Prim.Native.Nat.{ℕ, ◌+◌, ◌-◌, ◌*◌, ◌/◌, ◌%◌, ◌<◌, ◌≤◌}
+use Prim.Native.Nat.{ℕ, ◌+◌, ◌-◌, ◌*◌, ◌/◌, ◌<◌, ◌≤◌}
 use native.Mathlib.Omega.{arith}
 use mathlib.Core.Path.{◌≡◌, refl, ap, sym, subst, ◌∙◌}
 use mathlib.Core.List.{List}
@@ -10,7 +10,7 @@ use lib.Dec.{ltb, leb, eqb}
 use borrow.Author.Tests.{lt-ltb, le-ltb, eq-eqb, ne_eqb, ltb-true, ltb-false, leb-true, leb-false, eqb-true}
 use Rattle.definitions.specs.declared.table.Values.{Values}
 use Rattle.definitions.specs.declared.table.Values.TheVariants.{Unused, Any, AtMost, FromOne, AtMostOrNone, Total, Name, NameOrNone}
-use Rattle.definitions.specs.Table.{pick, kind_of, value_of, word_of, allowed, entry_of, table}
+use Rattle.definitions.specs.Table.{pick, kind_of, value_of, word_of, entry_of, table}
 use Rattle.definitions.specs.Form.{allowed_here}
 use Rattle.pack.specs.Packed.{head_rule, EndsAt, Ended, may_begin}
 use Rattle.pack.proofs.Listed.{in_range}

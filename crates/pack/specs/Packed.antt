@@ -1,11 +1,10 @@
 -- What the table says of rows of children and of words that begin trees.
-use Rattle.std.specs.Prelude.{ℕ, ◌+◌, ◌/◌, ◌%◌, ◌<◌, ◌≤◌, ◌≡◌, Bool, true, false, ◌&&◌, List, length, get_or, eqb, leb, ltb}
-use Rattle.definitions.specs.declared.table.Entry.{Entry}
+use Rattle.std.specs.Prelude.{ℕ, ◌+◌, ◌<◌, ◌≤◌, ◌≡◌, Bool, true, false, ◌&&◌, List, length, get_or, eqb, leb, ltb}
 use Rattle.definitions.specs.declared.table.Values.{Values}
 use Rattle.definitions.specs.declared.table.Values.TheVariants.{Unused, Any, AtMost, FromOne, AtMostOrNone, Total, Name, NameOrNone}
 use Rattle.definitions.specs.declared.table.Follows.{Follows}
 use Rattle.definitions.specs.declared.table.Follows.TheVariants.{Nothing, Counted, OneScalar, TwoScalars, Scalars, Patterns, Periods, OneJudgment, Judgments, Choice, Aggregate, OnlyRelated, Slots, Atom, Exists}
-use Rattle.definitions.specs.Table.{pick, kind_of, value_of, word_of, allowed, entry_of}
+use Rattle.definitions.specs.Table.{kind_of, value_of, word_of, entry_of}
 use Rattle.definitions.specs.Form.{allowed_here}
 
 -- whether what follows is a row of children of one sort, of which there are one, two or as many as the value says

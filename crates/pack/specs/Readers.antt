@@ -1,8 +1,8 @@
 -- What the functions that read a part of a pack answer: the forms' readers, of whose values a number is kept.
-use Rattle.std.specs.Prelude.{ℕ, ◌+◌, ◌-◌, ◌*◌, ◌/◌, ◌%◌, Bool, List, [], ◌∷◌, drop, get_or, ltb, eqb, Result, Ok, Err}
+use Rattle.std.specs.Prelude.{ℕ, ◌+◌, Bool, List, [], ◌∷◌, drop, get_or, eqb, Result, Ok, Err}
 use Rattle.pack.specs.declared.cursor.Cursor.{Cursor}
 use Rattle.definitions.specs.declared.answer.Refusal.{Refusal}
-use Rattle.definitions.specs.Table.{pick, word_of}
+use Rattle.definitions.specs.Table.{word_of}
 use Rattle.definitions.specs.Form.{Read, got, refused, Form, field, read_all, read_by}
 use Rattle.definitions.specs.Records.{Relation}
 
@@ -44,20 +44,6 @@ word_step ws at = next_word at (drop at ws)
 -- a head word is kept whole
 abbrev pub whole_word : ℕ × ℕ → ℕ
 whole_word t = word_of t.0 t.1
-
--- a step in one number: the place after what was read; from 65536 on, a refusal's number and place
-unfoldable pub coded_step : Step → ℕ
-coded_step (Ok (v, k)) = k.at
-coded_step (Err r) = 65536 * (r.number + 1) + r.place
-
--- the same of a word that is only tested: 0 where it was read
-unfoldable pub fault : Step → ℕ
-fault (Ok (v, k)) = 0
-fault (Err r) = 65536 * (r.number + 1) + r.place
-
--- the step of a number
-unfoldable pub decoded : ℕ → Step
-decoded c = pick (ltb c 65536) (on 0 (record { at = c })) (Err (record { number = c / 65536 - 1; place = c % 65536; name = 0; other = 0 }))
 
 -- so many that follow one another
 unfoldable pub skip_all : {S A : Type 0} → (S → A → S) → (S → Form A) → ℕ → S → List ℕ → ℕ → Step

@@ -20,9 +20,6 @@ impl Pack {
 
     // A pack of so many words is small: clearing large arrays for it would take longer than the work.
     pub const FEW_WORDS: usize = 256;
-
-    // From here on a number is no place but the code of a refusal.
-    pub const CODES: usize = 65536;
 }
 
 // Notes: how many there are at most. A note's number is the place after its word, below LOST, with LOST more where membership is lost,

@@ -1,5 +1,5 @@
 pub mod TreeLaws
-pub mod CodeLaws
+pub mod WalkLaws
 pub mod NotingLaws
 pub mod RowLaws
 pub mod NotesLaws

@@ -12,15 +12,16 @@ use Rattle.pack.specs.Readers.{on}
 use Rattle.definitions.specs.Table.{pick, kind_of, value_of, entry_of, table, fields_of, children_of, how_many, judgment}
 use Rattle.definitions.specs.Form.{Read, got, refused, map_read, Form, word, each, ◌▹◌, via, only, words_by, Fine, read_by}
 use Rattle.definitions.specs.Tree.{Tree, to_forest, to_tree, heads, last_field, fields, follow, tree}
-use Rattle.pack.specs.Readers.{step_of, skip_over, coded_step}
+use Rattle.pack.specs.declared.cursor.Cursor.{Cursor}
+use Rattle.pack.specs.Readers.{Step, step_of, skip_over}
 use Rattle.pack.proofs.FormLaws.{lawful, clash}
-use Rattle.pack.proofs.StepLaws.{went, by-each, each_last}
+use Rattle.pack.proofs.StepLaws.{went, each-done, on_place}
 use Rattle.pack.proofs.Listed.{in_range}
 use Rattle.pack.proofs.EachFollows.{alike}
 use Rattle.reading.specs.Notes.{look_by, noted}
-use Rattle.reading.specs.Noting.{losing, push, in_next, past, child_in, note_tree, note_forest, note_follow, Came, Sorted, Rows, Shape}
-use Rattle.reading.proofs.TreeLaws.{no_fields, only-fields, Row, by_row, Leaf}
-use Rattle.reading.proofs.CodeLaws.{Stands, code_on, code_as, none_code, code_stands, kept}
+use Rattle.reading.specs.Noting.{losing, push, in_next, past, child_in, note_tree, note_forest, note_follow, State, Came, NotedStep, Sorted, Rows, Shape}
+use Rattle.reading.proofs.TreeLaws.{no_fields, only-fields, Row, by_row, Leaf, by_leaf}
+use Rattle.reading.proofs.WalkLaws.{Stands, Fielded}
 
 -- ---- what was read
 
@@ -147,16 +148,16 @@ module _ (n left : ℕ) (ws : List ℕ) (b : Bool) (w : Follows) (v c at : ℕ) 
       record { value = ([], h.value); found = found_then ws (fields n (fields_of w)) _ at at r g k; noted = rw (p, f, add_none at) h.noted }
 
   -- fields and no children
-  pub fields_came : ((last : ℕ) → children_of w v last ≡ []) → {r : ℕ} → r ≡ coded_step (skip_over (fields n (fields_of w)) ws at) → r < 65536 → (d : List ℕ) {e : List ℕ}
-      → e ≡ pick b (push (at + c) d) d → Came-after d r e
+  pub fields_came : ((last : ℕ) → children_of w v last ≡ []) → {y : Step} {u : ℕ} {k : Cursor} → y ≡ skip_over (fields n (fields_of w)) ws at → y ≡ on u k → (d : List ℕ) {e : List ℕ}
+      → e ≡ pick b (push (at + c) d) d → Came-after d k.at e
   unfolding follow note_follow past note_forest
-  fields_came ch {r} q h d {e} x =
-      let t = went (λ a. 0) (fields n (fields_of w)) ws at refl (code_on (fields n (fields_of w)) ws at q h) in
-      let o = ((lawful (fields n (fields_of w))).back at (drop at ws) t.value r (drop r ws) t.found).on in
-      let z : at + length (fields_of w) ≡ r = omega (arith, o, long-each n (fields_of w) t.value t.fine) in
+  fields_came ch {k = k} q h d {e} x =
+      let t = went (λ a. 0) (fields n (fields_of w)) ws at q h in
+      let o = ((lawful (fields n (fields_of w))).back at (drop at ws) t.value k.at (drop k.at ws) t.found).on in
+      let z : at + length (fields_of w) ≡ k.at = omega (arith, o, long-each n (fields_of w) t.value t.fine) in
       record {
         value = (t.value, []);
-        found = found_then ws (fields n (fields_of w)) _ at r r t.found (rw (ch (last_field t.value)) (found_none ws (tree n left) r));
+        found = found_then ws (fields n (fields_of w)) _ at k.at k.at t.found (rw (ch (last_field t.value)) (found_none ws (tree n left) k.at));
         noted = λ i. (z i, sym x i);
       }
 
@@ -176,34 +177,22 @@ module _ (n left : ℕ) (ws : List ℕ) (b : Bool) (w : Follows) (v c at : ℕ) 
         noted = (λ i. note_forest a m (to_forest h.value) (z i, pick b (push (at + c) d) d)) ∙ h.noted;
       }
 
--- the fields of an aggregate, and its where tree
 module _ (n left : ℕ) (ws : List ℕ) (at : ℕ) where
-  abbrev one : ℕ → Form (ℕ × ℕ)
-  one kind = word (only (kind ∷ [])) n
-
-  pub where_came : {a b d k : ℕ} → a ≡ coded_step (skip_over (one 80) ws at) → a < 65536 → b ≡ coded_step (skip_over (one 81) ws a) → b < 65536 → d ≡ coded_step (skip_over (one 86) ws b) → d < 65536
-      → k ≡ coded_step (skip_over (one 83) ws d) → k < 65536 → d ≤ length ws → (c : ℕ) {r : ℕ} {e₀ e : List ℕ}
-      → Rowed n left ws (in_next e₀ + c % 8192) (in_next e₀ + c % 8192) (replicate (value_of (get_or ws d 0)) judgment) k (push (at + c) e₀) r e
+  -- the fields of an aggregate, and its where tree
+  pub where_came : {root : ℕ} → Fielded n ws at root → (c : ℕ) {r : ℕ} {e₀ e : List ℕ}
+      → Rowed n left ws (in_next e₀ + c % 8192) (in_next e₀ + c % 8192) (replicate (value_of (get_or ws (at + 3) 0)) judgment) root (push (at + c) e₀) r e
       → Came (follow n (tree n left) Aggregate 0) (λ p. note_follow c true Aggregate (to_forest p.1)) ws at e₀ r e
-  unfolding fields fields_of children_of child_in look_by
-  where_came {a} {b} {d} {k} ea ha eb hb ed hd ek hk l c {r} {e₀} {e} h =
-      let f = sym (kept (only (83 ∷ [])) n (λ t. t.1) ws d (code_stands (only (83 ∷ [])) n ws d ek l hk)) in
-      let s : on (value_of (get_or ws d 0)) (record { at = k }) ≡ step_of last_field (fields n (fields_of Aggregate)) ws at =
-      by-each _ ws at _ _ (λ a. 0) _ refl (code_on (one 80) ws at ea ha) (λ t.
-      by-each _ ws a _ _ (λ a. 0) _ refl (code_on (one 81) ws a eb hb) (λ t.
-      by-each _ ws b _ _ (λ a. 0) _ refl (code_on (one 86) ws b ed hd) (λ t.
-      each_last _ ws d _ _ _ (λ a. refl) f)))
-      in
-      after-fields n left ws true Aggregate 0 c at e₀ s h
+  unfolding children_of child_in look_by
+  where_came f c {e₀ = e₀} h = after-fields n left ws true Aggregate 0 c at e₀ f.last h
 
   -- the arguments of an Exists, and its body
-  pub exists_came : {k : ℕ} → k ≡ coded_step (skip_over (one 85) ws at) → k < 65536 → at ≤ length ws → (c : ℕ) {r : ℕ} {d e : List ℕ}
-      → Rowed n left ws c c (replicate 1 judgment) k (push (at + c) d) r e
+  pub exists_came : {y : Step} {u : ℕ} {k : Cursor} → y ≡ skip_over (fields n (fields_of Exists)) ws at → y ≡ on u k → (c : ℕ) {r : ℕ} {d e : List ℕ}
+      → Rowed n left ws c c (replicate 1 judgment) k.at (push (at + c) d) r e
       → Came (follow n (tree n left) Exists 0) (λ p. note_follow c true Exists (to_forest p.1)) ws at d r e
-  unfolding fields fields_of children_of child_in look_by
-  exists_came {k} ek hk l c {r} {d} {e} h =
-      let f = sym (kept (only (85 ∷ [])) n (λ t. t.1) ws at (code_stands (only (85 ∷ [])) n ws at ek l hk)) in
-      let s : on (value_of (get_or ws at 0)) (record { at = k }) ≡ step_of last_field (fields n (fields_of Exists)) ws at = each_last _ ws at _ _ _ (λ a. refl) f in
+  unfolding children_of child_in look_by step_of
+  exists_came {k = k} q o c {d = d} h =
+      let t = went (λ a. 0) (fields n (fields_of Exists)) ws at q o in
+      let s : on (last_field t.value) k ≡ step_of last_field (fields n (fields_of Exists)) ws at = sym (rw t.found refl) in
       after-fields n left ws true Exists 0 c at d s h
 
 -- ---- by the kind
@@ -251,11 +240,20 @@ plain-last k lo hi = in_range noted false 105 151 refl k lo hi
 
 -- ---- what a reader of what follows promises, by what it has called
 
+-- what was read and noted to a place
+pub noted_to : {A : Type 0} (F : Form A) {note : A → State → State} {ws : List ℕ} {at : ℕ} {d : List ℕ} {p : ℕ} {e : List ℕ} → on 0 (record { at = p }) ≡ skip_over F ws at → Came F note ws at d p e
+    → NotedStep F note ws at d (on 0 (record { at = p })) e
+noted_to F {note} {ws} {at} {d} {p} {e} q h =
+    record {
+      answers = q;
+      notes = λ {v} {k} o. let z : p ≡ k.at = ap (λ (j : Cursor). j.at) (on_place o) in subst (λ (j : ℕ). Came F note ws at d j e) z h;
+    }
+
 module _ (n left c : ℕ) (ws : List ℕ) (k v at : ℕ) where
-  abbrev By_kind : List ℕ → ℕ → List ℕ → Type 0
+  abbrev By_kind : List ℕ → Step → List ℕ → Type 0
   By_kind d r e = Shape n left (noted k) (entry_of k).follows v c ws at d r e
 
-  pub by_shape : (b : Bool) (w : Follows) → (entry_of k).follows ≡ w → noted k ≡ b → {r : ℕ} {d e : List ℕ} → Shape n left b w v c ws at d r e → By_kind d r e
+  pub by_shape : (b : Bool) (w : Follows) → (entry_of k).follows ≡ w → noted k ≡ b → {r : Step} {d e : List ℕ} → Shape n left b w v c ws at d r e → By_kind d r e
   by_shape b w q p {r} {d} {e} h =
       subst (λ (u : Follows). Shape n left (noted k) u v c ws at d r e) (sym q) (subst (λ (x : Bool). Shape n left x w v c ws at d r e) (sym p) h)
 
@@ -266,16 +264,16 @@ module _ (n left c : ℕ) (ws : List ℕ) (k v at : ℕ) where
       subst (λ (x : Bool). Came (follow n (tree n left) (entry_of k).follows v) (λ p. note_follow c x (entry_of k).follows (to_forest p.1)) ws at d r e) (sym s.plain)
       (bare_came n left ws false (entry_of k).follows v c at w.bare (replicate m sort) (w.children ∙ rw (← q) refl) (rw (s.first, s.rest) h))
 
-  pub after_row : (sort : ℕ) {m : ℕ} → Row k v sort → m ≡ how_many (entry_of k).follows v → Steady k → {r : ℕ} {d e : List ℕ} → Rows n left sort m c ws at d r e → By_kind d r e
-  after_row sort {m} w q s h = record { answers = code_as h.answers (by_row n (tree n left) v ws at k sort w q refl); notes = λ z. row_followed sort w q s (h.notes z) }
+  pub after_row : (sort : ℕ) {m : ℕ} → Row k v sort → m ≡ how_many (entry_of k).follows v → Steady k → {r : Step} {d e : List ℕ} → Rows n left sort m c ws at d r e → By_kind d r e
+  after_row sort {m} w q s h = record { answers = h.answers ∙ by_row n (tree n left) v ws at k sort w q refl; notes = λ z. row_followed sort w q s (h.notes z) }
 
   -- children of several sorts or contexts
-  pub after_bare : (w : Follows) → (entry_of k).follows ≡ w → noted k ≡ false → fields_of w ≡ [] → {r : ℕ} {d e : List ℕ}
+  pub after_bare : (w : Follows) → (entry_of k).follows ≡ w → noted k ≡ false → fields_of w ≡ [] → {r : Step} {d e : List ℕ}
       → Sorted n left (children_of w v 0) (pick (look_by w).first (losing c) c) (pick (look_by w).rest (losing c) c) ws at d r e → By_kind d r e
   after_bare w q p f h =
       by_shape false w q p
       record {
-        answers = code_as h.answers (no_fields n (tree n left) v ws at w f refl);
+        answers = h.answers ∙ no_fields n (tree n left) v ws at w f refl;
         notes = λ z. bare_came n left ws false w v c at f (children_of w v 0) refl (h.notes z);
       }
 
@@ -283,20 +281,20 @@ module _ (n left c : ℕ) (ws : List ℕ) (k v at : ℕ) where
   none_at a m {x} {e} q = subst (λ (y : List ℕ). Rowed n left ws a m [] at y at e) q (rowed_none n left ws a m at e)
 
   -- nothing
-  pub after_leaf : Leaf k v → (b : Bool) → noted k ≡ b → (d : List ℕ) {e : List ℕ} → e ≡ pick b (push (at + c) d) d → By_kind d at e
-  after_leaf f b p d {e} q =
-      by_shape b (entry_of k).follows refl p
-      record {
-        answers = none_code n (tree n left) v ws at k f;
-        notes = λ z. bare_came n left ws b (entry_of k).follows v c at f.bare [] f.children (none_at _ _ q);
-      }
+  pub leaf_came : Leaf k v → (b : Bool) → noted k ≡ b → (d : List ℕ) {e : List ℕ} → e ≡ pick b (push (at + c) d) d → Followed n ws left c k v at d at e
+  leaf_came f b p d {e} q =
+      subst (λ (x : Bool). Came (follow n (tree n left) (entry_of k).follows v) (λ p. note_follow c x (entry_of k).follows (to_forest p.1)) ws at d at e) (sym p)
+      (bare_came n left ws b (entry_of k).follows v c at f.bare [] f.children (none_at _ _ q))
+
+  pub after_leaf : Leaf k v → (b : Bool) → noted k ≡ b → (d : List ℕ) {e : List ℕ} → e ≡ pick b (push (at + c) d) d → By_kind d (on 0 (record { at = at })) e
+  after_leaf f b p d q = noted_to _ (by_leaf n (tree n left) v ws at k f (each-done (tree n left) ws at 0)) (leaf_came f b p d q)
 
   -- fields
-  pub after-words : (w : Follows) → (entry_of k).follows ≡ w → noted k ≡ true → ((last : ℕ) → children_of w v last ≡ []) → {r : ℕ} {d e : List ℕ}
-      → r ≡ coded_step (skip_over (fields n (fields_of w)) ws at) → e ≡ push (at + c) d → By_kind d r e
+  pub after-words : (w : Follows) → (entry_of k).follows ≡ w → noted k ≡ true → ((last : ℕ) → children_of w v last ≡ []) → {r : Step} {d e : List ℕ}
+      → r ≡ skip_over (fields n (fields_of w)) ws at → e ≡ push (at + c) d → By_kind d r e
   after-words w q p ch {r} {d} {e} h x =
       by_shape true w q p
       record {
-        answers = code_as h (only-fields n (tree n left) v ws at w ch refl);
+        answers = h ∙ only-fields n (tree n left) v ws at w ch refl;
         notes = λ z. fields_came n left ws true w v c at ch h z d x;
       }

@@ -9,16 +9,19 @@ use lib.ListN.{length, take, drop, replicate, length-drop}
 use lib.Seq.{drop-drop}
 use lib.Dec.{eqb}
 use borrow.Author.Rules.{part_to_end}
-use Rattle.definitions.specs.declared.answer.Refusal.{Refusal}
 use Rattle.definitions.specs.declared.table.Follows.{Follows}
 use Rattle.definitions.specs.Table.{pick, kind_of, value_of, entry_of, fields_of, children_of}
 use Rattle.definitions.specs.Form.{Read, got, refused, because, bind, map_read, allowed_here, only, Form, word, empty, each, ◌▹◌, via, read_by}
 use Rattle.definitions.specs.Tree.{Tree, Forest, node, more, to_forest, to_tree, of_tree, to_of, of_to, heads, last_field, fields, follow, tree}
 use Rattle.definitions.specs.Tree as trees
-use Rattle.pack.specs.Readers.{step_by, step_of, skip_over, coded_step}
+use Rattle.std.specs.Prelude.{Ok, Err}
+use Rattle.pack.specs.declared.cursor.Cursor.{Cursor}
+use Rattle.pack.specs.Readers.{Step, on, step_by, step_of, skip_over}
+use Rattle.pack.proofs.StepLaws.{on_place}
+use Rattle.reading.proofs.WalkLaws.{no_on}
 use Rattle.pack.proofs.FormLaws.{clash}
 use Rattle.reading.specs.Notes.{look_by, noted}
-use Rattle.reading.specs.Noting.{Based, Context, State, losing, push, in_next, past, child_in, note_tree, note_forest, Sorted, Rows}
+use Rattle.reading.specs.Noting.{Based, Context, State, losing, push, in_next, past, child_in, note_tree, note_forest, later, Came, Sorted, Rows}
 
 -- ---- bases
 
@@ -37,12 +40,13 @@ based_part ws b l h d e = record { few = omega (arith, h.room, e); room = omega 
 
 -- ---- reading
 
-abbrev later : ℕ → Refusal → Refusal
-later b r = record { number = r.number; place = r.place + b; name = r.name; other = r.other }
-
 abbrev moved : {A : Type 0} → ℕ → Read A → Read A
 moved b (got a at ws) = got a (at + b) ws
 moved b (refused r) = refused (later b r)
+
+abbrev pub shifted : ℕ → Step → Step
+shifted b (Ok (v, k)) = on v (record { at = k.at + b })
+shifted b (Err r) = Err (later b r)
 
 -- a form that is read alike wherever the words stand
 abbrev Alike : {A : Type 0} → Form A → Type 0
@@ -104,13 +108,13 @@ module _ {A : Type 0} (F : Form A) (alike : Alike F) (ws : List ℕ) (b : ℕ) w
   part_read : read_by F b (drop b ws) ≡ moved b (read_by F 0 (drop b ws))
   part_read = let z : 0 + b ≡ b = omega arith in subst (λ (i : ℕ). read_by F i (drop b ws) ≡ moved b (read_by F 0 (drop b ws))) z (alike b 0 (drop b ws))
 
-  part_code : coded_step (skip_over F ws b) ≡ coded_step (skip_over F (drop b ws) 0) + b
-  unfolding step_of coded_step
-  part_code = ap (λ (m : Read A). coded_step (step_by (λ a. 0) m)) part_read ∙ go (read_by F 0 (drop b ws))
+  part_step : skip_over F ws b ≡ shifted b (skip_over F (drop b ws) 0)
+  unfolding step_of
+  part_step = ap (step_by (λ a. 0)) part_read ∙ go (read_by F 0 (drop b ws))
     where
-      go : (m : Read A) → coded_step (step_by (λ a. 0) (moved b m)) ≡ coded_step (step_by (λ a. 0) m) + b
+      go : (m : Read A) → step_by (λ a. 0) (moved b m) ≡ shifted b (step_by (λ a. 0) m)
       go (got a at vs) = refl
-      go (refused r) = omega arith
+      go (refused r) = refl
 
 -- where a tree was read there are words
 some_words : (n left : ℕ) (sorts : List ℕ) (at : ℕ) (ws : List ℕ) {t : Tree} {l : List Tree} {r : ℕ} {rest : List ℕ} → read_by (each (tree n left) sorts) at ws ≡ got (t ∷ l) r rest → 0 < length ws
@@ -195,18 +199,23 @@ module _ (n left : ℕ) (sorts : List ℕ) (c : ℕ) (ws : List ℕ) (b : ℕ) w
       let i : c % 8192 + b < 8192 = omega (arith, room, some_words n left sorts 0 (drop b ws) f, length-drop b ws) in
       (λ y. note_forest c c (more t (to_forest l)) (z y, d)) ∙ moved_forest (more t (to_forest l)) c c b i i 0 d ∙ ap (up b) x
 
-  part_whole : c % 8192 + length ws ≤ 8192 → {r : ℕ} {d e : List ℕ} → Sorted n left sorts (c + b) (c + b) (drop b ws) 0 d r e → Sorted n left sorts c c ws b d (r + b) e
-  part_whole room {r} {d} {e} h =
+  came_whole : c % 8192 + length ws ≤ 8192 → {r : ℕ} {d e : List ℕ} → Came row (λ l. note_forest (c + b) (c + b) (to_forest l)) (drop b ws) 0 d r e
+      → Came row (λ l. note_forest c c (to_forest l)) ws b d (r + b) e
+  came_whole room {r} {d} {e} k =
+      let p : b + r ≡ r + b = omega arith in
       record {
-        answers = ap (λ (i : ℕ). i + b) h.answers ∙ sym (part_code row alike_row ws b);
-        notes = λ s. let k = h.notes (omega arith) in
-            let p : b + r ≡ r + b = omega arith in
-            record {
-              value = k.value;
-              found = part_read row alike_row ws b ∙ ap (moved b) k.found ∙ ap (λ (l : List ℕ). got k.value (r + b) l) (drop-drop r b ws ∙ ap (λ (i : ℕ). drop i ws) p);
-              noted = part_noted room r d e k.value k.found k.noted;
-            };
+        value = k.value;
+        found = part_read row alike_row ws b ∙ ap (moved b) k.found ∙ ap (λ (l : List ℕ). got k.value (r + b) l) (drop-drop r b ws ∙ ap (λ (i : ℕ). drop i ws) p);
+        noted = part_noted room r d e k.value k.found k.noted;
       }
+
+  part_whole : c % 8192 + length ws ≤ 8192 → {y : Step} {d e : List ℕ} → Sorted n left sorts (c + b) (c + b) (drop b ws) 0 d y e → Sorted n left sorts c c ws b d (shifted b y) e
+  part_whole room {y} {d} {e} h = record { answers = ap (shifted b) h.answers ∙ sym (part_step row alike_row ws b); notes = λ {v} {k} o. go y (λ v k q. h.notes q) v k o }
+    where
+      go : (z : Step) → ((v : ℕ) (k : Cursor) → z ≡ on v k → Came row (λ l. note_forest (c + b) (c + b) (to_forest l)) (drop b ws) 0 d k.at e) → (v : ℕ) (k : Cursor) → shifted b z ≡ on v k
+          → Came row (λ l. note_forest c c (to_forest l)) ws b d k.at e
+      go (Ok (u, j)) f v k o = let q : j.at + b ≡ k.at = ap (λ (i : Cursor). i.at) (on_place o) in subst (λ (i : ℕ). Came row (λ l. note_forest c c (to_forest l)) ws b d i e) q (came_whole room (f u j refl))
+      go (Err r) f v k o = absurd (no_on o)
 
 -- the part as the code lends it
 abbrev part_of : List ℕ → ℕ → List ℕ
@@ -215,7 +224,7 @@ part_of ws b = take (length ws - b) (drop b ws)
 pub part_long : (ws : List ℕ) (b : ℕ) → b ≤ length ws → length (part_of ws b) + b ≡ length ws
 part_long ws b h = omega (arith, ap (λ (l : List ℕ). length l) (part_to_end ws b), length-drop b ws)
 
-pub part_rows : (n left sort count c : ℕ) (ws : List ℕ) (b : ℕ) → c % 8192 + length ws ≤ 8192 → {part : List ℕ} → part ≡ drop b ws → {r : ℕ} {d e : List ℕ}
-    → Rows n left sort count (c + b) part 0 d r e → Rows n left sort count c ws b d (r + b) e
-part_rows n left sort count c ws b room q {r} {d} {e} h =
-    part_whole n left (replicate count sort) c ws b room (subst (λ (l : List ℕ). Rows n left sort count (c + b) l 0 d r e) q h)
+pub part_rows : (n left sort count c : ℕ) (ws : List ℕ) (b : ℕ) → c % 8192 + length ws ≤ 8192 → {part : List ℕ} → part ≡ drop b ws → {y : Step} {d e : List ℕ}
+    → Rows n left sort count (c + b) part 0 d y e → Rows n left sort count c ws b d (shifted b y) e
+part_rows n left sort count c ws b room q {y} {d} {e} h =
+    part_whole n left (replicate count sort) c ws b room (subst (λ (l : List ℕ). Rows n left sort count (c + b) l 0 d y e) q h)

@@ -1,28 +1,37 @@
 -- The nodes that resolving looks at, noted by the readers of trees on their way, in an array whose word 0 is how many there are.
-use Rattle.std.specs.Prelude.{ℕ, ◌+◌, ◌-◌, ◌*◌, ◌/◌, ◌%◌, ◌<◌, ◌≤◌, ◌≡◌, List, [], ◌∷◌, map, Bool, length, get_or, set, drop, replicate, eqb}
+use Rattle.std.specs.Prelude.{ℕ, ◌+◌, ◌-◌, ◌*◌, ◌/◌, ◌%◌, ◌<◌, ◌≤◌, ◌≡◌, List, [], ◌∷◌, map, Bool, length, get_or, set, drop, replicate, Result, Ok, Err}
 use Rattle.pack.specs.declared.cursor.Cursor.{Cursor}
-use Rattle.pack.specs.Readers.{Step}
-use Rattle.pack.specs.Readers.{on}
+use Rattle.definitions.specs.declared.answer.Refusal.{Refusal}
+use Rattle.pack.specs.Readers.{Step, on}
 use Rattle.definitions.specs.declared.table.Follows.{Follows}
 use Rattle.definitions.specs.Table.{pick, kind_of, value_of, entry_of, fields_of}
-use Rattle.definitions.specs.Form.{got, Form, each, read_by, word, only}
+use Rattle.definitions.specs.Form.{got, Form, each, read_by}
 use Rattle.definitions.specs.Tree.{Tree, Forest, node, more, to_forest, follow, tree, size}
 use Rattle.definitions.specs.Tree as trees
-use Rattle.pack.specs.Readers.{skip_over, coded_step, fault}
+use Rattle.pack.specs.Readers.{skip_over}
+use Rattle.reading.specs.declared.tree.Fault.{Fault}
 use Rattle.reading.specs.Notes.{look_by, noted, notes_of, note_code}
 
--- ---- fields
+-- ---- what a walker answers
 
--- the first of two numbers that is no 0
-abbrev pub first_fault : ℕ → ℕ → ℕ
-first_fault a b = pick (eqb a 0) b a
+-- the refusal that a fault tells
+abbrev pub refusal_of : Fault → Refusal
+refusal_of f = record { number = f.code % 64; place = f.code / 64; name = 0; other = 0 }
 
--- the fields of an aggregate, each tested as one word
-unfoldable pub aggregate_fault : ℕ → List ℕ → ℕ → ℕ
-aggregate_fault n ws at =
-    first_fault (fault (skip_over (word (only (80 ∷ [])) n) ws at))
-    (first_fault (fault (skip_over (word (only (81 ∷ [])) n) ws (at + 1)))
-    (first_fault (fault (skip_over (word (only (86 ∷ [])) n) ws (at + 2))) (fault (skip_over (word (only (83 ∷ [])) n) ws (at + 3)))))
+-- the step that an answer tells
+abbrev pub walked : Result ℕ Fault → Step
+walked (Ok at) = on 0 (record { at = at })
+walked (Err f) = Err (refusal_of f)
+
+-- a refusal that a fault can tell, of which the place is up to a most
+pub record Plain (most : ℕ) (r : Refusal) : Type 0 where
+  pub number : r.number ≤ 5
+  pub place : r.place ≤ most
+  pub bare : r ≡ record { number = r.number; place = r.place; name = 0; other = 0 }
+
+-- what is refused in a part of the words, in the words
+abbrev pub later : ℕ → Refusal → Refusal
+later b r = record { number = r.number; place = r.place + b; name = r.name; other = r.other }
 
 -- ---- contexts
 
@@ -94,26 +103,21 @@ pub record Came {A : Type 0} (F : Form A) (note : A → State → State) (ws : L
   pub noted : note value (at, d) ≡ (r, e)
 
 -- Its answer is that of its form; and if the form was read, place and array are those of the value. Of a refusal nothing is said of the array.
-pub record NotedCode {A : Type 0} (F : Form A) (note : A → State → State) (ws : List ℕ) (at : ℕ) (d : List ℕ) (r : ℕ) (e : List ℕ) : Type 0 where
-  pub answers : r ≡ coded_step (skip_over F ws at)
-  pub notes : r < 65536 → Came F note ws at d r e
-
--- the same of a step
 pub record NotedStep {A : Type 0} (F : Form A) (note : A → State → State) (ws : List ℕ) (at : ℕ) (d : List ℕ) (r : Step) (e : List ℕ) : Type 0 where
   pub answers : r ≡ skip_over F ws at
   pub notes : {v : ℕ} {k : Cursor} → r ≡ on v k → Came F note ws at d k.at e
 
 -- a row of trees of these sorts, the first in one context and the others in another
-abbrev pub Sorted : ℕ → ℕ → List ℕ → ℕ → ℕ → List ℕ → ℕ → List ℕ → ℕ → List ℕ → Type 0
-Sorted n left sorts a b = NotedCode (each (tree n left) sorts) (λ l. note_forest a b (to_forest l))
+abbrev pub Sorted : ℕ → ℕ → List ℕ → ℕ → ℕ → List ℕ → ℕ → List ℕ → Step → List ℕ → Type 0
+Sorted n left sorts a b = NotedStep (each (tree n left) sorts) (λ l. note_forest a b (to_forest l))
 
 -- so many trees of one sort in one context
-abbrev pub Rows : ℕ → ℕ → ℕ → ℕ → ℕ → List ℕ → ℕ → List ℕ → ℕ → List ℕ → Type 0
+abbrev pub Rows : ℕ → ℕ → ℕ → ℕ → ℕ → List ℕ → ℕ → List ℕ → Step → List ℕ → Type 0
 Rows n left sort count c = Sorted n left (replicate count sort) c c
 
 -- what follows a head word of this shape and value
-abbrev pub Shape : ℕ → ℕ → Bool → Follows → ℕ → ℕ → List ℕ → ℕ → List ℕ → ℕ → List ℕ → Type 0
-Shape n left noted w v c = NotedCode (follow n (tree n left) w v) (λ p. note_follow c noted w (to_forest p.1))
+abbrev pub Shape : ℕ → ℕ → Bool → Follows → ℕ → ℕ → List ℕ → ℕ → List ℕ → Step → List ℕ → Type 0
+Shape n left noted w v c = NotedStep (follow n (tree n left) w v) (λ p. note_follow c noted w (to_forest p.1))
 
 -- a kind of scalars that begins neither an aggregate nor a row of scalars alone
 pub record OtherScalar (k : ℕ) : Type 0 where
@@ -122,7 +126,7 @@ pub record OtherScalar (k : ℕ) : Type 0 where
   pub no_aggregate : 74 ≤ k → 77 < k
 
 -- what follows the head word at a place
-abbrev pub After : ℕ → ℕ → ℕ → List ℕ → ℕ → List ℕ → ℕ → List ℕ → Type 0
+abbrev pub After : ℕ → ℕ → ℕ → List ℕ → ℕ → List ℕ → Step → List ℕ → Type 0
 After n left c ws at d r e =
     Shape n left (noted (kind_of (get_or ws at 0))) (entry_of (kind_of (get_or ws at 0))).follows (value_of (get_or ws at 0)) c ws (at + 1) d r e
 

@@ -1,157 +1,173 @@
 // Trees: scalar and judgment walkers, which call each other. With each level the number of levels left falls.
-// They answer a plain number: the place after the tree, or a refusal's code. On their way they note the nodes that resolving looks at.
-ghost use Rattle.std.specs.Prelude.{◌≡◌, ℕ, ◌+◌, ◌≤◌, ◌<◌, [], ◌∷◌, true, false, length, get_or, set, replicate, Err};
+// They answer the place after the tree, or what is wrong with it. On their way they note the nodes that resolving looks at.
+ghost use Rattle.std.specs.Prelude.{◌≡◌, ℕ, ◌+◌, ◌≤◌, ◌<◌, [], ◌∷◌, true, false, length, get_or, set, replicate};
 ghost use Rattle.definitions.specs.declared.table.Follows.TheVariants.{Aggregate, OnlyRelated, Slots, Atom, Exists};
 ghost use Rattle.definitions.specs.Table.{scalar, judgment, kind_of, value_of, entry_of, how_many, fields_of};
 ghost use Rattle.pack.specs.Packed.{UpTo, Compares};
 ghost use Rattle.definitions.specs.Form.{word, only};
 ghost use Rattle.definitions.specs.Tree.{heads as begin_with, fields, root};
-ghost use Rattle.pack.specs.Readers.{skip_over, coded_step, fault, decoded};
+ghost use Rattle.pack.specs.Readers.{skip_over};
+ghost use Rattle.definitions.specs.Answers.{number_of};
 ghost use Rattle.reading.specs.Notes.{context_of, note_code, note};
-ghost use Rattle.reading.specs.Noting.{aggregate_fault, next_note, Based, Context, losing, push, in_next, note_tree, NotedStep, Sorted, Rows, Shape, OtherScalar, After};
+ghost use Rattle.reading.specs.Noting.{refusal_of, later, walked, Plain, next_note, Based, Context, losing, push, in_next, note_tree, NotedStep, Sorted, Rows, Shape, OtherScalar, After};
 
 use definitions::answer::{Number, Refusal};
 use definitions::table::Values;
 use pack::cursor::{Cursor, Step};
 use pack::heads::Heads;
 use pack::kinds::Pack;
+use pack::refusal::refused;
 use pack::table::{children, entry_of, how_many, sort_of};
 
-// The code of a refusal.
-fn code_of(number: u32, at: usize) -> usize
-    requires { (number ≤ 5) × (at ≤ 8192) }
-    ensures { result ≡ coded_step (Err (record { number = number; place = at; name = 0; other = 0 })) }
-{
-    Pack::CODES * (number as usize + 1) + at
+// A refusal of which the number and the place are told, both in one number: with it a Result is handed over in two registers, and with
+// two numbers or more through memory, by which Check of nested where trees took 1.4 times as long and more (docs/SPEED.md).
+#[derive(Clone, Copy)]
+struct Fault {
+    code: usize,
 }
 
-// The word that begins a tree of the sort, where so many levels are left: 0, or a refusal's code.
-fn head(s: &[u32], heads: &Heads, at: usize, sort: u32, left: u32) -> usize
+impl Fault {
+    const NUMBERS: usize = 64;
+
+    fn new(number: Number, at: usize) -> Fault
+        requires { (number_of number ≤ 5) × (at ≤ 8192) }
+        ensures { refusal_of result ≡ record { number = number_of number; place = at; name = 0; other = 0 } }
+    {
+        Fault::of(refused(number, at))
+    }
+
+    fn of(refusal: Refusal) -> Fault
+        requires { Plain 8192 refusal }
+        ensures { refusal_of result ≡ refusal }
+    {
+        Fault {
+            code: refusal.place * Fault::NUMBERS + refusal.number as usize,
+        }
+    }
+
+    // The same in the words of which a part was read that starts at a place.
+    fn behind(self, start: usize) -> Fault
+        requires { ((refusal_of self).place ≤ 8192) × (start ≤ 8192) }
+        ensures { refusal_of result ≡ later start (refusal_of self) }
+    {
+        Fault {
+            code: self.code + start * Fault::NUMBERS,
+        }
+    }
+}
+
+impl From<Fault> for Refusal {
+    ghost from_gives = { λ f r. r ≡ refusal_of f };
+
+    fn from(fault: Fault) -> Refusal {
+        Refusal {
+            number: (fault.code % Fault::NUMBERS) as u32,
+            place: fault.code / Fault::NUMBERS,
+            name: 0,
+            other: 0,
+        }
+    }
+}
+
+// The word that begins a tree of the sort, where so many levels are left: the place after it.
+fn head(s: &[u32], heads: &Heads, at: usize, sort: u32, left: u32) -> Result<usize, Fault>
     requires { (length s.now ≤ 8192) × (at ≤ length s.now) × (sort < 2) }
-    ensures { result ≡ fault (skip_over (word (begin_with sort left) heads.now.names) s.now at) }
+    ensures { walked result ≡ skip_over (word (begin_with sort left) heads.now.names) s.now at }
 {
     if s.len() <= at {
-        return code_of(Number::Ended as u32, at);
+        return Err(Fault::new(Number::Ended, at));
     }
     let w = s[at];
     if heads.begins(sort, w) {
         if 0 < left {
-            return 0;
+            return Ok(at + 1);
         }
-        return code_of(Number::TooDeep as u32, at);
+        return Err(Fault::new(Number::TooDeep, at));
     }
     let found = sort_of(w / Pack::VALUES);
     if found != sort {
-        return code_of(Number::WrongKind as u32, at);
+        return Err(Fault::new(Number::WrongKind, at));
     }
     if left == 0 {
-        return code_of(Number::TooDeep as u32, at);
+        return Err(Fault::new(Number::TooDeep, at));
     }
-    code_of(Number::WrongValue as u32, at)
+    Err(Fault::new(Number::WrongValue, at))
 }
 
-// A word of this kind, with any value up to a most: 0, or a refusal's code.
-fn up_to(s: &[u32], at: usize, kind: u32, most: u32) -> usize
+// A word of this kind, with any value up to a most: the place after it.
+fn up_to(s: &[u32], at: usize, kind: u32, most: u32) -> Result<usize, Fault>
     requires { (length s.now ≤ 8192) × (at ≤ length s.now) × UpTo kind most }
-    ensures { (n : ℕ) → result ≡ fault (skip_over (word (only (kind ∷ [])) n) s.now at) }
+    ensures { (n : ℕ) → walked result ≡ skip_over (word (only (kind ∷ [])) n) s.now at }
 {
     if s.len() <= at {
-        return code_of(Number::Ended as u32, at);
+        return Err(Fault::new(Number::Ended, at));
     }
     let w = s[at];
     if w / Pack::VALUES != kind {
-        return code_of(Number::WrongKind as u32, at);
+        return Err(Fault::new(Number::WrongKind, at));
     }
     if most < w % Pack::VALUES {
-        return code_of(Number::WrongValue as u32, at);
+        return Err(Fault::new(Number::WrongValue, at));
     }
-    0
+    Ok(at + 1)
 }
 
 // The slots of a RelationMember.
-fn slots(s: &[u32], at: usize) -> usize
+fn slots(s: &[u32], at: usize) -> Result<usize, Fault>
     requires { (length s.now ≤ 8192) × (at ≤ length s.now) }
-    ensures { (n : ℕ) → result ≡ coded_step (skip_over (fields n (fields_of Slots)) s.now at) }
+    ensures { (n : ℕ) → walked result ≡ skip_over (fields n (fields_of Slots)) s.now at }
 {
-    let f1 = up_to(s, at, Pack::CURRENT, Pack::ANY_VALUE);
-    if f1 != 0 {
-        return f1;
-    }
-    let f2 = up_to(s, at + 1, Pack::RELATED, Pack::ANY_VALUE);
-    if f2 != 0 {
-        return f2;
-    }
-    at + 2
+    let at = up_to(s, at, Pack::CURRENT, Pack::ANY_VALUE)?;
+    up_to(s, at, Pack::RELATED, Pack::ANY_VALUE)
 }
 
 // The arguments of a RelationAtom.
-fn atom(s: &[u32], at: usize) -> usize
+fn atom(s: &[u32], at: usize) -> Result<usize, Fault>
     requires { (length s.now ≤ 8192) × (at ≤ length s.now) }
-    ensures { (n : ℕ) → result ≡ coded_step (skip_over (fields n (fields_of Atom)) s.now at) }
+    ensures { (n : ℕ) → walked result ≡ skip_over (fields n (fields_of Atom)) s.now at }
 {
-    let f1 = up_to(s, at, Pack::ARGUMENTS, Pack::ANY_VALUE);
-    if f1 != 0 {
-        return f1;
-    }
-    at + 1
+    up_to(s, at, Pack::ARGUMENTS, Pack::ANY_VALUE)
 }
 
 // The slots of an OnlyRelated, and its input's or derived name.
-fn only_related(s: &[u32], heads: &Heads, at: usize) -> usize
+fn only_related(s: &[u32], heads: &Heads, at: usize) -> Result<usize, Fault>
     requires { (length s.now ≤ 8192) × (at ≤ length s.now) }
-    ensures { result ≡ coded_step (skip_over (fields heads.now.names (fields_of OnlyRelated)) s.now at) }
+    ensures { walked result ≡ skip_over (fields heads.now.names (fields_of OnlyRelated)) s.now at }
 {
-    let f1 = up_to(s, at, Pack::CURRENT, Pack::ANY_VALUE);
-    if f1 != 0 {
-        return f1;
-    }
-    let f2 = up_to(s, at + 1, Pack::RELATED, Pack::ANY_VALUE);
-    if f2 != 0 {
-        return f2;
-    }
-    let c = Cursor { at: at + 2 };
-    match c.either(s, heads.names, Pack::INPUT, Pack::DERIVED, Values::Name) {
-        Ok((_, next)) => next.at,
-        Err(r) => code_of(r.number, r.place),
+    let at = slots(s, at)?;
+    let name = Cursor { at };
+    match name.either(s, heads.names, Pack::INPUT, Pack::DERIVED, Values::Name) {
+        Ok((_, next)) => Ok(next.at),
+        Err(refusal) => Err(Fault::of(refusal)),
     }
 }
 
-// The fields of an aggregate: 0, or the code of the first refusal.
-fn field_faults(s: &[u32], at: usize) -> usize
+// The fields of an aggregate.
+fn aggregate_words(s: &[u32], at: usize) -> Result<usize, Fault>
     requires { (length s.now ≤ 8192) × (at ≤ length s.now) }
-    ensures { (n : ℕ) → result ≡ aggregate_fault n s.now at }
+    ensures { (n : ℕ) → walked result ≡ skip_over (fields n (fields_of Aggregate)) s.now at }
 {
-    let f1 = up_to(s, at, Pack::CURRENT, Pack::ANY_VALUE);
-    if f1 != 0 {
-        return f1;
-    }
-    let f2 = up_to(s, at + 1, Pack::RELATED, Pack::ANY_VALUE);
-    if f2 != 0 {
-        return f2;
-    }
-    let f3 = up_to(s, at + 2, Pack::VALUE, Pack::ANY_VALUE);
-    if f3 != 0 {
-        return f3;
-    }
-    up_to(s, at + 3, Pack::WHERE, 1)
+    let at = slots(s, at)?;
+    let at = up_to(s, at, Pack::VALUE, Pack::ANY_VALUE)?;
+    up_to(s, at, Pack::WHERE, 1)
 }
 
 // The same, with one look at the end of the words where all are as they must be.
-fn aggregate_fields(s: &[u32], at: usize) -> usize
+fn aggregate_fields(s: &[u32], at: usize) -> Result<usize, Fault>
     requires { (length s.now ≤ 8192) × (at ≤ length s.now) }
-    ensures { (n : ℕ) → result ≡ aggregate_fault n s.now at }
+    ensures { (n : ℕ) → walked result ≡ skip_over (fields n (fields_of Aggregate)) s.now at }
 {
     if s.len() <= at + 3 {
-        return field_faults(s, at);
+        return aggregate_words(s, at);
     }
     if s[at] / Pack::VALUES != Pack::CURRENT {
-        return field_faults(s, at);
+        return aggregate_words(s, at);
     }
     if s[at + 1] / Pack::VALUES != Pack::RELATED {
-        return field_faults(s, at);
+        return aggregate_words(s, at);
     }
     if s[at + 2] / Pack::VALUES != Pack::VALUE {
-        return field_faults(s, at);
+        return aggregate_words(s, at);
     }
     up_to(s, at + 3, Pack::WHERE, 1)
 }
@@ -234,37 +250,31 @@ fn scalars(
     levels: u32,
     context: u32,
     notes: &mut [u32],
-) -> usize
+) -> Result<usize, Fault>
     requires { (length s.now ≤ 8192) × (start ≤ length s.now) × Based s.now context }
-    ensures { Rows heads.now.names levels scalar count context s.now start notes.old result notes.new }
+    ensures { Rows heads.now.names levels scalar count context s.now start notes.old (walked result) notes.new }
 {
     let mut at = start;
     let mut k = count;
     let mut left = levels;
     while 0 < k {
-        let f = head(s, heads, at, Pack::SCALAR, left);
-        if f != 0 {
-            return f;
-        }
+        let next = head(s, heads, at, Pack::SCALAR, left)?;
         let w = s[at];
         let kind = w / Pack::VALUES;
         k -= 1;
         if Pack::ONE_CHILD <= kind {
             if k == 0 && kind <= Pack::MAX {
-                at += 1;
+                at = next;
                 k = children(kind, w % Pack::VALUES);
                 left -= 1;
             } else {
-                at = after_scalar(s, heads, at, left - 1, context, notes);
-                if Pack::CODES <= at {
-                    return at;
-                }
+                at = after_scalar(s, heads, at, left - 1, context, notes)?;
             }
         } else {
-            at += 1;
+            at = next;
         }
     }
-    at
+    Ok(at)
 }
 
 // A row of judgments, in the same way.
@@ -277,49 +287,47 @@ fn judgments(
     levels: u32,
     context: u32,
     notes: &mut [u32],
-) -> usize
+) -> Result<usize, Fault>
     requires { (length s.now ≤ 8192) × (start ≤ length s.now) × Based s.now context }
-    ensures { Rows heads.now.names levels judgment count context s.now start notes.old result notes.new }
+    ensures { Rows heads.now.names levels judgment count context s.now start notes.old (walked result) notes.new }
 {
     let mut at = start;
     let mut k = count;
     let mut left = levels;
     while 0 < k {
-        let f = head(s, heads, at, Pack::JUDGMENT, left);
-        if f != 0 {
-            return f;
-        }
+        let next = head(s, heads, at, Pack::JUDGMENT, left)?;
         let w = s[at];
         let kind = w / Pack::VALUES;
         k -= 1;
         if kind <= Pack::SAME_ENTITY {
             if k == 0 && Pack::AND <= kind && kind <= Pack::NOT {
-                at += 1;
+                at = next;
                 k = children(kind, w % Pack::VALUES);
                 left -= 1;
             } else {
-                at = after_judgment(s, heads, at, left - 1, context, notes);
-                if Pack::CODES <= at {
-                    return at;
-                }
+                at = after_judgment(s, heads, at, left - 1, context, notes)?;
             }
         } else {
-            at += 1;
+            at = next;
         }
     }
-    at
+    Ok(at)
 }
 
 // The condition and the two cases of an If.
 #[cycle(walkers)]
-fn choice(s: &[u32], heads: &Heads, at: usize, left: u32, context: u32, notes: &mut [u32]) -> usize
+fn choice(
+    s: &[u32],
+    heads: &Heads,
+    at: usize,
+    left: u32,
+    context: u32,
+    notes: &mut [u32],
+) -> Result<usize, Fault>
     requires { (length s.now ≤ 8192) × (at ≤ length s.now) × Based s.now context }
-    ensures { Sorted heads.now.names left (judgment ∷ scalar ∷ scalar ∷ []) context context s.now at notes.old result notes.new }
+    ensures { Sorted heads.now.names left (judgment ∷ scalar ∷ scalar ∷ []) context context s.now at notes.old (walked result) notes.new }
 {
-    let next = judgments(s, heads, at, 1, left, context, notes);
-    if Pack::CODES <= next {
-        return next;
-    }
+    let next = judgments(s, heads, at, 1, left, context, notes)?;
     scalars(s, heads, next, 2, left, context, notes)
 }
 
@@ -333,14 +341,11 @@ fn patterns(
     left: u32,
     context: u32,
     notes: &mut [u32],
-) -> usize
+) -> Result<usize, Fault>
     requires { (length s.now ≤ 8192) × (at ≤ length s.now) × Based s.now context }
-    ensures { Sorted heads.now.names left (replicate (count + 1) scalar) context (losing context) s.now at notes.old result notes.new }
+    ensures { Sorted heads.now.names left (replicate (count + 1) scalar) context (losing context) s.now at notes.old (walked result) notes.new }
 {
-    let next = scalars(s, heads, at, 1, left, context, notes);
-    if Pack::CODES <= next {
-        return next;
-    }
+    let next = scalars(s, heads, at, 1, left, context, notes)?;
     let without = lost(context);
     scalars(s, heads, next, count, left, without, notes)
 }
@@ -355,37 +360,41 @@ fn aggregate(
     left: u32,
     context: u32,
     notes: &mut [u32],
-) -> usize
+) -> Result<usize, Fault>
     requires { (length s.now ≤ 8192) × (at ≤ length s.now) × Based s.now context }
-    ensures { Shape heads.now.names left true Aggregate 0 context s.now at notes.old result notes.new }
+    ensures { Shape heads.now.names left true Aggregate 0 context s.now at notes.old (walked result) notes.new }
 {
-    let f = aggregate_fields(s, at);
-    if f != 0 {
-        return f;
-    }
+    let root = aggregate_fields(s, at)?;
     let inner = note(notes, at as u32 + context) + context % Pack::LOST;
     let flag = s[at + 3] % Pack::VALUES;
     if flag == 1 {
-        if compares(s, at + 4, left) {
-            return scalars(s, heads, at + 5, 2, left - 1, inner, notes);
+        if compares(s, root, left) {
+            return scalars(s, heads, root + 1, 2, left - 1, inner, notes);
         }
     }
-    let root = at + 4;
-    judgments(&s[root..], heads, 0, flag, left, inner + root as u32, notes) + root
+    let part = judgments(&s[root..], heads, 0, flag, left, inner + root as u32, notes);
+    match part {
+        Ok(next) => Ok(next + root),
+        Err(fault) => Err(fault.behind(root)),
+    }
 }
 
 // The arguments of an Exists, which is noted, and its body.
 #[cycle(walkers)]
-fn exists(s: &[u32], heads: &Heads, at: usize, left: u32, context: u32, notes: &mut [u32]) -> usize
+fn exists(
+    s: &[u32],
+    heads: &Heads,
+    at: usize,
+    left: u32,
+    context: u32,
+    notes: &mut [u32],
+) -> Result<usize, Fault>
     requires { (length s.now ≤ 8192) × (at ≤ length s.now) × Based s.now context }
-    ensures { Shape heads.now.names left true Exists 0 context s.now at notes.old result notes.new }
+    ensures { Shape heads.now.names left true Exists 0 context s.now at notes.old (walked result) notes.new }
 {
-    let f1 = up_to(s, at, Pack::ARGUMENTS, Pack::ANY_VALUE);
-    if f1 != 0 {
-        return f1;
-    }
+    let body = atom(s, at)?;
     let _ = note(notes, at as u32 + context);
-    judgments(s, heads, at + 1, 1, left, context, notes)
+    judgments(s, heads, body, 1, left, context, notes)
 }
 
 // What follows the head word of a scalar at a place.
@@ -397,9 +406,9 @@ fn after_scalar(
     left: u32,
     context: u32,
     notes: &mut [u32],
-) -> usize
+) -> Result<usize, Fault>
     requires { (length s.now ≤ 8192) × (at < length s.now) × (kind_of (get_or s.now at 0) ≤ 95) × Based s.now context }
-    ensures { After heads.now.names left context s.now at notes.old result notes.new }
+    ensures { After heads.now.names left context s.now at notes.old (walked result) notes.new }
 {
     let w = s[at];
     let kind = w / Pack::VALUES;
@@ -423,9 +432,9 @@ fn after_other(
     left: u32,
     context: u32,
     notes: &mut [u32],
-) -> usize
+) -> Result<usize, Fault>
     requires { (length s.now ≤ 8192) × (at < length s.now) × OtherScalar (kind_of (get_or s.now at 0)) × Based s.now context }
-    ensures { After heads.now.names left context s.now at notes.old result notes.new }
+    ensures { After heads.now.names left context s.now at notes.old (walked result) notes.new }
 {
     let w = s[at];
     let kind = w / Pack::VALUES;
@@ -446,7 +455,7 @@ fn after_other(
             let _ = note(notes, at as u32 + 1 + context);
             only_related(s, heads, at + 1)
         }
-        _ => at + 1,
+        _ => Ok(at + 1),
     }
 }
 
@@ -459,9 +468,9 @@ fn after_judgment(
     left: u32,
     context: u32,
     notes: &mut [u32],
-) -> usize
+) -> Result<usize, Fault>
     requires { (length s.now ≤ 8192) × (at < length s.now) × (96 ≤ kind_of (get_or s.now at 0)) × Based s.now context }
-    ensures { After heads.now.names left context s.now at notes.old result notes.new }
+    ensures { After heads.now.names left context s.now at notes.old (walked result) notes.new }
 {
     let w = s[at];
     let kind = w / Pack::VALUES;
@@ -487,26 +496,10 @@ fn after_judgment(
         Pack::EXISTS => exists(s, heads, at + 1, left, context, notes),
         Pack::SAME_ENTITY => {
             let _ = note(notes, at as u32 + 1 + context);
-            at + 1
+            Ok(at + 1)
         }
-        _ => at + 1,
+        _ => Ok(at + 1),
     }
-}
-
-// What a number answers.
-fn step_of(code: usize) -> Step
-    requires { code ≤ 458751 }
-    ensures { result ≡ decoded code }
-{
-    if code < Pack::CODES {
-        return Ok((0, Cursor { at: code }));
-    }
-    Err(Refusal {
-        number: (code / Pack::CODES - 1) as u32,
-        place: code % Pack::CODES,
-        name: 0,
-        other: 0,
-    })
 }
 
 // The tree of a body or predicate in a context.
@@ -514,19 +507,19 @@ pub fn scalar(s: &[u32], heads: &Heads, c: Cursor, context: u32, notes: &mut [u3
     requires { (length s.now ≤ 8192) × (c.at ≤ length s.now) × Context context }
     ensures { NotedStep (root heads.now.names scalar) (λ u. note_tree context u) s.now c.at notes.old result notes.new }
 {
-    step_of(scalars(s, heads, c.at, 1, Pack::DEPTH, context, notes))
+    let at = scalars(s, heads, c.at, 1, Pack::DEPTH, context, notes)?;
+    Ok((0, Cursor { at }))
 }
 
 pub fn judgment(s: &[u32], heads: &Heads, c: Cursor, context: u32, notes: &mut [u32]) -> Step
     requires { (length s.now ≤ 8192) × (c.at ≤ length s.now) × Context context }
     ensures { NotedStep (root heads.now.names judgment) (λ u. note_tree context u) s.now c.at notes.old result notes.new }
 {
-    let at = c.at;
-    if head(s, heads, at, Pack::JUDGMENT, Pack::DEPTH) == 0 {
-        // many predicates are a leaf, for which a call would take longer than the work
-        if Pack::SAME_ENTITY < s[at] / Pack::VALUES {
-            return Ok((0, Cursor { at: at + 1 }));
-        }
+    let next = head(s, heads, c.at, Pack::JUDGMENT, Pack::DEPTH)?;
+    // many predicates are a leaf, for which a call would take longer than the work
+    if Pack::SAME_ENTITY < s[c.at] / Pack::VALUES {
+        return Ok((0, Cursor { at: next }));
     }
-    step_of(judgments(s, heads, at, 1, Pack::DEPTH, context, notes))
+    let at = judgments(s, heads, c.at, 1, Pack::DEPTH, context, notes)?;
+    Ok((0, Cursor { at }))
 }

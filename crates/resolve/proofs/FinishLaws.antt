@@ -9,14 +9,12 @@ use lib.Seq.{length-take-le, take_at, drop_at, take-append-add}
 use lib.Dec.{leb}
 use borrow.Author.Tests.{le-leb, lt-leb}
 use borrow.Rule.Slice.PartMut.{mid_of, put_mid, same_len_mid, mid_len}
-use Rattle.definitions.specs.declared.answer.Answer.{Answer}
-use Rattle.definitions.specs.declared.answer.Answer.TheVariants.{Given}
 use Rattle.definitions.specs.Table.{pick, word_of}
 use Rattle.definitions.specs.Form.{count, items, says, words_by, Fine}
 use Rattle.definitions.specs.Records.{Relation, Rule, Pack}
 use Rattle.definitions.specs.FieldRows.{to_row}
 use Rattle.definitions.specs.Pack.{WellFormed, yes, read, words, total, relations, rules, blocks, records, inner, rule}
-use Rattle.definitions.specs.Answers.{out_of_room, Outcome, done, refused, and_then, map_done}
+use Rattle.definitions.specs.Answers.{Answer, gives, out_of_room, Outcome, done, refused, and_then, map_done}
 use Rattle.pack.proofs.PackLaws.{words-read, words-length}
 use Rattle.definitions.specs.Kinds.{all_kinds}
 use Rattle.definitions.specs.Places.{relation_words, first_relation, relations_end}
@@ -168,7 +166,7 @@ module _ (p : Pack) (w : WellFormed p) (rels : List Relation) (rls : List Rule) 
 
 -- ---- for the code
 
-front_length : (lent : List ℕ) (count : ℕ) → count ≤ length lent → length (mid_of 0 (count - 0) lent) ≡ count
+pub front_length : (lent : List ℕ) (count : ℕ) → count ≤ length lent → length (mid_of 0 (count - 0) lent) ≡ count
 front_length lent count h = let whole : count - 0 ≡ count = omega arith in rw whole (length-take-le count lent h)
 
 done-same : {A : Type 0} {a b : A} → ◌≡◌ {A = Outcome A} (done a) (done b) → a ≡ b
@@ -293,7 +291,7 @@ module _ {ws places acts asked work : List ℕ} {relations steps : ℕ} (a : Fin
       no_room_came : (leb len 8192 && leb len (length lent)) ≡ false → {answer : Answer} → answer ≡ out_of_room → FinishCame ws lent answer lent
       no_room_came e s =
           of_pack
-          (s ∙ sym (ap (λ (t : ℕ). pick (leb t 8192 && leb t (length lent)) (Given t (all_kinds p.relations).steps) out_of_room) total-is ∙ ap (λ (b : Bool). pick b (Given len (all_kinds p.relations).steps) out_of_room) e))
+          (s ∙ sym (ap (λ (t : ℕ). pick (leb t 8192 && leb t (length lent)) (gives t (all_kinds p.relations).steps) out_of_room) total-is ∙ ap (λ (b : Bool). pick b (gives len (all_kinds p.relations).steps) out_of_room) e))
           (sym (ap (λ (t : ℕ). pick (leb t 8192 && leb t (length lent)) (words (stamp_all p a.whole) ++ drop t lent) lent) total-is ∙ ap (λ (b : Bool). pick b (words (stamp_all p a.whole) ++ drop len lent) lent) e))
 
       pub too_long : 8192 < len → {answer : Answer} → answer ≡ out_of_room → FinishCame ws lent answer lent
@@ -318,13 +316,13 @@ module _ {ws places acts asked work : List ℕ} {relations steps : ℕ} (a : Fin
           pub finish_asked : WriteAsked ws places (mid_of 0 (all - 0) found) work (length (mid_of 0 (len - 0) lent))
           finish_asked = its-asked p w T.rels T.rls T.rules-are T.relations-are a.tabled h a.asks stands_so their_places listed a.begins table-stamped (lent-long ∙ size) (omega (arith, lent-long))
 
-          pub finish_done : {out : List ℕ} → WriteCame ws places (mid_of 0 (all - 0) found) work (length (mid_of 0 (len - 0) lent)) out → FinishCame ws lent (Given len steps) (put_mid 0 (len - 0) lent out)
+          pub finish_done : {out : List ℕ} → WriteCame ws places (mid_of 0 (all - 0) found) work (length (mid_of 0 (len - 0) lent)) out → FinishCame ws lent (gives len steps) (put_mid 0 (len - 0) lent out)
           finish_done {out} c =
               let whole : len - 0 ≡ len = omega arith in
               let s : steps ≡ (all_kinds p.relations).steps = a.tabled.filled.counts p h in
               let e : out ≡ words (stamp_all p a.whole) =
               its-words p w T.rels T.rls T.rules-are T.relations-are a.tabled h a.asks stands_so their_places listed a.begins table-stamped (lent-long ∙ size) (omega (arith, lent-long)) c ∙ ap (λ (q : Pack). words (stamp_all p q)) T.same in
               of_pack
-              (ap (Given len) s ∙ sym (ap (λ (t : ℕ). pick (leb t 8192 && leb t (length lent)) (Given t (all_kinds p.relations).steps) out_of_room) total-is ∙ ap (λ (b : Bool). pick b (Given len (all_kinds p.relations).steps) out_of_room) fits))
+              (ap (gives len) s ∙ sym (ap (λ (t : ℕ). pick (leb t 8192 && leb t (length lent)) (gives t (all_kinds p.relations).steps) out_of_room) total-is ∙ ap (λ (b : Bool). pick b (gives len (all_kinds p.relations).steps) out_of_room) fits))
               (ap (λ (t : ℕ). put_mid 0 t lent out) whole ∙ ap (λ (x : List ℕ). x ++ drop len lent) e
               ∙ sym (ap (λ (t : ℕ). pick (leb t 8192 && leb t (length lent)) (words (stamp_all p a.whole) ++ drop t lent) lent) total-is ∙ ap (λ (b : Bool). pick b (words (stamp_all p a.whole) ++ drop len lent) lent) fits))

@@ -4,10 +4,11 @@ use native.Mathlib.Omega.{arith}
 use native.Mathlib.Numerals.{add-one}
 use mathlib.Core.Path.{◌≡◌, refl, ap, sym, ◌∙◌, subst}
 use mathlib.Core.List.{List, [], ◌∷◌, ◌++◌, map, append_assoc, append-nil}
-use lib.ListN.{length, get_or, take, set, replicate, length-append, length-map, length-set, length-replicate}
-use lib.Seq.{take_all, take-suc-set}
+use lib.ListN.{length, get_or, replicate, length-append, length-map, length-replicate}
 use borrow.Author.Tests.{ne_eqb}
-use borrow.Rule.Slice.PartMut.{mid_of, put_mid, same_len_mid, mid_len}
+use borrow.Rule.Slice.PartMut.{mid_of, mid_len}
+use Rattle.std.specs.List.{between}
+use Rattle.std.proofs.lemmas.List.Edits.{length-between, get_or-between}
 use Rattle.definitions.specs.Records.{Pack}
 use Rattle.definitions.specs.Pack.{WellFormed, yes, read, words}
 use Rattle.definitions.specs.Table.{word_of}
@@ -29,138 +30,157 @@ use Rattle.turning.specs.Asked.{InWords}
 use Rattle.turning.proofs.MarkLaws.{mark_place, mark_inside, some_place}
 use Rattle.turning.proofs.KnownLaws.{notes-inside}
 use Rattle.turning.proofs.PackLaws.{held-parts, notes-few}
-use Rattle.resolve.specs.declared.finish.Figures.{Figures}
+use Rattle.resolve.specs.declared.checked.Figures.{Figures}
 use Rattle.definitions.specs.WrittenRecords.{beginnings, other_pieces, pieces_of}
-use Rattle.resolve.specs.Pieces.{Put}
+use Rattle.resolve.specs.declared.writer.Writer.{Writer}
+use Rattle.resolve.specs.Writing.{HasRoom, Begins, Writes}
 use Rattle.resolve.specs.Finish.{NamesIn, order_in, roots_of, block_places, RulesAsked, RulesCame, ResolveAsked, OrderAsked}
-use Rattle.resolve.proofs.WriteLaws.{put_then, words-put, one_put, all_there}
+use Rattle.resolve.proofs.WriteLaws.{nothing_written, writes_then, all_written}
 use Rattle.resolve.proofs.OrderLaws.{others-many, others-few, roots_many, all_begin}
 
 -- ---- rules
 
-module _ {notes : List ℕ} {from all room : ℕ} (a : RulesAsked notes from all room) where
-  -- so many roots are found among the notes up to one
-  pub record Rooting (k i : ℕ) (places : List ℕ) : Type 0 where
+module _ {notes : List ℕ} {from all : ℕ} {w : Writer} (a : RulesAsked notes from all w) where
+  -- the roots found among the notes up to one are written
+  pub record Rooting (i : ℕ) (w' : Writer) : Type 0 where
     pub rest : List Note
     pub are : Held notes i rest
     pub many : all + 1 ≡ i + length rest
     pub there : InWords a.ws rest
-    pub long : length places ≡ room
-    pub left : k + length (roots_of rest) ≡ room
-    pub todo : take k places ++ roots_of rest ≡ roots_of a.ns
+    pub found : List ℕ
+    pub writes : Writes w found w'
+    pub todo : found ++ roots_of rest ≡ roots_of a.ns
 
-  pub roots_begin : (places : List ℕ) → length places ≡ room → Rooting 0 from places
-  roots_begin places l = record { rest = a.ns; are = a.are; many = a.many; there = a.there; long = l; left = omega (arith, a.size); todo = refl }
+  pub roots_begin : Rooting (from + 0) w
+  roots_begin = let z : from + 0 ≡ from = omega arith in record { rest = a.ns; are = rw z a.are; many = omega (arith, a.many); there = a.there; found = []; writes = nothing_written w; todo = refl }
 
-  module _ {k i : ℕ} {places : List ℕ} (s : Rooting k i places) (h : i ≤ all) where
+  -- a note of the part that is gone over
+  pub note-there : {j : ℕ} → j < length (between from (all + 1) notes) → (from + j ≤ all) × (get_or (between from (all + 1) notes) j 0 ≡ get_or notes (from + j) 0)
+  note-there {j} h =
+      let l = length-between notes from (all + 1) (omega (arith, a.within)) in
+      (omega (arith, l), get_or-between notes from (all + 1) j 0 (omega (arith, l)))
+
+  module _ {j : ℕ} {w' : Writer} (s : Rooting (from + j) w') (k : j < length (between from (all + 1) notes)) where
+    abbrev here : ℕ
+    here = from + j
+
+    before-end : here ≤ all
+    before-end = (note-there k).0
+
+    abbrev v : ℕ
+    v = get_or (between from (all + 1) notes) j 0
+
+    v-is : v ≡ get_or notes here 0
+    v-is = (note-there k).1
+
+    one_more : from + (j + 1) ≡ here + 1
+    one_more = omega arith
+
     record Next : Type 0 where
       n : Note
       rest : List Note
-      is : get_or notes i 0 ≡ note_code n
+      is : get_or notes here 0 ≡ note_code n
       near : n.place + 1 < 8192
       inside : n.place < length a.ws
-      are : Held notes (i + 1) rest
-      many : all + 1 ≡ i + 1 + length rest
+      are : Held notes (here + 1) rest
+      many : all + 1 ≡ here + 1 + length rest
       there : InWords a.ws rest
-      left : k + length (roots_of (n ∷ rest)) ≡ room
-      todo : take k places ++ roots_of (n ∷ rest) ≡ roots_of a.ns
+      todo : s.found ++ roots_of (n ∷ rest) ≡ roots_of a.ns
 
     next : Next
-    next = go s.rest s.are s.many s.there s.left s.todo
+    next = go s.rest s.are s.many s.there s.todo
       where
-        go : (l : List Note) → Held notes i l → all + 1 ≡ i + length l → InWords a.ws l → k + length (roots_of l) ≡ room → take k places ++ roots_of l ≡ roots_of a.ns → Next
-        go [] are many there left todo = absurd (omega arith)
-        go (n ∷ rest) are many there left todo =
-            record { n = n; rest = rest; is = are.0; near = there.0; inside = there.1; are = rw add-one are.1; many = omega arith; there = there.2; left = left; todo = todo }
+        go : (l : List Note) → Held notes here l → all + 1 ≡ here + length l → InWords a.ws l → s.found ++ roots_of l ≡ roots_of a.ns → Next
+        go [] are many there todo = absurd (omega (arith, before-end))
+        go (n ∷ rest) are many there todo =
+            record { n = n; rest = rest; is = are.0; near = there.0; inside = there.1; are = rw add-one are.1; many = omega arith; there = there.2; todo = todo }
 
     -- a note inside another
-    pub roots_pass : (get_or notes i 0 / 16384 ≡ 0 → ⊥) → Rooting k (i + 1) places
+    pub roots_pass : (v / 16384 ≡ 0 → ⊥) → Rooting (from + (j + 1)) w'
     roots_pass z =
         let x = next in
-        let e = ne_eqb x.n.inside 0 (λ q. z (mark_inside x.n x.is x.near ∙ q)) in
-        record { rest = x.rest; are = x.are; many = x.many; there = x.there; long = s.long; left = rw e at x.left; todo = rw e at x.todo }
+        let e = ne_eqb x.n.inside 0 (λ q. z (ap (λ (y : ℕ). y / 16384) v-is ∙ mark_inside x.n x.is x.near ∙ q)) in
+        rw one_more (record { rest = x.rest; are = x.are; many = x.many; there = x.there; found = s.found; writes = s.writes; todo = rw e at x.todo })
 
     -- or a root
-    pub some_root : 1 ≤ get_or notes i 0 % 8192
-    some_root = let x = next in some_place {ws = a.ws} (record { n = x.n; is = x.is; near = x.near; there = x.inside })
+    pub some_root : 1 ≤ v % 8192
+    some_root = let x = next in rw v-is (some_place {ws = a.ws} (record { n = x.n; is = x.is; near = x.near; there = x.inside }))
 
-    module _ (z : get_or notes i 0 / 16384 ≡ 0) where
-      root_left : (take k places ++ (next.n.place ∷ roots_of next.rest) ≡ roots_of a.ns) × (k + suc (length (roots_of next.rest)) ≡ room)
-      root_left = let e : next.n.inside ≡ 0 = sym (mark_inside next.n next.is next.near) ∙ z in (rw e at next.todo, rw e at next.left)
+    module _ (z : v / 16384 ≡ 0) where
+      root_left : s.found ++ (next.n.place ∷ roots_of next.rest) ≡ roots_of a.ns
+      root_left = let e : next.n.inside ≡ 0 = sym (mark_inside next.n next.is next.near) ∙ sym (ap (λ (y : ℕ). y / 16384) v-is) ∙ z in rw e at next.todo
 
-      pub root-room : k < length places
-      root-room = omega (arith, root_left.1, s.long)
+      pub root-room : w'.to + 1 ≤ length w'.out.now
+      root-room = omega (arith, ap length root_left, length-append s.found (next.n.place ∷ roots_of next.rest), a.room, s.writes.after, s.writes.long)
 
-      pub roots_next : Rooting (k + 1) (i + 1) (set places k (get_or notes i 0 % 8192 - 1))
-      roots_next =
+      pub roots_next : {w'' : Writer} → Writes w' ((v % 8192 - 1) ∷ []) w'' → Rooting (from + (j + 1)) w''
+      roots_next p =
           let x = next in
-          let v : ℕ = get_or notes i 0 % 8192 - 1 in
-          record {
+          let y : ℕ = v % 8192 - 1 in
+          let place : y ≡ x.n.place = ap (λ (y : ℕ). y % 8192 - 1) v-is ∙ mark_place x.n x.is x.near in
+          rw one_more (record {
             rest = x.rest;
             are = x.are;
             many = x.many;
             there = x.there;
-            long = length-set places k v ∙ s.long;
-            left = omega (arith, root_left.1);
-            todo = rw add-one (ap (λ (l : List ℕ). l ++ roots_of x.rest) (take-suc-set places k v root-room) ∙ append_assoc (take k places) (v ∷ []) (roots_of x.rest)
-                ∙ ap (λ (y : ℕ). take k places ++ (y ∷ roots_of x.rest)) (mark_place x.n x.is x.near) ∙ root_left.0);
-          }
+            found = s.found ++ (y ∷ []);
+            writes = writes_then s.writes p;
+            todo = append_assoc s.found (y ∷ []) (roots_of x.rest) ∙ ap (λ (y : ℕ). s.found ++ (y ∷ roots_of x.rest)) place ∙ root_left;
+          })
 
-  pub roots_end : {k i : ℕ} {places : List ℕ} → Rooting k i places → all < i → places ≡ roots_of a.ns
-  roots_end {k} {i} {places} s h = go s.rest s.many s.left s.todo
+  pub roots_end : {j : ℕ} {w' : Writer} → Rooting (from + j) w' → length (between from (all + 1) notes) ≤ j → Writes w (roots_of a.ns) w'
+  roots_end {j} {w'} s h = go s.rest s.many s.todo
     where
-      go : (l : List Note) → all + 1 ≡ i + length l → k + length (roots_of l) ≡ room → take k places ++ roots_of l ≡ roots_of a.ns → places ≡ roots_of a.ns
-      go [] many left todo = sym (take_all k places (omega (arith, s.long))) ∙ sym (append-nil (take k places)) ∙ todo
-      go (n ∷ l) many left todo = absurd (omega arith)
+      long : length (between from (all + 1) notes) ≡ all + 1 - from
+      long = length-between notes from (all + 1) (omega (arith, a.within))
+
+      go : (l : List Note) → all + 1 ≡ from + j + length l → s.found ++ roots_of l ≡ roots_of a.ns → Writes w (roots_of a.ns) w'
+      go [] many todo = subst (λ (l : List ℕ). Writes w l w') (sym (append-nil s.found) ∙ todo) s.writes
+      go (n ∷ l) many todo = absurd (omega (arith, long))
 
 -- ---- blocks
 
-module _ (ws : List ℕ) (first count : ℕ) where
-  pub record Walking (i at : ℕ) (places : List ℕ) : Type 0 where
-    pub long : length places ≡ count
+pub blocks-long : (ws : List ℕ) (at k : ℕ) → length (block_places ws at k) ≡ k
+unfolding block_places
+blocks-long ws at zero = refl
+blocks-long ws at (suc k) = ap suc (blocks-long ws (at + 2 + 3 * repeats (value_at ws (at + 1))) k)
+
+module _ (ws : List ℕ) (first count : ℕ) (w : Writer) where
+  -- the places of so many are written
+  pub record Walking (i at : ℕ) (w' : Writer) : Type 0 where
     pub within : i ≤ count
     pub near : at ≤ first + i * 50331650
-    pub todo : take i places ++ block_places ws at (count - i) ≡ block_places ws first count
+    pub found : List ℕ
+    pub many : length found ≡ i
+    pub writes : Writes w found w'
+    pub todo : found ++ block_places ws at (count - i) ≡ block_places ws first count
 
-  pub walk_begin : (places : List ℕ) → length places ≡ count → Walking 0 first places
-  walk_begin places l = let z : count - 0 ≡ count = omega arith in record { long = l; within = omega arith; near = omega arith; todo = ap (block_places ws first) z }
+  pub walk_begin : Walking 0 first w
+  walk_begin = let z : count - 0 ≡ count = omega arith in record { within = omega arith; near = omega arith; found = []; many = refl; writes = nothing_written w; todo = ap (block_places ws first) z }
 
-  pub walk-next : {i at next : ℕ} {places : List ℕ} → Walking i at places → i < count → AfterBlock ws at next → Walking (i + 1) next (set places i at)
-  unfolding block_places
-  walk-next {i} {at} {next} {places} s h e =
-      let one : count - i ≡ suc (count - (i + 1)) = omega arith in
-      let more : List ℕ = block_places ws next (count - (i + 1)) in
-      let here : take (i + 1) (set places i at) ≡ take i places ++ (at ∷ []) = rw add-one (take-suc-set places i at (omega (arith, s.long))) in
-      record {
-        long = length-set places i at ∙ s.long;
-        within = omega arith;
-        near = omega (arith, s.near, e.near);
-        todo = ap (λ (l : List ℕ). l ++ more) here ∙ append_assoc (take i places) (at ∷ []) more
-            ∙ ap (λ (x : ℕ). take i places ++ (at ∷ block_places ws x (count - (i + 1)))) e.is ∙ sym (ap (λ (x : ℕ). take i places ++ block_places ws at x) one) ∙ s.todo;
-      }
+  module _ {i at : ℕ} {w' : Writer} (s : Walking i at w') where
+    pub walk-room : HasRoom w (block_places ws first count) → i < count → w'.to + 1 ≤ length w'.out.now
+    walk-room r h = omega (arith, r, blocks-long ws first count, s.writes.after, s.writes.long, s.many)
 
-  pub walk_end : {i at : ℕ} {places : List ℕ} → Walking i at places → count ≤ i → places ≡ block_places ws first count
-  unfolding block_places
-  walk_end {i} {at} {places} s h =
-      let z : count - i ≡ 0 = omega arith in
-      sym (take_all i places (omega (arith, s.long))) ∙ sym (append-nil (take i places)) ∙ sym (ap (λ (x : ℕ). take i places ++ block_places ws at x) z) ∙ s.todo
+    pub walk-next : {next : ℕ} {w'' : Writer} → i < count → AfterBlock ws at next → Writes w' (at ∷ []) w'' → Walking (i + 1) next w''
+    unfolding block_places
+    walk-next {next} h e p =
+        let one : count - i ≡ suc (count - (i + 1)) = omega arith in
+        let more : List ℕ = block_places ws next (count - (i + 1)) in
+        record {
+          within = omega arith;
+          near = omega (arith, s.near, e.near);
+          found = s.found ++ (at ∷ []);
+          many = length-append s.found (at ∷ []) ∙ omega (arith, s.many);
+          writes = writes_then s.writes p;
+          todo = append_assoc s.found (at ∷ []) more ∙ ap (λ (x : ℕ). s.found ++ (at ∷ block_places ws x (count - (i + 1)))) e.is ∙ sym (ap (λ (x : ℕ). s.found ++ block_places ws at x) one) ∙ s.todo;
+        }
 
--- ---- the table
-
-module _ (places₀ : List ℕ) where
-  pub record Filled (done left : List ℕ) (next : ℕ) : Type 0 where
-    pub put : Put places₀ 0 done left next
-    pub long : length left ≡ length places₀
-
-  fill_one : {done left : List ℕ} (at : ℕ) → Filled done left at → at < length places₀ → (v : ℕ) → Filled (done ++ (v ∷ [])) (set left at v) (at + 1)
-  fill_one {left = left} at s h v = record { put = put_then s.put (one_put at v (omega (arith, s.long))); long = length-set left at v ∙ s.long }
-
-  fill_part : {done left more copied : List ℕ} {at next : ℕ} → Filled done left at → next ≡ at + length more → next ≤ length places₀ → copied ≡ more → Filled (done ++ more) (put_mid at (next - at) left copied) next
-  fill_part {left = left} {copied = copied} {at = at} {next} s n h c =
-      record {
-        put = put_then s.put (words-put (omega (arith, s.long)) n c);
-        long = same_len_mid at (next - at) left copied (ap length c ∙ omega (arith, mid_len at next left (omega (arith, s.long)))) ∙ s.long;
-      }
+    pub walk_end : count ≤ i → Writes w (block_places ws first count) w'
+    unfolding block_places
+    walk_end h =
+        let z : count - i ≡ 0 = omega arith in
+        subst (λ (l : List ℕ). Writes w l w') (sym (append-nil s.found) ∙ sym (ap (λ (x : ℕ). s.found ++ block_places ws at x) z) ∙ s.todo) s.writes
 
 glue : (a b c d e g : List ℕ) → ((((a ++ b) ++ c) ++ d) ++ e) ++ g ≡ a ++ (b ++ (c ++ (d ++ (e ++ g))))
 glue a b c d e g = simp append_assoc
@@ -230,106 +250,59 @@ module _ {ws dir notes : List ℕ} {f : Figures} {room : ℕ} (o : OrderAsked ws
   pub noted-near : f.notes.noted ≤ 8192
   noted-near = omega (arith, a.noted.first, notes-few p w, length-append (relations_noted p) (rules_noted p))
 
-  abbrev rules : ℕ
-  rules = f.relations + 1
+  pub relations-asked : NamesIn dir f.relations
+  relations-asked = subst (NamesIn dir) (sym a.counts) (record { most = a.layout.names; low = names-low a.directory; reaches = a.directory.reaches })
 
-  module _ (m : ℕ) (m-is : m ≡ value_at ws f.rules) (places : List ℕ) (long : length places ≡ room) where
-    abbrev last : ℕ
-    last = rules + 1 + m
+  -- the rules
+  abbrev Q : List ℕ
+  Q = roots_of (rules_noted p)
 
-    pub table-long : length places ≡ last + 1 + count
-    table-long = long ∙ numbers.3 ∙ omega arith
+  pub rules-long : length Q ≡ value_at ws f.rules
+  rules-long = omega (arith, roots_many p, rules-many)
 
-    abbrev one : List ℕ
-    one = set places 0 0
+  pub rules-asked : (v : Writer) → HasRoom v Q → RulesAsked notes (f.notes.noted + 1) f.notes.all v
+  rules-asked v r =
+      let n = a.noted in
+      record {
+        ws = words p;
+        ns = rules_noted p;
+        are = (held-parts notes 1 (f.notes.noted + 1) (relations_noted p) (rules_noted p) (omega (arith, n.first)) n.held).1;
+        many = omega (arith, n.many, n.first, length-append (relations_noted p) (rules_noted p));
+        within = n.room;
+        there = later_in (words p) (relations_noted p) (rules_noted p) (notes-inside p w);
+        room = r;
+      }
 
-    pub front_in : Filled places (0 ∷ []) one 1
-    front_in = record { put = one_put 0 0 (omega (arith, table-long)); long = length-set places 0 0 }
+  pub rules-written : {v v' : Writer} → RulesCame notes (f.notes.noted + 1) f.notes.all v v' → HasRoom v Q → Writes v Q v'
+  unfolding rules-asked
+  rules-written t r = t (rules-asked _ r)
 
-    part_long : length (mid_of 1 (rules - 1) one) ≡ f.relations
-    part_long = mid_len 1 rules one (omega (arith, front_in.long, table-long)) ∙ omega arith
+  -- all places, one after the other
+  abbrev O : List ℕ
+  O = order_in dir f.relations
 
-    pub relations-asked : (length (mid_of 1 (rules - 1) one) ≤ 512) × NamesIn dir (length (mid_of 1 (rules - 1) one))
-    relations-asked = rw part_long (numbers.0, subst (NamesIn dir) (sym a.counts) (record { most = a.layout.names; low = names-low a.directory; reaches = a.directory.reaches }))
+  pub order_long : length O ≡ f.relations
+  unfolding order_in
+  order_long = table-length (λ i. get_or (starts_in dir) (get_or dir i 0) 0) 0 f.relations
 
-    module _ (R : List ℕ) (r : R ≡ order_in dir (length (mid_of 1 (rules - 1) one))) where
-      abbrev two : List ℕ
-      two = put_mid 1 (rules - 1) one R
+  abbrev B : List ℕ
+  B = block_places ws f.notes.blocks.at count
 
-      order_long : length (order_in dir f.relations) ≡ f.relations
-      unfolding order_in
-      order_long = table-length (λ i. get_or (starts_in dir) (get_or dir i 0) 0) 0 f.relations
+  pub B-long : length B ≡ count
+  B-long = blocks-long ws f.notes.blocks.at count
 
-      pub relations_in : Filled places ((0 ∷ []) ++ order_in dir f.relations) two rules
-      relations_in = fill_part places front_in (omega (arith, order_long)) (omega (arith, table-long)) (r ∙ ap (order_in dir) part_long)
-
-      abbrev three : List ℕ
-      three = set two rules f.rules
-
-      pub rule-count_in : Filled places (((0 ∷ []) ++ order_in dir f.relations) ++ (f.rules ∷ [])) three (rules + 1)
-      rule-count_in = fill_one places rules relations_in (omega (arith, table-long)) f.rules
-
-      rules-long : length (mid_of (rules + 1) (last - (rules + 1)) three) ≡ length (roots_of (rules_noted p))
-      rules-long = mid_len (rules + 1) last three (omega (arith, rule-count_in.long, table-long)) ∙ omega (arith, roots_many p, rules-many)
-
-      pub rules-asked : RulesAsked notes (f.notes.noted + 1) f.notes.all (length (mid_of (rules + 1) (last - (rules + 1)) three))
-      rules-asked =
-          let n = a.noted in
-          record {
-            ws = words p;
-            ns = rules_noted p;
-            are = (held-parts notes 1 (f.notes.noted + 1) (relations_noted p) (rules_noted p) (omega (arith, n.first)) n.held).1;
-            many = omega (arith, n.many, n.first, length-append (relations_noted p) (rules_noted p));
-            within = n.room;
-            there = later_in (words p) (relations_noted p) (rules_noted p) (notes-inside p w);
-            size = rules-long;
-            few = omega (arith, rules-long, roots_many p, others-many p, others-few p w);
-          }
-
-      module _ (S : List ℕ) (t : RulesCame notes (f.notes.noted + 1) f.notes.all (length (mid_of (rules + 1) (last - (rules + 1)) three)) S) where
-        abbrev four : List ℕ
-        four = put_mid (rules + 1) (last - (rules + 1)) three S
-
-        pub rules_in : Filled places ((((0 ∷ []) ++ order_in dir f.relations) ++ (f.rules ∷ [])) ++ roots_of (rules_noted p)) four last
-        unfolding rules-asked
-        rules_in = fill_part places rule-count_in (omega (arith, roots_many p, rules-many)) (omega (arith, table-long)) (t rules-asked)
-
-        abbrev five : List ℕ
-        five = set four last (f.notes.blocks.at - 1)
-
-        pub block-count_in : Filled places (((((0 ∷ []) ++ order_in dir f.relations) ++ (f.rules ∷ [])) ++ roots_of (rules_noted p)) ++ ((f.notes.blocks.at - 1) ∷ [])) five (last + 1)
-        block-count_in = fill_one places last rules_in (omega (arith, table-long)) (f.notes.blocks.at - 1)
-
-        blocks-long : length (mid_of (last + 1) (length five - (last + 1)) five) ≡ length p.blocks
-        blocks-long = mid_len (last + 1) (length five) five (omega arith) ∙ omega (arith, block-count_in.long, table-long, blocks-many)
-
-        pub blocks-asked : (f.notes.blocks.at ≤ 65536) × (length (mid_of (last + 1) (length five - (last + 1)) five) ≤ 64)
-        blocks-asked = (first-near.1, omega (arith, blocks-long, i.few))
-
-        module _ (T : List ℕ) (u : T ≡ block_places ws f.notes.blocks.at (length (mid_of (last + 1) (length five - (last + 1)) five))) where
-          abbrev six : List ℕ
-          six = put_mid (last + 1) (length five - (last + 1)) five T
-
-          B_long : (at k : ℕ) → length (block_places ws at k) ≡ k
-          unfolding block_places
-          B_long at zero = refl
-          B_long at (suc k) = ap suc (B_long (at + 2 + 3 * repeats (value_at ws (at + 1))) k)
-
-          pub blocks_in : Filled places ((((((0 ∷ []) ++ order_in dir f.relations) ++ (f.rules ∷ [])) ++ roots_of (rules_noted p)) ++ ((f.notes.blocks.at - 1) ∷ [])) ++ block_places ws f.notes.blocks.at (length p.blocks)) six (length five)
-          blocks_in = fill_part places block-count_in (omega (arith, B_long f.notes.blocks.at (length p.blocks), block-count_in.long, table-long, blocks-many)) (omega (arith, block-count_in.long)) (u ∙ ap (block_places ws f.notes.blocks.at) blocks-long)
-
-          pub all_ordered : six ≡ beginnings 0 (pieces_of p)
-          all_ordered =
-              let O : List ℕ = order_in dir f.relations in
-              let Q : List ℕ = roots_of (rules_noted p) in
-              let v : f.notes.blocks.at - 1 ≡ blocks = omega (arith, a.blocks) in
-              all_there blocks_in.put (block-count_in.long ∙ sym blocks_in.long)
-              ∙ glue (0 ∷ []) O (f.rules ∷ []) Q ((f.notes.blocks.at - 1) ∷ []) (block_places ws f.notes.blocks.at (length p.blocks))
-              ∙ ap (λ (x : ℕ). 0 ∷ (O ++ (f.rules ∷ (Q ++ (x ∷ block_places ws f.notes.blocks.at (length p.blocks)))))) v
-              ∙ ap (λ (x : ℕ). 0 ∷ (O ++ (f.rules ∷ (Q ++ (blocks ∷ block_places ws x (length p.blocks)))))) a.blocks
-              ∙ ap (λ (x : ℕ). 0 ∷ (O ++ (x ∷ (Q ++ (blocks ∷ block_places ws (blocks + 1) (length p.blocks)))))) a.ruled
-              ∙ ap (λ (x : ℕ). 0 ∷ (order_in dir x ++ (a.layout.rules ∷ (Q ++ (blocks ∷ block_places ws (blocks + 1) (length p.blocks)))))) a.counts
-              ∙ all_begin dir tabled a.directory.ruled a.directory.blocked a.layout.relations (a.filled.noted.named p h)
+  pub all_ordered : {w₀ w₁ w₂ w₃ w₄ w₅ w₆ : Writer} {places : List ℕ} {first : ℕ} → length places ≡ room → Begins w₀ places → Writes w₀ (0 ∷ []) w₁ → Writes w₁ O w₂ → Writes w₂ (f.rules ∷ []) w₃ → Writes w₃ Q w₄ → first ≡ f.notes.blocks.at - 1 → Writes w₄ (first ∷ []) w₅ → Writes w₅ B w₆
+      → w₆.out.now ≡ beginnings 0 (pieces_of p)
+  all_ordered {first = first} l b p₁ p₂ p₃ p₄ e p₅ p₆ =
+      let v : first ≡ blocks = omega (arith, a.blocks) in
+      all_written b (writes_then (writes_then (writes_then (writes_then (writes_then p₁ p₂) p₃) p₄) p₅) p₆) (simp length-append (omega (arith, l, numbers.3, order_long, rules-long, blocks-long ws f.notes.blocks.at count)))
+      ∙ glue (0 ∷ []) O (f.rules ∷ []) Q (first ∷ []) B
+      ∙ ap (λ (x : ℕ). 0 ∷ (O ++ (f.rules ∷ (Q ++ (x ∷ B))))) v
+      ∙ ap (λ (x : ℕ). 0 ∷ (O ++ (f.rules ∷ (Q ++ (blocks ∷ block_places ws f.notes.blocks.at x))))) blocks-many
+      ∙ ap (λ (x : ℕ). 0 ∷ (O ++ (f.rules ∷ (Q ++ (blocks ∷ block_places ws x (length p.blocks)))))) a.blocks
+      ∙ ap (λ (x : ℕ). 0 ∷ (O ++ (x ∷ (Q ++ (blocks ∷ block_places ws (blocks + 1) (length p.blocks)))))) a.ruled
+      ∙ ap (λ (x : ℕ). 0 ∷ (order_in dir x ++ (a.layout.rules ∷ (Q ++ (blocks ∷ block_places ws (blocks + 1) (length p.blocks)))))) a.counts
+      ∙ all_begin dir tabled a.directory.ruled a.directory.blocked a.layout.relations (a.filled.noted.named p h)
 
 -- room for the places of a pack
 abbrev pub order_of : {ws dir acts taken marks notes : List ℕ} {f : Figures} {work : List ℕ} (a : ResolveAsked ws dir acts taken marks notes f work) {room : ℕ} → room ≡ length (pieces_of a.directory.checked.pack) → OrderAsked ws dir notes f room
@@ -345,3 +318,6 @@ module _ {ws dir acts taken marks notes : List ℕ} {f : Figures} {work : List �
 
     pub pieces_room : (most : ℕ) → r ≤ most → length {A = ℕ} (mid_of 0 (r - 0) (replicate most 0)) ≡ length (pieces_of a.directory.checked.pack)
     pieces_room most h = mid_len 0 r (replicate {A = ℕ} most 0) (omega (arith, length-replicate {A = ℕ} most 0)) ∙ omega (arith, (numbers (order_of a refl)).3)
+
+    pub pieces_long : {most : ℕ} (places : List ℕ) → r ≤ most → length places ≡ length {A = ℕ} (mid_of 0 (r - 0) (replicate most 0)) → length places ≤ most
+    pieces_long {most} places k l = omega (arith, l, mid_len 0 r (replicate {A = ℕ} most 0) (omega (arith, length-replicate {A = ℕ} most 0)))

@@ -9,14 +9,13 @@ use lib.ListN.{length, get_or, take, drop, replicate, length-replicate, get_or-r
 use lib.Seq.{take-append_seam, take-append-le}
 use lib.Dec.{leb}
 use borrow.Author.Tests.{leb-true, leb-false, le-leb, lt-leb}
-use Rattle.definitions.specs.declared.answer.Answer.{Answer}
-use Rattle.definitions.specs.declared.answer.Answer.TheVariants.{Given, Refused}
+use Rattle.std.specs.Prelude.{Result, Ok, Err, None}
+use Rattle.definitions.specs.declared.answer.Given.{Given}
 use Rattle.definitions.specs.declared.answer.Refusal.{Refusal}
 use Rattle.definitions.specs.Table.{pick}
-use Rattle.definitions.specs.Table as table
 use Rattle.definitions.specs.Records.{Relation, Rule, Pack}
 use Rattle.definitions.specs.Pack.{WellFormed, Reading, yes, refuse, read, words, total}
-use Rattle.definitions.specs.Answers.{answer, buffer, words_and_steps, out_of_room, written_of, Answered, Outcome, done, refused, and_then, map_done}
+use Rattle.definitions.specs.Answers.{Answer, answer, buffer, words_and_steps, out_of_room, written_of, Answered, Outcome, done, refused, and_then, map_done}
 use Rattle.definitions.specs.Checking.{check_answer}
 use Rattle.checking.proofs.OperationLaws.{turned_away}
 use Rattle.pack.proofs.PackLaws.{words-read, words-length}
@@ -24,8 +23,6 @@ use Rattle.definitions.specs.Kinds.{find, kinds_of, all_kinds}
 use Rattle.definitions.specs.Places.{first_relation, start_of}
 use Rattle.chains.specs.DirectoryWord.{Reaches, starts_in, names_in}
 use Rattle.records.specs.declared.directory.Layout.{Layout}
-use Rattle.records.specs.declared.directory.Laid.{Laid}
-use Rattle.records.specs.declared.directory.Laid.TheVariants.{Yes}
 use Rattle.records.specs.Directory.{Clear}
 use Rattle.checking.specs.CheckPromises.{names_said, CheckedNotes}
 use Rattle.checking.proofs.CheckLaws.{without_notes}
@@ -43,11 +40,9 @@ use Rattle.definitions.specs.Operations.{resolve_answer, resolve_buffer}
 use Rattle.directions.specs.Words.{derived_in, tables_in, first_equal}
 use Rattle.chains.specs.Record.{value_at}
 use Rattle.directions.specs.RecordRuns.{with_records, trees_resolved, TablesFilled}
-use Rattle.resolve.specs.declared.finish.Figures.{Figures}
+use Rattle.resolve.specs.declared.checked.Figures.{Figures}
 use Rattle.definitions.specs.WrittenRecords.{beginnings, pieces_of}
 use Rattle.resolve.specs.Finish.{stamp_all, resolved_trees, AskedOf, TreesAsked, TreesCame, ResolveAsked, PlacedAsked, TablesFor, CheckedAsked, RoomFor, front_of, Into, FinishAsked, FinishCame, given_out, written_out}
-use Rattle.turning.specs.declared.turns.Ended.{Ended}
-use Rattle.turning.specs.declared.turns.Ended.TheVariants as ended
 use Rattle.turning.specs.declared.turns.Counts.{Counts}
 use Rattle.turning.specs.Notes.{notes_of_pack}
 use Rattle.turning.specs.TurnPromises.{known_in, TurnedAs, PackAsked, PackTurned}
@@ -55,9 +50,12 @@ use Rattle.turning.specs.Asked.{mark_notes, InWords, MarksAsked, NotesMarked}
 use Rattle.turning.proofs.KnownLaws.{notes-inside, known_is}
 use Rattle.turning.proofs.MarkedLaws.{marks-are}
 use Rattle.directions.proofs.CheckedTables.{derived_alike}
-use Rattle.directions.proofs.DefaultedLaws.{or_none, first_equal-is}
+use Rattle.directions.proofs.DefaultedLaws.{first_equal-is}
 
-ended_either : {r : Refusal} → ended.All ≡ ended.Refused r → ⊥
+abbrev Ended : Type 0
+Ended = Result (Unit {0}) Refusal
+
+ended_either : {r : Refusal} → ◌≡◌ {A = Ended} (Ok tt) (Err r) → ⊥
 ended_either e = let z : ◌≡◌ {A = ℕ} 0 1 = cc in omega arith
 
 -- ---- Resolving, step by step
@@ -116,13 +114,13 @@ module _ {ws dir acts taken work notes : List ℕ} {k : Counts} (a : TreesAsked 
   abbrev T : Tables
   T = tables p.relations
 
-  module _ {name : ℕ} (first : name ≡ first_equal ws acts 3 (value_at ws 2)) where
+  module _ {found : Option ℕ} (first : found ≡ first_equal ws acts 3 (value_at ws 2)) where
     derived-is : (m : ℕ) → derived_in ws (get_or acts m 0) ≡ T.derived m
     unfolding tables_in
     derived-is m = derived_alike ws acts taken p h a.tabled.filled.says a.tabled.filled.knows m
 
-    name-is : name ≡ or_none (defaulted_equal T p.defaulted)
-    name-is = first ∙ first_equal-is ws p h acts T derived-is
+    found-is : found ≡ defaulted_equal T p.defaulted
+    found-is = first ∙ first_equal-is ws p h acts T derived-is
 
     its-relation : (m : ℕ) → defaulted_equal T p.defaulted ≡ some m → (r : Relation) × (find m p.relations ≡ some r)
     unfolding tables
@@ -135,14 +133,7 @@ module _ {ws dir acts taken work notes : List ℕ} {k : Counts} (a : TreesAsked 
         let q = find-name p.relations m r.0 r.1 in
         omega (arith, k.below)
 
-    small : (m : ℕ) → defaulted_equal T p.defaulted ≡ some m → m < 4096
-    small m e = omega (arith, low m e, (parts p w).most)
-
     -- none of them: all goes by the trees
-    none_equal : (o : Option ℕ) → defaulted_equal T p.defaulted ≡ o → or_none o ≡ table.none → o ≡ none
-    none_equal none e q = refl
-    none_equal (some m) e q = let b = small m e in absurd (omega arith)
-
     whole-none : defaulted_equal T p.defaulted ≡ none → resolved_trees p ≡ trees_resolved p
     unfolding resolved_trees
     whole-none e = ap (λ (o : Option ℕ). elim o [ some n ↦ refused (equal_refusal p n) | none ↦ trees_resolved p ]) e
@@ -154,19 +145,14 @@ module _ {ws dir acts taken work notes : List ℕ} {k : Counts} (a : TreesAsked 
     of_pack : (o : Ended) (left : List ℕ) → TurnedAs (resolved_trees p) o left → (q : Pack) → read ws ≡ yes q → TurnedAs (resolved_trees q) o left
     of_pack o left c q e = subst (λ (x : Pack). TurnedAs (resolved_trees x) o left) (same-pack ws h e) c
 
-    pub trees_turned : name ≡ table.none → {o : Ended} {left : List ℕ} → PackTurned ws o left → TreesCame ws o left
+    pub trees_turned : found ≡ none → {o : Ended} {left : List ℕ} → PackTurned ws o left → TreesCame ws o left
     trees_turned z {o} {left} t =
-        let e = none_equal (defaulted_equal T p.defaulted) refl (sym name-is ∙ z) in
-        record { each = of_pack o left (subst (λ (x : Outcome Pack). TurnedAs x o left) (sym (whole-none e)) (t.each p h)) }
+        record { each = of_pack o left (subst (λ (x : Outcome Pack). TurnedAs x o left) (sym (whole-none (sym found-is ∙ z))) (t.each p h)) }
 
     -- one of them
-    module _ (not_none : name ≡ table.none → ⊥) where
-      named : (o : Option ℕ) → defaulted_equal T p.defaulted ≡ o → name ≡ or_none o → defaulted_equal T p.defaulted ≡ some name
-      named none e q = absurd (not_none q)
-      named (some m) e q = e ∙ ap some (sym q)
-
+    module _ {name : ℕ} (named : found ≡ some name) where
       it_is : defaulted_equal T p.defaulted ≡ some name
-      it_is = named (defaulted_equal T p.defaulted) refl name-is
+      it_is = sym found-is ∙ named
 
       pub default_name : Reaches dir (name + 1)
       default_name = reaches_one a.reaches (low name it_is)
@@ -174,12 +160,12 @@ module _ {ws dir acts taken work notes : List ℕ} {k : Counts} (a : TreesAsked 
       start_is : get_or starts name 0 ≡ start_of p.names name (first_relation p) p.relations
       start_is = let r = its-relation name it_is in a_record p w starts (a.tabled.filled.noted.placed p h) name r.0 r.1
 
-      pub trees_equal : (left : List ℕ) → TreesCame ws (ended.Refused (record { number = 9; place = get_or starts name 0; name = name; other = 0 })) left
+      pub trees_equal : (left : List ℕ) → TreesCame ws (Err (record { number = 9; place = get_or starts name 0; name = name; other = 0 })) left
       trees_equal left =
           record {
-            each = of_pack (ended.Refused (record { number = 9; place = get_or starts name 0; name = name; other = 0 })) left
-                (subst (λ (o : Outcome Pack). TurnedAs o (ended.Refused (record { number = 9; place = get_or starts name 0; name = name; other = 0 })) left) (sym (whole_some name it_is))
-                (ap (λ (x : ℕ). ended.Refused (record { number = 9; place = x; name = name; other = 0 })) start_is));
+            each = of_pack (Err (record { number = 9; place = get_or starts name 0; name = name; other = 0 })) left
+                (subst (λ (o : Outcome Pack). TurnedAs o (Err (record { number = 9; place = get_or starts name 0; name = name; other = 0 })) left) (sym (whole_some name it_is))
+                (ap (λ (x : ℕ). Err (record { number = 9; place = x; name = name; other = 0 })) start_is));
           }
 
 -- ---- the answers
@@ -197,17 +183,17 @@ module _ {ws : List ℕ} (c : IsPack ws) (lent : List ℕ) where
   buffer-is = rw c.reads (ap (written_out lent) (resolved-is q))
 
   -- refused
-  same-refusal : {x y : Refusal} → ended.Refused x ≡ ended.Refused y → x ≡ y
+  same-refusal : {x y : Refusal} → ◌≡◌ {A = Ended} (Err x) (Err y) → x ≡ y
   same-refusal {x} {y} e = let z : x ≡ y = cc in z
 
-  pub resolve_stopped : {o : Ended} {left : List ℕ} {r : Refusal} → TreesCame ws o left → o ≡ ended.Refused r → Answered resolve_answer resolve_buffer ws lent (Refused r) lent
+  pub resolve_stopped : {o : Ended} {left : List ℕ} {r : Refusal} → TreesCame ws o left → o ≡ Err r → Answered resolve_answer resolve_buffer ws lent (Err r) lent
   resolve_stopped {o} {left} {r} t e = go (resolved_trees q) refl (t.each q c.reads)
     where
-      go : (u : Outcome Pack) → resolved_trees q ≡ u → TurnedAs u o left → Answered resolve_answer resolve_buffer ws lent (Refused r) lent
+      go : (u : Outcome Pack) → resolved_trees q ≡ u → TurnedAs u o left → Answered resolve_answer resolve_buffer ws lent (Err r) lent
       go (done x) s k = absurd (ended_either (sym k.0 ∙ e))
       go (refused x) s k =
           record {
-            answers = ap Refused (same-refusal (sym e ∙ k)) ∙ sym (answer-is ∙ ap (λ (u : Outcome Pack). given_out (all_kinds q.relations).steps (length lent) (map_done (stamp_all q) u)) s);
+            answers = ap Err (same-refusal (sym e ∙ k)) ∙ sym (answer-is ∙ ap (λ (u : Outcome Pack). given_out (all_kinds q.relations).steps (length lent) (map_done (stamp_all q) u)) s);
             leaves = sym (buffer-is ∙ ap (λ (u : Outcome Pack). written_out lent (map_done (stamp_all q) u)) s);
           }
 
@@ -226,7 +212,7 @@ module _ {ws : List ℕ} (c : IsPack ws) (lent : List ℕ) where
     pub resolves : trees_resolved q ≡ done whole
     pub stands : left ≡ words whole
 
-  pub whole-done : {o : Ended} {left : List ℕ} → TreesCame ws o left → o ≡ ended.All → WholeDone left
+  pub whole-done : {o : Ended} {left : List ℕ} → TreesCame ws o left → o ≡ Ok tt → WholeDone left
   whole-done {o} {left} t e = go (resolved_trees q) refl (t.each q c.reads)
     where
       go : (u : Outcome Pack) → resolved_trees q ≡ u → TurnedAs u o left → WholeDone left
@@ -241,7 +227,7 @@ module _ {ws : List ℕ} (c : IsPack ws) (lent : List ℕ) where
       }
 
 -- a pack that is not one
-pub resolve-refused : (ws lent : List ℕ) {a : Answer} {r : Refusal} → a ≡ check_answer ws → a ≡ Refused r → Answered resolve_answer resolve_buffer ws lent a lent
+pub resolve-refused : (ws lent : List ℕ) {a : Answer} {r : Refusal} → a ≡ check_answer ws → a ≡ Err r → Answered resolve_answer resolve_buffer ws lent a lent
 unfolding resolve_answer resolve_buffer
 resolve-refused ws lent e o =
     let t = turned_away ws lent e o (λ p. given_out (all_kinds p.relations).steps (length lent) (resolved p)) (λ p. written_out lent (resolved p)) in record { answers = t.0; leaves = t.1 }
@@ -284,12 +270,12 @@ module _ {ws dir acts taken asked₀ notes : List ℕ} {f : Figures} {work : Lis
           says = λ r e.
               let low = its-low r e in
               let long : r.name < length asked₀ = omega (arith, a.lent.long, a.directory.named its checked) in
-              ap (λ (t : List ℕ). get_or t r.name 0) (m (notes_of_pack its) a.noted.held a.noted.many there ∙ ap (λ (x : List ℕ). mark_notes x (notes_of_pack its) 4096 asked₀) same-words)
+              ap (λ (t : List ℕ). get_or t r.name 0) (m (notes_of_pack its) a.noted.held a.noted.many there ∙ ap (λ (x : List ℕ). mark_notes x (notes_of_pack its) None asked₀) same-words)
               ∙ marks-are its fine r e (omega (arith, (parts its fine).most)) asked₀ long (a.lent.clear r.name);
         }
 
     -- the result
-    module _ {o : Ended} {left : List ℕ} (t : TreesCame ws o left) (e : o ≡ ended.All) where
+    module _ {o : Ended} {left : List ℕ} (t : TreesCame ws o left) (e : o ≡ Ok tt) where
       pub finish_asked : {places : List ℕ} → places ≡ beginnings 0 (pieces_of its) → FinishAsked ws places acts asked left f.relations f.steps
       finish_asked b =
           let d = whole-done a.directory.checked [] t e in
@@ -338,7 +324,7 @@ pub in_asked : {ws : List ℕ} {l : Layout} {dir acts₀ taken₀ asked out work
 in_asked {l = l} a f e = record { layout = l; directory = a.directory; filled = f; lent = a.asked-lent; counts = refl; ruled = refl; blocks = refl; many = e; noted = a.notes_in; room = a.same; fits = a.fits }
 
 -- a pack that was checked and noted where there is room for its notes
-module _ {ws d e d' e' : List ℕ} {r : Laid} {l : Layout} (clear : Clear (names_said ws) d) (c : CheckedNotes ws d e r d' e') (o : r ≡ Yes l) where
+module _ {ws d e d' e' : List ℕ} {r : Result Layout Refusal} {l : Layout} (clear : Clear (names_said ws) d) (c : CheckedNotes ws d e r d' e') (o : r ≡ Ok l) where
   pub its-directory : IsDirectory ws l d'
   its-directory = directed clear (without_notes c) o
 
@@ -396,35 +382,38 @@ into ws own {room} l {a} {done} {left} r f =
     }
 
 -- after a refusal nothing stands there
-pub into_refused : (ws : List ℕ) (room : ℕ) {a : Answer} {r : Refusal} → a ≡ Refused r → ((lent : List ℕ) → a ≡ resolve_answer ws (length lent)) → {left : List ℕ} → Into ws room a left
+pub into_refused : (ws : List ℕ) (room : ℕ) {a : Answer} {r : Refusal} → a ≡ Err r → ((lent : List ℕ) → a ≡ resolve_answer ws (length lent)) → {left : List ℕ} → Into ws room a left
 into_refused ws room {a} {r} e k {left} = record { each = λ lent l. (k lent, ap (λ (x : Answer). front_of x left) e ∙ sym (ap (λ (x : Answer). front_of x (resolve_buffer ws lent)) e)) }
 
+pub into_stopped : (ws : List ℕ) (room : ℕ) {a : Answer} {r : Refusal} → ((lent : List ℕ) → Err r ≡ resolve_answer ws (length lent)) → a ≡ Err r → {left : List ℕ} → Into ws room a left
+into_stopped ws room k e = into_refused ws room e (λ lent. e ∙ k lent)
+
 -- no more words are said than there is room for
-given-within : (steps room : ℕ) (o : Outcome Pack) {n s : ℕ} → given_out steps room o ≡ Given n s → n ≤ room
+given-within : (steps room : ℕ) (o : Outcome Pack) {g : Given} → given_out steps room o ≡ Ok g → g.value ≤ room
 given-within steps room (refused r) e = let z : ◌≡◌ {A = ℕ} 0 1 = cc in absurd (omega arith)
-given-within steps room (done q) {n} {s} e = go (leb (total q) 8192) (leb (total q) room) refl e
+given-within steps room (done q) {g} e = go (leb (total q) 8192) (leb (total q) room) refl e
   where
-    go : (a b : Bool) → leb (total q) room ≡ b → pick (a && b) (words_and_steps (total q) steps) out_of_room ≡ Given n s → n ≤ room
-    go true true h e = let z : total q ≡ n = cc in omega (arith, leb-true (total q) room h)
+    go : (a b : Bool) → leb (total q) room ≡ b → pick (a && b) (words_and_steps (total q) steps) out_of_room ≡ Ok g → g.value ≤ room
+    go true true h e = let z : total q ≡ g.value = cc in omega (arith, leb-true (total q) room h)
     go true false h e = let z : ◌≡◌ {A = ℕ} 0 1 = cc in absurd (omega arith)
     go false b h e = let z : ◌≡◌ {A = ℕ} 0 1 = cc in absurd (omega arith)
 
-pub answer-within : (ws : List ℕ) (room : ℕ) {n s : ℕ} → resolve_answer ws room ≡ Given n s → n ≤ room
+pub answer-within : (ws : List ℕ) (room : ℕ) {g : Given} → resolve_answer ws room ≡ Ok g → g.value ≤ room
 unfolding resolve_answer
-answer-within ws room {n} {s} e = go (read ws) e
+answer-within ws room {g} e = go (read ws) e
   where
-    go : (m : Reading) → answer m (λ p. given_out (all_kinds p.relations).steps room (resolved p)) ≡ Given n s → n ≤ room
+    go : (m : Reading) → answer m (λ p. given_out (all_kinds p.relations).steps room (resolved p)) ≡ Ok g → g.value ≤ room
     go (yes p) e = given-within (all_kinds p.relations).steps room (resolved p) e
     go (refuse r) e = let z : ◌≡◌ {A = ℕ} 0 1 = cc in absurd (omega arith)
 
-front_long : (a : Answer) (x y : List ℕ) (room : ℕ) → ((n s : ℕ) → a ≡ Given n s → n ≤ room) → room ≤ length x → front_of a (x ++ y) ≡ front_of a x
-front_long (Given n s) x y room h l = take-append-le n x y (omega (arith, h n s refl))
-front_long (Refused r) x y room h l = refl
+front_long : (a : Answer) (x y : List ℕ) (room : ℕ) → ((g : Given) → a ≡ Ok g → g.value ≤ room) → room ≤ length x → front_of a (x ++ y) ≡ front_of a x
+front_long (Ok g) x y room h l = take-append-le g.value x y (omega (arith, h g refl))
+front_long (Err r) x y room h l = refl
 
 -- the result at the front of a longer slice
 pub into_part : (ws own rest : List ℕ) {room : ℕ} → length own ≡ room → {a : Answer} {done left : List ℕ} → Answered resolve_answer resolve_buffer ws own a done → length done ≡ room → left ≡ done ++ rest → Into ws room a left
 into_part ws own rest {room} l {a} {done} {left} r d e =
-    into ws own l r (ap (front_of a) e ∙ front_long a done rest room (λ n s q. answer-within ws room (sym (r.answers ∙ ap (resolve_answer ws) l) ∙ q)) (omega (arith, d)))
+    into ws own l r (ap (front_of a) e ∙ front_long a done rest room (λ g q. answer-within ws room (sym (r.answers ∙ ap (resolve_answer ws) l) ∙ q)) (omega (arith, d)))
 
 -- ---- in a slice of the caller's
 
@@ -477,8 +466,8 @@ whole-buffer ws lent own e = go (read ws)
     go (refuse r) = refl
 
 taken-front : (a : Answer) (x y : List ℕ) → front_of a x ≡ front_of a y → take (written_of a) x ≡ take (written_of a) y
-taken-front (Given n s) x y e = e
-taken-front (Refused r) x y e = refl
+taken-front (Ok g) x y e = e
+taken-front (Err r) x y e = refl
 
 module _ (ws lent : List ℕ) {room : ℕ} (is : room ≡ min (length lent) 8192) {a : Answer} {made : List ℕ} (t : Into ws room a made) {count : ℕ} (says : count ≡ written_of a) where
   abbrev own : List ℕ
@@ -494,11 +483,11 @@ module _ (ws lent : List ℕ) {room : ℕ} (is : room ≡ min (length lent) 8192
   count-within = go a refl
     where
       go : (b : Answer) → a ≡ b → (count ≤ length lent) × (count ≤ 8192)
-      go (Given n s) e =
+      go (Ok g) e =
           let w = answer-within ws (length own) (sym answered ∙ e) in
-          let c : count ≡ n = says ∙ ap written_of e in
+          let c : count ≡ g.value = says ∙ ap written_of e in
           (omega (arith, w, c, own-long, is), omega (arith, w, c, own-long, is))
-      go (Refused r) e = let c : count ≡ 0 = says ∙ ap written_of e in (omega arith, omega arith)
+      go (Err r) e = let c : count ≡ 0 = says ∙ ap written_of e in (omega arith, omega arith)
 
   pub copied-out : {left : List ℕ} → left ≡ take count made ++ drop count lent → Answered resolve_answer resolve_buffer ws lent a left
   copied-out e =
@@ -526,21 +515,21 @@ module _ {ws acts taken asked places notes : List ℕ} {f : Figures} {work : Lis
   came : {o : Ended} {left : List ℕ} → PackTurned ws o left → TreesCame ws o left
   came t = trees_turned (trees_asked a.resolves refl) refl a.unequal t
 
-  pub placed_finish : {o : Ended} {left : List ℕ} → PackTurned ws o left → o ≡ ended.All → FinishAsked ws places acts asked left f.relations f.steps
+  pub placed_finish : {o : Ended} {left : List ℕ} → PackTurned ws o left → o ≡ Ok tt → FinishAsked ws places acts asked left f.relations f.steps
   placed_finish t e = finish_asked a.resolves a.marked (came t) e a.begins
 
-  pub placed-all : {o : Ended} {left : List ℕ} → PackTurned ws o left → o ≡ ended.All → {lent : List ℕ} {answer : Answer} {out : List ℕ} → FinishCame ws lent answer out → Answered resolve_answer resolve_buffer ws lent answer out
+  pub placed-all : {o : Ended} {left : List ℕ} → PackTurned ws o left → o ≡ Ok tt → {lent : List ℕ} {answer : Answer} {out : List ℕ} → FinishCame ws lent answer out → Answered resolve_answer resolve_buffer ws lent answer out
   placed-all t e g = resolve-all a.resolves a.marked (came t) e g
 
-  pub placed_stopped : {o : Ended} {left : List ℕ} {r : Refusal} → PackTurned ws o left → o ≡ ended.Refused r → (lent : List ℕ) → Refused r ≡ resolve_answer ws (length lent)
+  pub placed_stopped : {o : Ended} {left : List ℕ} {r : Refusal} → PackTurned ws o left → o ≡ Err r → (lent : List ℕ) → Err r ≡ resolve_answer ws (length lent)
   placed_stopped t e lent = (resolve_stopped a.resolves.directory.checked lent (came t) e).answers
 
 -- a defaulted name with equal kinds
-module _ {ws dir acts taken asked notes : List ℕ} {f : Figures} {work : List ℕ} (a : ResolveAsked ws dir acts taken asked notes f work) {name : ℕ} (first : name ≡ first_equal ws acts 3 (value_at ws 2)) where
-  pub equal_reached : (name ≡ table.none → ⊥) → Reaches dir (name + 1)
+module _ {ws dir acts taken asked notes : List ℕ} {f : Figures} {work : List ℕ} (a : ResolveAsked ws dir acts taken asked notes f work) {found : Option ℕ} (first : found ≡ first_equal ws acts 3 (value_at ws 2)) where
+  pub equal_reached : {name : ℕ} → found ≡ some name → Reaches dir (name + 1)
   equal_reached z = default_name (trees_asked a refl) first z
 
-  pub equal_refused : (name ≡ table.none → ⊥) → (lent : List ℕ) → Refused (record { number = 9; place = get_or (starts_in dir) name 0; name = name; other = 0 }) ≡ resolve_answer ws (length lent)
+  pub equal_refused : {name : ℕ} → found ≡ some name → (lent : List ℕ) → Err (record { number = 9; place = get_or (starts_in dir) name 0; name = name; other = 0 }) ≡ resolve_answer ws (length lent)
   equal_refused z lent = (resolve_stopped a.directory.checked lent (trees_equal (trees_asked a refl) first z []) refl).answers
 
 -- cleared tables for so many names

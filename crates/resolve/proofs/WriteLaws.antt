@@ -3,35 +3,65 @@ use Prim.Native.Nat.{ℕ, zero, suc, ◌+◌, ◌-◌, ◌<◌, ◌≤◌}
 use native.Mathlib.Omega.{arith}
 use mathlib.Core.Path.{◌≡◌, refl, ap, sym, ◌∙◌, subst}
 use mathlib.Core.List.{List, [], ◌∷◌, ◌++◌, map, append_assoc, append-nil}
-use lib.ListN.{length, get_or, take, drop, set, length-append, length-map, length-set, drop_of_length-le}
-use lib.Seq.{get_or_at, get_or-drop, drop-cons, drop-drop, drop_at, take_at, take_all, take-suc-set, length-take-le}
-use borrow.Rule.Slice.PartMut.{put_mid, post_of, same_len_mid, mid_len}
+use lib.ListN.{length, get_or, take, drop, length-append, length-map, drop_of_length-le}
+use lib.Seq.{get_or-drop, drop-cons, drop-drop, drop_at, take_at, take_all}
+use native.Mathlib.Nat.{zero-add}
+use native.Mathlib.Numerals.{add-one}
 use borrow.Author.Tests.{ne_eqb}
 use Rattle.definitions.specs.Table.{value_of, word_of}
 use Rattle.definitions.specs.Places.{names_at}
 use Rattle.definitions.specs.Answers.{table_from}
-use Rattle.chains.proofs.FillLaws.{Filling, done}
+use Rattle.chains.proofs.FillLaws.{table-length}
 use Rattle.chains.specs.Record.{value_at, kind_count, slots_place}
 use Rattle.stamping.specs.Stamping.{names_or, Lists}
 use Rattle.definitions.specs.WrittenRecords.{joined, sums, beginnings}
-use Rattle.resolve.specs.Pieces.{from_to, list_words, put_for, piece_out, Stampable, Put, PutRoom, Written, RecordPut}
+use Rattle.resolve.specs.declared.writer.Writer.{Writer}
+use Rattle.resolve.specs.Writing.{written, HasRoom, Begins, Writes}
+use Rattle.resolve.specs.Pieces.{from_to, list_words, put_for, piece_out, Stampable, Written, RecordPut}
 use Rattle.stamping.proofs.ListForLaws.{names-there}
 
--- ---- a copy of words
+-- nothing, and words after words
+pub nothing_written : (w : Writer) → Writes w [] w
+nothing_written w = record { same_reference = refl; long = refl; after = omega arith; holds = sym (append-nil (written w)) }
 
-copied-from : (pre ws : List ℕ) (at : ℕ) → length pre ≡ at → table_from (λ j. get_or (pre ++ ws) j 0) at (length ws) ≡ ws
-copied-from pre [] at e = refl
-copied-from pre (w ∷ ws) at e =
-    let one : List ℕ = w ∷ [] in
-    let rest = copied-from (pre ++ one) ws (suc at) (length-append pre one ∙ omega arith) in
-    ap (λ (x : ℕ). x ∷ table_from (λ j. get_or (pre ++ (w ∷ ws)) j 0) (suc at) (length ws)) (get_or_at pre w ws 0 at e)
-    ∙ ap (λ (x : List ℕ). w ∷ x) (ap (λ (l : List ℕ). table_from (λ j. get_or l j 0) (suc at) (length ws)) (sym (append_assoc pre one ws)) ∙ rest)
+pub writes_then : {w w' w'' : Writer} {a b : List ℕ} → Writes w a w' → Writes w' b w'' → Writes w (a ++ b) w''
+writes_then {w} {w'} {w''} {a} {b} p q =
+    record {
+      same_reference = q.same_reference ∙ p.same_reference;
+      long = q.long ∙ p.long;
+      after = q.after ∙ omega (arith, p.after, length-append a b);
+      holds = q.holds ∙ ap (λ (l : List ℕ). l ++ b) p.holds ∙ append_assoc (written w) a b;
+    }
 
-pub copied : (ws work₀ : List ℕ) {work : List ℕ} {i : ℕ} → length work₀ ≡ length ws → Filling (λ j. get_or ws j 0) work₀ work i → length ws ≤ i → work ≡ ws
-copied ws work₀ {work} {i} e f h =
-    let all : i ≡ length ws = let k = f.within in omega arith in
-    let none_left : drop i work₀ ≡ [] = drop_of_length-le work₀ {i = i} (omega arith) in
-    f.holds ∙ ap (λ (x : List ℕ). table_from (λ j. get_or ws j 0) 0 i ++ x) none_left ∙ append-nil (table_from (λ j. get_or ws j 0) 0 i) ∙ ap (table_from (λ j. get_or ws j 0) 0) all ∙ copied-from [] ws 0 refl
+-- room for words and for those after them
+pub room-first : (w : Writer) (a b : List ℕ) → HasRoom w (a ++ b) → HasRoom w a
+room-first w a b r = omega (arith, length-append a b)
+
+pub room_then : {w w' : Writer} {a : List ℕ} (b : List ℕ) → HasRoom w (a ++ b) → Writes w a w' → HasRoom w' b
+room_then {a = a} b r p = omega (arith, length-append a b, p.after, p.long)
+
+-- a table, word after word
+table_more : (f : ℕ → ℕ) (n j : ℕ) → table_from f n (suc j) ≡ table_from f n j ++ (f (n + j) ∷ [])
+table_more f n zero = let e : n + 0 ≡ n = omega arith in rw e refl
+table_more f n (suc j) = let e : suc n + j ≡ n + suc j = omega arith in rw (table_more f (suc n) j, e) refl
+
+module _ (f : ℕ → ℕ) {w w' : Writer} {j : ℕ} (p : Writes w (table_from f 0 j) w') where
+  pub table-room : (count : ℕ) → HasRoom w (table_from f 0 count) → j < count → w'.to + 1 ≤ length w'.out.now
+  table-room count r h = omega (arith, r, p.after, p.long, table-length f 0 j, table-length f 0 count)
+
+  pub table_next : {w'' : Writer} {x : ℕ} → Writes w' (x ∷ []) w'' → x ≡ f j → Writes w (table_from f 0 (j + 1)) w''
+  table_next {w''} {x} q e =
+      let one : table_from f 0 j ++ (x ∷ []) ≡ table_from f 0 (j + 1) = rw (e, add-one j, table_more f 0 j, zero-add j) refl in
+      subst (λ (l : List ℕ). Writes w l w'') one (writes_then p q)
+
+  pub table_end : {count : ℕ} → j ≡ count → Writes w (table_from f 0 count) w'
+  table_end e = rw (← e) p
+
+-- words that fill a slice
+pub all_written : {w w' : Writer} {out more : List ℕ} → Begins w out → Writes w more w' → length more ≡ length out → w'.out.now ≡ more
+all_written {w} {w'} {out} {more} b p l =
+    let none : written w ≡ [] = ap (λ (n : ℕ). take n w.out.now) b.start in
+    sym (take_all w'.to w'.out.now (omega (arith, p.after, b.start, l, p.long, ap length b.slice))) ∙ p.holds ∙ ap (λ (x : List ℕ). x ++ more) none
 
 -- ---- the names of a list
 
@@ -69,73 +99,13 @@ module _ (ws : List ℕ) (list : ℕ) where
           from-table ws list 0 count (let b = l.within in omega arith) ∙ ap (λ (y : ℕ). map (word_of 10) (map value_of (take count (drop y ws)))) at
           ∙ ap (λ (y : ℕ). map (word_of 10) (map value_of (take y (drop (suc list) ws)))) k ∙ ap (λ (v : List ℕ). map (word_of 10) (map value_of v)) (take_again c (drop (suc list) ws)) ∙ ap (map (word_of 10)) (sym there)
 
-  pub names-put : {out₀ out : List ℕ} {j : ℕ} → Lists ws list (length out₀) → Filling (name_from ws list) out₀ out j → length out₀ ≤ j → out ≡ map (word_of 10) (names_or (names_at ws list))
-  names-put {out₀} l f h = done (name_from ws list) out₀ f h ∙ its-names l
+-- so there is room for them where there is room for a table, and so they are written
+module _ {ws : List ℕ} {list count : ℕ} (l : Lists ws list count) where
+  pub names-room : (w : Writer) → HasRoom w (map (word_of 10) (names_or (names_at ws list))) → HasRoom w (table_from (name_from ws list) 0 count)
+  names-room w r = rw (its-names ws list l) r
 
-pub name-word : (ws : List ℕ) (list j : ℕ) {v : ℕ} → v ≡ value_at ws (list + 1 + j) → word_of 10 v ≡ name_from ws list j
-name-word ws list j e = ap (word_of 10) e
-
--- ---- words put at a place
-
-put_part : (a e : ℕ) (xs ys : List ℕ) → a ≤ e → e ≤ length xs → length ys ≡ e - a → take e (put_mid a (e - a) xs ys) ≡ take a xs ++ ys
-put_part a e xs ys h k l =
-    let b = length-take-le a xs (omega arith) in
-    ap (take e) (sym (append_assoc (take a xs) ys (post_of a (e - a) xs))) ∙ take_at (take a xs ++ ys) (post_of a (e - a) xs) e (length-append (take a xs) ys ∙ omega arith)
-
-pub put_then : {out left last : List ℕ} {to next end : ℕ} {a b : List ℕ} → Put out to a left next → Put left next b last end → Put out to (a ++ b) last end
-put_then {out} {to = to} {a = a} {b} p q =
-    record {
-      after = q.after ∙ omega (arith, p.after, length-append a b);
-      holds = q.holds ∙ ap (λ (l : List ℕ). l ++ b) p.holds ∙ append_assoc (take to out) a b;
-    }
-
-pub room-first : {out : List ℕ} {to : ℕ} (a b : List ℕ) → PutRoom out to (a ++ b) → PutRoom out to a
-room-first a b r = record { fits = omega (arith, r.fits, length-append a b); few = r.few }
-
-pub room_then : {out left : List ℕ} {to next : ℕ} (a b : List ℕ) → PutRoom out to (a ++ b) → Put out to a left next → length left ≡ length out → PutRoom left next b
-room_then a b r p l = record { fits = omega (arith, r.fits, p.after, length-append a b); few = omega (arith, r.few) }
-
--- words that are copied
-pub words-put : {out words copied : List ℕ} {to next : ℕ} → to + length words ≤ length out → next ≡ to + length words → copied ≡ words → Put out to words (put_mid to (next - to) out copied) next
-words-put {out} {words} {copied} {to} {next} h n c =
-    record { after = n; holds = put_part to next out copied (omega arith) (omega arith) (ap length c ∙ omega arith) ∙ ap (λ (v : List ℕ). take to out ++ v) c }
-
-pub one_put : {out : List ℕ} (to v : ℕ) → to < length out → Put out to (v ∷ []) (set out to v) (to + 1)
-one_put {out} to v h = let one : to + 1 ≡ suc to = omega arith in record { after = refl; holds = rw one (take-suc-set out to v h) }
-
-pub all_there : {out more left : List ℕ} {next : ℕ} → Put out 0 more left next → next ≡ length left → left ≡ more
-all_there {left = left} {next} p e = sym (take_all next left (omega arith)) ∙ p.holds
-
--- then a list
-module _ (ws : List ℕ) (list kind : ℕ) (words : List ℕ) {out : List ℕ} {to : ℕ} (room : PutRoom out to (words ++ list_words kind (names_or (names_at ws list))))
-    {left : List ℕ} {at : ℕ} (p : Put out to words left at) (same : length left ≡ length out) {names : ℕ} (l : Lists ws list names) where
-  abbrev ks : List ℕ
-  ks = names_or (names_at ws list)
-
-  pub list-room : at + 1 + names ≤ length left
-  list-room = omega (arith, room.fits, p.after, l.counts, length-append words (list_words kind ks), length-map ks (word_of 10))
-
-  abbrev counted : List ℕ
-  counted = set left at (word_of kind names)
-
-  module _ {last : List ℕ} (e : last ≡ map (word_of 10) ks) where
-    abbrev end : ℕ
-    end = at + 1 + names
-
-    last-long : length last ≡ end - (at + 1)
-    last-long = ap length e ∙ length-map ks (word_of 10) ∙ omega (arith, l.counts)
-
-    pub list-long : length (put_mid (at + 1) (end - (at + 1)) counted last) ≡ length left
-    list-long = same_len_mid (at + 1) (end - (at + 1)) counted last (last-long ∙ sym (mid_len (at + 1) end counted (omega (arith, list-room, length-set left at (word_of kind names))))) ∙ length-set left at (word_of kind names)
-
-    pub list_put : Put out to (words ++ list_words kind ks) (put_mid (at + 1) (end - (at + 1)) counted last) end
-    list_put =
-        let one : at + 1 ≡ suc at = omega arith in
-        let b : take (at + 1) counted ≡ take at left ++ (word_of kind names ∷ []) = rw one (take-suc-set left at (word_of kind names) (omega (arith, list-room))) in
-        put_then p (record {
-          after = omega (arith, length-map ks (word_of 10), l.counts);
-          holds = put_part (at + 1) end counted last (omega arith) (omega (arith, list-room, length-set left at (word_of kind names))) last-long ∙ ap (λ (v : List ℕ). v ++ last) b ∙ append_assoc (take at left) (word_of kind names ∷ []) last ∙ rw (e, l.counts) refl;
-        })
+  pub names-put : {w w' : Writer} → Writes w (table_from (name_from ws list) 0 count) w' → Writes w (map (word_of 10) (names_or (names_at ws list))) w'
+  names-put p = rw (its-names ws list l) at p
 
 -- ---- a record
 
@@ -168,13 +138,13 @@ joined_one : (a : List (List ℕ)) (w : List ℕ) → joined (a ++ (w ∷ [])) �
 joined_one a w = joined-append a (w ∷ []) ∙ ap (λ (l : List ℕ). joined a ++ l) (append-nil w)
 
 -- words put at the running place are one record more
-pub record-put : {out r left : List ℕ} {to next : ℕ} → Put out to r left next → RecordPut out to r left next
-record-put {out} {r} {left} {to} {next} p =
+pub record-put : {w w' : Writer} {r : List ℕ} → Writes w r w' → RecordPut w.out.now w.to r w'.out.now w'.to
+record-put {w} {w'} {r} p =
     record {
-      carried = λ before w. record { given = w.counts; handed_on = p.after };
-      writes = λ before w. record {
-        counts = p.after ∙ ap (λ (n : ℕ). n + length r) w.counts ∙ sym (ap length (joined_one before r) ∙ length-append (joined before) r);
-        holds = p.holds ∙ ap (λ (l : List ℕ). l ++ r) w.holds ∙ sym (joined_one before r);
+      carried = λ before k. record { given = k.counts; handed_on = p.after };
+      writes = λ before k. record {
+        counts = p.after ∙ ap (λ (n : ℕ). n + length r) k.counts ∙ sym (ap length (joined_one before r) ∙ length-append (joined before) r);
+        holds = p.holds ∙ ap (λ (l : List ℕ). l ++ r) k.holds ∙ sym (joined_one before r);
       };
     }
 
@@ -292,8 +262,8 @@ module _ (ws work places lists : List ℕ) (rs : List (List ℕ)) where
           length-append (joined F.done) more,
         )
 
-    pub part_asked : length (joined rs) ≤ 8192 → Stampable (get_or lists i 0) (from_to start end work) × PutRoom out to (piece_out ws (get_or lists i 0) (from_to start end work))
-    part_asked few = rw part_is (F.fits, record { fits = fits; few = omega (arith, s.size) })
+    pub part_asked : Stampable (get_or lists i 0) (from_to start end work) × (to + length (piece_out ws (get_or lists i 0) (from_to start end work)) ≤ length out)
+    part_asked = rw part_is (F.fits, fits)
 
     pub part_put : {next : ℕ} {left : List ℕ} → RecordPut out to (piece_out ws (get_or lists i 0) (from_to start end work)) left next → length left ≡ length out → Writing (i + 1) end next left
     part_put {next} {left} p same =

@@ -22,7 +22,7 @@ use Rattle.definitions.specs.Resolving.{rule_words, or_kinds, with_entities, sta
 use Rattle.chains.specs.Record.{kind_count, slots_place}
 use Rattle.stamping.specs.Stamping.{StampedBy, as_it_is, with_kinds, added_for, added_by}
 use Rattle.definitions.specs.WrittenRecords.{joined, front_piece, block_piece, other_pieces, pieces_of}
-use Rattle.resolve.specs.Pieces.{Stamped, no_more, one_more, with_relations, from_to, list_words, put_for, Stampable, Written, WriteAsked, come_out}
+use Rattle.resolve.specs.Pieces.{Stamped, no_more, one_more, with_relations, from_to, list_words, put_for, Stampable, Written, WriteAsked, come_out, RecordsPut}
 use Rattle.directions.specs.RecordRuns.{places_from, run_words}
 use Rattle.chains.proofs.RecordLaws.{counted, before-slots, four, four_length}
 use Rattle.resolve.proofs.WriteLaws.{joined-append, piece_stays, piece_stamped, Pieces, no_piece, piece, Writing, all-filled}
@@ -263,3 +263,7 @@ module _ {ws places lists work : List ℕ} {room : ℕ} (a : WriteAsked ws place
 
   pub writing_end : {out : List ℕ} {end : ℕ} → Written come out end → end ≡ room → length out ≡ room → set out 0 (word_of 1 end) ≡ words q'
   writing_end {out} {end} w e l = ap (λ (x : List ℕ). set x 0 (word_of 1 end)) (all-filled w (l ∙ sym come_long)) ∙ total-set (ap (word_of 1) e)
+
+-- records put in a slice of another length, which is the same
+pub records_as : {ws places lists work : List ℕ} {room room' : ℕ} {left : List ℕ} {end : ℕ} → room ≡ room' → RecordsPut ws places lists work room left end → RecordsPut ws places lists work room' left end
+records_as {ws} {places} {lists} {work} {left = left} {end} e r = subst (λ (n : ℕ). RecordsPut ws places lists work n left end) e r

@@ -1,8 +1,7 @@
 -- What the parts of Resolve promise each other: the first three steps of Resolving, and the result.
-use Rattle.std.specs.Prelude.{ℕ, zero, suc, ◌+◌, ◌*◌, ◌<◌, ◌≤◌, ◌≡◌, List, [], ◌∷◌, map, ◌||◌, length, get_or, take, replicate, eqb}
+use Rattle.std.specs.Prelude.{ℕ, zero, suc, ◌+◌, ◌*◌, ◌<◌, ◌≤◌, ◌≡◌, List, [], ◌∷◌, map, ◌||◌, length, get_or, take, replicate, eqb, Result, Ok, Err}
 use Rattle.std.proofs.Math.Option.{none, some}
-use Rattle.definitions.specs.declared.answer.Answer.{Answer}
-use Rattle.definitions.specs.declared.answer.Answer.TheVariants.{Given, Refused}
+use Rattle.definitions.specs.declared.answer.Refusal.{Refusal}
 use Rattle.definitions.specs.Table.{pick}
 use Rattle.definitions.specs.Form.{repeats}
 use Rattle.definitions.specs.Records.{Relation, Pack}
@@ -12,7 +11,7 @@ use Rattle.records.specs.declared.directory.Layout.{Layout}
 use Rattle.records.specs.Directory.{Clear}
 use Rattle.checking.specs.CheckPromises.{names_said}
 use Rattle.chains.specs.PackDirectory.{ClearTable, IsDirectory}
-use Rattle.definitions.specs.Answers.{table_from, Outcome, done, refused, map_done, given, written}
+use Rattle.definitions.specs.Answers.{Answer, table_from, Outcome, done, refused, map_done, given, written}
 use Rattle.chains.specs.Record.{value_at}
 use Rattle.chains.specs.DirectoryWord.{Reaches, starts_in, names_in}
 use Rattle.filtered.specs.Taking.{NamesLow, Filled}
@@ -22,15 +21,15 @@ use Rattle.definitions.specs.Operations.{whole_pack, resolve_answer, resolve_buf
 use Rattle.definitions.specs.WrittenRecords.{beginnings, pieces_of}
 use Rattle.resolve.specs.Pieces.{with_relations}
 use Rattle.directions.specs.RecordRuns.{trees_resolved, TablesFilled}
-use Rattle.turning.specs.declared.turns.Ended.{Ended}
 use Rattle.turning.specs.declared.turns.Counts.{Counts}
 use Rattle.turning.specs.Notes.{Note, Held, NotesIn}
 use Rattle.turning.specs.Asked.{InWords}
 use Rattle.turning.specs.TurnPromises.{TurnedAs, PackAsked}
 use Rattle.turning.specs.Asked.{NotesMarked}
 use Rattle.directions.specs.Words.{first_equal}
-use Rattle.definitions.specs.Table as table
-use Rattle.resolve.specs.declared.finish.Figures.{Figures}
+use Rattle.resolve.specs.declared.checked.Figures.{Figures}
+use Rattle.resolve.specs.declared.writer.Writer.{Writer}
+use Rattle.resolve.specs.Writing.{HasRoom, Writes}
 
 -- ---- the first three steps of Resolving
 
@@ -39,7 +38,7 @@ unfoldable pub resolved_trees : Pack → Outcome Pack
 resolved_trees p = elim (defaulted_equal (tables p.relations) p.defaulted) [ some n ↦ refused (equal_refusal p n) | none ↦ trees_resolved p ]
 
 -- what comes of them in the words of the pack
-pub record TreesCame (ws : List ℕ) (o : Ended) (left : List ℕ) : Type 0 where
+pub record TreesCame (ws : List ℕ) (o : Result (Unit {0}) Refusal) (left : List ℕ) : Type 0 where
   pub each : (p : Pack) → read ws ≡ yes p → TurnedAs (resolved_trees p) o left
 
 -- the tables of a checked pack, its notes, and a copy of its words
@@ -65,18 +64,17 @@ roots_of [] = []
 roots_of (n ∷ ns) = pick (eqb n.inside 0) (n.place ∷ roots_of ns) (roots_of ns)
 
 -- notes in an array from an index up to another, and room for their roots
-pub record RulesAsked (notes : List ℕ) (from all room : ℕ) : Type 0 where
+pub record RulesAsked (notes : List ℕ) (from all : ℕ) (w : Writer) : Type 0 where
   pub ws : List ℕ
   pub ns : List Note
   pub are : Held notes from ns
   pub many : all + 1 ≡ from + length ns
   pub within : all < length notes
   pub there : InWords ws ns
-  pub size : room ≡ length (roots_of ns)
-  pub few : room ≤ 8192
+  pub room : HasRoom w (roots_of ns)
 
-abbrev pub RulesCame : List ℕ → ℕ → ℕ → ℕ → List ℕ → Type 0
-RulesCame notes from all room left = (a : RulesAsked notes from all room) → left ≡ roots_of a.ns
+abbrev pub RulesCame : List ℕ → ℕ → ℕ → Writer → Writer → Type 0
+RulesCame notes from all w w' = (a : RulesAsked notes from all w) → Writes w (roots_of a.ns) w'
 
 -- where so many blocks start, one after the other from a place on
 unfoldable pub block_places : List ℕ → ℕ → ℕ → List ℕ
@@ -144,7 +142,15 @@ pub record PlacedAsked (ws acts taken asked places notes : List ℕ) (f : Figure
   pub resolves : ResolveAsked ws dir acts taken before notes f work
   pub marked : NotesMarked ws notes f.notes.all before asked
   pub begins : places ≡ beginnings 0 (pieces_of resolves.directory.checked.pack)
-  pub unequal : first_equal ws acts 3 (value_at ws 2) ≡ table.none
+  pub unequal : first_equal ws acts 3 (value_at ws 2) ≡ none
+
+-- the same before the places are known, of which there are no more than so many
+pub record PiecesAsked (ws dir acts taken asked notes : List ℕ) (f : Figures) (work : List ℕ) (most : ℕ) : Type 0 where
+  pub before : List ℕ
+  pub resolves : ResolveAsked ws dir acts taken before notes f work
+  pub marked : NotesMarked ws notes f.notes.all before asked
+  pub few : f.relations + value_at ws f.rules + f.notes.blocks.count + 3 ≤ most
+  pub unequal : first_equal ws acts 3 (value_at ws 2) ≡ none
 
 -- room for the places of its pieces, and these places
 pub record OrderAsked (ws dir notes : List ℕ) (f : Figures) (room : ℕ) : Type 0 where
@@ -185,8 +191,8 @@ pub record RoomFor (ws out : List ℕ) (room : ℕ) : Type 0 where
 
 -- the words that an answer says are written, at the front of a slice
 abbrev pub front_of : Answer → List ℕ → List ℕ
-front_of (Given n steps) l = take n l
-front_of (Refused r) l = []
+front_of (Ok g) l = take g.value l
+front_of (Err r) l = []
 
 -- Resolve's answer for a slice of so many words, and at the front of another what Resolve writes there; of what is left after a refusal nothing is said
 pub record Into (ws : List ℕ) (room : ℕ) (a : Answer) (left : List ℕ) : Type 0 where

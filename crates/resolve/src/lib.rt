@@ -3,7 +3,9 @@
 // stamped on relations (stamping), and on the writer (order, write, finish). Order never matters: Demand3.
 #![tactic(auto)]
 
+mod checked;
 mod finish;
 mod order;
 pub mod resolve;
 mod write;
+mod writer;

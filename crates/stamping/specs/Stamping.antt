@@ -1,12 +1,13 @@
 -- Stamping, by the place of a list: what a relation comes out as when the list that stands at a place is stamped on it, 0 for none.
 use Rattle.std.specs.Prelude.{ℕ, suc, ◌+◌, ◌-◌, ◌*◌, ◌<◌, ◌≤◌, ◌≡◌, List, [], ◌∷◌, Bool, false, ◌&&◌, length, get_or, eqb, ltb}
-use Rattle.std.proofs.Math.Option.{Option, none, some}
+use Rattle.std.proofs.Math.Option.{some}
 use Rattle.definitions.specs.Table.{pick}
 use Rattle.definitions.specs.Records.{Derivation, Relation}
 use Rattle.definitions.specs.Filtered.{kind_at}
 use Rattle.definitions.specs.Places.{names_at}
 use Rattle.chains.specs.Record.{value_at, kind_count}
 use Rattle.filtered.specs.Acts.{act_part, act_list}
+pub use Rattle.filtered.specs.Taking.{names_or}
 use Rattle.definitions.specs.Resolving.{unlike, stamped_with}
 
 pub data StampedBy (ws : List ℕ) (list : ℕ) (r : Relation) : Relation → Type 0 where
@@ -40,11 +41,6 @@ list_by ws work asked name start x =
 -- the place of the list that settles its name, where the list is stamped, else 0
 unfoldable pub list_for : List ℕ → List ℕ → List ℕ → List ℕ → ℕ → ℕ
 list_for ws work acts asked start = list_by ws work asked (value_at work start) start (get_or acts (value_at work start) 0)
-
--- the names of a list, none where there is no list
-abbrev pub names_or : Option (List ℕ) → List ℕ
-names_or none = []
-names_or (some ks) = ks
 
 -- how many names the list at a place has; they stand in the pack
 pub record Lists (ws : List ℕ) (list count : ℕ) : Type 0 where

@@ -4,7 +4,7 @@ use mathlib.Core.Path.{◌≡◌, refl, ap, sym, ◌∙◌, fun_ext}
 use mathlib.Core.List.{List}
 use lib.ListN.{length}
 use borrow.Author.Tests.{le-leb}
-use Rattle.definitions.specs.declared.answer.Answer.TheVariants.{Given}
+use Rattle.definitions.specs.Answers.{gives}
 use Rattle.definitions.specs.Records.{Pack}
 use Rattle.definitions.specs.Pack.{yes, read}
 use Rattle.definitions.specs.Dealt.{Dealt}
@@ -26,7 +26,7 @@ use Rattle.theorems.specs.ChainsDealt.{DealtAlike}
 
 -- the steps are an exact sum: the relations, and the undeclared sources that inheriting relations name, each once
 pub all_kinds-steps : (ws : List ℕ) (p : Pack) → read ws ≡ yes p → (room : ℕ) → length p.relations ≤ room
-    → all_kinds_answer ws room ≡ Given (length p.relations) (length p.relations + length (undeclared_sources p.relations))
+    → all_kinds_answer ws room ≡ gives (length p.relations) (length p.relations + length (undeclared_sources p.relations))
 unfolding all_kinds_answer
 all_kinds-steps ws p h room r =
     simp (h, words_count p, le-leb (length p.relations) room r, kinds-steps p.relations (distinct_names p (words-read ws p h).fine))

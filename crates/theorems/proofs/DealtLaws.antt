@@ -8,7 +8,7 @@ use mathlib.Core.Option.{Option, none, some}
 use lib.ListN.{length, length-append, get_or}
 use lib.Dec.{eqb}
 use borrow.Author.Tests.{ne_eqb, eqb-false, not-true}
-use Rattle.definitions.specs.declared.answer.Answer.TheVariants.{Given}
+use Rattle.definitions.specs.Answers.{gives}
 use Rattle.definitions.specs.Table.{word_of, entry_of}
 use Rattle.definitions.specs.Form.{Form, field, ◌▹◌, counted_from, counted, Holder, list, list_or_none, Suits, count, items, says, among, words_all, FineAll, words_by, Fine}
 use Rattle.definitions.specs.Records.{Item, Block, Relation, Rule, Edition, Pack}
@@ -244,7 +244,7 @@ pub dealt_again : (p q : Pack) → Dealt p q → WellFormed p → Redealt p q
 unfolding check_answer
 dealt_again p q d h =
     let r = read-words q (dealt_fine p q d h) in
-    record { reads = r; checked = ap (λ x. answer x (λ _. Given 1 0)) r; long = words-length q ∙ sym (dealt_total p q d) ∙ sym (words-length p) }
+    record { reads = r; checked = ap (λ x. answer x (λ _. gives 1 0)) r; long = words-length q ∙ sym (dealt_total p q d) ∙ sym (words-length p) }
 
 -- what holds of the words to which Check answers yes: a pack was read, and each that is dealt out of it reads back as it is and is as long
 pub record CheckedPack (ws : List ℕ) : Type 0 where
@@ -257,7 +257,7 @@ pub dealt_checked : (ws : List ℕ) → Checked ws → CheckedPack ws
 unfolding check_answer
 dealt_checked ws c = go (read ws) refl c
   where
-    go : (r : Reading) → read ws ≡ r → answer r (λ _. Given 1 0) ≡ Given 1 0 → CheckedPack ws
+    go : (r : Reading) → read ws ≡ r → answer r (λ _. gives 1 0) ≡ gives 1 0 → CheckedPack ws
     go (yes p) e h =
         let w = words-read ws p e in
         record { pack = p; reads = e; rewrites = w; dealt = λ q d. dealt_again p q d w.fine }

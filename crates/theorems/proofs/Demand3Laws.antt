@@ -7,7 +7,7 @@ use mathlib.Core.Bool.{Bool, true, false, ◌&&◌}
 use lib.ListN.{length, drop}
 use lib.Dec.{leb}
 use borrow.Author.Tests.{le-leb, leb-true}
-use Rattle.definitions.specs.declared.answer.Answer.TheVariants.{Given}
+use Rattle.definitions.specs.Answers.{gives}
 use Rattle.definitions.specs.Table.{pick}
 use Rattle.definitions.specs.Records.{Relation, Pack}
 use Rattle.definitions.specs.Pack.{WellFormed, yes, read, words, total}
@@ -41,11 +41,11 @@ module _ (p q : Pack) (w : WellFormed p) (d : Dealt p q) (steps : ℕ) (lent len
       long = dealt_total r s a
 
       go : (b c : Bool) → b ≡ c
-          → ResolveAlike p q lent lent' (pick b (Given (total r) steps) out_of_room) (pick b (words r ++ drop (total r) lent) lent) (pick c (Given (total s) steps) out_of_room) (pick c (words s ++ drop (total s) lent') lent')
+          → ResolveAlike p q lent lent' (pick b (gives (total r) steps) out_of_room) (pick b (words r ++ drop (total r) lent) lent) (pick c (gives (total s) steps) out_of_room) (pick c (words s ++ drop (total s) lent') lent')
       go true true e =
           let one : Left p lent (total r) (words r ++ drop (total r) lent) = record { out = r; holds = refl; long = refl; comes = comes-out p r h } in
           let other : Left q lent' (total r) (words s ++ drop (total s) lent') = record { out = s; holds = ap (λ (t : ℕ). words s ++ drop t lent') (sym long); long = long; comes = comes-out q s k } in
-          subst (λ (t : ℕ). ResolveAlike p q lent lent' (Given (total r) steps) (words r ++ drop (total r) lent) (Given t steps) (words s ++ drop (total s) lent')) long
+          subst (λ (t : ℕ). ResolveAlike p q lent lent' (gives (total r) steps) (words r ++ drop (total r) lent) (gives t steps) (words s ++ drop (total s) lent')) long
           (both_resolve one other (same_out p q w d r s one.comes other.comes))
       go true false e = let z : ◌≡◌ {A = ℕ} 0 1 = cc in absurd (omega arith)
       go false true e = let z : ◌≡◌ {A = ℕ} 0 1 = cc in absurd (omega arith)
@@ -75,34 +75,34 @@ kinds_row ws p h (r ∷ l) rest = one_more (kinds_at ws p h r.name) (settled_at 
 
 module _ (ws : List ℕ) (p : Pack) (h : read ws ≡ yes p) (room n steps : ℕ) where
   -- where All kinds answers there is room for a word for each relation, and the steps are those of all walks
-  all_kinds-said : all_kinds_answer ws room ≡ Given n steps → (length (all_kinds_words p) ≤ room) × (steps ≡ step_sum p)
+  all_kinds-said : all_kinds_answer ws room ≡ gives n steps → (length (all_kinds_words p) ≤ room) × (steps ≡ step_sum p)
   unfolding all_kinds_answer
   all_kinds-said e = go (leb (length (all_kinds_words p)) room) refl (rw h at e)
     where
-      go : (b : Bool) → leb (length (all_kinds_words p)) room ≡ b → pick b (Given (length (all_kinds_words p)) (all_kinds p.relations).steps) out_of_room ≡ Given n steps
+      go : (b : Bool) → leb (length (all_kinds_words p)) room ≡ b → pick b (gives (length (all_kinds_words p)) (all_kinds p.relations).steps) out_of_room ≡ gives n steps
           → (length (all_kinds_words p) ≤ room) × (steps ≡ step_sum p)
       go true f q =
           let u : (all_kinds p.relations).steps ≡ steps = cc in
           (leb-true (length (all_kinds_words p)) room f, sym u ∙ kinds-steps p.relations (distinct_names p (words-read ws p h).fine))
       go false f q = let z : ◌≡◌ {A = ℕ} 0 1 = cc in absurd (omega arith)
 
-  resolve-said : resolve_answer ws room ≡ Given n steps → steps ≡ step_sum p
+  resolve-said : resolve_answer ws room ≡ gives n steps → steps ≡ step_sum p
   unfolding resolve_answer
   resolve-said e = go (resolved p) (rw h at e)
     where
       sum : ℕ
       sum = (all_kinds p.relations).steps
 
-      go : (o : Outcome Pack) → given_out sum room o ≡ Given n steps → steps ≡ step_sum p
+      go : (o : Outcome Pack) → given_out sum room o ≡ gives n steps → steps ≡ step_sum p
       go (refused r) q = let z : ◌≡◌ {A = ℕ} 0 1 = cc in absurd (omega arith)
       go (done r) q = fits (leb (total r) 8192 && leb (total r) room) q
         where
-          fits : (b : Bool) → pick b (Given (total r) sum) out_of_room ≡ Given n steps → steps ≡ step_sum p
+          fits : (b : Bool) → pick b (gives (total r) sum) out_of_room ≡ gives n steps → steps ≡ step_sum p
           fits true q = let u : sum ≡ steps = cc in sym u ∙ kinds-steps p.relations (distinct_names p (words-read ws p h).fine)
           fits false q = let z : ◌≡◌ {A = ℕ} 0 1 = cc in absurd (omega arith)
 
 module _ (ws : List ℕ) (p : Pack) (h : read ws ≡ yes p) where
-  kinds-written : (lent : List ℕ) (n steps : ℕ) → all_kinds_answer ws (length lent) ≡ Given n steps → KindsWritten ws p.relations p.relations (all_kinds_buffer ws lent)
+  kinds-written : (lent : List ℕ) (n steps : ℕ) → all_kinds_answer ws (length lent) ≡ gives n steps → KindsWritten ws p.relations p.relations (all_kinds_buffer ws lent)
   unfolding all_kinds_buffer
   kinds-written lent n steps e =
       rw (h, le-leb (length (all_kinds_words p)) (length lent) (all_kinds-said ws p h (length lent) n steps e).0, words-own p) (kinds_row ws p h p.relations _)

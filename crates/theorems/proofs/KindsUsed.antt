@@ -1,4 +1,5 @@
 -- Whatever in Resolve looks at kinds looks at those of the own walk.
+use Rattle.std.specs.Prelude.{Err}
 use Prim.Native.Nat.{ℕ, ◌<◌}
 use native.Mathlib.Omega.{arith}
 use mathlib.Core.Path.{◌≡◌, refl, ap, sym, ◌∙◌, subst}
@@ -9,7 +10,7 @@ use mathlib.Core.Option.{Option, none, some, map}
 use lib.Dec.{eqb, leb}
 use borrow.Author.Tests.{eq-eqb, ne_eqb, eqb-true, not-true}
 use Rattle.definitions.specs.declared.answer.Refusal.{Refusal}
-use Rattle.definitions.specs.declared.answer.Answer.TheVariants.{Given, Refused}
+use Rattle.definitions.specs.Answers.{gives}
 use Rattle.definitions.specs.Table.{pick}
 use Rattle.definitions.specs.Table as table
 use Rattle.definitions.specs.Form.{among}
@@ -247,21 +248,21 @@ some_equal T (d ∷ ds) n i h = go (equal_kinds (T.derived d)) refl (or_cases (e
 
 -- trees are refused by other numbers, and so is a result for which there is no room
 no_9 : (o : Outcome (List Rule)) (e : Outcome (List Relation)) (f : List Rule → List Relation → Pack) (steps room : ℕ) (r : Refusal) → Numbered o → Numbered e
-    → given_out steps room (and_then o (λ rl. map_done (f rl) e)) ≡ Refused r → r.number ≡ 9 → ⊥
+    → given_out steps room (and_then o (λ rl. map_done (f rl) e)) ≡ Err r → r.number ≡ 9 → ⊥
 no_9 (refused s) e f steps room r h k q n = let u : s.number ≡ 9 = (let v : s ≡ r = cc in ap (λ (x : Refusal). x.number) v ∙ n) in omega (arith, h.0)
 no_9 (done rl) (refused s) f steps room r h k q n = let u : s.number ≡ 9 = (let v : s ≡ r = cc in ap (λ (x : Refusal). x.number) v ∙ n) in omega (arith, k.0)
 no_9 (done rl) (done rs) f steps room r h k q n = go (leb (total (f rl rs)) 8192 && leb (total (f rl rs)) room) q
   where
-    go : (b : Bool) → pick b (Given (total (f rl rs)) steps) out_of_room ≡ Refused r → ⊥
+    go : (b : Bool) → pick b (gives (total (f rl rs)) steps) out_of_room ≡ Err r → ⊥
     go true q = let z : ◌≡◌ {A = ℕ} 0 1 = cc in omega arith
     go false q = let v : record { number = 16; place = 0; name = 0; other = 0 } ≡ r = cc in let u = ap (λ (x : Refusal). x.number) v in omega arith
 
-refused_9 : (ws : List ℕ) (p : Pack) → read ws ≡ yes p → (room : ℕ) (r : Refusal) → resolve_answer ws room ≡ Refused r → r.number ≡ 9 → (among r.name p.defaulted ≡ true) × EqualKinds p r.name
+refused_9 : (ws : List ℕ) (p : Pack) → read ws ≡ yes p → (room : ℕ) (r : Refusal) → resolve_answer ws room ≡ Err r → r.number ≡ 9 → (among r.name p.defaulted ≡ true) × EqualKinds p r.name
 unfolding resolve_answer resolved tables
 refused_9 ws p h room r e n = go (defaulted_equal (tables p.relations) p.defaulted) refl (rw h at e)
   where
     go : (o : Option ℕ) → defaulted_equal (tables p.relations) p.defaulted ≡ o
-        → given_out (all_kinds p.relations).steps room (elim o [ some m ↦ refused (equal_refusal p m) | none ↦ resolve_records p ]) ≡ Refused r → (among r.name p.defaulted ≡ true) × EqualKinds p r.name
+        → given_out (all_kinds p.relations).steps room (elim o [ some m ↦ refused (equal_refusal p m) | none ↦ resolve_records p ]) ≡ Err r → (among r.name p.defaulted ≡ true) × EqualKinds p r.name
     go (some m) d q =
         let u : equal_refusal p m ≡ r = cc in
         subst (λ (n : ℕ). (among n p.defaulted ≡ true) × EqualKinds p n) (ap (λ (x : Refusal). x.name) u)
@@ -270,7 +271,7 @@ refused_9 ws p h room r e n = go (defaulted_equal (tables p.relations) p.default
         absurd (no_9 (resolve_rules p (first_rule p) p.rules) (resolve_relations p (first_relation p) p.relations) _ (all_kinds p.relations).steps room r
         (rules_numbered p (first_rule p) p.rules) (relations_numbered p (first_relation p) p.relations) q n)
 
-refused_9_back : (ws : List ℕ) (p : Pack) → read ws ≡ yes p → (room n : ℕ) → among n p.defaulted ≡ true → EqualKinds p n → (r : Refusal) × (resolve_answer ws room ≡ Refused r) × (r.number ≡ 9)
+refused_9_back : (ws : List ℕ) (p : Pack) → read ws ≡ yes p → (room n : ℕ) → among n p.defaulted ≡ true → EqualKinds p n → (r : Refusal) × (resolve_answer ws room ≡ Err r) × (r.number ≡ 9)
 unfolding resolve_answer resolved tables
 refused_9_back ws p h room n i e =
     let m = some_equal (tables p.relations) p.defaulted n i (equal_back p n e) in

@@ -1,4 +1,5 @@
 -- Every operation refuses by 01's numbers alone, and a refusal changes nothing that is lent: on words, over bytes, and in the number that the host's function answers.
+use Rattle.std.specs.Prelude.{Err}
 use Prim.Native.Nat.{ℕ, zero, suc, ◌+◌, ◌/◌, ◌<◌, ◌≤◌}
 use native.Mathlib.Omega.{arith}
 use mathlib.Core.Path.{◌≡◌, refl, ap, sym, ◌∙◌}
@@ -9,8 +10,8 @@ use lib.ListN.{length, drop}
 use lib.Dec.{eqb, leb, ltb}
 use borrow.Author.Tests.{eqb-true, eqb-false, ltb-true}
 use Rattle.definitions.specs.declared.answer.Refusal.{Refusal}
-use Rattle.definitions.specs.declared.answer.Answer.{Answer}
-use Rattle.definitions.specs.declared.answer.Answer.TheVariants.{Given, Refused}
+use Rattle.definitions.specs.Answers.{Answer}
+use Rattle.definitions.specs.Answers.{gives}
 use Rattle.definitions.specs.Table.{pick}
 use Rattle.definitions.specs.Form.{among}
 use Rattle.definitions.specs.Records.{Pack}
@@ -78,7 +79,7 @@ among_below most (x ∷ xs) h v a = go (ltb x most) refl h (eqb v x) refl a (λ 
 of_check : (more ws : List ℕ) (r : Refusal) → CheckRefuses ws r → Among r.number (check_numbers ++ more)
 of_check more ws r h = among_left r.number check_numbers more (among_up 1 8 r.number h.within.least (omega (arith, h.within.most)))
 
-number_of : (r s : Refusal) → Refused r ≡ Refused s → r.number ≡ s.number
+number_of : (r s : Refusal) → Err r ≡ Err s → r.number ≡ s.number
 number_of r s e = cc
 
 -- Check's, or those that come after
@@ -89,10 +90,10 @@ checks_or more ws r f (inr h) = f h
 of_room : (r : Refusal) → NoRoom r → Among r.number (check_numbers ++ (16 ∷ []))
 of_room r h = rw (number_of r _ h) refl
 
-of_name : (name : ℕ) (r : Refusal) → Refused r ≡ unknown name → Among r.number (check_numbers ++ (17 ∷ []))
+of_name : (name : ℕ) (r : Refusal) → Err r ≡ unknown name → Among r.number (check_numbers ++ (17 ∷ []))
 of_name name r h = rw (number_of r _ h) refl
 
-of_names : (a b : ℕ) (r : Refusal) → (Refused r ≡ unknown a) ⊎ (Refused r ≡ unknown b) → Among r.number (check_numbers ++ (17 ∷ []))
+of_names : (a b : ℕ) (r : Refusal) → (Err r ≡ unknown a) ⊎ (Err r ≡ unknown b) → Among r.number (check_numbers ++ (17 ∷ []))
 of_names a b r (inl h) = of_name a r h
 of_names a b r (inr h) = of_name b r h
 
@@ -102,12 +103,12 @@ resolves ws r (equal-kinds e o) = rw e refl
 resolves ws r (open_direction h o) = among_up 1 16 r.number (omega (arith, h.0)) (omega (arith, h.1))
 resolves ws r (no_room h) = rw (number_of r _ h) refl
 
-to_numbers : (q : Question) (ws : List ℕ) (r : Refusal) → answer_to q ws ≡ Refused r → Among r.number (numbers_to q)
+to_numbers : (q : Question) (ws : List ℕ) (r : Refusal) → answer_to q ws ≡ Err r → Among r.number (numbers_to q)
 to_numbers Check ws r e = of_check [] ws r (check-numbers ws r e)
 to_numbers (KindsOf name) ws r e = checks_or (17 ∷ []) ws r (of_name name r) (kinds_of_numbers ws name r e)
 to_numbers (Lean a b) ws r e = checks_or (17 ∷ []) ws r (of_names a b r) (lean_numbers ws a b r e)
 
-of_numbers : (w : Writing) (ws : List ℕ) (room : ℕ) (r : Refusal) → answer_of w ws room ≡ Refused r → Among r.number (numbers_of w)
+of_numbers : (w : Writing) (ws : List ℕ) (room : ℕ) (r : Refusal) → answer_of w ws room ≡ Err r → Among r.number (numbers_of w)
 of_numbers Rewrite ws room r e = checks_or (16 ∷ []) ws r (of_room r) (rewrite_numbers ws room r e)
 of_numbers AllKinds ws room r e = checks_or (16 ∷ []) ws r (of_room r) (all_kinds_numbers ws room r e)
 of_numbers (Filtered f) ws room r e = checks_or (16 ∷ []) ws r (of_room r) (filter_numbers f ws room r e)
@@ -115,34 +116,34 @@ of_numbers Resolve ws room r e = resolves ws r (resolve_numbers ws room r e)
 
 -- ---- over bytes: bytes that are no words are refused by 1, which is a number of every operation
 
-over_numbers : (numbers : List ℕ) (f : List ℕ → Answer) → ((ws : List ℕ) (r : Refusal) → f ws ≡ Refused r → Among r.number numbers) → Among 1 numbers
-    → (bytes : List ℕ) (r : Refusal) → over_bytes f bytes ≡ Refused r → Among r.number numbers
+over_numbers : (numbers : List ℕ) (f : List ℕ → Answer) → ((ws : List ℕ) (r : Refusal) → f ws ≡ Err r → Among r.number numbers) → Among 1 numbers
+    → (bytes : List ℕ) (r : Refusal) → over_bytes f bytes ≡ Err r → Among r.number numbers
 unfolding over_bytes
 over_numbers numbers f h one bytes r e = go (are_words (length bytes)) e
   where
-    go : (b : Bool) → pick b (f (words_of bytes)) not_words ≡ Refused r → Among r.number numbers
+    go : (b : Bool) → pick b (f (words_of bytes)) not_words ≡ Err r → Among r.number numbers
     go true e = h (words_of bytes) r e
     go false e = rw (number_of r _ (sym e)) one
 
 -- ---- in the number that the host's function answers
 
-given_number : (v s : ℕ) → number_field (encode (Given v s)) ≡ 0
+given_number : (v s : ℕ) → number_field (encode (gives v s)) ≡ 0
 given_number v s = omega arith
 
-refused_number : (r : Refusal) → r.number < 64 → number_field (encode (Refused r)) ≡ r.number
+refused_number : (r : Refusal) → r.number < 64 → number_field (encode (Err r)) ≡ r.number
 refused_number r h = omega arith
 
 -- an answer that refuses by some numbers
-module _ (numbers : List ℕ) (low : all_below 64 numbers ≡ true) (a : Answer) (h : (r : Refusal) → a ≡ Refused r → Among r.number numbers) where
-  host_tells : (r : Refusal) → a ≡ Refused r → number_field (encode a) ≡ r.number
+module _ (numbers : List ℕ) (low : all_below 64 numbers ≡ true) (a : Answer) (h : (r : Refusal) → a ≡ Err r → Among r.number numbers) where
+  host_tells : (r : Refusal) → a ≡ Err r → number_field (encode a) ≡ r.number
   host_tells r e = ap (λ (b : Answer). number_field (encode b)) e ∙ refused_number r (among_below 64 numbers low r.number (h r e))
 
   host_number : NoneOrAmong (number_field (encode a)) numbers
   host_number = go a refl
     where
       go : (b : Answer) → a ≡ b → NoneOrAmong (number_field (encode a)) numbers
-      go (Given v s) e = inl (ap (λ (b : Answer). number_field (encode b)) e ∙ given_number v s)
-      go (Refused r) e = inr (rw (host_tells r e) (h r e))
+      go (Ok g) e = inl (ap (λ (b : Answer). number_field (encode b)) e ∙ given_number g.value g.steps)
+      go (Err r) e = inr (rw (host_tells r e) (h r e))
 
 to_low : (q : Question) → (all_below 64 (numbers_to q) ≡ true) × Among 1 (numbers_to q)
 to_low Check = (refl, refl)
@@ -158,28 +159,28 @@ of_low Resolve = (refl, refl)
 -- ---- what is lent
 
 -- words that are written if there is room
-write_kept : (out : List ℕ) (steps : ℕ) (lent : List ℕ) (r : Refusal) → write_answer out steps (length lent) ≡ Refused r → write_buffer out lent ≡ lent
+write_kept : (out : List ℕ) (steps : ℕ) (lent : List ℕ) (r : Refusal) → write_answer out steps (length lent) ≡ Err r → write_buffer out lent ≡ lent
 write_kept out steps lent r e = go (leb (length out) (length lent)) e
   where
-    go : (b : Bool) → pick b (Given (length out) steps) out_of_room ≡ Refused r → pick b (out ++ drop (length out) lent) lent ≡ lent
+    go : (b : Bool) → pick b (gives (length out) steps) out_of_room ≡ Err r → pick b (out ++ drop (length out) lent) lent ≡ lent
     go true e = absurd (no_given e)
     go false e = refl
 
-outcome_kept : (steps : ℕ) (o : Outcome Pack) (lent : List ℕ) (r : Refusal) → given_out steps (length lent) o ≡ Refused r → written_out lent o ≡ lent
+outcome_kept : (steps : ℕ) (o : Outcome Pack) (lent : List ℕ) (r : Refusal) → given_out steps (length lent) o ≡ Err r → written_out lent o ≡ lent
 outcome_kept steps (refused s) lent r e = refl
 outcome_kept steps (done q) lent r e = go (leb (total q) 8192 && leb (total q) (length lent)) e
   where
-    go : (b : Bool) → pick b (Given (total q) steps) out_of_room ≡ Refused r → pick b (words q ++ drop (total q) lent) lent ≡ lent
+    go : (b : Bool) → pick b (gives (total q) steps) out_of_room ≡ Err r → pick b (words q ++ drop (total q) lent) lent ≡ lent
     go true e = absurd (no_given e)
     go false e = refl
 
 -- an operation that reads a pack first
-reads_kept : (f : Pack → Answer) (g : Pack → List ℕ) (lent : List ℕ) (r : Refusal) → ((p : Pack) → f p ≡ Refused r → g p ≡ lent) → (m : Reading) → answer m f ≡ Refused r → buffer m g lent ≡ lent
+reads_kept : (f : Pack → Answer) (g : Pack → List ℕ) (lent : List ℕ) (r : Refusal) → ((p : Pack) → f p ≡ Err r → g p ≡ lent) → (m : Reading) → answer m f ≡ Err r → buffer m g lent ≡ lent
 reads_kept f g lent r h (yes p) e = h p e
 reads_kept f g lent r h (refuse s) e = refl
 
 -- "a refusal changes no lent word"
-pub refusal_keeps : (w : Writing) (ws lent : List ℕ) (r : Refusal) → answer_of w ws (length lent) ≡ Refused r → buffer_of w ws lent ≡ lent
+pub refusal_keeps : (w : Writing) (ws lent : List ℕ) (r : Refusal) → answer_of w ws (length lent) ≡ Err r → buffer_of w ws lent ≡ lent
 unfolding rewrite_answer rewrite_buffer all_kinds_answer all_kinds_buffer filter_answer filter_buffer resolve_answer resolve_buffer
 refusal_keeps Rewrite ws lent r e = reads_kept _ _ lent r (λ p q. write_kept (words p) 0 lent r q) (read ws) e
 refusal_keeps AllKinds ws lent r e = reads_kept _ _ lent r (λ p q. write_kept (all_kinds_words p) (all_kinds p.relations).steps lent r q) (read ws) e
@@ -187,15 +188,15 @@ refusal_keeps (Filtered f) ws lent r e = reads_kept _ _ lent r (λ p q. write_ke
 refusal_keeps Resolve ws lent r e = reads_kept _ _ lent r (λ p q. outcome_kept (all_kinds p.relations).steps (resolved p) lent r q) (read ws) e
 
 -- an output after an answer that is a refusal, and after one whose number has a refusal's bits
-after-refused : (a : Answer) (written out : List ℕ) (r : Refusal) → a ≡ Refused r → out_after a written out ≡ out
+after-refused : (a : Answer) (written out : List ℕ) (r : Refusal) → a ≡ Err r → out_after a written out ≡ out
 unfolding out_after
-after-refused (Given v s) written out r e = absurd (no_given e)
-after-refused (Refused s) written out r e = refl
+after-refused (Ok g) written out r e = absurd (no_given e)
+after-refused (Err s) written out r e = refl
 
 after_number : (a : Answer) (written out : List ℕ) → (number_field (encode a) ≡ 0 → ⊥) → out_after a written out ≡ out
 unfolding out_after
-after_number (Given v s) written out h = absurd (h (given_number v s))
-after_number (Refused s) written out h = refl
+after_number (Ok g) written out h = absurd (h (given_number g.value g.steps))
+after_number (Err s) written out h = refl
 
 -- ---- the theorems
 
@@ -208,7 +209,7 @@ every_question q =
       host_tells = λ bytes n e. rw e (host_tells (numbers_to q) (to_low q).0 (over_bytes (answer_to q) bytes) (over bytes));
     }
   where
-    over : (bytes : List ℕ) (r : Refusal) → over_bytes (answer_to q) bytes ≡ Refused r → Among r.number (numbers_to q)
+    over : (bytes : List ℕ) (r : Refusal) → over_bytes (answer_to q) bytes ≡ Err r → Among r.number (numbers_to q)
     over = over_numbers (numbers_to q) (answer_to q) (to_numbers q) (to_low q).1
 
 pub every_writing : (w : Writing) → WritingRefuses w
@@ -229,5 +230,5 @@ every_writing w =
     written : List ℕ → List ℕ → List ℕ
     written bytes out = buffer_of w (words_of bytes) (words_of out)
 
-    over : (bytes out : List ℕ) (r : Refusal) → answered bytes out ≡ Refused r → Among r.number (numbers_of w)
+    over : (bytes out : List ℕ) (r : Refusal) → answered bytes out ≡ Err r → Among r.number (numbers_of w)
     over bytes out = over_numbers (numbers_of w) (λ ws. answer_of w ws (length out / 4)) (λ ws. of_numbers w ws (length out / 4)) (of_low w).1 bytes

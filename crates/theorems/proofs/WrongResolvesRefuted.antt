@@ -5,8 +5,8 @@ use mathlib.Core.Path.{◌≡◌, refl, ap, sym, ◌∙◌, subst}
 use mathlib.Core.List.{List, [], ◌∷◌, ◌++◌}
 use mathlib.Core.Option.{none, some}
 use lib.ListN.{drop, get_or}
-use Rattle.definitions.specs.declared.answer.Answer.{Answer}
-use Rattle.definitions.specs.declared.answer.Answer.TheVariants.{Given}
+use Rattle.definitions.specs.Answers.{Answer}
+use Rattle.definitions.specs.Answers.{gives}
 use Rattle.definitions.specs.Table.{word_of, entry_of, table, fields_of, children_of}
 use Rattle.definitions.specs.Table as tables256
 use Rattle.definitions.specs.Form.{words_by, count, items}
@@ -31,7 +31,7 @@ use Rattle.theorems.specs.WrongResolves.{of_two_kinds, turned_rule, with_blocks,
 
 -- ---- nothing else is left
 
-left_where_given : {p q : Pack} {lent lent' after after' : List ℕ} {a b : Answer} → ResolveAlike p q lent lent' a after b after' → {len steps : ℕ} → a ≡ Given len steps → Left p lent len after
+left_where_given : {p q : Pack} {lent lent' after after' : List ℕ} {a b : Answer} → ResolveAlike p q lent lent' a after b after' → {len steps : ℕ} → a ≡ gives len steps → Left p lent len after
 left_where_given {p} {lent = lent} {after = after} (both_resolve {len = n} one other same) {len} e = let s : n ≡ len = cc in subst (λ (t : ℕ). Left p lent t after) s one
 left_where_given (both_equal a b n) e = let z : ◌≡◌ {A = ℕ} 0 1 = cc in absurd (omega arith)
 left_where_given (both_room a b) e = let z : ◌≡◌ {A = ℕ} 0 1 = cc in absurd (omega arith)

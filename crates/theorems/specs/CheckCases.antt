@@ -1,7 +1,8 @@
 -- Worked cases of Check: packs to which it answers yes, and one for each refusal.
+use Rattle.std.specs.Prelude.{Err}
 use Rattle.std.specs.Prelude.{ℕ, ◌≡◌, List, [], ◌∷◌, ◌++◌, replicate}
-use Rattle.definitions.specs.declared.answer.Answer.{Answer}
-use Rattle.definitions.specs.declared.answer.Answer.TheVariants.{Given, Refused}
+use Rattle.definitions.specs.Answers.{Answer}
+use Rattle.definitions.specs.Answers.{gives}
 use Rattle.definitions.specs.Table.{word_of, none}
 use Rattle.definitions.specs.Records.{undated}
 use Rattle.definitions.specs.Pack.{yes, read}
@@ -61,13 +62,13 @@ nested total depth =
     ∷ replicate depth (w 100 0) ++ (w 105 0 ∷ w 28 0 ∷ [])
 
 abbrev pub refused_by : ℕ → ℕ → ℕ → ℕ → Answer
-refused_by number place name other = Refused (record { number = number; place = place; name = name; other = other })
+refused_by number place name other = Err (record { number = number; place = place; name = name; other = other })
 
 pub record ChecksWorked : Type 0 where
   pub smallest-yes : read smallest ≡ yes (record { edition = undated; names = 1; defaulted = []; relations = []; rules = []; blocks = [] })
-  pub full-yes : check_answer full ≡ Given 1 0
+  pub full-yes : check_answer full ≡ gives 1 0
   -- "Depth 32 passes."
-  pub depth_32_yes : check_answer (nested 43 31) ≡ Given 1 0
+  pub depth_32_yes : check_answer (nested 43 31) ≡ gives 1 0
   -- "1 the slice has under 6 or over 8,192 words."
   pub too_short : check_answer (w 1 5 ∷ w 2 1 ∷ w 3 0 ∷ w 5 0 ∷ w 22 0 ∷ []) ≡ refused_by 1 0 0 0
   -- "2 wrong kind": a count of defaulted names where N must stand

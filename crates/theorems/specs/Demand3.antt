@@ -1,10 +1,10 @@
 -- Demand 3: order never matters. What holds of a checked pack and of one dealt out of it, said of what the operations answer and of what they leave in the
 -- buffers. The record at the end has the demand's sentences in order.
+use Rattle.std.specs.Prelude.{Err}
 use Rattle.std.specs.Prelude.{ℕ, ◌+◌, ◌<◌, ◌≡◌, List, [], ◌∷◌, ◌++◌, true, length, drop}
 use Rattle.std.proofs.Math.Option.{Option, none, some, map}
 use Rattle.definitions.specs.declared.answer.Refusal.{Refusal}
-use Rattle.definitions.specs.declared.answer.Answer.{Answer}
-use Rattle.definitions.specs.declared.answer.Answer.TheVariants.{Refused}
+use Rattle.definitions.specs.Answers.{Answer}
 use Rattle.definitions.specs.Form.{among}
 use Rattle.definitions.specs.Records.{Derivation, Relation, Rule, Block, Pack}
 use Rattle.definitions.specs.Pack.{total, words}
@@ -73,11 +73,11 @@ pub data ResolveAlike (p q : Pack) (lent lent' : List ℕ) : Answer → List ℕ
   both_resolve : {len steps : ℕ} {after after' : List ℕ} (one : Left p lent len after) (other : Left q lent' len after') → SameOut p q one.out other.out
       → ResolveAlike p q lent lent' (words_and_steps len steps) after (words_and_steps len steps) after'
   -- both refuse, and the slices are as they were lent: by 9 both, naming the same relation
-  both_equal : {r s : Refusal} → r.number ≡ 9 → s.number ≡ 9 → r.name ≡ s.name → ResolveAlike p q lent lent' (Refused r) lent (Refused s) lent'
+  both_equal : {r s : Refusal} → r.number ≡ 9 → s.number ≡ 9 → r.name ≡ s.name → ResolveAlike p q lent lent' (Err r) lent (Err s) lent'
   -- by 16 both
-  both_room : {r s : Refusal} → r.number ≡ 16 → s.number ≡ 16 → ResolveAlike p q lent lent' (Refused r) lent (Refused s) lent'
+  both_room : {r s : Refusal} → r.number ≡ 16 → s.number ≡ 16 → ResolveAlike p q lent lent' (Err r) lent (Err s) lent'
   -- or each by one of 10 to 15
-  both_open : {r s : Refusal} → InRange r.number → InRange s.number → ResolveAlike p q lent lent' (Refused r) lent (Refused s) lent'
+  both_open : {r s : Refusal} → InRange r.number → InRange s.number → ResolveAlike p q lent lent' (Err r) lent (Err s) lent'
 
 -- ---- kinds
 
@@ -138,8 +138,8 @@ pub record KindsUsed (p : Pack) (answers : ℕ → Answer) : Type 0 where
       ≡ resolve_tree (cites p r.name r.origin) (kind_or_zero (kinds_of p.relations r.name) d.related) (membership (kind_borne p r.name d.current) (kind_borne p r.name d.related))
       (at + predicate_place r d) d.predicate
   -- an answer of 9: just where a defaulted relation has equal kinds, and it names one
-  pub refused_by_9 : (room : ℕ) (r : Refusal) → answers room ≡ Refused r → r.number ≡ 9 → (among r.name p.defaulted ≡ true) × EqualKinds p r.name
-  pub refused_by_9_back : (room n : ℕ) → among n p.defaulted ≡ true → EqualKinds p n → (r : Refusal) × (answers room ≡ Refused r) × (r.number ≡ 9)
+  pub refused_by_9 : (room : ℕ) (r : Refusal) → answers room ≡ Err r → r.number ≡ 9 → (among r.name p.defaulted ≡ true) × EqualKinds p r.name
+  pub refused_by_9_back : (room n : ℕ) → among n p.defaulted ≡ true → EqualKinds p n → (r : Refusal) × (answers room ≡ Err r) × (r.number ≡ 9)
   -- the lists of every relation that comes out into the buffer
   pub lists : (r out : Relation) → relation_out p r ≡ some out → ListsLeft p r out
 

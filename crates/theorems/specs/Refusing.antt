@@ -1,8 +1,8 @@
 -- What the first demand says of refusals: "each operation .. refuses by document 01's numbers alone, and a refusal changes no lent word."
 -- It holds of every operation: `every_question` and `every_writing` (RefusingLaws).
+use Rattle.std.specs.Prelude.{Err}
 use Rattle.std.specs.Prelude.{ℕ, ◌≡◌, true, List, [], ◌∷◌, ◌++◌, ◌⊎◌, length}
 use Rattle.definitions.specs.declared.answer.Refusal.{Refusal}
-use Rattle.definitions.specs.declared.answer.Answer.TheVariants.{Refused}
 use Rattle.definitions.specs.Form.{among}
 use Rattle.definitions.specs.Bytes.{encode, number_field, over_bytes, in_room, Gives}
 use Rattle.definitions.specs.declared.operation.Question.{Question}
@@ -40,11 +40,11 @@ NoneOrAmong number numbers = (number ≡ 0) ⊎ Among number numbers
 
 pub record QuestionRefuses (q : Question) : Type 0 where
   -- "refuses by document 01's numbers alone"
-  pub words_numbers : (ws : List ℕ) (r : Refusal) → answer_to q ws ≡ Refused r → Among r.number (numbers_to q)
-  pub bytes_numbers : (bytes : List ℕ) (r : Refusal) → over_bytes (answer_to q) bytes ≡ Refused r → Among r.number (numbers_to q)
+  pub words_numbers : (ws : List ℕ) (r : Refusal) → answer_to q ws ≡ Err r → Among r.number (numbers_to q)
+  pub bytes_numbers : (bytes : List ℕ) (r : Refusal) → over_bytes (answer_to q) bytes ≡ Err r → Among r.number (numbers_to q)
   pub host_numbers : (bytes : List ℕ) (n : ℕ) → n ≡ encode (over_bytes (answer_to q) bytes) → NoneOrAmong (number_field n) (numbers_to q)
   -- and that number is the refusal's
-  pub host_tells : (bytes : List ℕ) (n : ℕ) → n ≡ encode (over_bytes (answer_to q) bytes) → (r : Refusal) → over_bytes (answer_to q) bytes ≡ Refused r → number_field n ≡ r.number
+  pub host_tells : (bytes : List ℕ) (n : ℕ) → n ≡ encode (over_bytes (answer_to q) bytes) → (r : Refusal) → over_bytes (answer_to q) bytes ≡ Err r → number_field n ≡ r.number
 
 -- ---- the operations that write: with any lent words, any output, and by what the host's function promises of its number and the output after it
 
@@ -53,12 +53,12 @@ Promised w bytes out n after = Gives (answer_of w) (buffer_of w) bytes out n aft
 
 pub record WritingRefuses (w : Writing) : Type 0 where
   -- "refuses by document 01's numbers alone"
-  pub words_numbers : (ws : List ℕ) (room : ℕ) (r : Refusal) → answer_of w ws room ≡ Refused r → Among r.number (numbers_of w)
-  pub bytes_numbers : (bytes out : List ℕ) (r : Refusal) → in_room (answer_of w) (length out) bytes ≡ Refused r → Among r.number (numbers_of w)
+  pub words_numbers : (ws : List ℕ) (room : ℕ) (r : Refusal) → answer_of w ws room ≡ Err r → Among r.number (numbers_of w)
+  pub bytes_numbers : (bytes out : List ℕ) (r : Refusal) → in_room (answer_of w) (length out) bytes ≡ Err r → Among r.number (numbers_of w)
   pub host_numbers : (bytes out : List ℕ) (n : ℕ) (after : List ℕ) → Promised w bytes out n after → NoneOrAmong (number_field n) (numbers_of w)
   -- and that number is the refusal's
-  pub host_tells : (bytes out : List ℕ) (n : ℕ) (after : List ℕ) → Promised w bytes out n after → (r : Refusal) → in_room (answer_of w) (length out) bytes ≡ Refused r → number_field n ≡ r.number
+  pub host_tells : (bytes out : List ℕ) (n : ℕ) (after : List ℕ) → Promised w bytes out n after → (r : Refusal) → in_room (answer_of w) (length out) bytes ≡ Err r → number_field n ≡ r.number
   -- "a refusal changes no lent word": on words; on bytes, where the answer is a refusal; and where the number that is answered says so
-  pub words_kept : (ws lent : List ℕ) (r : Refusal) → answer_of w ws (length lent) ≡ Refused r → buffer_of w ws lent ≡ lent
-  pub bytes_kept : (bytes out : List ℕ) (n : ℕ) (after : List ℕ) → Promised w bytes out n after → (r : Refusal) → in_room (answer_of w) (length out) bytes ≡ Refused r → after ≡ out
+  pub words_kept : (ws lent : List ℕ) (r : Refusal) → answer_of w ws (length lent) ≡ Err r → buffer_of w ws lent ≡ lent
+  pub bytes_kept : (bytes out : List ℕ) (n : ℕ) (after : List ℕ) → Promised w bytes out n after → (r : Refusal) → in_room (answer_of w) (length out) bytes ≡ Err r → after ≡ out
   pub host_kept : (bytes out : List ℕ) (n : ℕ) (after : List ℕ) → Promised w bytes out n after → (number_field n ≡ 0 → ⊥) → after ≡ out

@@ -1,7 +1,7 @@
 -- By which numbers Resolve refuses, at which places and with which names.
+use Rattle.std.specs.Prelude.{Err}
 use Rattle.std.specs.Prelude.{ℕ, ◌<◌, ◌≡◌, List, length}
 use Rattle.definitions.specs.declared.answer.Refusal.{Refusal}
-use Rattle.definitions.specs.declared.answer.Answer.TheVariants.{Refused}
 use Rattle.definitions.specs.Records.{Pack}
 use Rattle.definitions.specs.Pack.{yes, read}
 use Rattle.definitions.specs.Answers.{out_of_room}
@@ -21,4 +21,4 @@ pub data ResolveRefuses (ws : List ℕ) (r : Refusal) : Type 0 where
   checks : CheckRefuses ws r → ResolveRefuses ws r
   equal-kinds : r.number ≡ 9 → WithinPack ws r → ResolveRefuses ws r
   open_direction : InRange r.number → WithinPack ws r → ResolveRefuses ws r
-  no_room : Refused r ≡ out_of_room → ResolveRefuses ws r
+  no_room : Err r ≡ out_of_room → ResolveRefuses ws r

@@ -1,10 +1,10 @@
 -- Four wrong Resolves that are blind to order, each refuted on a small pack: the input copied; lists stamped, but slots left as they stood; blocks dropped;
 -- and one that never gives 9.
+use Rattle.std.specs.Prelude.{Err}
 use Rattle.std.specs.Prelude.{ℕ, ◌≡◌, List, [], ◌∷◌, ◌++◌, drop}
 use Rattle.std.proofs.Math.Option.{some}
 use Rattle.definitions.specs.declared.answer.Refusal.{Refusal}
-use Rattle.definitions.specs.declared.answer.Answer.{Answer}
-use Rattle.definitions.specs.declared.answer.Answer.TheVariants.{Refused}
+use Rattle.definitions.specs.Answers.{Answer}
 use Rattle.definitions.specs.Table as tables256
 use Rattle.definitions.specs.Records.{Relation, Rule, Block, Pack}
 use Rattle.definitions.specs.Pack.{words, total}
@@ -54,4 +54,4 @@ pub record WrongOnes : Type 0 where
   pub input-copied : Refuted copied copied
   pub slots_left : Refuted not_stamped only_stamped
   pub blocks-dropped : Refuted with_ablock dropped
-  pub never_9 : (answers : ℕ → Answer) → ((room : ℕ) (r : Refusal) → answers room ≡ Refused r → r.number ≡ 9 → ⊥) → KindsUsed equal_kinds_defaulted answers → ⊥
+  pub never_9 : (answers : ℕ → Answer) → ((room : ℕ) (r : Refusal) → answers room ≡ Err r → r.number ≡ 9 → ⊥) → KindsUsed equal_kinds_defaulted answers → ⊥

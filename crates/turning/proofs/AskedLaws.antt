@@ -2,6 +2,7 @@
 use Prim.Native.Nat.{ℕ, suc, ◌+◌}
 use native.Mathlib.Omega.{arith}
 use mathlib.Core.Path.{◌≡◌, refl, ap, sym, ◌∙◌}
+use Rattle.std.proofs.Math.Bool.{or_assoc, and-false}
 use mathlib.Core.List.{List, [], ◌∷◌, ◌++◌, append_assoc}
 use mathlib.Core.Bool.{Bool, true, false, ◌||◌, ◌&&◌}
 use lib.ListN.{length, length-append}
@@ -23,10 +24,6 @@ use Rattle.turning.specs.Turns.{value_in, kind_here}
 use Rattle.turning.specs.Asked.{some_note}
 use Rattle.turning.proofs.FlatLaws.{Sound, Sounds, kind-there, value_there}
 use Rattle.turning.proofs.RecordFlat.{body-tree}
-
-or_assoc : (a b c : Bool) → ((a || b) || c) ≡ (a || (b || c))
-or_assoc true b c = refl
-or_assoc false b c = refl
 
 pub any_append : {A : Type 0} (f : A → Bool) (l m : List A) → any f (l ++ m) ≡ (any f l || any f m)
 any_append f [] m = refl
@@ -102,16 +99,12 @@ other-kind k e = (λ q. no (sym (ap (λ (x : ℕ). noted x) q) ∙ e), λ q. no 
     no : true ≡ false → ⊥
     no z = let y : ◌≡◌ {A = ℕ} 0 1 = cc in omega arith
 
-and_false : (b : Bool) → (b && false) ≡ false
-and_false true = refl
-and_false false = refl
-
 pub role_others : AllNoted role_judgment
 role_others = record { others = λ k v e. go k (other-kind k e) (ltb k 102) refl }
   where
     go : (k : ℕ) → (k ≡ 102 → ⊥) × (k ≡ 103 → ⊥) × (k ≡ 104 → ⊥) → (b : Bool) → ltb k 102 ≡ b → (leb 102 k && leb k 104) ≡ false
     go k h true q = let l = ltb-true k 102 q in rw (lt-leb 102 k l) refl
-    go k h false q = let l = ltb-false k 102 q in let x = h.0 in let y = h.1 in let z = h.2 in rw (lt-leb k 104 (omega arith)) (and_false (leb 102 k))
+    go k h false q = let l = ltb-false k 102 q in let x = h.0 in let y = h.1 in let z = h.2 in rw (lt-leb k 104 (omega arith)) (and-false (leb 102 k))
 
 pub atom_others : (name : ℕ) → AllNoted (atom_of name)
 atom_others name = record { others = λ k v e. let h = other-kind k e in rw (ne_eqb k 102 h.0, ne_eqb k 103 h.1) refl }

@@ -1,10 +1,9 @@
 -- Of a checked pack, what the functions that turn notes ask for.
-use Prim.Native.Nat.{ℕ, zero, suc, ◌+◌, ◌<◌}
+use Prim.Native.Nat.{ℕ, suc, ◌+◌, ◌<◌}
 use native.Mathlib.Omega.{arith}
-use mathlib.Core.Path.{◌≡◌, refl, ap, ◌∙◌, fun_ext}
+use mathlib.Core.Path.{◌≡◌, refl, fun_ext}
 use mathlib.Core.List.{List, [], ◌∷◌}
 use mathlib.Core.Bool.{Bool, true, false}
-use mathlib.Core.Option.{Option, none, some}
 use lib.ListN.{length}
 use lib.Dec.{eqb}
 use borrow.Author.Tests.{eqb-true, eqb-false}
@@ -17,14 +16,12 @@ use Rattle.filtered.specs.Taking as taking
 use Rattle.definitions.specs.Tables.{tables}
 use Rattle.directions.specs.Words.{tables_in}
 use Rattle.definitions.specs.Inputs.{input}
-use Rattle.inputs.specs.Blocks.{input_in}
-use Rattle.inputs.proofs.InputRead.{number_of}
+use Rattle.inputs.specs.Blocks.{input_in, refused_by}
 use Rattle.inputs.proofs.BlocksStand.{reads_inputs}
-use Rattle.directions.proofs.Numbers.{OfInput, input_numbered}
 use Rattle.directions.proofs.CheckedTables.{tables-are}
 use Rattle.turning.specs.Notes.{Note, notes_of_pack}
 use Rattle.turning.specs.Turns.{known_of}
-use Rattle.turning.specs.TurnPromises.{or_not, known_in, Stands, Placed}
+use Rattle.turning.specs.TurnPromises.{known_in, Stands, Placed}
 use Rattle.turning.specs.Asked.{InWords}
 use Rattle.turning.proofs.PlacedLaws.{all_placed}
 
@@ -43,16 +40,11 @@ placed_in ws i (n ∷ ns) h = (h.0.near, inside-words ws i n h.0, placed_in ws (
 pub notes-inside : (p : Pack) → WellFormed p → InWords (words p) (notes_of_pack p)
 notes-inside p w = placed_in (words p) 1 (notes_of_pack p) (all_placed p w)
 
-number_again : (o : Option ℕ) → OfInput o → or_not (number_of o) ≡ o
-number_again none h = refl
-number_again (some zero) h = absurd (omega (arith, h.0))
-number_again (some (suc n)) h = refl
-
 -- the tables and the inputs are what is known of the pack
 pub known_is : (ws acts taken : List ℕ) (p : Pack) → read ws ≡ yes p → ActsOf ws acts → taking.KnowsEntities ws taken → {at : ℕ} → BlocksAt ws at → known_in ws acts taken (at + 1) (value_at ws at) ≡ known_of p
 known_is ws acts taken p h says knows {at} e =
     let t : tables_in ws acts taken ≡ tables p.relations = tables-are ws acts taken p h says knows in
     let r = reads_inputs ws p h e in
-    let i : (λ (origin owner n : ℕ). or_not (input_in ws (at + 1) (value_at ws at) origin owner n)) ≡ input p.blocks =
-    fun_ext (λ origin. fun_ext (λ owner. fun_ext (λ n. ap or_not (r.inputs origin owner n) ∙ number_again (input p.blocks origin owner n) (input_numbered p.blocks origin owner n)))) in
+    let i : (λ (origin owner n : ℕ). refused_by (input_in ws (at + 1) (value_at ws at) origin owner n)) ≡ input p.blocks =
+    fun_ext (λ origin. fun_ext (λ owner. fun_ext (λ n. r.inputs origin owner n))) in
     λ j. record { tables = t j; input = i j }

@@ -16,10 +16,9 @@ use Rattle.definitions.specs.Pack.{WellFormed, yes, read, total, body, rule}
 use Rattle.pack.proofs.PackLaws.{words-read, words-length}
 use Rattle.reading.specs.Noting.{next_note, note_tree, push_all}
 use Rattle.reading.proofs.NotesLaws.{push-long, push-count, all-long, all-count, all_append, all_sets, shaped, noted-tree}
-use Rattle.records.specs.Directory.{notes_all, relations_at, rules_at, Clear, layout_of}
+use Rattle.records.specs.Directory.{notes_all, relations_at, rules_at, Clear, Laid, layout_of}
 use Rattle.records.specs.declared.directory.Layout.{Layout}
-use Rattle.records.specs.declared.directory.Laid.{Laid}
-use Rattle.records.specs.declared.directory.Laid.TheVariants.{Yes}
+use Rattle.std.specs.Prelude.{Ok}
 use Rattle.checking.specs.CheckPromises.{CheckedNotes}
 use Rattle.records.specs.Notes.{opened, inside, note_body, body_at, note_bodies, note_rule, note_optional, note_predicate, relations_left, notes_left}
 use Rattle.checking.proofs.CheckLaws.{clear-zeros}
@@ -234,14 +233,14 @@ module _ (p : Pack) (w : WellFormed p) (e : List ℕ) (long : 0 < length e) (bla
       }
 
 -- of a pack that was checked
-pub noted-there : {ws d e d' e' : List ℕ} {r : Laid} → CheckedNotes ws d e r d' e' → {l : Layout} → r ≡ Yes l → 0 < length e → get_or e 0 0 ≡ 0 → length ws < length e → (p : Pack) → read ws ≡ yes p
+pub noted-there : {ws d e d' e' : List ℕ} {r : Laid} → CheckedNotes ws d e r d' e' → {l : Layout} → r ≡ Ok l → 0 < length e → get_or e 0 0 ≡ 0 → length ws < length e → (p : Pack) → read ws ≡ yes p
     → NotesIn p e' l.noted l.all
 unfolding layout_of
 noted-there {ws} {e = e} {e' = e'} {r = r} c {l} o long blank room p h =
     let was = words-read ws p h in
     let size : total p ≡ length ws = sym (words-length p) ∙ ap length was.same in
     let first = relations_left p.names 2 (to_row p).1 e in
-    let q : Yes l ≡ Yes (layout_of p.names 2 (length ws) (to_row p).1 (get_or first 0 0) (get_or (notes_left p.names 2 (to_row p).1 e) 0 0)) = sym o ∙ c.lays p h in
+    let q : ◌≡◌ {A = Laid} (Ok l) (Ok (layout_of p.names 2 (length ws) (to_row p).1 (get_or first 0 0) (get_or (notes_left p.names 2 (to_row p).1 e) 0 0))) = sym o ∙ c.lays p h in
     let same : l ≡ layout_of p.names 2 (length ws) (to_row p).1 (get_or first 0 0) (get_or (notes_left p.names 2 (to_row p).1 e) 0 0) = cc in
     let k = notes_in p was.fine e long blank (omega (arith, size, room)) in
     let left = c.notes p h in

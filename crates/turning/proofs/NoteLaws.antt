@@ -1,5 +1,5 @@
 -- A note as the code turns it.
-use Prim.Native.Nat.{ℕ, zero, suc, ◌+◌, ◌-◌, ◌/◌, ◌%◌, ◌<◌, ◌≤◌}
+use Prim.Native.Nat.{ℕ, zero, suc, ◌+◌, ◌<◌, ◌≤◌}
 use native.Mathlib.Omega.{arith}
 use mathlib.Core.Path.{◌≡◌, refl, ap, sym, ◌∙◌, subst}
 use mathlib.Core.List.{List, [], ◌∷◌}
@@ -16,14 +16,18 @@ use Rattle.definitions.specs.Answers.{Outcome, done, refused}
 use Rattle.definitions.specs.ResolvingTrees.{Citing, current_of, related_of, with_slots, NodeStep, goes, stops, node_step}
 use Rattle.directions.specs.Words.{member_in}
 use Rattle.turning.specs.declared.step.Out.{Out}
-use Rattle.turning.specs.declared.step.Out.TheVariants.{Opens, Sets, Passes, Stops}
+use Rattle.turning.specs.declared.step.Out.TheVariants.{Opens, Sets, Passes}
+use Rattle.definitions.specs.declared.answer.Refusal.{Refusal}
+use Rattle.turning.specs.declared.step.Node.{Node}
+use Rattle.turning.specs.declared.known.Known.{Known}
+use Rattle.turning.specs.declared.note.Note as taken
 use Rattle.turning.specs.declared.root.Root as code
-use Rattle.turning.specs.declared.turns.Next.TheVariants as next
+use Rattle.std.specs.Prelude.{Result, Ok, Err}
 use Rattle.turning.specs.Notes.{Note, look_of, note_code}
-use Rattle.turning.specs.Turns.{inside_of, KnownTables, citing, Work, work, value_in, kind_here, rule_root, relation_root, held, fields_at, step_at, turned_by, open_root, turn_node, turn_note}
-use Rattle.turning.specs.TurnPromises.{known_in, NodeStands, Stands, out_by, out_at, OutFits, StepTaken, root_in, RootStands, RootOpened, NextBy, NoteAsked, NoteTurned}
+use Rattle.turning.specs.Turns.{field_of, note_in, KnownTables, Root, citing, Work, work, value_in, kind_here, rule_root, relation_root, held, fields_at, step_at, turned_by, open_root, turn_node, turn_note}
+use Rattle.turning.specs.TurnPromises.{known_by, NodeStands, Stands, out_by, out_at, told_by, OutFits, StepTaken, root_in, RootStands, RootOpened, NextBy, NoteAsked, NoteTurned}
 use Rattle.turning.proofs.FlatLaws.{Leaves, look-leaves}
-use Rattle.turning.proofs.CodeLaws.{code_parts}
+use Rattle.turning.proofs.CodeLaws.{as_read, is_note, read_is}
 use Rattle.turning.proofs.StepLaws.{two_fields, two_or_more, three_words}
 
 -- ---- what a step's answer does
@@ -31,11 +35,11 @@ use Rattle.turning.proofs.StepLaws.{two_fields, two_or_more, three_words}
 abbrev slot_words : ℕ → ℕ → List ℕ
 slot_words c r = word_of 80 c ∷ word_of 81 r ∷ []
 
-abbrev applied : ℕ → ℕ → Work → Out → Outcome Work
-applied i at s (Opens c r k) = done (work (sets s.words (at + 1) (slot_words c r)) (set s.results i k) s.root)
-applied i at s (Sets c r) = done (work (sets s.words (at + 1) (slot_words c r)) s.results s.root)
-applied i at s Passes = done s
-applied i at s (Stops number other) = refused (record { number = number; place = at; name = s.root.name; other = other })
+abbrev applied : ℕ → ℕ → Work → Result Out Refusal → Outcome Work
+applied i at s (Ok (Opens c r k)) = done (work (sets s.words (at + 1) (slot_words c r)) (set s.results i k) s.root)
+applied i at s (Ok (Sets c r)) = done (work (sets s.words (at + 1) (slot_words c r)) s.results s.root)
+applied i at s (Ok Passes) = done s
+applied i at s (Err x) = refused x
 
 module _ (C : Citing) (ws : List ℕ) (at i : ℕ) (s : Work) (st : NodeStands ws at) (has : (look_of (kind_here ws at)).slots ≡ true) where
   slotted-words : (fs : Fields) (n c r : ℕ) → length (fields_of (entry_of (kind_here ws at)).follows) ≡ suc (suc n) → fs ≡ with_slots c r (fields_at ws (at + 1) (suc (suc n))) → take 2 (field_words fs) ≡ slot_words (current_of fs) (related_of fs)
@@ -45,19 +49,19 @@ module _ (C : Citing) (ws : List ℕ) (at i : ℕ) (s : Work) (st : NodeStands w
       rw f refl
 
   by_step : (entity : ℕ) (m : Membership) (lost : Bool) (n : ℕ) → length (fields_of (entry_of (kind_here ws at)).follows) ≡ suc (suc n) → (p : NodeStep) → Leaves entity m lost (entry_of (kind_here ws at)).follows (fields_at ws (at + 1) (suc (suc n))) p → (b : Bool)
-      → turned_by b i at s p ≡ applied i at s (out_by b p)
+      → turned_by b i at s p ≡ applied i at s (told_by s.root.name at (out_by b p))
   by_step entity m lost n e (stops number other) l true = refl
   by_step entity m lost n e (stops number other) l false = refl
   by_step entity m lost n e (goes fs k first rest) l true = ap (λ (x : List ℕ). done (work (sets s.words (at + 1) x) (set s.results i k) s.root)) (slotted-words fs n l.2.0 l.2.1 e l.2.2)
   by_step entity m lost n e (goes fs k first rest) l false = ap (λ (x : List ℕ). done (work (sets s.words (at + 1) x) s.results s.root)) (slotted-words fs n l.2.0 l.2.1 e l.2.2)
 
-  slots_turned : (entity : ℕ) (m : Membership) (lost : Bool) → turned_by (look_of (kind_here ws at)).opens i at s (step_at C entity (held lost m) ws at) ≡ applied i at s (out_by (look_of (kind_here ws at)).opens (step_at C entity (held lost m) ws at))
+  slots_turned : (entity : ℕ) (m : Membership) (lost : Bool) → turned_by (look_of (kind_here ws at)).opens i at s (step_at C entity (held lost m) ws at) ≡ applied i at s (told_by s.root.name at (out_by (look_of (kind_here ws at)).opens (step_at C entity (held lost m) ws at)))
   unfolding step_at
   slots_turned entity m lost = by (length (fields_of (entry_of (kind_here ws at)).follows)) refl (two_or_more (entry_of (kind_here ws at)).follows has)
     where
       by : (n : ℕ) → length (fields_of (entry_of (kind_here ws at)).follows) ≡ n → 2 ≤ n
           → turned_by (look_of (kind_here ws at)).opens i at s (node_step C entity (held lost m) (entry_of (kind_here ws at)).follows (value_in ws at) (fields_at ws (at + 1) n))
-          ≡ applied i at s (out_by (look_of (kind_here ws at)).opens (node_step C entity (held lost m) (entry_of (kind_here ws at)).follows (value_in ws at) (fields_at ws (at + 1) n)))
+          ≡ applied i at s (told_by s.root.name at (out_by (look_of (kind_here ws at)).opens (node_step C entity (held lost m) (entry_of (kind_here ws at)).follows (value_in ws at) (fields_at ws (at + 1) n))))
       by zero e h = absurd (omega arith)
       by (suc zero) e h = absurd (omega arith)
       by (suc (suc n)) e h =
@@ -65,128 +69,120 @@ module _ (C : Citing) (ws : List ℕ) (at i : ℕ) (s : Work) (st : NodeStands w
           (look-leaves C entity m lost (entry_of (kind_here ws at)).follows (value_in ws at) (fields_at ws (at + 1) (suc (suc n))) has) (look_of (kind_here ws at)).opens
 
 node_turned : (K : KnownTables) (ws : List ℕ) (i : ℕ) (n : Note) (s : Work) → NodeStands ws n.place
-    → turn_node K ws i n s ≡ applied i n.place s (out_at (citing K s.root) (get_or s.results n.inside 0) (held n.lost s.root.member) ws n.place)
+    → turn_node K ws i n s ≡ applied i n.place s (told_by s.root.name n.place (out_at (citing K s.root) (get_or s.results n.inside 0) (held n.lost s.root.member) ws n.place))
 unfolding turn_node out_at
 node_turned K ws i n s st = go (look_of (kind_here ws n.place)).slots refl
   where
     go : (b : Bool) → (look_of (kind_here ws n.place)).slots ≡ b
         → pick b (turned_by (look_of (kind_here ws n.place)).opens i n.place s (step_at (citing K s.root) (get_or s.results n.inside 0) (held n.lost s.root.member) ws n.place)) (done s)
-        ≡ applied i n.place s (pick b (out_by (look_of (kind_here ws n.place)).opens (step_at (citing K s.root) (get_or s.results n.inside 0) (held n.lost s.root.member) ws n.place)) Passes)
+        ≡ applied i n.place s (told_by s.root.name n.place (pick b (out_by (look_of (kind_here ws n.place)).opens (step_at (citing K s.root) (get_or s.results n.inside 0) (held n.lost s.root.member) ws n.place)) (Ok Passes)))
     go true e = slots_turned (citing K s.root) ws n.place i s st e (get_or s.results n.inside 0) s.root.member n.lost
     go false e = refl
 
--- ---- a note by its number
-
-module _ (notes : List ℕ) {ws : List ℕ} {i : ℕ} (n : Note) (is : get_or notes i 0 ≡ note_code n) (st : Stands ws i n) where
-  pub its-field : get_or notes i 0 % 8192 ≡ n.place + 1
-  its-field = ap (λ (x : ℕ). x % 8192) is ∙ (code_parts n st.near).field
-
-  pub its-place : get_or notes i 0 % 8192 - 1 ≡ n.place
-  its-place = let e = its-field in omega arith
-
-  pub its-inside : get_or notes i 0 / 16384 ≡ n.inside
-  its-inside = ap inside_of is ∙ (code_parts n st.near).inside
-
-  pub inside-below : get_or notes i 0 / 16384 < i
-  inside-below = rw its-inside st.within
-
 -- ---- as the code has it
 
-module _ {ws words notes : List ℕ} {blocks count i : ℕ} (a : NoteAsked ws words notes blocks count i) where
-  pub some_field : 1 ≤ get_or notes i 0 % 8192
-  some_field = let e = its-field notes a.n a.is a.stands in omega arith
+module _ {ws words notes : List ℕ} {i : ℕ} (a : NoteAsked ws words notes i) where
+  pub some_field : 1 ≤ field_of (get_or notes i 0)
+  some_field = is_note a.n a.is a.stands.near
 
-  pub earlier : get_or notes i 0 / 16384 < length notes
-  earlier = let b = inside-below notes a.n a.is a.stands in let c = a.inside in omega arith
+  module _ {note : taken.Note} (q : note ≡ note_in (get_or notes i 0)) where
+    same-note : note ≡ as_read a.n
+    same-note = read_is a.n a.is a.stands.near q
 
-  pub node-stands : (inside_of (get_or notes i 0) ≡ 0 → ⊥) → NodeStands ws (get_or notes i 0 % 8192 - 1)
-  node-stands h = rw (its-place notes a.n a.is a.stands) (a.stands.node (λ e. h (its-inside notes a.n a.is a.stands ∙ e)))
+    pub earlier : note.inside < length notes
+    earlier = let e : note.inside ≡ a.n.inside = ap (λ (x : taken.Note). x.inside) same-note in let b = a.stands.within in let c = a.inside in omega arith
 
-  pub root_stands : inside_of (get_or notes i 0) ≡ 0 → RootStands ws (get_or notes i 0 % 8192 - 1)
-  root_stands h = rw (its-place notes a.n a.is a.stands) (a.stands.root (sym (its-inside notes a.n a.is a.stands) ∙ h))
+    pub node-stands : (note.inside ≡ 0 → ⊥) → NodeStands ws note.place
+    node-stands h = rw same-note (a.stands.node (λ e. h (ap (λ (x : taken.Note). x.inside) same-note ∙ e)))
 
-module _ (ws acts taken words notes : List ℕ) (blocks count i : ℕ) (r : code.Root) where
+    pub root_stands : note.inside ≡ 0 → RootStands ws note.place
+    root_stands h = rw same-note (a.stands.root (sym (ap (λ (x : taken.Note). x.inside) same-note) ∙ h))
+
+module _ (k : Known) (words notes : List ℕ) (i : ℕ) (r : code.Root) {note : taken.Note} (q : note ≡ note_in (get_or notes i 0)) where
+  abbrev ws : List ℕ
+  ws = k.pack.now
+
   abbrev K : KnownTables
-  K = known_in ws acts taken blocks count
+  K = known_by k
+
+  same : (n : Note) → get_or notes i 0 ≡ note_code n → Stands ws i n → note ≡ as_read n
+  same n is st = read_is n is st.near q
 
   -- a rule or relation
-  pub opens-root : inside_of (get_or notes i 0) ≡ 0 → {x : code.Root} → RootOpened ws acts (get_or notes i 0 % 8192 - 1) x → NoteTurned ws acts taken blocks count i r words notes (next.On x) words (set notes i x.entity)
+  pub opens-root : note.inside ≡ 0 → {x : code.Root} → RootOpened k note.place x → NoteTurned k i r words notes (Ok x) words (set notes i x.entity)
   unfolding turn_note open_root
-  opens-root h {x} o = record { each = each; long = refl; wide = length-set notes i x.entity; others = λ j q. get_or-set_other notes i j x.entity 0 q }
+  opens-root h {x} o = record { each = each; long = refl; wide = length-set notes i x.entity; others = λ j z. get_or-set_other notes i j x.entity 0 z }
     where
-      each : (n : Note) → get_or notes i 0 ≡ note_code n → Stands ws i n → NextBy ws (turn_note K ws i n (work words notes (root_in ws r))) (next.On x) words (set notes i x.entity)
-      each n is st = rw (eq-eqb n.inside 0 (sym (its-inside notes n is st) ∙ h)) (go (eqb (kind_here ws n.place) 23) refl (subst (λ (y : ℕ). RootOpened ws acts y x) (its-place notes n is st) o))
+      each : (n : Note) → get_or notes i 0 ≡ note_code n → Stands ws i n → NextBy ws (turn_note K ws i n (work words notes (root_in ws r))) (Ok x) words (set notes i x.entity)
+      each n is st = rw (eq-eqb n.inside 0 (sym (ap (λ (y : taken.Note). y.inside) (same n is st)) ∙ h)) (go (eqb (kind_here ws n.place) 23) refl (subst (λ (y : taken.Note). RootOpened k y.place x) (same n is st) o))
         where
-          go : (b : Bool) → eqb (kind_here ws n.place) 23 ≡ b → RootOpened ws acts n.place x
-              → NextBy ws (done (pick b (work words (set notes i (value_in ws (n.place + 2))) (rule_root ws n.place)) (work words (set notes i (related_kind (K.tables.derived (value_in ws n.place)))) (relation_root K ws n.place)))) (next.On x) words (set notes i x.entity)
+          go : (b : Bool) → eqb (kind_here ws n.place) 23 ≡ b → RootOpened k n.place x
+              → NextBy ws (done (pick b (work words (set notes i (value_in ws (n.place + 2))) (rule_root ws n.place)) (work words (set notes i (related_kind (K.tables.derived (value_in ws n.place)))) (relation_root K ws n.place)))) (Ok x) words (set notes i x.entity)
           go true e p = let q = p.rule (eqb-true (kind_here ws n.place) 23 e) in (x, refl, q.1, refl, ap (set notes i) q.0)
-          go false e p = let q = p.relation (eqb-false (kind_here ws n.place) 23 e) taken blocks count in (x, refl, q.1, refl, ap (set notes i) q.0)
+          go false e p = let q = p.relation (eqb-false (kind_here ws n.place) 23 e) in (x, refl, q.1, refl, ap (set notes i) q.0)
 
   -- a node: what came of its step
-  module _ (h : inside_of (get_or notes i 0) ≡ 0 → ⊥) (μ : ℕ) (keep : (n : Note) → get_or notes i 0 ≡ note_code n → n.place + 1 < 8192 → (v : List ℕ) → member_in v μ ≡ held n.lost (member_in v r.own)) {o : Out}
-      (t : StepTaken ws acts taken blocks count r.origin (get_or notes (get_or notes i 0 / 16384) 0) (member_in ws μ) (get_or notes i 0 % 8192 - 1) o) where
+  module _ (h : note.inside ≡ 0 → ⊥) (μ : ℕ) (keep : (v : List ℕ) → member_in v μ ≡ held note.lost (member_in v r.own)) {o : Result Out Refusal}
+      (t : StepTaken k (record { at = note.place; entity = get_or notes note.inside 0; own = μ; root = r }) o) where
     its_outcome : (n : Note) → get_or notes i 0 ≡ note_code n → Stands ws i n → turn_note K ws i n (work words notes (root_in ws r)) ≡ applied i n.place (work words notes (root_in ws r)) o
     unfolding turn_note
     its_outcome n is st =
-        let away : n.inside ≡ 0 → ⊥ = λ e. h (its-inside notes n is st ∙ e) in
-        let step : o ≡ out_at (citing K (root_in ws r)) (get_or notes n.inside 0) (held n.lost (member_in ws r.own)) ws n.place =
-        t.each (root_in ws r) refl ∙ λ j. out_at (citing K (root_in ws r)) (get_or notes (its-inside notes n is st j) 0) (keep n is st.near ws j) ws (its-place notes n is st j) in
+        let e : note ≡ as_read n = same n is st in
+        let away : n.inside ≡ 0 → ⊥ = λ z. h (ap (λ (x : taken.Note). x.inside) e ∙ z) in
+        let step : o ≡ told_by r.name n.place (out_at (citing K (root_in ws r)) (get_or notes n.inside 0) (held n.lost (member_in ws r.own)) ws n.place) =
+        t.each (root_in ws r) refl ∙ ap (λ (m : Membership). told_by r.name note.place (out_at (citing K (root_in ws r)) (get_or notes note.inside 0) m ws note.place)) (keep ws)
+        ∙ ap (λ (x : taken.Note). told_by r.name x.place (out_at (citing K (root_in ws r)) (get_or notes x.inside 0) (held x.lost (member_in ws r.own)) ws x.place)) e in
         rw (ne_eqb n.inside 0 away) (node_turned K ws i n (work words notes (root_in ws r)) (st.node away) ∙ ap (applied i n.place (work words notes (root_in ws r))) (sym step))
 
-    abbrev at : ℕ
-    at = get_or notes i 0 % 8192 - 1
+    its-place : (n : Note) → get_or notes i 0 ≡ note_code n → Stands ws i n → note.place ≡ n.place
+    its-place n is st = ap (λ (x : taken.Note). x.place) (same n is st)
 
-    pub note-opens : {c s k : ℕ} → o ≡ Opens c s k → {left : List ℕ} → left ≡ sets words (at + 1) (slot_words c s) → NoteTurned ws acts taken blocks count i r words notes (next.On r) left (set notes i k)
-    note-opens {c} {s} {k} e {left} q =
+    pub note-opens : {c s y : ℕ} → o ≡ Ok (Opens c s y) → {left : List ℕ} → left ≡ sets words (note.place + 1) (slot_words c s) → NoteTurned k i r words notes (Ok r) left (set notes i y)
+    note-opens {c} {s} {y} e {left} q =
         record {
-          others = λ j z. get_or-set_other notes i j k 0 z;
-          wide = length-set notes i k;
-          each = λ n is st. rw (its_outcome n is st, e) (r, refl, refl, q ∙ ap (λ (x : ℕ). sets words (x + 1) (slot_words c s)) (its-place notes n is st), refl);
-          long = ap length q ∙ length-sets words (at + 1) (slot_words c s);
+          others = λ j z. get_or-set_other notes i j y 0 z;
+          wide = length-set notes i y;
+          each = λ n is st. rw (its_outcome n is st, e) (r, refl, refl, q ∙ ap (λ (x : ℕ). sets words (x + 1) (slot_words c s)) (its-place n is st), refl);
+          long = ap length q ∙ length-sets words (note.place + 1) (slot_words c s);
         }
 
-    pub note_sets : {c s : ℕ} → o ≡ Sets c s → {left : List ℕ} → left ≡ sets words (at + 1) (slot_words c s) → NoteTurned ws acts taken blocks count i r words notes (next.On r) left notes
+    pub note_sets : {c s : ℕ} → o ≡ Ok (Sets c s) → {left : List ℕ} → left ≡ sets words (note.place + 1) (slot_words c s) → NoteTurned k i r words notes (Ok r) left notes
     note_sets {c} {s} e {left} q =
         record {
           others = λ j z. refl;
           wide = refl;
-          each = λ n is st. rw (its_outcome n is st, e) (r, refl, refl, q ∙ ap (λ (x : ℕ). sets words (x + 1) (slot_words c s)) (its-place notes n is st), refl);
-          long = ap length q ∙ length-sets words (at + 1) (slot_words c s);
+          each = λ n is st. rw (its_outcome n is st, e) (r, refl, refl, q ∙ ap (λ (x : ℕ). sets words (x + 1) (slot_words c s)) (its-place n is st), refl);
+          long = ap length q ∙ length-sets words (note.place + 1) (slot_words c s);
         }
 
-    pub note_passes : o ≡ Passes → NoteTurned ws acts taken blocks count i r words notes (next.On r) words notes
+    pub note_passes : o ≡ Ok Passes → NoteTurned k i r words notes (Ok r) words notes
     note_passes e = record { each = λ n is st. rw (its_outcome n is st, e) (r, refl, refl, refl, refl); long = refl; wide = refl; others = λ j z. refl }
 
-    pub note-stops : {number other : ℕ} → o ≡ Stops number other → NoteTurned ws acts taken blocks count i r words notes (next.Refused (record { number = number; place = at; name = r.name; other = other })) words notes
-    note-stops {number} {other} e =
-        record {
-          each = λ n is st. rw (its_outcome n is st, e) (ap (λ (x : ℕ). next.Refused (record { number = number; place = x; name = r.name; other = other })) (its-place notes n is st));
-          long = refl;
-          wide = refl;
-          others = λ j z. refl;
-        }
+    pub note-stops : {x : Refusal} → o ≡ Err x → NoteTurned k i r words notes (Err x) words notes
+    note-stops {x} e = record { each = λ n is st. rw (its_outcome n is st, e) refl; long = refl; wide = refl; others = λ j z. refl }
 
-pub out-fits : {o : Out} {c r k : ℕ} → o ≡ Opens c r k → OutFits o → (c < 16777216) × (r < 16777216)
-out-fits e h = rw e at h
+-- what a step sets fits into words
+pub opens-fit : {o : Result Out Refusal} {c r y : ℕ} → o ≡ Ok (Opens c r y) → OutFits o → (c < 16777216) × (r < 16777216)
+opens-fit e h = rw e at h
 
-pub set-fits : {o : Out} {c r : ℕ} → o ≡ Sets c r → OutFits o → (c < 16777216) × (r < 16777216)
-set-fits e h = rw e at h
+pub sets-fit : {o : Result Out Refusal} {c r : ℕ} → o ≡ Ok (Sets c r) → OutFits o → (c < 16777216) × (r < 16777216)
+sets-fit e h = rw e at h
 
 -- a node whose slots are set has them
-pub sets_slots : (C : Citing) (entity : ℕ) (m : Membership) (ws : List ℕ) (at : ℕ) {o : Out} → o ≡ out_at C entity m ws at → (o ≡ Passes → ⊥) → (look_of (kind_here ws at)).slots ≡ true
+sets_slots : (C : Citing) (entity : ℕ) (m : Membership) (ws : List ℕ) (at name : ℕ) {o : Result Out Refusal} → o ≡ told_by name at (out_at C entity m ws at) → (o ≡ Ok Passes → ⊥) → (look_of (kind_here ws at)).slots ≡ true
 unfolding out_at
-sets_slots C entity m ws at {o} e h = go (look_of (kind_here ws at)).slots refl e
+sets_slots C entity m ws at name {o} e h = go (look_of (kind_here ws at)).slots refl e
   where
-    go : (b : Bool) → (look_of (kind_here ws at)).slots ≡ b → o ≡ pick b (out_by (look_of (kind_here ws at)).opens (step_at C entity m ws at)) Passes → (look_of (kind_here ws at)).slots ≡ true
+    go : (b : Bool) → (look_of (kind_here ws at)).slots ≡ b → o ≡ told_by name at (pick b (out_by (look_of (kind_here ws at)).opens (step_at C entity m ws at)) (Ok Passes)) → (look_of (kind_here ws at)).slots ≡ true
     go true q e = q
     go false q e = absurd (h e)
 
-module _ {ws acts taken : List ℕ} {blocks count origin entity : ℕ} {m : Membership} {at : ℕ} {o : Out} (t : StepTaken ws acts taken blocks count origin entity m at o) where
-  its-slots : (o ≡ Passes → ⊥) → (look_of (kind_here ws at)).slots ≡ true
-  its-slots h = sets_slots (citing (known_in ws acts taken blocks count) (record { name = 0; origin = origin; member = none })) entity m ws at (t.each (record { name = 0; origin = origin; member = none }) refl) h
+module _ (k : Known) (n : Node) {o : Result Out Refusal} (t : StepTaken k n o) where
+  its-slots : (o ≡ Ok Passes → ⊥) → (look_of (kind_here k.pack.now n.at)).slots ≡ true
+  its-slots h = let root : Root = record { name = 0; origin = n.root.origin; member = none } in sets_slots (citing (known_by k) root) n.entity (member_in k.pack.now n.own) k.pack.now n.at n.root.name (t.each root refl) h
 
-  pub opens_some : {c r k : ℕ} → o ≡ Opens c r k → (look_of (kind_here ws at)).slots ≡ true
+  pub opens_some : {c r y : ℕ} → o ≡ Ok (Opens c r y) → (look_of (kind_here k.pack.now n.at)).slots ≡ true
   opens_some e = its-slots (λ q. let z : ◌≡◌ {A = ℕ} 0 1 = cc in omega arith)
 
-  pub sets_some : {c r : ℕ} → o ≡ Sets c r → (look_of (kind_here ws at)).slots ≡ true
+  pub sets_some : {c r : ℕ} → o ≡ Ok (Sets c r) → (look_of (kind_here k.pack.now n.at)).slots ≡ true
   sets_some e = its-slots (λ q. let z : ◌≡◌ {A = ℕ} 0 1 = cc in omega arith)

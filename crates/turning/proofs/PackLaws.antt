@@ -25,14 +25,17 @@ use Rattle.directions.specs.RecordRuns.{run_words, EachKeeps, body_words, Relati
 use Rattle.directions.proofs.RuleLaws.{bodies_of, head, rule-parts}
 use Rattle.directions.proofs.RelationLaws.{lead, lead_words, lead_long, predicate_kept}
 use Rattle.directions.proofs.TurnedPack.{front, pack-words, rules_keep, relations_keep}
-use Rattle.turning.specs.declared.turns.Ended.{Ended}
-use Rattle.turning.specs.declared.turns.Ended.TheVariants as ended
+use Rattle.turning.specs.declared.known.Known.{Known}
+use Rattle.std.specs.Prelude.{Result, Ok, Err}
 use Rattle.turning.specs.Notes.{Note, notes_run, body_notes, rule_notes, derived_notes, relation_notes, relations_noted, rules_noted, notes_of_pack, Held}
 use Rattle.turning.specs.Turns.{KnownTables, known_of, Work, work, nowhere, afresh, turn_notes, turn_pack, TurnedInto}
-use Rattle.turning.specs.TurnPromises.{known_in, Placed, EndedBy, TurnsAsked, NotesTurned, PackAsked, TurnedAs, PackTurned}
+use Rattle.turning.specs.TurnPromises.{known_by, Placed, EndedBy, TurnsAsked, NotesTurned, PackAsked, TurnedAs, PackTurned}
 use Rattle.turning.proofs.RecordFlat.{its-derivation}
 use Rattle.turning.proofs.PackFlat.{flattening}
 use Rattle.turning.proofs.PlacedLaws.{both_placed}
+
+abbrev Ended : Type 0
+Ended = Result (Unit {0}) Refusal
 
 -- ---- there are no more notes than words
 
@@ -78,9 +81,6 @@ notes-short p w =
 pub notes-few : (p : Pack) → WellFormed p → length (notes_of_pack p) ≤ 8192
 notes-few p w = omega (arith, notes-short p w, w.most)
 
-pub refused_not : {o : Ended} {x : Refusal} → o ≡ ended.Refused x → o ≡ ended.All → ⊥
-refused_not e f = let z : ◌≡◌ {A = ℕ} 0 1 = cc in omega arith
-
 -- ---- parts of the notes
 
 pub held-parts : (notes : List ℕ) (i j : ℕ) (ns ms : List Note) → j ≡ i + length ns → Held notes i (ns ++ ms) → Held notes i ns × Held notes j ms
@@ -92,7 +92,10 @@ held_below : (notes left : List ℕ) (top : ℕ) → ((j : ℕ) → j < top → 
 held_below notes left top same i [] h g = tt
 held_below notes left top same i (n ∷ ns) h g = (same i (omega arith) ∙ g.0, held_below notes left top same (suc i) ns (omega arith) g.1)
 
-module _ (ws acts taken words₀ notes₀ : List ℕ) (blocks count relations all : ℕ) (a : PackAsked ws acts taken words₀ notes₀ blocks count relations all) where
+module _ (k : Known) (words₀ notes₀ : List ℕ) (relations all : ℕ) (a : PackAsked k.pack.now k.acts.now k.taken.now words₀ notes₀ k.blocks.at k.blocks.count relations all) where
+  abbrev ws : List ℕ
+  ws = k.pack.now
+
   abbrev p : Pack
   p = a.pack
 
@@ -138,8 +141,8 @@ module _ (ws acts taken words₀ notes₀ : List ℕ) (blocks count relations al
   rules_stand : Placed ws (relations + 1) rls
   rules_stand = rw first-is placed.1
 
-  pub rules-asked : TurnsAsked ws words₀ notes₀ blocks count (relations + 1) (all + 1)
-  rules-asked = record { low = a.low; few = a.few; same = ap length a.copied; inside = few-notes; ns = rls; are = rules-held; many = last-is; placed = rules_stand }
+  pub rules-asked : TurnsAsked ws words₀ notes₀ (relations + 1) (all + 1)
+  rules-asked = record { same = ap length a.copied; inside = few-notes; ns = rls; are = rules-held; many = last-is; placed = rules_stand }
 
   abbrev K : KnownTables
   K = known_of p
@@ -152,45 +155,46 @@ module _ (ws acts taken words₀ notes₀ : List ℕ) (blocks count relations al
   rules_outcome = turn_notes K (words p) (1 + length rels) rls (work words₀ notes₀ nowhere)
 
   -- the code's run of notes is the definition's
-  as_known : (from : ℕ) (ns : List Note) (s : Work) → turn_notes (known_in ws acts taken blocks count) ws from ns s ≡ turn_notes K (words p) from ns s
+  as_known : (from : ℕ) (ns : List Note) (s : Work) → turn_notes (known_by k) ws from ns s ≡ turn_notes K (words p) from ns s
   as_known from ns s = λ j. turn_notes (a.knows j) (same-words j) from ns s
 
-  module _ {o : Ended} {words notes : List ℕ} (t : NotesTurned ws acts taken blocks count (relations + 1) (all + 1) words₀ notes₀ o words notes) where
+  module _ {o : Ended} {words notes : List ℕ} (t : NotesTurned k (relations + 1) (all + 1) words₀ notes₀ o words notes) where
     rules-ended : EndedBy rules_outcome o words notes
     rules-ended =
         subst (λ (x : Outcome Work). EndedBy x o words notes) (as_known (relations + 1) rls (work words₀ notes₀ nowhere) ∙ ap (λ (x : ℕ). turn_notes K whole x rls (work words₀ notes₀ nowhere)) first-is)
         (t.each rls rules-held last-is rules_stand)
 
-    all-refused : {x y : Refusal} → ended.Refused x ≡ ended.Refused y → x ≡ y
+    all-refused : {x y : Refusal} → ◌≡◌ {A = Ended} (Err x) (Err y) → x ≡ y
     all-refused {x} {y} e = let z : x ≡ y = cc in z
 
-    all_not : {x : Refusal} → ended.All ≡ ended.Refused x → ⊥
+    all_not : {x : Refusal} → ◌≡◌ {A = Ended} (Ok tt) (Err x) → ⊥
     all_not e = let z : ◌≡◌ {A = ℕ} 0 1 = cc in omega arith
 
     of_pack : (left : List ℕ) (r : Ended) → TurnedAs (trees_resolved p) r left → PackTurned ws r left
     of_pack left r h = record { each = λ q e. subst (λ (x : Pack). TurnedAs (trees_resolved x) r left) (same-pack ws a.checked e) h }
 
     -- a rule is refused
-    module _ (no : o ≡ ended.All → ⊥) where
+    module _ {x : Refusal} (stops : o ≡ Err x) where
+      no : o ≡ Ok tt → ⊥
+      no e = all_not (sym e ∙ stops)
+
       refused-by : (y : Outcome Work) → rules_outcome ≡ y → EndedBy y o words notes → (z : Outcome Pack) → TurnedInto z (turn_pack K whole rels rls (work words₀ notes₀ nowhere)) → TurnedAs z o words
       unfolding turn_pack
       refused-by (done s) e h z l = absurd (no h.0)
-      refused-by (refused y) e h (refused z) l = h ∙ ap ended.Refused (let q : refused y ≡ refused z = sym (ap (λ (v : Outcome Work). and_then v (λ u. turn_notes K whole 1 rels (afresh u))) e) ∙ l in let same : y ≡ z = cc in same)
+      refused-by (refused y) e h (refused z) l = h ∙ ap Err (let q : refused y ≡ refused z = sym (ap (λ (v : Outcome Work). and_then v (λ u. turn_notes K whole 1 rels (afresh u))) e) ∙ l in let same : y ≡ z = cc in same)
       refused-by (refused y) e h (done q) l = let u = sym (ap (λ (v : Outcome Work). and_then v (λ u. turn_notes K whole 1 rels (afresh u))) e) ∙ l.1 in let z : ◌≡◌ {A = ℕ} 0 1 = cc in absurd (omega arith)
 
-      pub pack_stopped : PackTurned ws o words
-      pack_stopped = of_pack words o (refused-by rules_outcome refl rules-ended (trees_resolved p) law)
+      pub pack_stopped : PackTurned ws (Err x) words
+      pack_stopped = subst (λ (y : Ended). PackTurned ws y words) stops (of_pack words o (refused-by rules_outcome refl rules-ended (trees_resolved p) law))
 
     -- all are turned: then relations
-    module _ (yes-all : o ≡ ended.All) where
+    module _ (yes-all : o ≡ Ok tt) where
       relations-held : Held notes 1 rels
       relations-held = held_below notes₀ notes (relations + 1) t.earlier 1 rels (omega (arith, first-is)) halves.0
 
-      pub relations-asked : TurnsAsked ws words notes blocks count 1 (relations + 1)
+      pub relations-asked : TurnsAsked ws words notes 1 (relations + 1)
       relations-asked =
           record {
-            low = a.low;
-            few = a.few;
             same = t.long ∙ ap length a.copied;
             inside = let h = t.wide in omega (arith, few-relations);
             ns = rels;
@@ -199,7 +203,7 @@ module _ (ws acts taken words₀ notes₀ : List ℕ) (blocks count relations al
             placed = placed.0;
           }
 
-      module _ {r : Ended} {left kinds : List ℕ} (u : NotesTurned ws acts taken blocks count 1 (relations + 1) words notes r left kinds) where
+      module _ {r : Ended} {left kinds : List ℕ} (u : NotesTurned k 1 (relations + 1) words notes r left kinds) where
         relations-ended : EndedBy (turn_notes K whole 1 rels (work words notes nowhere)) r left kinds
         relations-ended =
             subst (λ (x : Outcome Work). EndedBy x r left kinds) (as_known 1 rels (work words notes nowhere))
@@ -209,7 +213,7 @@ module _ (ws acts taken words₀ notes₀ : List ℕ) (blocks count relations al
         ends_with (done s) h (done q) l = let same : s ≡ l.0 = (let v = l.1 in cc) in (h.0, h.1 ∙ ap (λ (x : Work). x.words) same ∙ l.2)
         ends_with (done s) h (refused z) l = let y : ◌≡◌ {A = ℕ} 0 1 = cc in absurd (omega arith)
         ends_with (refused x) h (done q) l = let v = l.1 in let y : ◌≡◌ {A = ℕ} 0 1 = cc in absurd (omega arith)
-        ends_with (refused x) h (refused z) l = h ∙ ap ended.Refused (let same : x ≡ z = cc in same)
+        ends_with (refused x) h (refused z) l = h ∙ ap Err (let same : x ≡ z = cc in same)
 
         then_relations : (y : Outcome Work) → rules_outcome ≡ y → EndedBy y o words notes → turn_pack K whole rels rls (work words₀ notes₀ nowhere) ≡ turn_notes K whole 1 rels (work words notes nowhere)
         unfolding turn_pack

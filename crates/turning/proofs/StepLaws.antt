@@ -1,14 +1,14 @@
 -- What the code reads of a noted node is the node's step.
-use Prim.Native.Nat.{ℕ, zero, suc, ◌+◌, ◌/◌, ◌%◌, ◌<◌, ◌≤◌}
+use Prim.Native.Nat.{ℕ, suc, ◌+◌, ◌<◌, ◌≤◌}
 use native.Mathlib.Omega.{arith}
 use native.Mathlib.Numerals.{add-one}
-use mathlib.Core.Path.{◌≡◌, refl, ap, sym, ◌∙◌}
+use mathlib.Core.Path.{◌≡◌, refl, ap, sym, ◌∙◌, subst}
 use mathlib.Core.List.{List, [], ◌∷◌}
 use mathlib.Core.Bool.{Bool, true, false}
 use lib.ListN.{length, get_or, set}
 use lib.Seq.{sets, drop-cons}
 use lib.Dec.{eqb, ltb}
-use borrow.Author.Tests.{eq-eqb, ne_eqb, eqb-true, eqb-false, ltb-true, ltb-false}
+use borrow.Author.Tests.{eqb-true, eqb-false, ltb-true, ltb-false}
 use Rattle.definitions.specs.declared.table.Follows.{Follows}
 use Rattle.definitions.specs.declared.table.Follows.TheVariants.{Aggregate, OnlyRelated, Slots}
 use Rattle.definitions.specs.Table.{pick, kind_of, value_of, entry_of, table, fields_of}
@@ -18,17 +18,23 @@ use Rattle.definitions.specs.declared.direction.Direction.{Direction}
 use Rattle.definitions.specs.declared.direction.Direction.TheVariants.{Directed, Open}
 use Rattle.definitions.specs.Direction.{Membership}
 use Rattle.definitions.specs.Direction as direction
+use Rattle.definitions.specs.Tables.{Tables}
 use Rattle.definitions.specs.Tree.{Fields}
 use Rattle.definitions.specs.ResolvingTrees.{with_slots, stops, aggregate, allowed_input, only_related, membership_test, node_step}
-use Rattle.directions.specs.Words.{derived_in, tables_in, member_in, MemberTurned, SlotsFit}
-use Rattle.inputs.specs.Blocks.{input_in}
-use Rattle.directions.proofs.SlotLaws.{member_fits_code}
+use Rattle.directions.specs.Words.{tables_in, member_in, MemberTurned, SlotsFit}
+use Rattle.std.specs.Prelude.{Result, Ok, Err}
+use Rattle.definitions.specs.declared.answer.Number.{Number}
+use Rattle.definitions.specs.declared.answer.Number.TheVariants.{DerivedInput}
+use Rattle.inputs.specs.Blocks.{input_in, refused_by}
+use Rattle.directions.proofs.SlotLaws.{turned_fits, member_fits_code}
 use Rattle.turning.specs.declared.step.Out.{Out}
-use Rattle.turning.specs.declared.step.Out.TheVariants.{Opens, Passes, Stops}
-use Rattle.turning.specs.Notes.{Note, look_by, look_of, note_code}
-use Rattle.turning.specs.Turns.{lost_of, value_in, kind_here, held, fields_at, step_at}
-use Rattle.turning.specs.TurnPromises.{or_not, NodeStands, turn_at, out_by, out_at, went_by, tested_by, allowed_by, only_by, OutFits, StepTaken}
-use Rattle.turning.proofs.CodeLaws.{code_parts}
+use Rattle.turning.specs.declared.step.Out.TheVariants.{Sets, Passes}
+use Rattle.definitions.specs.declared.answer.Refusal.{Refusal}
+use Rattle.turning.specs.declared.step.Node.{Node}
+use Rattle.turning.specs.declared.known.Known.{Known}
+use Rattle.turning.specs.Notes.{look_by, look_of}
+use Rattle.turning.specs.Turns.{value_in, kind_here, fields_at, step_at}
+use Rattle.turning.specs.TurnPromises.{NodeStands, turn_at, out_by, out_at, told_by, refused_at, directed_by, went_by, tested_by, allowed_by, only_by, turned_in, only_in, member_at, tested_in, OutFits, StepTaken}
 
 -- ---- fields read from the words
 
@@ -118,105 +124,84 @@ test_slots = refl
 
 -- ---- the steps by their directions
 
-went_out : (a b : ℕ × ℕ) (fs : Fields) (d : Direction) → went_by d ≡ out_by true (aggregate (a ∷ b ∷ fs) d)
-went_out a b fs (Directed c r k) = refl
-went_out a b fs (Open o) = refl
+went_out : (n : Node) (a b : ℕ × ℕ) (fs : Fields) (d : Direction) → went_by n d ≡ told_by n.root.name n.at (out_by true (aggregate (a ∷ b ∷ fs) d))
+went_out n a b fs (Directed c r k) = refl
+went_out n a b fs (Open o) = refl
 
-test_out : (a b : ℕ × ℕ) (fs : Fields) (entity : ℕ) (m : Membership) (d : Direction) → tested_by d ≡ out_by false (membership_test (a ∷ b ∷ fs) entity m d)
-test_out a b fs entity m (Directed c r k) = refl
-test_out a b fs entity m (Open o) = refl
+test_out : (n : Node) (a b : ℕ × ℕ) (fs : Fields) (entity : ℕ) (m : Membership) (d : Direction) → tested_by n d ≡ told_by n.root.name n.at (out_by false (membership_test (a ∷ b ∷ fs) entity m d))
+test_out n a b fs entity m (Directed c r k) = refl
+test_out n a b fs entity m (Open o) = refl
 
-only_out : (number : ℕ → ℕ → ℕ) (a b : ℕ × ℕ) (word : ℕ) (fs : Fields) (d : Direction)
-    → only_by number word d ≡ out_by true (only_related (λ owner n. or_not (number owner n)) (a ∷ b ∷ (kind_of word, value_of word) ∷ fs) d)
-only_out number a b word fs (Open o) = refl
-only_out number a b word fs (Directed c r owner) = go (eqb (kind_of word) 84) (number owner (value_of word))
+only_out : (n : Node) (allowed : ℕ → ℕ → Result (Unit {0}) Number) (a b : ℕ × ℕ) (word : ℕ) (fs : Fields) (d : Direction)
+    → only_by allowed word n d ≡ told_by n.root.name n.at (out_by true (only_related (λ owner n. refused_by (allowed owner n)) (a ∷ b ∷ (kind_of word, value_of word) ∷ fs) d))
+only_out n allowed a b word fs (Open o) = refl
+only_out n allowed a b word fs (Directed c r owner) = go (eqb (kind_of word) 84) (allowed owner (value_of word))
   where
-    go : (x : Bool) (n : ℕ)
-        → pick x (Stops 11 (value_of word)) (allowed_by c r (value_of word) n)
-        ≡ out_by true (pick x (stops 11 (value_of word)) (allowed_input (with_slots c r (a ∷ b ∷ (kind_of word, value_of word) ∷ fs)) (value_of word) (or_not n)))
-    go true n = refl
-    go false zero = refl
-    go false (suc n) = refl
+    go : (x : Bool) (v : Result (Unit {0}) Number)
+        → pick x (Err (refused_at n DerivedInput (value_of word))) (allowed_by n c r (value_of word) v)
+        ≡ told_by n.root.name n.at (out_by true (pick x (stops 11 (value_of word)) (allowed_input (with_slots c r (a ∷ b ∷ (kind_of word, value_of word) ∷ fs)) (value_of word) (refused_by v))))
+    go true v = refl
+    go false (Ok u) = refl
+    go false (Err e) = refl
 
-went_fits : (d : Direction) → SlotsFit d → OutFits (went_by d)
-went_fits (Directed c r k) h = h
-went_fits (Open o) h = tt
-
-test_fits : (d : Direction) → SlotsFit d → OutFits (tested_by d)
-test_fits (Directed c r k) h = h
-test_fits (Open o) h = tt
-
-only-fits : (number : ℕ → ℕ → ℕ) (word : ℕ) (d : Direction) → SlotsFit d → OutFits (only_by number word d)
-only-fits number word (Open o) h = tt
-only-fits number word (Directed c r owner) h = go (eqb (kind_of word) 84) (number owner (value_of word))
-  where
-    go : (x : Bool) (n : ℕ) → OutFits (pick x (Stops 11 (value_of word)) (allowed_by c r (value_of word) n))
-    go true n = tt
-    go false zero = h
-    go false (suc n) = tt
-
-module _ {ws acts taken : List ℕ} {blocks count origin entity at : ℕ} {m : Membership} (s : NodeStands ws at) where
-  pub went_taken : (entry_of (kind_here ws at)).follows ≡ Aggregate → {d : Direction} → d ≡ turn_at (tables_in ws acts taken) ws at entity → SlotsFit d → {o : Out} → o ≡ went_by d
-      → StepTaken ws acts taken blocks count origin entity m at o
+module _ {k : Known} {n : Node} (s : NodeStands k.pack.now n.at) where
+  pub went_taken : (entry_of (kind_here k.pack.now n.at)).follows ≡ Aggregate → {o : Result Out Refusal} → (o ≡ went_by n (turned_in k n)) × OutFits o → StepTaken k n o
   unfolding out_at step_at node_step fields_of turn_at look_by
-  went_taken e {d} t fits {o} q =
+  went_taken e q =
       record {
-        each = λ root same. q ∙ rw (e, two_fields ws at 2 (three_words s (slots_of e aggregate-slots)))
-            (ap went_by t ∙ went_out (field_at ws (at + 1)) (field_at ws (at + 2)) (fields_at ws (at + 3) 2) (turn_at (tables_in ws acts taken) ws at entity));
-        fits = rw q (went_fits d fits);
+        each = λ root same. q.0 ∙ rw (e, two_fields k.pack.now n.at 2 (three_words s (slots_of e aggregate-slots)))
+            (went_out n (field_at k.pack.now (n.at + 1)) (field_at k.pack.now (n.at + 2)) (fields_at k.pack.now (n.at + 3) 2) (turned_in k n));
+        fits = q.1;
       }
 
-  pub only-taken : (entry_of (kind_here ws at)).follows ≡ OnlyRelated → {d : Direction} → d ≡ turn_at (tables_in ws acts taken) ws at entity → SlotsFit d → {o : Out} → o ≡ only_by (input_in ws blocks count origin) (get_or ws (at + 3) 0) d
-      → StepTaken ws acts taken blocks count origin entity m at o
+  pub only-taken : (entry_of (kind_here k.pack.now n.at)).follows ≡ OnlyRelated → {o : Result Out Refusal} → (o ≡ only_in k n (turned_in k n)) × OutFits o → StepTaken k n o
   unfolding out_at step_at node_step fields_of turn_at look_by
-  only-taken e {d} t fits {o} q =
+  only-taken e q =
       record {
-        each = λ root same. q ∙ rw (e, same, two_fields ws at 1 (three_words s (slots_of e only-slots)), one_field ws (at + 3) 0 (four_words s e))
-            (ap (only_by (input_in ws blocks count origin) (get_or ws (at + 3) 0)) t ∙ only_out (input_in ws blocks count origin) (field_at ws (at + 1)) (field_at ws (at + 2)) (get_or ws (at + 3) 0) [] (turn_at (tables_in ws acts taken) ws at entity));
-        fits = rw q (only-fits (input_in ws blocks count origin) (get_or ws (at + 3) 0) d fits);
+        each = λ root same. q.0 ∙ rw (e, same, two_fields k.pack.now n.at 1 (three_words s (slots_of e only-slots)), one_field k.pack.now (n.at + 3) 0 (four_words s e))
+            (only_out n (input_in k.pack.now k.blocks.at k.blocks.count n.root.origin) (field_at k.pack.now (n.at + 1)) (field_at k.pack.now (n.at + 2)) (get_or k.pack.now (n.at + 3) 0) [] (turned_in k n));
+        fits = q.1;
       }
 
-  pub test_taken : (entry_of (kind_here ws at)).follows ≡ Slots → {d : Direction} → MemberTurned ws acts (value_in ws at) m (value_in ws (at + 1)) (value_in ws (at + 2)) d → {o : Out} → o ≡ tested_by d
-      → StepTaken ws acts taken blocks count origin entity m at o
+  pub test_taken : (entry_of (kind_here k.pack.now n.at)).follows ≡ Slots → {o : Result Out Refusal} → (o ≡ tested_in k n) × OutFits o → StepTaken k n o
   unfolding out_at step_at node_step fields_of look_by
-  test_taken e {d} t {o} q =
+  test_taken e q =
       record {
-        each = λ root same. q ∙ rw (e, two_fields ws at 0 (three_words s (slots_of e test_slots)))
-            (ap tested_by (t taken) ∙ test_out (field_at ws (at + 1)) (field_at ws (at + 2)) [] entity m (direction.member_direction (tables_in ws acts taken) (value_in ws at) m (value_in ws (at + 1)) (value_in ws (at + 2))));
-        fits = rw q (test_fits d (member_fits_code ws acts (value_in ws at) m (value_in ws (at + 1)) (value_in ws (at + 2)) (omega arith) (omega arith) t));
+        each = λ root same. q.0 ∙ rw (e, two_fields k.pack.now n.at 0 (three_words s (slots_of e test_slots)))
+            (test_out n (field_at k.pack.now (n.at + 1)) (field_at k.pack.now (n.at + 2)) [] n.entity (member_in k.pack.now n.own) (member_at k n));
+        fits = q.1;
       }
 
-  pub none-taken : (look_of (kind_here ws at)).slots ≡ false → StepTaken ws acts taken blocks count origin entity m at Passes
+  pub none-taken : (look_of (kind_here k.pack.now n.at)).slots ≡ false → StepTaken k n (Ok Passes)
   unfolding out_at
   none-taken e = record { each = λ root same. rw e refl; fits = tt }
 
 -- ---- directions
 
-pub derived-out : (number : ℕ → ℕ → ℕ) (word : ℕ) {c r owner : ℕ} {d : Direction} → d ≡ Directed c r owner → kind_of word ≡ 84 → Stops 11 (value_of word) ≡ only_by number word d
-derived-out number word e h = rw (e, eq-eqb _ _ h) refl
+by_direction : (n : Node) (d : Direction) (c r x : ℕ) → directed_by n d ≡ Ok (c, r, x) → d ≡ Directed c r x
+by_direction n (Directed a b y) c r x e = let t : ◌≡◌ {A = ℕ × ℕ × ℕ} (a, b, y) (c, r, x) = cc in λ j. Directed (t j).0 (t j).1 (t j).2
+by_direction n (Open other) c r x e = let z : ◌≡◌ {A = ℕ} 0 1 = cc in absurd (omega arith)
 
-module _ (number : ℕ → ℕ → ℕ) (word : ℕ) {c r owner n : ℕ} {d : Direction} (e : d ≡ Directed c r owner) (h : kind_of word ≡ 84 → ⊥) (q : n ≡ number owner (value_of word)) where
-  pub input-out : n ≡ 0 → Opens c r 0 ≡ only_by number word d
-  input-out z = rw (e, ne_eqb _ _ h, ← q, z) refl
+-- the relation of a node and its slots
+abbrev words_of : Known → Node → ℕ × ℕ × ℕ
+words_of k n = (value_in k.pack.now n.at, value_in k.pack.now (n.at + 1), value_in k.pack.now (n.at + 2))
 
-  pub refused-out : (n ≡ 0 → ⊥) → Stops n (value_of word) ≡ only_by number word d
-  refused-out z = rw (e, ne_eqb _ _ h, ← q) (by n z)
-    where
-      by : (x : ℕ) → (x ≡ 0 → ⊥) → Stops x (value_of word) ≡ allowed_by c r (value_of word) x
-      by zero f = absurd (f refl)
-      by (suc x) f = refl
+pub turned-out : (k : Known) (n : Node) {w : ℕ × ℕ × ℕ} → w ≡ words_of k n → {d : Direction} → d ≡ direction.turn (tables_in k.pack.now k.acts.now k.taken.now) w.0 n.entity w.1 w.2 → (d ≡ turned_in k n) × SlotsFit d
+unfolding turn_at
+turned-out k n q {d} e =
+    let ws : List ℕ = k.pack.now in
+    let T : Tables = tables_in ws k.acts.now k.taken.now in
+    let t : d ≡ direction.turn T (value_in ws n.at) n.entity (value_in ws (n.at + 1)) (value_in ws (n.at + 2)) = e ∙ ap (λ (x : ℕ × ℕ × ℕ). direction.turn T x.0 n.entity x.1 x.2) q in
+    (t, turned_fits _ _ _ _ _ _ _ (omega arith) (omega arith) t)
+
+pub tested-out : (k : Known) (n : Node) {w : ℕ × ℕ × ℕ} → w ≡ words_of k n → {d : Direction} {c r x : ℕ}
+    → MemberTurned k.pack.now k.acts.now w.0 (member_in k.pack.now n.own) w.1 w.2 d → Ok (c, r, x) ≡ directed_by n d → (Ok (Sets c r) ≡ tested_in k n) × OutFits (Ok (Sets c r))
+tested-out k n w {d} {c} {r} {x} t e =
+    let ws : List ℕ = k.pack.now in
+    let q : d ≡ Directed c r x = by_direction n d c r x (sym e) in
+    let m : MemberTurned ws k.acts.now (value_in ws n.at) (member_in ws n.own) (value_in ws (n.at + 1)) (value_in ws (n.at + 2)) d = subst (λ (y : ℕ × ℕ × ℕ). MemberTurned ws k.acts.now y.0 (member_in ws n.own) y.1 y.2 d) w t in
+    let f : SlotsFit d = member_fits_code ws k.acts.now (value_in ws n.at) (member_in ws n.own) (value_in ws (n.at + 1)) (value_in ws (n.at + 2)) (omega arith) (omega arith) m in
+    (ap (tested_by n) (sym q ∙ m k.taken.now), subst SlotsFit q f)
 
 pub two_sets : (l : List ℕ) (at a b : ℕ) → set (set l (at + 1) a) (at + 2) b ≡ sets l (at + 1) (a ∷ b ∷ [])
 two_sets l at a b = let e : at + 2 ≡ suc (at + 1) = omega arith in ap (λ (x : ℕ). set (set l (at + 1) a) x b) e
-
--- the membership that a note keeps
-module _ (m : ℕ) {code : ℕ} (n : Note) (e : code ≡ note_code n) (h : n.place + 1 < 8192) where
-  lost-is : eqb (code / 8192 % 2) 1 ≡ n.lost
-  lost-is = ap lost_of e ∙ (code_parts n h).lost
-
-  pub keeps : code / 8192 % 2 ≡ 0 → (ws : List ℕ) → member_in ws m ≡ held n.lost (member_in ws m)
-  keeps z ws = rw (sym lost-is ∙ ap (λ (x : ℕ). eqb x 1) z) refl
-
-  pub loses : (code / 8192 % 2 ≡ 0 → ⊥) → (ws : List ℕ) → member_in ws 0 ≡ held n.lost (member_in ws m)
-  unfolding member_in derived_in
-  loses z ws = rw (sym lost-is ∙ eq-eqb (code / 8192 % 2) 1 (omega arith)) refl

@@ -1,5 +1,5 @@
 -- Notes turned one after the other: a node is read in the words of the pack, and its slots are set in others.
-use Rattle.std.specs.Prelude.{ℕ, suc, ◌+◌, ◌/◌, ◌%◌, ◌≡◌, List, [], ◌∷◌, map, Bool, length, get_or, set, take, drop, eqb}
+use Rattle.std.specs.Prelude.{ℕ, suc, ◌+◌, ◌-◌, ◌/◌, ◌%◌, ◌≡◌, List, [], ◌∷◌, map, Bool, length, get_or, set, take, drop, eqb}
 use Rattle.std.proofs.Math.Option.{Option, none}
 use Rattle.std.proofs.lemmas.List.Edits.{sets}
 use Rattle.definitions.specs.Table.{pick, kind_of, value_of, entry_of, fields_of}
@@ -11,6 +11,7 @@ use Rattle.definitions.specs.Direction.{Membership, related_kind, member_kinds}
 use Rattle.definitions.specs.Tree.{Fields, field_words}
 use Rattle.definitions.specs.Answers.{Outcome, done, refused, and_then}
 use Rattle.definitions.specs.ResolvingTrees.{Citing, NodeStep, goes, stops, node_step}
+use Rattle.turning.specs.declared.note.Note as taken
 use Rattle.turning.specs.Notes.{Note, look_of}
 
 -- ---- a note taken out of its number
@@ -23,6 +24,9 @@ lost_of code = eqb (code / 8192 % 2) 1
 
 abbrev pub inside_of : ℕ → ℕ
 inside_of code = code / 16384
+
+abbrev pub note_in : ℕ → taken.Note
+note_in code = record { place = field_of code - 1; inside = inside_of code; lost = lost_of code }
 
 -- ---- what is known
 

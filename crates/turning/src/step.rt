@@ -1,26 +1,25 @@
 // What comes of one node, read in the words of the pack.
-ghost use Rattle.std.specs.Prelude.{◌≡◌, ◌<◌, ◌≤◌, true};
-ghost use Rattle.directions.specs.Words.{tables_in, member_in};
-ghost use Rattle.inputs.specs.Blocks.{input_in};
+ghost use Rattle.std.specs.Prelude.{◌≡◌, ◌+◌, ◌<◌, length};
 ghost use Rattle.directions.specs.Words.{SlotsFit};
-ghost use Rattle.turning.specs.TurnPromises.{NodeStands, turn_at, went_by, tested_by, only_by, StepTaken};
-ghost use Rattle.turning.specs.Notes.{look_of};
-ghost use Rattle.turning.specs.Turns.{kind_here};
+ghost use Rattle.turning.specs.Turns.{value_in, kind_here};
+ghost use Rattle.turning.specs.TurnPromises.{NodeStands, HasSlots, refused_at, directed_by, turned_in, went_by, tested_in, only_in, OutFits, StepTaken};
+ghost use Rattle.definitions.specs.Table.{entry_of};
+ghost use Rattle.definitions.specs.declared.table.Follows.TheVariants.{OnlyRelated};
 
-use definitions::answer::Number;
+use crate::known::Known;
+use crate::root::Root;
+use definitions::answer::{Number, Refusal};
 use definitions::direction::Direction;
 use directions::direction::{member, turn};
 use inputs::inputs::input;
 use pack::kinds::Pack;
 
-// Its slots and the entity of what stands inside it; its slots, where nothing stands inside it; nothing, where it has no slots;
-// or the number and the other of a refusal.
+// Its slots and the entity of what stands inside it; its slots, where nothing stands inside it; or nothing, where it has no slots.
 #[derive(Clone, Copy)]
 pub enum Out {
     Opens(u32, u32, u32),
     Sets(u32, u32),
     Passes,
-    Stops(u32, u32),
 }
 
 // The blocks of a pack: where the first stands, and how many they are.
@@ -30,94 +29,123 @@ pub struct Blocks {
     pub count: usize,
 }
 
-// With the origin of the citing rule or relation.
-#[derive(Clone, Copy)]
-pub struct Cited {
-    pub blocks: Blocks,
-    pub origin: u32,
-}
-
-// A node: where it stands, with which entity, and in the predicate of the relation with which number.
+// A node: where it stands, with which entity, in the predicate of the relation with which number, and in which rule or relation.
 #[derive(Clone, Copy)]
 pub struct Node {
     pub at: usize,
     pub entity: u32,
     pub own: u32,
+    pub root: Root,
 }
 
-// Its direction as an aggregate.
-fn turned(pack: &[u32], acts: &[u32], taken: &[u32], at: usize, entity: u32) -> Direction
-    requires { NodeStands pack.now at × ((look_of (kind_here pack.now at)).slots ≡ true) }
-    ensures { (result ≡ turn_at (tables_in pack.now acts.now taken.now) pack.now at entity) × SlotsFit result }
-{
-    let relation = (pack[at] % Pack::VALUES) as usize;
-    let current = pack[at + 1] % Pack::VALUES;
-    let related = pack[at + 2] % Pack::VALUES;
-    turn(pack, acts, taken, relation, entity, current, related)
-}
-
-// What comes of an aggregate by its direction.
-fn went(d: Direction) -> Out
-    ensures { result ≡ went_by d }
-{
-    match d {
-        Direction::Directed(c, r, kind) => Out::Opens(c, r, kind),
-        Direction::Open(other) => Out::Stops(Number::DIRECTION_OPEN, other),
-    }
-}
-
-// Of a test of membership.
-fn tested(d: Direction) -> Out
-    ensures { result ≡ tested_by d }
-{
-    match d {
-        Direction::Directed(c, r, _) => Out::Sets(c, r),
-        Direction::Open(other) => Out::Stops(Number::DIRECTION_OPEN, other),
-    }
-}
-
-// Of an OnlyRelated, whose value's word this is.
-fn only(pack: &[u32], cited: Cited, d: Direction, word: u32) -> Out
-    requires { (cited.blocks.at ≤ 65536) × (cited.blocks.count ≤ 64) }
-    ensures { result ≡ only_by (input_in pack.now cited.blocks.at cited.blocks.count cited.origin) word d }
-{
-    let Direction::Directed(c, r, owner) = d else {
-        return went(d);
-    };
-    let name = word % Pack::VALUES;
-    if word / Pack::VALUES == Pack::DERIVED {
-        return Out::Stops(Number::DERIVED_INPUT, name);
-    }
-    let blocks = cited.blocks;
-    let number = input(pack, blocks.at, blocks.count, cited.origin, owner, name);
-    if number == 0 {
-        return Out::Opens(c, r, 0);
-    }
-    Out::Stops(number, name)
-}
-
-// By its kind.
-pub fn step(pack: &[u32], acts: &[u32], taken: &[u32], cited: Cited, node: Node) -> Out
-    requires { NodeStands pack.now node.at × (cited.blocks.at ≤ 65536) × (cited.blocks.count ≤ 64) }
-    ensures { StepTaken pack.now acts.now taken.now cited.blocks.at cited.blocks.count cited.origin node.entity (member_in pack.now node.own) node.at result }
-{
-    let at = node.at;
-    let word = pack[at];
-    let kind = word / Pack::VALUES;
-    match kind {
-        Pack::RELATION_MEMBER => {
-            let relation = (word % Pack::VALUES) as usize;
-            let current = pack[at + 1] % Pack::VALUES;
-            let related = pack[at + 2] % Pack::VALUES;
-            tested(member(pack, acts, relation, node.own, current, related))
+impl Node {
+    // Its refusal.
+    fn refused(self, number: Number, other: u32) -> Refusal
+        ensures { result ≡ refused_at self number other }
+    {
+        Refusal {
+            number: number as u32,
+            place: self.at,
+            name: self.root.name,
+            other,
         }
-        Pack::COUNT..=Pack::ONLY_RELATED => {
-            let d = turned(pack, acts, taken, at, node.entity);
-            if kind == Pack::ONLY_RELATED {
-                return only(pack, cited, d, pack[at + 3]);
-            }
-            went(d)
+    }
+
+    // The slots and the kind of its direction, unless it is open.
+    fn directed(self, d: Direction) -> Result<(u32, u32, u32), Refusal>
+        ensures { result ≡ directed_by self d }
+    {
+        match d {
+            Direction::Directed(current, related, kind) => Ok((current, related, kind)),
+            Direction::Open(other) => Err(self.refused(Number::DirectionOpen, other)),
         }
-        _ => Out::Passes,
+    }
+}
+
+impl Known<'_> {
+    // The relation of a node, and its slots.
+    #[inline]
+    fn slots(&self, at: usize) -> (usize, u32, u32)
+        requires { at + 2 < length self.now.pack.now }
+        ensures { result ≡ (value_in self.now.pack.now at, value_in self.now.pack.now (at + 1), value_in self.now.pack.now (at + 2)) }
+    {
+        let relation = (self.pack[at] % Pack::VALUES) as usize;
+        let current = self.pack[at + 1] % Pack::VALUES;
+        let related = self.pack[at + 2] % Pack::VALUES;
+        (relation, current, related)
+    }
+
+    // The direction of an aggregate.
+    fn turned(&self, node: Node) -> Direction
+        requires { HasSlots self.now.pack.now node.at }
+        ensures { (result ≡ turned_in self.now node) × SlotsFit result }
+    {
+        let (relation, current, related) = self.slots(node.at);
+        turn(
+            self.pack,
+            self.acts,
+            self.taken,
+            relation,
+            node.entity,
+            current,
+            related,
+        )
+    }
+
+    // An aggregate.
+    fn aggregate(&self, node: Node) -> Result<Out, Refusal>
+        requires { HasSlots self.now.pack.now node.at }
+        ensures { (result ≡ went_by node (turned_in self.now node)) × OutFits result }
+    {
+        let (current, related, entity) = node.directed(self.turned(node))?;
+        Ok(Out::Opens(current, related, entity))
+    }
+
+    // An OnlyRelated, whose input must be allowed.
+    fn only_related(&self, node: Node) -> Result<Out, Refusal>
+        requires { NodeStands self.now.pack.now node.at × ((entry_of (kind_here self.now.pack.now node.at)).follows ≡ OnlyRelated) }
+        ensures { (result ≡ only_in self.now node (turned_in self.now node)) × OutFits result }
+    {
+        let (current, related, owner) = node.directed(self.turned(node))?;
+        let word = self.pack[node.at + 3];
+        let other = word % Pack::VALUES;
+        if word / Pack::VALUES == Pack::DERIVED {
+            return Err(node.refused(Number::DerivedInput, other));
+        }
+        let blocks = self.blocks;
+        input(
+            self.pack,
+            blocks.at,
+            blocks.count,
+            node.root.origin,
+            owner,
+            other,
+        )
+        .map_err(|number| node.refused(number, other))?;
+        Ok(Out::Opens(current, related, 0))
+    }
+
+    // A test of membership.
+    fn membership(&self, node: Node) -> Result<Out, Refusal>
+        requires { HasSlots self.now.pack.now node.at }
+        ensures { (result ≡ tested_in self.now node) × OutFits result }
+    {
+        let (relation, current, related) = self.slots(node.at);
+        let direction = member(self.pack, self.acts, relation, node.own, current, related);
+        let (current, related, _) = node.directed(direction)?;
+        Ok(Out::Sets(current, related))
+    }
+
+    // By its kind.
+    pub fn step(&self, node: Node) -> Result<Out, Refusal>
+        requires { NodeStands self.now.pack.now node.at }
+        ensures { StepTaken self.now node result }
+    {
+        match self.pack[node.at] / Pack::VALUES {
+            Pack::RELATION_MEMBER => self.membership(node),
+            Pack::ONLY_RELATED => self.only_related(node),
+            Pack::COUNT..=Pack::ONLY_RELATED => self.aggregate(node),
+            _ => Ok(Out::Passes),
+        }
     }
 }

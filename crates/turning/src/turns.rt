@@ -3,50 +3,22 @@ ghost use Rattle.std.specs.Prelude.{◌≡◌, List, [], ◌∷◌, ℕ, ◌+◌
 ghost use Rattle.std.proofs.lemmas.List.Edits.{sets};
 ghost use Rattle.definitions.specs.Table.{word_of};
 ghost use Rattle.directions.specs.Words.{member_in};
-ghost use Rattle.turning.specs.Notes.{Note, note_code};
-ghost use Rattle.turning.specs.Turns.{held, inside_of};
+ghost use Rattle.turning.specs.Turns.{held, note_in};
 ghost use Rattle.turning.specs.TurnPromises.{NoteAsked, NoteTurned, TurnsAsked, NotesTurned, PackAsked, PackTurned};
 
-use crate::root::{Root, nowhere, opened, refusal};
-use crate::step::{Blocks, Cited, Node, Out, step};
+use crate::known::Known;
+use crate::note::Note;
+use crate::root::Root;
+use crate::step::{Blocks, Node, Out};
 use definitions::answer::Refusal;
 use pack::kinds::Pack;
 
-// A note, by its number, in a pack with these blocks.
-#[derive(Clone, Copy)]
-pub struct Here {
-    pub i: usize,
-    pub blocks: Blocks,
-}
-
-// Notes from one number to another, likewise.
-#[derive(Clone, Copy)]
-pub struct Span {
-    pub from: usize,
-    pub to: usize,
-    pub blocks: Blocks,
-}
-
-// The notes of a pack, likewise: so many of relations, which come first, and so many in all.
+// The notes of a pack with these blocks: so many of relations, which come first, and so many in all.
 #[derive(Clone, Copy)]
 pub struct Counts {
     pub noted: usize,
     pub all: usize,
     pub blocks: Blocks,
-}
-
-// The rule or relation in which turning is after a note; or a refusal.
-#[derive(Clone, Copy)]
-pub enum Next {
-    On(Root),
-    Refused(Refusal),
-}
-
-// That all were turned; or a refusal.
-#[derive(Clone, Copy)]
-pub enum Ended {
-    All,
-    Refused(Refusal),
 }
 
 // The slots of a node.
@@ -58,103 +30,85 @@ fn set_slots(work: &mut [u32], at: usize, current: u32, related: u32)
     work[at + 2] = Pack::RELATED * Pack::VALUES + related;
 }
 
-// The number of the relation whose membership a note keeps; 0 where it is lost.
-fn kept(note: u32, own: u32) -> u32
-    ensures { (n : Note) → note ≡ note_code n → n.place + 1 < 8192 → (ws : List ℕ) → member_in ws result ≡ held n.lost (member_in ws own) }
-{
-    if note / Pack::LOST % 2 == 0 {
-        return own;
-    }
-    0
-}
-
-// The i-th note, of a node: its own number gives way to the entity of what stands inside it.
-fn turn_node(
-    pack: &[u32],
-    acts: &[u32],
-    taken: &[u32],
-    root: Root,
-    work: &mut [u32],
-    notes: &mut [u32],
-    here: Here,
-) -> Next
-    requires { NoteAsked pack.now work.old notes.old here.blocks.at here.blocks.count here.i × (inside_of (get_or notes.old here.i 0) ≡ 0 → ⊥) }
-    ensures { NoteTurned pack.now acts.now taken.now here.blocks.at here.blocks.count here.i root work.old notes.old result work.new notes.new }
-{
-    let i = here.i;
-    let note = notes[i];
-    let at = (note % Pack::LOST) as usize - 1;
-    let entity = notes[(note / Pack::INSIDE) as usize];
-    let own = kept(note, root.own);
-    let blocks = here.blocks;
-    let origin = root.origin;
-    let cited = Cited { blocks, origin };
-    match step(pack, acts, taken, cited, Node { at, entity, own }) {
-        Out::Opens(current, related, kind) => {
-            set_slots(work, at, current, related);
-            notes[i] = kind;
-            Next::On(root)
+impl Note {
+    // The number of the relation whose membership a note keeps; 0 where it is lost.
+    fn kept(self, own: u32) -> u32
+        ensures { (ws : List ℕ) → member_in ws result ≡ held self.lost (member_in ws own) }
+    {
+        if self.lost {
+            return 0;
         }
-        Out::Sets(current, related) => {
-            set_slots(work, at, current, related);
-            Next::On(root)
-        }
-        Out::Passes => Next::On(root),
-        Out::Stops(number, other) => Next::Refused(refusal(root, at, number, other)),
+        own
     }
 }
 
-// Of any sort: from the note of a rule or relation on, turning is in it.
-fn turn_note(
-    pack: &[u32],
-    acts: &[u32],
-    taken: &[u32],
-    root: Root,
-    work: &mut [u32],
-    notes: &mut [u32],
-    here: Here,
-) -> Next
-    requires { NoteAsked pack.now work.old notes.old here.blocks.at here.blocks.count here.i }
-    ensures { NoteTurned pack.now acts.now taken.now here.blocks.at here.blocks.count here.i root work.old notes.old result work.new notes.new }
-{
-    let i = here.i;
-    let note = notes[i];
-    if note / Pack::INSIDE != 0 {
-        return turn_node(pack, acts, taken, root, work, notes, here);
-    }
-    let r = opened(pack, acts, (note % Pack::LOST) as usize - 1);
-    notes[i] = r.entity;
-    Next::On(r)
-}
-
-// Notes in a row; where something stands inside one, its entity takes the place of the note.
-pub fn turns(
-    pack: &[u32],
-    acts: &[u32],
-    taken: &[u32],
-    work: &mut [u32],
-    notes: &mut [u32],
-    span: Span,
-) -> Ended
-    requires { TurnsAsked pack.now work.old notes.old span.blocks.at span.blocks.count span.from span.to }
-    ensures { NotesTurned pack.now acts.now taken.now span.blocks.at span.blocks.count span.from span.to work.old notes.old result work.new notes.new }
-{
-    let blocks = span.blocks;
-    let to = span.to;
-    let mut i = span.from;
-    let mut root = nowhere();
-    while i < to {
-        let here = Here { i, blocks };
-        let next = turn_note(pack, acts, taken, root, work, notes, here);
-        match next {
-            Next::On(r) => {
-                root = r;
-                i += 1;
+impl Known<'_> {
+    // The i-th note, of a node: its own number gives way to the entity of what stands inside it.
+    fn turn_node(
+        &self,
+        root: Root,
+        note: Note,
+        work: &mut [u32],
+        notes: &mut [u32],
+        i: usize,
+    ) -> Result<Root, Refusal>
+        requires { NoteAsked self.now.pack.now work.old notes.old i × (note ≡ note_in (get_or notes.old i 0)) × (note.inside ≡ 0 → ⊥) }
+        ensures { NoteTurned self.now i root work.old notes.old result work.new notes.new }
+    {
+        let node = Node {
+            at: note.place,
+            entity: notes[note.inside],
+            own: note.kept(root.own),
+            root,
+        };
+        match self.step(node)? {
+            Out::Opens(current, related, entity) => {
+                set_slots(work, note.place, current, related);
+                notes[i] = entity;
             }
-            Next::Refused(x) => return Ended::Refused(x),
+            Out::Sets(current, related) => set_slots(work, note.place, current, related),
+            Out::Passes => {}
         }
+        Ok(root)
     }
-    Ended::All
+
+    // Of any sort: from the note of a rule or relation on, turning is in it.
+    fn turn_note(
+        &self,
+        root: Root,
+        work: &mut [u32],
+        notes: &mut [u32],
+        i: usize,
+    ) -> Result<Root, Refusal>
+        requires { NoteAsked self.now.pack.now work.old notes.old i }
+        ensures { NoteTurned self.now i root work.old notes.old result work.new notes.new }
+    {
+        let note = Note::read(notes[i]);
+        if note.inside != 0 {
+            return self.turn_node(root, note, work, notes, i);
+        }
+        let root = Root::opened(self, note.place);
+        notes[i] = root.entity;
+        Ok(root)
+    }
+
+    // Notes in a row; where something stands inside one, its entity takes the place of the note.
+    pub fn turns(
+        &self,
+        work: &mut [u32],
+        notes: &mut [u32],
+        from: usize,
+        to: usize,
+    ) -> Result<(), Refusal>
+        requires { TurnsAsked self.now.pack.now work.old notes.old from to }
+        ensures { NotesTurned self.now from to work.old notes.old result work.new notes.new }
+    {
+        let mut root = Root::default();
+        for i in from..to {
+            root = self.turn_note(root, work, notes, i)?;
+        }
+        Ok(())
+    }
 }
 
 // All notes of a pack: those of its rules, then those of its relations.
@@ -165,22 +119,18 @@ pub fn turn_pack(
     work: &mut [u32],
     notes: &mut [u32],
     counts: Counts,
-) -> Ended
+) -> Result<(), Refusal>
     requires { PackAsked pack.now acts.now taken.now work.old notes.old counts.blocks.at counts.blocks.count counts.noted counts.all }
     ensures { PackTurned pack.now result work.new }
 {
     let blocks = counts.blocks;
-    let from = counts.noted + 1;
-    let to = counts.all + 1;
-    let span = Span { from, to, blocks };
-    let rules = turns(pack, acts, taken, work, notes, span);
-    let Ended::All = rules else {
-        return rules;
-    };
-    let first = Span {
-        from: 1,
-        to: from,
+    let known = Known {
+        pack,
+        acts,
+        taken,
         blocks,
     };
-    turns(pack, acts, taken, work, notes, first)
+    let rules = counts.noted + 1;
+    known.turns(work, notes, rules, counts.all + 1)?;
+    known.turns(work, notes, 1, rules)
 }

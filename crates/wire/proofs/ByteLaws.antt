@@ -1,21 +1,15 @@
--- Laws of words as bytes: what a turn of loading and of storing does, and how long the lists are.
-use Prim.Native.Nat.{ℕ, suc, ◌+◌, ◌*◌, ◌/◌, ◌%◌, ◌≤◌, ◌<◌}
+-- Laws of words as bytes: the words of four bytes each, what a turn of storing does, and how long the lists are.
+use Prim.Native.Nat.{ℕ, zero, suc, ◌+◌, ◌*◌, ◌/◌, ◌≤◌, ◌<◌}
 use native.Mathlib.Omega.{arith}
 use native.Mathlib.Numerals.{add-one, towards_suc}
 use mathlib.Core.Path.{◌≡◌, refl, ap, sym, ◌∙◌}
-use mathlib.Core.List.{List, [], ◌∷◌, ◌++◌, append-nil}
-use lib.ListN.{length, take, drop, get_or, set, length-drop}
-use lib.Seq.{drop-cons, drop-drop, take-suc, take-suc-set, append_snoc, sets-eq, take_at, drop-append-add, length-take-le}
+use mathlib.Core.List.{List, [], ◌∷◌, ◌++◌, map, append_assoc}
+use lib.ListN.{length, take, drop, get_or}
+use lib.Seq.{drop-cons, drop-drop, take-suc, take_at, drop_at, length-take-le}
+use borrow.Rule.Slice.PartMut.{put_mid}
+use Rattle.std.specs.Int.{w32, to_le_bytes, from_le_bytes}
+use Rattle.std.specs.Simd.{first_chunks}
 use Rattle.definitions.specs.Bytes.{word_from, words_of, bytes_of}
-
--- fewer than four bytes are no word
-pub words-short : (bytes : List ℕ) → length bytes < 4 → words_of bytes ≡ []
-unfolding words_of
-words-short [] h = refl
-words-short (a ∷ []) h = refl
-words-short (a ∷ b ∷ []) h = refl
-words-short (a ∷ b ∷ c ∷ []) h = refl
-words-short (a ∷ b ∷ c ∷ d ∷ bytes) h = absurd (omega arith)
 
 pub words-length : (bytes : List ℕ) → length (words_of bytes) ≡ length bytes / 4
 unfolding words_of
@@ -35,25 +29,19 @@ four bytes at h =
     let h3 : suc (suc (suc at)) < length bytes = omega arith in
     simp towards_suc (rw (drop-cons bytes at 0, drop-cons bytes (suc at) 0, drop-cons bytes (suc (suc at)) 0, drop-cons bytes (suc (suc (suc at))) 0))
 
-pub next_four : (i : ℕ) → 4 * (i + 1) ≡ 4 * i + 4
-next_four i = omega arith
-
 pub words-cons : (a b c d : ℕ) (bytes : List ℕ) → words_of (a ∷ b ∷ c ∷ d ∷ bytes) ≡ word_from a b c d ∷ words_of bytes
 unfolding words_of
 words-cons a b c d bytes = refl
 
--- a turn of loading: the words loaded, and those of the bytes that are left
-pub load_turn : (bytes words : List ℕ) (i : ℕ) → 4 * i + 4 ≤ length bytes → i < length words
-    → take i words ++ words_of (drop (4 * i) bytes)
-    ≡ take (i + 1) (set words i (word_from (get_or bytes (4 * i) 0) (get_or bytes (4 * i + 1) 0) (get_or bytes (4 * i + 2) 0) (get_or bytes (4 * i + 3) 0)))
-    ++ words_of (drop (4 * (i + 1)) bytes)
-load_turn bytes words i h k = rw (four bytes (4 * i), words-cons, next_four, add-one i, take-suc-set, append_snoc)
-
--- with every word loaded
-pub load_done : (bytes words : List ℕ) (i : ℕ) → i ≡ length bytes / 4 → take i words ++ words_of (drop (4 * i) bytes) ≡ take (length bytes / 4) words
-load_done bytes words i h =
-    let e : words_of (drop (4 * i) bytes) ≡ [] = words-short (drop (4 * i) bytes) (simp length-drop (omega arith)) in
-    rw (e, append-nil, h)
+-- the words are those of each four bytes
+pub words-fours : (bytes : List ℕ) (n : ℕ) → n ≡ length bytes / 4 → map (from_le_bytes w32) (first_chunks 4 n bytes) ≡ words_of bytes
+unfolding words_of
+words-fours [] n e = rw e refl
+words-fours (a ∷ []) n e = rw e refl
+words-fours (a ∷ b ∷ []) n e = rw e refl
+words-fours (a ∷ b ∷ c ∷ []) n e = rw e refl
+words-fours (a ∷ b ∷ c ∷ d ∷ bytes) zero e = absurd (omega arith)
+words-fours (a ∷ b ∷ c ∷ d ∷ bytes) (suc n) e = ap (λ (ws : List ℕ). word_from a b c d ∷ ws) (words-fours bytes n (omega arith))
 
 pub bytes_length : (ws : List ℕ) → length (bytes_of ws) ≡ 4 * length ws
 unfolding bytes_of
@@ -65,19 +53,15 @@ unfolding bytes_of
 bytes_append [] vs = refl
 bytes_append (w ∷ ws) vs = rw (bytes_append ws vs)
 
--- the four stores of a word
-pub stored : (w : ℕ) (out : List ℕ) (at : ℕ) → at + 4 ≤ length out
-    → set (set (set (set out at (w % 256)) (at + 1) (w / 256 % 256)) (at + 2) (w / 65536 % 256)) (at + 3) (w / 16777216 % 256)
-    ≡ take at out ++ bytes_of (w ∷ []) ++ drop (at + 4) out
+-- a turn of storing, in k bytes
+pub store_turn : (words before : List ℕ) {out : List ℕ} {bytes : List ℕ} {i k : ℕ} → i < length words → k ≡ 4 → out ≡ bytes_of (take i words) ++ drop (4 * i) before → bytes ≡ to_le_bytes w32 (get_or words i 0)
+    → put_mid (4 * i) k out bytes ≡ bytes_of (take (i + 1) words) ++ drop (4 * (i + 1)) before
 unfolding bytes_of
-stored w out at h = simp towards_suc (simp towards_suc at (sets-eq (bytes_of (w ∷ [])) out at (omega arith)))
-
--- a turn of storing
-pub store_turn : (words before out : List ℕ) (i : ℕ) → i < length words → 4 * i + 4 ≤ length before → out ≡ bytes_of (take i words) ++ drop (4 * i) before
-    → take (4 * i) out ++ bytes_of (get_or words i 0 ∷ []) ++ drop (4 * i + 4) out ≡ bytes_of (take (i + 1) words) ++ drop (4 * (i + 1)) before
-store_turn words before out i h k e =
+store_turn words before {out} {bytes} {i} {k} h z e f =
     let p = bytes_of (take i words) in
+    let rest = drop (4 * i) before in
     let l : length p ≡ 4 * i = bytes_length (take i words) ∙ ap (λ (n : ℕ). 4 * n) (length-take-le i words (omega arith)) in
-    let d : drop (4 * i + 4) (p ++ drop (4 * i) before) ≡ drop (4 * i + 4) before =
-    ap (λ (n : ℕ). drop (n + 4) (p ++ drop (4 * i) before)) (sym l) ∙ drop-append-add p (drop (4 * i) before) 4 ∙ drop-drop 4 (4 * i) before in
-    rw (e, take_at p (drop (4 * i) before) (4 * i), d, next_four, add-one i, take-suc words i 0, bytes_append)
+    let more : 4 * i + 4 ≡ 4 * (i + 1) = omega arith in
+    let four_on : drop 4 rest ≡ drop (4 * (i + 1)) before = drop-drop 4 (4 * i) before ∙ ap (λ (n : ℕ). drop n before) more in
+    let word : bytes_of (take (i + 1) words) ≡ p ++ to_le_bytes w32 (get_or words i 0) = rw (add-one i, take-suc words i 0 h) (bytes_append (take i words) (get_or words i 0 ∷ [])) in
+    rw (e, z, f, word, take_at p rest (4 * i) l, drop_at p rest (4 * i) l, four_on) (sym (append_assoc p (to_le_bytes w32 (get_or words i 0)) (drop (4 * (i + 1)) before)))

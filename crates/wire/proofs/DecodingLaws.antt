@@ -7,8 +7,8 @@ use mathlib.Core.List.{List}
 use lib.ListN.{length}
 use borrow.Author.Tests.{ne_eqb}
 use Rattle.definitions.specs.declared.answer.Refusal.{Refusal}
-use Rattle.definitions.specs.declared.answer.Answer.{Answer}
-use Rattle.definitions.specs.declared.answer.Answer.TheVariants.{Given, Refused}
+use Rattle.std.specs.Prelude.{Ok, Err}
+use Rattle.definitions.specs.Answers.{Answer, gives}
 use Rattle.definitions.specs.Table.{pick}
 use Rattle.definitions.specs.Bytes.{words_of, in_bits, encode, number_field, place_field, name_field, other_field, decode, are_words, not_words, over_bytes}
 
@@ -28,27 +28,27 @@ module _ (number place name other : ℕ) (h : number < 2 ^ 6) (k : place < 2 ^ 1
   other_again : other_field bits ≡ other
   other_again = omega arith
 
-given_again : (value steps : ℕ) → value < 2 ^ 32 → steps < 2 ^ 12 → decode (encode (Given value steps)) ≡ Given value steps
+given_again : (value steps : ℕ) → value < 2 ^ 32 → steps < 2 ^ 12 → decode (encode (gives value steps)) ≡ gives value steps
 unfolding decode
 given_again value steps h k =
     let z : 0 < 2 ^ 6 = omega arith in
     let y : 0 < 2 ^ 14 = omega arith in
     rw (number_again 0 0 value steps z y h k, name_again 0 0 value steps z y h k, other_again 0 0 value steps z y h k)
 
-refused_again : (r : Refusal) → 0 < r.number → r.number < 2 ^ 6 → r.place < 2 ^ 14 → r.name < 2 ^ 32 → r.other < 2 ^ 12 → decode (encode (Refused r)) ≡ Refused r
+refused_again : (r : Refusal) → 0 < r.number → r.number < 2 ^ 6 → r.place < 2 ^ 14 → r.name < 2 ^ 32 → r.other < 2 ^ 12 → decode (encode (Err r)) ≡ Err r
 unfolding decode
 refused_again r z h k l m =
     rw (number_again r.number r.place r.name r.other h k l m, place_again r.number r.place r.name r.other h k l m, name_again r.number r.place r.name r.other h k l m, other_again r.number r.place r.name r.other h k l m, ne_eqb r.number 0 (λ e. omega arith))
 
 -- an answer of which no part is too large for its bits
 abbrev pub FitsBits : Answer → Type 0
-FitsBits (Given value steps) = (value < 2 ^ 32) × (steps < 2 ^ 12)
-FitsBits (Refused r) = (0 < r.number) × (r.number < 2 ^ 6) × (r.place < 2 ^ 14) × (r.name < 2 ^ 32) × (r.other < 2 ^ 12)
+FitsBits (Ok g) = (g.value < 2 ^ 32) × (g.steps < 2 ^ 12)
+FitsBits (Err r) = (0 < r.number) × (r.number < 2 ^ 6) × (r.place < 2 ^ 14) × (r.name < 2 ^ 32) × (r.other < 2 ^ 12)
 
 -- the number gives the answer back
 pub decode_again : (a : Answer) → FitsBits a → decode (encode a) ≡ a
-decode_again (Given value steps) (h, k) = given_again value steps h k
-decode_again (Refused r) (z, h, k, l, m) = refused_again r z h k l m
+decode_again (Ok g) (h, k) = given_again g.value g.steps h k
+decode_again (Err r) (z, h, k, l, m) = refused_again r z h k l m
 
 -- two answers with one number are one answer
 pub answers_again : (a b : Answer) → FitsBits a → FitsBits b → encode a ≡ encode b → a ≡ b

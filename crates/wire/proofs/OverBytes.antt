@@ -1,18 +1,18 @@
 -- Operations over bytes: what a function that loads, runs the operation and gives its words answers and leaves, from what each step ensures.
 use Prim.Native.Nat.{ℕ, ◌/◌, ◌%◌, ◌≤◌, min}
 use native.Mathlib.Omega.{arith}
-use mathlib.Core.Path.{◌≡◌, refl, ap, sym, ◌∙◌}
+use mathlib.Core.Path.{◌≡◌, refl, ap, sym, ◌∙◌, subst}
 use mathlib.Core.Bool.{Bool, true, false, not, ◌&&◌}
 use mathlib.Core.List.{List, [], ◌++◌}
 use lib.ListN.{length, take, drop, length-append}
 use lib.Seq.{take-append-le, length-take-le}
 use lib.Dec.{eqb, leb}
 use borrow.Author.Tests.{leb-true, not-true, not-false}
-use Rattle.definitions.specs.declared.answer.Answer.{Answer}
-use Rattle.definitions.specs.declared.answer.Answer.TheVariants.{Given, Refused}
+use Rattle.std.specs.Prelude.{Ok, Err}
+use Rattle.definitions.specs.Answers.{Answer, out_of_room}
 use Rattle.definitions.specs.Table.{pick}
 use Rattle.definitions.specs.Bytes.{words_of, encode, are_words, not_words, over_bytes, out_after, out_bytes, Gives}
-use Rattle.wire.specs.Loading.{loaded_of, Loaded, Holds, Tried, FitsOutput}
+use Rattle.wire.specs.Loading.{loaded_of, lacks_room, Loaded, Holds, Tried, FitsOutput}
 use Rattle.wire.proofs.ByteLaws.{words-length}
 use Rattle.wire.proofs.Room.{Within, Writes}
 
@@ -55,19 +55,22 @@ answered answer none {bytes} l e h = h ∙ ap encode (e ∙ ap answer l.front �
 
 -- an answer that says no more words than a part has, for which an output has room: they fit it, and what stands past the part is not given
 fits : (a : Answer) (part rest : List ℕ) (b : ℕ) → Within a (length part) → length part ≤ b / 4 → FitsOutput a (length (part ++ rest)) b
-fits (Given n steps) part rest b h e = (omega (arith, length-append part rest), omega arith)
-fits (Refused r) part rest b h e = tt
+fits (Ok g) part rest b h e = (omega (arith, length-append part rest), omega arith)
+fits (Err r) part rest b h e = tt
 
 of_part : (a : Answer) (part rest out : List ℕ) → Within a (length part) → out_after a (part ++ rest) out ≡ out_after a part out
 unfolding out_after
-of_part (Given n steps) part rest out h = rw (take-append-le n part rest h)
-of_part (Refused r) part rest out h = refl
+of_part (Ok g) part rest out h = rw (take-append-le g.value part rest h)
+of_part (Err r) part rest out h = refl
 
--- an output that a refusal, by 16 as by any other, leaves as it is
-unchanged : (a : Answer) (written out : List ℕ) → encode a ≡ 16 → out_after a written out ≡ out
+-- an answer that is not for want of room, and an output that one that is leaves as it is
+has-room : (a : Answer) → lacks_room a ≡ false → a ≡ out_of_room → ⊥
+has-room a e f = let z : true ≡ false = ap lacks_room (sym f) ∙ e in cc
+
+unchanged : (a : Answer) (written out : List ℕ) → lacks_room a ≡ true → out_after a written out ≡ out
 unfolding out_after
-unchanged (Given n steps) written out e = absurd (omega arith)
-unchanged (Refused r) written out e = refl
+unchanged (Ok g) written out e = cc
+unchanged (Err r) written out e = refl
 
 -- an operation that writes works in the front of a blank slice, with as many words as the output has room for
 module _ {answer : List ℕ → ℕ → Answer} {buffer : List ℕ → List ℕ → List ℕ} (W : Writes answer buffer) where
@@ -79,11 +82,11 @@ module _ {answer : List ℕ → ℕ → Answer} {buffer : List ℕ → List ℕ 
       fits a part (drop m blank) b (rw (e, ← s) (W.fits ws (length part))) (omega arith)
 
   -- and the output is given as many words as it answers
-  pub tried : (out blank : List ℕ) {bytes words part after : List ℕ} {n m : ℕ} {a : Answer} {r : ℕ}
+  pub tried : (out blank : List ℕ) {bytes words part after : List ℕ} {n m : ℕ} {a : Answer}
       → Loaded bytes n words → m ≡ min (length out / 4) (length blank)
       → a ≡ answer (take n words) (length (take m blank)) → part ≡ buffer (take n words) (take m blank) → length part ≡ length (take m blank)
-      → (r ≡ encode a) × (after ≡ out_after a (part ++ drop m blank) out)
-      → Tried answer buffer bytes (length blank) out r after
+      → after ≡ out_after a (part ++ drop m blank) out
+      → Tried answer buffer bytes (length blank) out a after
   tried out blank {bytes} {words} {part} {after} {n} {m} {a} l e f g s h =
       let ws = loaded_of bytes in
       let t : length (take m blank) ≡ min (length out / 4) (length blank) = length-take-le m blank (omega arith) ∙ e in
@@ -91,8 +94,8 @@ module _ {answer : List ℕ → ℕ → Answer} {buffer : List ℕ → List ℕ 
       let its_part : part ≡ buffer ws (take m blank) = rw (← l.front) g in
       let room : length (take m blank) ≤ length (words_of out) = omega (arith, words-length out) in
       record {
-        answers = h.0 ∙ ap encode (here ∙ ap (answer ws) t);
-        leaves = h.1 ∙ of_part a part (drop m blank) out (rw (here, s) (W.fits ws (length (take m blank)))) ∙ rw (here, its_part, ← t) (W.own ws (take m blank) (words_of out) out room);
+        answers = here ∙ ap (answer ws) t;
+        leaves = h ∙ of_part a part (drop m blank) out (rw (here, s) (W.fits ws (length (take m blank)))) ∙ rw (here, its_part) (W.own ws (take m blank) (words_of out) out room);
       }
 
   outs : (bytes out : List ℕ) → out_after (answer (loaded_of bytes) (length out / 4)) (buffer (loaded_of bytes) (words_of out)) out ≡ out_bytes answer buffer bytes out
@@ -105,23 +108,27 @@ module _ {answer : List ℕ → ℕ → Answer} {buffer : List ℕ → List ℕ 
       go true = refl
       go false = rw (W.none (length out / 4))
 
-  module _ {bytes out after : List ℕ} {most r : ℕ} (t : Tried answer buffer bytes most out r after) where
+  module _ {bytes out after : List ℕ} {most : ℕ} {a : Answer} (t : Tried answer buffer bytes most out a after) where
     -- an answer that is the same with all the room that the output has
-    settled : answer (loaded_of bytes) (min (length out / 4) most) ≡ answer (loaded_of bytes) (length out / 4) → Gives answer buffer bytes out r after
+    settled : answer (loaded_of bytes) (min (length out / 4) most) ≡ answer (loaded_of bytes) (length out / 4) → Gives answer buffer bytes out (encode a) after
     settled e =
         record {
-          answers = t.answers ∙ ap encode (e ∙ overs (λ vs. answer vs (length out / 4)) (W.none (length out / 4)) bytes);
-          leaves = t.leaves ∙ rw e (outs bytes out);
+          answers = ap encode (t.answers ∙ e ∙ overs (λ vs. answer vs (length out / 4)) (W.none (length out / 4)) bytes);
+          leaves = t.leaves ∙ rw (t.answers ∙ e) (outs bytes out);
         }
 
     -- any but 16
-    pub given-short : (r ≡ 16 → ⊥) → Gives answer buffer bytes out r after
-    given-short other = settled (W.more (loaded_of bytes) (min (length out / 4) most) (length out / 4) (omega arith) (λ e. other (t.answers ∙ ap encode e)))
+    pub given-short : {r : ℕ} → lacks_room a ≡ false → r ≡ encode a → Gives answer buffer bytes out r after
+    given-short other n = rw n (settled (W.more (loaded_of bytes) (min (length out / 4) most) (length out / 4) (omega arith) (λ e. has-room a other (t.answers ∙ e))))
 
     -- and any, in 8,192 words
-    pub given-long : (before : List ℕ) → out ≡ before → most ≡ 8192 → Gives answer buffer bytes before r after
-    given-long before same e = rw (← same) (settled (rw e (W.enough (loaded_of bytes) (length out / 4))))
+    pub given-long : {r : ℕ} (before : List ℕ) → out ≡ before → most ≡ 8192 → r ≡ encode a → Gives answer buffer bytes before r after
+    given-long before same e n = rw (n, ← same) (settled (rw e (W.enough (loaded_of bytes) (length out / 4))))
 
     -- with 16 the output is as it was
-    pub kept_out : r ≡ 16 → after ≡ out
-    kept_out e = t.leaves ∙ unchanged (answer (loaded_of bytes) (min (length out / 4) most)) (buffer (loaded_of bytes) (words_of out)) out (sym t.answers ∙ e)
+    pub kept_out : lacks_room a ≡ true → after ≡ out
+    kept_out e = t.leaves ∙ unchanged a (buffer (loaded_of bytes) (words_of out)) out e
+
+-- in as many words
+pub tried_as : {answer : List ℕ → ℕ → Answer} {buffer : List ℕ → List ℕ → List ℕ} {bytes out after : List ℕ} {n m : ℕ} {a : Answer} → n ≡ m → Tried answer buffer bytes n out a after → Tried answer buffer bytes m out a after
+tried_as {answer} {buffer} {bytes} {out} {after} {a = a} e t = subst (λ (k : ℕ). Tried answer buffer bytes k out a after) e t

@@ -9,17 +9,16 @@ use lib.ListN.{length, take, drop}
 use lib.Seq.{take-append_seam}
 use lib.Dec.{leb}
 use borrow.Author.Tests.{leb-true, leb-false, le-leb, lt-leb}
-use Rattle.definitions.specs.declared.answer.Answer.{Answer}
-use Rattle.definitions.specs.declared.answer.Answer.TheVariants.{Given, Refused}
 use Rattle.definitions.specs.declared.answer.Refusal.{Refusal}
 use Rattle.definitions.specs.Table.{pick}
-use Rattle.definitions.specs.Answers.{out_of_room}
+use Rattle.std.specs.Prelude.{Ok, Err}
+use Rattle.definitions.specs.Answers.{Answer, gives, out_of_room}
 use Rattle.definitions.specs.Bytes.{not_words, out_after}
 
 -- an answer that says no more words than so many
 abbrev pub Within : Answer → ℕ → Type 0
-Within (Given n steps) m = n ≤ m
-Within (Refused r) m = Unit {0}
+Within (Ok g) m = g.value ≤ m
+Within (Err r) m = Unit {0}
 
 -- an operation that writes no more than 8,192 words, however much room there is
 pub record Writes (answer : List ℕ → ℕ → Answer) (buffer : List ℕ → List ℕ → List ℕ) : Type 0 where
@@ -43,12 +42,12 @@ leb_more n few room h e = le-leb n room (omega (arith, leb-true n few e))
 -- n words are written where the room passes a test, which more room passes too
 module _ (n steps : ℕ) (test : ℕ → Bool) (eases : (few room : ℕ) → few ≤ room → test few ≡ true → test room ≡ true) where
   abbrev tested : ℕ → Answer
-  tested room = pick (test room) (Given n steps) out_of_room
+  tested room = pick (test room) (gives n steps) out_of_room
 
   pub tested-more : (few room : ℕ) → few ≤ room → (tested few ≡ out_of_room → ⊥) → tested few ≡ tested room
   tested-more few room h other = go (test few) refl other
     where
-      go : (b : Bool) → test few ≡ b → (pick b (Given n steps) out_of_room ≡ out_of_room → ⊥) → pick b (Given n steps) out_of_room ≡ tested room
+      go : (b : Bool) → test few ≡ b → (pick b (gives n steps) out_of_room ≡ out_of_room → ⊥) → pick b (gives n steps) out_of_room ≡ tested room
       go true e other = rw (eases few room h e)
       go false e other = absurd (other refl)
 
@@ -61,11 +60,11 @@ module _ (n steps : ℕ) (test : ℕ → Bool) (eases : (few room : ℕ) → few
       front rest = rw (← l) (take-append_seam made rest)
 
       go : (b : Bool) → test (length lent) ≡ b
-          → out_after (pick b (Given n steps) out_of_room) (pick b (made ++ drop n lent) lent) out ≡ out_after (pick b (Given n steps) out_of_room) (pick (test (length other)) (made ++ drop n other) other) out
+          → out_after (pick b (gives n steps) out_of_room) (pick b (made ++ drop n lent) lent) out ≡ out_after (pick b (gives n steps) out_of_room) (pick (test (length other)) (made ++ drop n other) other) out
       go true e = rw (eases (length lent) (length other) h e, front (drop n lent), front (drop n other))
       go false e = refl
 
 -- a refusal leaves all as it is
-pub after-refusal : (r : Refusal) (lent other out : List ℕ) → out_after (Refused r) lent out ≡ out_after (Refused r) other out
+pub after-refusal : (r : Refusal) (lent other out : List ℕ) → out_after (Err r) lent out ≡ out_after (Err r) other out
 unfolding out_after
 after-refusal r lent other out = refl

@@ -1,36 +1,26 @@
 -- `chains::settle::settle_all` meets its contract.
+use Prim.Native.Nat.{◌≤◌}
 use native.Mathlib.Omega.{arith}
-use mathlib.Core.Path.{◌∙◌, sym, subst}
-use Rattle.chains.proofs.EntryLaws.{name-here, names-long}
+use lib.ListN.{length}
+use mathlib.Core.Path.{sym, subst}
+use Rattle.chains.proofs.EntryLaws.{names-front, front-long}
 use Rattle.chains.specs.DirectoryWord.{Reaches}
-use Rattle.chains.proofs.SettleLaws.{begin, walkable, walk_on, all_settled}
+use Rattle.chains.proofs.SettleLaws.{walkable, walk_on, all_settled}
 use Rattle.chains.proofs.settle.settle_all.Goals as goal
 
-pub loop-j-init : goal.loop-j-init
-loop-j-init c = begin _ _ _ _ _ c.requires.1
-
-pub name_at-requires : goal.name_at-requires
-name_at-requires c = omega (arith, c.requires.0, c.requires.2.long)
-
-pub overflow_add-count : goal.overflow_add-count
-overflow_add-count c =
-    omega (arith, c.requires.0)
-
 pub walk-requires : goal.walk-requires
-walk-requires c = (
-  rw (c.name_at.ensures ∙ sym (name-here c.args.dir.now c.args.count c.loop-j.j (omega arith)))
-      (walkable _ _ _ _ _ c.requires.1 c.loop-j.invariant (omega (arith, names-long c.args.dir.now c.args.count))),
-  subst (Reaches c.args.dir.now)
-      (sym c.loop-j.invariant.long) c.requires.2,
-)
+walk-requires c =
+    let h : c.args.count ≤ length c.args.dir.now = omega (arith, c.requires.0, c.requires.2.long) in (
+      rw (← names-front c.args.dir.now c.args.count h) (walkable _ _ _ _ _ c.requires.1 c.loop-name.invariant (omega (arith, front-long c.args.dir.now c.args.count h))),
+      subst (Reaches c.args.dir.now) (sym c.loop-name.invariant.long) c.requires.2,
+    )
 
-pub loop-j-preserved : goal.loop-j-preserved
-loop-j-preserved c =
-    walk_on _ _ _ _ _ c.requires.1 c.loop-j.invariant (omega (arith, names-long c.args.dir.now c.args.count))
-    (rw (c.name_at.ensures ∙ sym (name-here c.args.dir.now c.args.count c.loop-j.j (omega arith))) at c.walk.ensures)
-
-pub shape_of-marks : goal.shape_of-marks
-shape_of-marks c = c.loop-j.invariant.long
+pub loop-name-preserved : goal.loop-name-preserved
+loop-name-preserved c =
+    let h : c.args.count ≤ length c.args.dir.now = omega (arith, c.requires.0, c.requires.2.long) in
+    walk_on _ _ _ _ _ c.requires.1 c.loop-name.invariant (omega (arith, front-long c.args.dir.now c.args.count h)) (rw (← names-front c.args.dir.now c.args.count h) at c.walk.ensures)
 
 pub returns : goal.returns
-returns c = all_settled _ _ _ _ _ c.requires.1 c.loop-j.invariant (omega (arith, names-long c.args.dir.now c.args.count))
+returns c =
+    let h : c.args.count ≤ length c.args.dir.now = omega (arith, c.requires.0, c.requires.2.long) in
+    all_settled _ _ _ _ _ c.requires.1 c.loop-name.invariant (omega (arith, front-long c.args.dir.now c.args.count h))

@@ -8,14 +8,6 @@ use Rattle.filtered.specs.Said.{InnerAsked}
 use Rattle.filtered.proofs.SaysLaws.{inner-asked, filter_left}
 use Rattle.filtered.proofs.filtered.fill.Goals as goal
 
-pub take_kinds-requires : goal.take_kinds-requires
-take_kinds-requires c =
-    let p = c.requires in (p.0, p.1, p.2, p.3)
-
-pub slice_bounds-mark_inner-end : goal.slice_bounds-mark_inner-end
-slice_bounds-mark_inner-end c =
-    let p = c.requires in omega (arith, p.0.reaches.long, p.4)
-
 pub mark_inner-requires : goal.mark_inner-requires
 mark_inner-requires c =
     let p = c.requires in let t = c.take_kinds in (
@@ -23,11 +15,6 @@ mark_inner-requires c =
       front_length
           c.args.dir.now (512 + length c.args.out.now) (omega (arith, p.0.reaches.long, p.4)),
     )
-
-pub say_all-requires : goal.say_all-requires
-say_all-requires c =
-    let p = c.requires in let k = c.mark_inner.auto.marks in
-    (omega (arith, k, c.take_kinds.auto.table, p.3.long, p.4), omega (arith, k, p.0.reaches.most, p.4))
 
 pub returns : goal.returns
 returns c =

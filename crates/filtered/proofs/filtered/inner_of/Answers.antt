@@ -1,13 +1,10 @@
 -- `filtered::filtered::inner_of` meets its contract.
 use native.Mathlib.Omega.{arith}
-use Rattle.filtered.proofs.SaidLaws.{inner-none, inner-ring, inner_some}
+use Rattle.filtered.proofs.SaidLaws.{inner-none, inner_some}
 use Rattle.filtered.proofs.filtered.inner_of.Goals as goal
 
-pub returns-then-direct_of-eq-NONE : goal.returns-then-direct_of-eq-NONE
-returns-then-direct_of-eq-NONE c = inner-none _ _ c.direct_of.ensures c.if-direct_of-eq-NONE.true
-
-pub returns-then-mark-le-SETTLED : goal.returns-then-mark-le-SETTLED
-returns-then-mark-le-SETTLED c = inner-ring _ _ c.direct_of.ensures c.if-direct_of-eq-NONE.false (omega arith)
+pub returns-in_err-direct : goal.returns-in_err-direct
+returns-in_err-direct c = rw c.from_residual.ensures (inner-none _ _ c.in_err-direct.ensures)
 
 pub returns : goal.returns
-returns c = inner_some _ _ c.direct_of.ensures c.if-direct_of-eq-NONE.false (omega arith)
+returns c = inner_some _ _ c.in_ok-direct.ensures (omega (arith, c.of.ensures)) _ c.checked_sub.ensures

@@ -5,9 +5,9 @@ use Rattle.filtered.proofs.filtered.walk_inner.Goals as goal
 
 pub settle_all-requires : goal.settle_all-requires
 settle_all-requires c =
-    walks_asked _ _ c.requires.0 _ (c.inner_words.auto.dir ∙ c.requires.1) c.inner_words.ensures c.clear.ensures
+    walks_asked _ _ c.requires.0 _ (c.inner_words.auto.dir ∙ c.requires.1) c.inner_words.ensures (c.fill.ensures.after (λ y e. e))
 
 pub returns : goal.returns
 returns c =
-    walks_left _ _ c.requires.0 _ (c.inner_words.auto.dir ∙ c.requires.1) c.inner_words.ensures c.clear.ensures
+    walks_left _ _ c.requires.0 _ (c.inner_words.auto.dir ∙ c.requires.1) c.inner_words.ensures (c.fill.ensures.after (λ y e. e))
     c.settle_all.ensures

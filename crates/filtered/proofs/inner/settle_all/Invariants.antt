@@ -1,5 +1,5 @@
 -- `filtered::inner::settle_all` meets its contract.
-use Prim.Native.Nat.{◌+◌, ◌-◌}
+use Prim.Native.Nat.{◌+◌}
 use lib.ListN.{length}
 use Rattle.definitions.specs.Answers.{table_from}
 use Rattle.chains.specs.DirectoryWord.{declarations_in}
@@ -9,6 +9,3 @@ use Rattle.filtered.proofs.inner.settle_all.Given as goal
 
 abbrev pub invariant-loop-j : goal.invariant-loop-j
 invariant-loop-j l = Settling (declarations_in l.dir) l.initial.marks (table_from plainly 0 (length l.initial.marks)) 0 (length l.initial.marks + 1) l.marks l.steps l.j
-
-abbrev pub decreases-loop-j : goal.decreases-loop-j
-decreases-loop-j l = length l.initial.marks - l.j

@@ -1,10 +1,12 @@
 -- `inputs::inputs::seen_blocks` meets its contract.
-use Prim.Native.Nat.{◌-◌, ◌≤◌}
-use Rattle.inputs.proofs.InputWords.{Blocks}
+use Rattle.std.proofs.Common.{◌≡◌, ◌+◌, ◌-◌, ◌*◌, ◌≤◌}
+use Rattle.inputs.specs.declared.inputs.Seen.TheVariants.{Never}
+use Rattle.inputs.specs.Blocks.{seen_blocks}
 use Rattle.inputs.proofs.inputs.seen_blocks.Given as goal
 
-abbrev pub invariant-loop-i : goal.invariant-loop-i
-invariant-loop-i l = (low : l.first ≤ 65536) (few : l.count ≤ 64) → Blocks l.pack l.origin l.name l.first l.count low few l.seen l.at l.i
-
-abbrev pub decreases-loop-i : goal.decreases-loop-i
-decreases-loop-i l = l.count - l.i
+abbrev pub invariant-loop : goal.invariant-loop
+invariant-loop l =
+    record {
+      near : l.at ≤ l.first + l.counter * 50331650;
+      left : seen_blocks l.pack l.origin l.name l.first l.count Never ≡ seen_blocks l.pack l.origin l.name l.at (l.count - l.counter) l.seen;
+    }

@@ -1,12 +1,11 @@
 -- `kinds::search::leads` meets its contract.
 use Prim.Native.Nat.{◌-◌}
 use lib.ListN.{length}
-use Rattle.kinds.specs.Search.{searched}
 use Rattle.kinds.proofs.SearchLaws.{Searching}
 use Rattle.kinds.proofs.search.leads.Given as goal
 
-abbrev pub invariant-loop-marks : goal.invariant-loop-marks
-invariant-loop-marks l = Searching l.pack l.dir l.a l.b (length l.initial.marks) (length l.initial.queue) l.i (searched l.marks l.queue l.count)
+abbrev pub invariant-loop-search : goal.invariant-loop-search
+invariant-loop-search l = Searching l.pack l.dir l.a l.b l.search
 
-abbrev pub decreases-loop-marks : goal.decreases-loop-marks
-decreases-loop-marks l = length l.initial.queue - l.i
+abbrev pub decreases-loop-search : goal.decreases-loop-search
+decreases-loop-search l = length l.search.queue - l.search.entered

@@ -5,6 +5,6 @@ use Rattle.wire.proofs.OverBytes.{answered}
 use Rattle.over_bytes.proofs.operations.ask_in.Goals as goal
 
 pub returns : goal.returns
-returns c =
+returns g c =
     let q = c.args.q in
     answered (answer_to q) (asks_none q) c.load-n.ensures c.answer_to.ensures c.encode.ensures

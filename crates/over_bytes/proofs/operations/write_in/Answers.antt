@@ -1,13 +1,16 @@
 -- `over_bytes::operations::write_in` meets its contract: the output is given what the operation writes.
-use Rattle.over_bytes.specs.BytesPromises.{as_writing}
+use Prim.Native.Nat.{ℕ}
+use lib.ListN.{length-replicate}
 use Rattle.over_bytes.proofs.Writes.{writes}
-use Rattle.wire.proofs.OverBytes.{fits_out, tried}
+use Rattle.wire.proofs.OverBytes.{fits_out, tried, tried_as}
 use Rattle.over_bytes.proofs.operations.write_in.Goals as goal
 
 pub give-requires : goal.give-requires
-give-requires c =
-    fits_out (writes (as_writing c.args.w)) _ _ c.run-a.new.out _ _ c.room-m.ensures c.run-a.ensures.answers c.run-a.auto.out
+give-requires g c =
+    let a = c.requires.4.1 _ _ _ _ c.run-a.ensures in
+    fits_out (writes c.requires.4.0) _ _ c.run-a.new.arg3 _ _ c.room-m.ensures a.answers c.run-a.auto.arg3
 
 pub returns : goal.returns
-returns c =
-    tried (writes (as_writing c.args.w)) _ _ c.load-n.ensures c.room-m.ensures c.run-a.ensures.answers c.run-a.ensures.leaves c.run-a.auto.out c.give.ensures
+returns g c w r =
+    let a = r _ _ _ _ c.run-a.ensures in
+    tried_as (length-replicate {A = ℕ} g.row.ROOM 0) (tried (writes w) _ _ c.load-n.ensures c.room-m.ensures a.answers a.leaves c.run-a.auto.arg3 c.give.ensures)

@@ -1,9 +1,8 @@
 -- `pack::heads::end_of` meets its contract, rule by rule.
-use Rattle.std.proofs.Common.{◌≡◌, ◌<◌, ◌≤◌, ℕ, arith, sym, ap, ◌∙◌}
+use Rattle.std.proofs.Common.{◌≡◌, ◌<◌, ◌≤◌, ℕ, arith, ap, ◌∙◌}
 use Rattle.definitions.specs.declared.table.Entry.{Entry}
-use Rattle.definitions.specs.declared.table.Values.TheVariants.{Any, AtMost}
 use Rattle.definitions.specs.Table.{entry_of}
-use Rattle.pack.proofs.HeadLaws.{sorted, most_small, ends-none, ends-any, ends-name, ends-most}
+use Rattle.pack.proofs.HeadLaws.{sorted, most_small, ends-any, ends-name, ends-most}
 use Rattle.pack.proofs.heads.end_of.Goals as goal
 
 sort_is : {e d : Entry} → e ≡ d → e.sort ≡ d.sort
@@ -14,9 +13,6 @@ values_are h = ap (λ (e : Entry). e.values) h
 
 begins : (kind : ℕ) {e : Entry} → kind < 256 → e ≡ entry_of kind → (e.sort ≡ 2 → ⊥) → (entry_of kind).sort < 2
 begins kind k h n = let l : (entry_of kind).sort ≤ 2 = sorted kind k in let s = sort_is h in omega arith
-
-pub returns-then-entry-eq-NO_TREE : goal.returns-then-entry-eq-NO_TREE
-returns-then-entry-eq-NO_TREE c = ends-none _ _ (sym (sort_is c.entry_of-entry.ensures) ∙ c.if-entry-eq-NO_TREE.true)
 
 pub overflow_add-result-in-AtMost : goal.overflow_add-result-in-AtMost
 overflow_add-result-in-AtMost c = let m = most_small c.args.kind (omega arith) (rw c.entry_of-entry.ensures at c.in-AtMost.is) in omega arith

@@ -1,19 +1,22 @@
 -- The walkers of trees meet their contracts.
+use Rattle.std.specs.Prelude.{Result, Err}
+use Rattle.reading.specs.declared.tree.Fault.{Fault}
+use Rattle.reading.specs.Noting.{walked}
 use Prim.Native.Nat.{ℕ, suc, ◌+◌, ◌%◌, ◌<◌, ◌≤◌}
 use native.Mathlib.Omega.{arith}
-use mathlib.Core.Path.{◌≡◌, refl, ap, ◌∙◌}
+use mathlib.Core.Path.{◌≡◌, refl, ap, sym, ◌∙◌}
 use mathlib.Core.Bool.{true, false}
 use lib.ListN.{get_or}
 use borrow.Author.Rules.{part_to_end}
 use Rattle.definitions.specs.declared.table.Follows.TheVariants.{Patterns, Periods, Choice, Aggregate, OnlyRelated, Slots, Atom, Exists}
 use Rattle.definitions.specs.Table.{kind_of, value_of, entry_of, table, fields_of, children_of, how_many, scalar as scalar-sort, judgment as judgment-sort}
-use Rattle.definitions.specs.Tree.{fields, follow}
+use Rattle.definitions.specs.Tree.{follow}
 use Rattle.reading.specs.Notes.{look_by, noted}
 use Rattle.reading.proofs.TreeLaws.{aggregate-kind, scalars_in_row, judgments_in_row, other_leaf, scalar_row, comparison_row, judgment_row, leaf_low, leaf_last, leaf_between, compared, scalar-kind, judgment-kind}
-use Rattle.reading.proofs.CodeLaws.{code_within, passed, fault_code, fault_large, last_code, then_code, up_to-any, row_small}
+use Rattle.reading.proofs.WalkLaws.{step_within, fielded, row_plain}
 use Rattle.reading.proofs.NotingLaws.{by_shape, after_row, after_bare, after_leaf, after-words, steady_scalar, steady_judgment, noted-aggregate, plain-low, plain-between, plain-last}
-use Rattle.reading.proofs.RowLaws.{refuses, walked, head_refused, begun, past_leaf, past-last, node-refused, forward, past-node, first-refused, first_then, rows_as, fields_read, aggregate-refused, where_rows, exists_rows, compared_rows}
-use Rattle.reading.proofs.PartLaws.{based_losing, based_inside, part_long, part_rows}
+use Rattle.reading.proofs.RowLaws.{handed_noted, noted_as, row_walked, head_refused, begun, past_leaf, past-last, node-refused, forward, past-node, first-refused, first_then, rows_as, fields-refused, where_rows, exists_rows, compared_rows}
+use Rattle.reading.proofs.PartLaws.{shifted, based_losing, based_inside, based_part, part_long, part_rows}
 use Rattle.reading.proofs.tree.+walkers.Goals as goal
 use Rattle.reading.proofs.tree.+walkers.Goals.{after_judgment-in_default-via-then-kind-lt96, after_judgment-in_default-via-else-kind-lt96+else-kind-lt101}
 
@@ -129,242 +132,232 @@ after_scalar-returns-in-74-to-77 t c =
     let k : ℕ = kind_of (get_or c.args.s.now c.args.at 0) in by_shape _ _ _ _ k (value_of (get_or c.args.s.now c.args.at 0)) _ true Aggregate
     (aggregate-kind k (omega arith) (omega arith)) (noted-aggregate k (omega arith) (omega arith)) c.aggregate.ensures
 
-pub aggregate-returns-then-f-ne0 : goal.aggregate-returns-then-f-ne0
-aggregate-returns-then-f-ne0 t c =
-    aggregate-refused _ _ _ c.requires.0 c.requires.1 (c.aggregate_fields-f.ensures _) c.if-f-ne0.true _ _
+-- of an aggregate, its fields that were read
+pub aggregate-returns-in_err-root : goal.aggregate-returns-in_err-root
+aggregate-returns-in_err-root t c =
+    handed_noted _ _ _ _ _ _ _ c.from_residual.ensures.1 (fields-refused _ _ 0 _ true Aggregate _ _ (c.in_err-root.ensures _) refl)
 
 pub aggregate-bounds-s-at : goal.aggregate-bounds-s-at
 aggregate-bounds-s-at t c =
-    let f = fields_read c.args.heads.now.names _ _ c.requires.0 c.requires.1 (c.aggregate_fields-f.ensures _) c.if-f-ne0.false in
-    omega (arith, f.flag.there)
+    let f = fielded 0 _ _ c.requires.1 (c.in_ok-root.ensures 0) refl in omega (arith, f.past, f.there)
 
 pub aggregate-returns-then-compares : goal.aggregate-returns-then-compares
 aggregate-returns-then-compares t c =
-    let f = fields_read c.args.heads.now.names _ _ c.requires.0 c.requires.1 (c.aggregate_fields-f.ensures _) c.if-f-ne0.false in
+    let f = fielded c.args.heads.now.names _ _ c.requires.1 (c.in_ok-root.ensures _) refl in
     where_rows _ _ c.args.context _ _ f
     (ap (λ (i : ℕ). i + c.args.context % 8192) c.note.ensures.0) c.note.ensures.1
-    (compared_rows _ _ _ _ _ c.requires.0 (c.compares.ensures c.if-compares.true) c.if-flag-eq1.true _ (omega arith) c.scalars.ensures)
+    (compared_rows _ _ _ _ _ (c.compares.ensures c.if-compares.true) c.if-flag-eq1.true _ refl c.scalars.ensures)
+
+pub aggregate-offset_bounds-s-root : goal.aggregate-offset_bounds-s-root
+aggregate-offset_bounds-s-root t c =
+    let f = fielded 0 _ _ c.requires.1 (c.in_ok-root.ensures 0) refl in omega (arith, f.there, c.requires.0)
 
 pub aggregate-slice_bounds-judgments-count : goal.aggregate-slice_bounds-judgments-count
-aggregate-slice_bounds-judgments-count t c =
-    let f = fields_read c.args.heads.now.names _ _ c.requires.0 c.requires.1 (c.aggregate_fields-f.ensures _) c.if-f-ne0.false in
-    omega (arith, f.flag.there, c.requires.0)
+aggregate-slice_bounds-judgments-count t c = (fielded 0 _ _ c.requires.1 (c.in_ok-root.ensures 0) refl).there
 
 pub aggregate-slice_bounds-judgments-start : goal.aggregate-slice_bounds-judgments-start
 aggregate-slice_bounds-judgments-start t c =
-    let f = fields_read c.args.heads.now.names _ _ c.requires.0 c.requires.1 (c.aggregate_fields-f.ensures _) c.if-f-ne0.false in
-    omega (arith, f.flag.there, c.requires.0)
+    let f = fielded 0 _ _ c.requires.1 (c.in_ok-root.ensures 0) refl in omega (arith, f.there, c.requires.0)
+
+pub aggregate-overflow_cast-root : goal.aggregate-overflow_cast-root
+aggregate-overflow_cast-root t c =
+    let f = fielded 0 _ _ c.requires.1 (c.in_ok-root.ensures 0) refl in omega (arith, f.there, c.requires.0)
+
+pub aggregate-overflow_add-inner-2 : goal.aggregate-overflow_add-inner-2
+aggregate-overflow_add-inner-2 t c =
+    let f = fielded 0 _ _ c.requires.1 (c.in_ok-root.ensures 0) refl in omega (arith, f.there, c.requires.0, c.note.ensures.0)
+
+pub aggregate-judgments-part-requires : goal.aggregate-judgments-part-requires
+aggregate-judgments-part-requires t c =
+    let f = fielded 0 _ _ c.requires.1 (c.in_ok-root.ensures 0) refl in
+    let l = part_long c.args.s.now c.in_ok-root.root f.there in
+    (omega arith, (omega (arith, l, c.requires.0), omega arith, based_part _ _ l c.requires.2 c.args.notes.now c.note.ensures.0))
 
 pub aggregate-overflow_add-result : goal.aggregate-overflow_add-result
 aggregate-overflow_add-result t c =
-    let f = fields_read c.args.heads.now.names _ _ c.requires.0 c.requires.1 (c.aggregate_fields-f.ensures _) c.if-f-ne0.false in
-    let l = part_long c.args.s.now (c.args.at + 4) f.flag.there in omega (
-      arith,
-      row_small _ _ _ _ _ (omega (arith, l, c.requires.0)) (omega arith) c.judgments.ensures.answers,
-      f.flag.there,
-      c.requires.0,
-    )
+    let f = fielded 0 _ _ c.requires.1 (c.in_ok-root.ensures 0) refl in
+    let l = part_long c.args.s.now c.in_ok-root.root f.there in
+    let w = step_within (λ a. 0) _ _ 0 (omega arith) (c.judgments-part.ensures.answers) (ap walked c.in-Ok.is) in
+    omega (arith, l, w, c.requires.0)
 
-pub aggregate-returns : goal.aggregate-returns
-aggregate-returns t c =
-    let f = fields_read c.args.heads.now.names _ _ c.requires.0 c.requires.1 (c.aggregate_fields-f.ensures _) c.if-f-ne0.false in
+pub aggregate-behind-requires : goal.aggregate-behind-requires
+aggregate-behind-requires t c =
+    let f = fielded 0 _ _ c.requires.1 (c.in_ok-root.ensures 0) refl in
+    let l = part_long c.args.s.now c.in_ok-root.root f.there in
+    let p = row_plain _ _ _ _ 0 (omega arith) c.judgments-part.ensures.answers (ap walked c.in-Err.is) in
+    (omega (arith, p.place, l, c.requires.0), omega (arith, f.there, c.requires.0))
+
+pub aggregate-returns-in-Ok : goal.aggregate-returns-in-Ok
+aggregate-returns-in-Ok t c =
+    let f = fielded c.args.heads.now.names _ _ c.requires.1 (c.in_ok-root.ensures _) refl in
     let i = ap (λ (i : ℕ). i + c.args.context % 8192) c.note.ensures.0 in
     let g = based_inside _ c.requires.2 c.args.notes.now c.note.ensures.0 in
-    where_rows _ _ c.args.context _ _ f i c.note.ensures.1
-    (part_rows _ _ judgment-sort (value_of (get_or c.args.s.now (c.args.at + 3) 0)) _ _ _ g.room (part_to_end c.args.s.now (c.args.at + 4))
-    c.judgments.ensures)
+    noted_as _ _ _ _ _ (ap (λ (y : Result ℕ Fault). shifted c.in_ok-root.root (walked y)) c.in-Ok.is)
+    (where_rows _ _ c.args.context _ _ f i c.note.ensures.1
+    (part_rows _ _ judgment-sort (value_of (get_or c.args.s.now (c.args.at + 3) 0)) _ _ _ g.room (part_to_end c.args.s.now c.in_ok-root.root) c.judgments-part.ensures))
 
-pub choice-returns-then-next-ge-CODES : goal.choice-returns-then-next-ge-CODES
-choice-returns-then-next-ge-CODES t c =
-    first-refused _ _ _ _ _ judgment-sort _ c.judgments-next.ensures c.requires.0 c.requires.1 c.if-next-ge-CODES.true _
+pub aggregate-returns-in-Err : goal.aggregate-returns-in-Err
+aggregate-returns-in-Err t c =
+    let f = fielded c.args.heads.now.names _ _ c.requires.1 (c.in_ok-root.ensures _) refl in
+    let i = ap (λ (i : ℕ). i + c.args.context % 8192) c.note.ensures.0 in
+    let g = based_inside _ c.requires.2 c.args.notes.now c.note.ensures.0 in
+    noted_as _ _ _ _ _ (ap (λ (y : Result ℕ Fault). shifted c.in_ok-root.root (walked y)) c.in-Err.is ∙ ap Err (sym c.behind.ensures))
+    (where_rows _ _ c.args.context _ _ f i c.note.ensures.1
+    (part_rows _ _ judgment-sort (value_of (get_or c.args.s.now (c.args.at + 3) 0)) _ _ _ g.room (part_to_end c.args.s.now c.in_ok-root.root) c.judgments-part.ensures))
+
+pub choice-returns-in_err-next : goal.choice-returns-in_err-next
+choice-returns-in_err-next t c =
+    handed_noted _ _ _ _ _ _ _ c.from_residual.ensures.1 (first-refused _ _ _ _ _ judgment-sort _ c.in_err-next.ensures refl _)
 
 pub choice-scalars-requires : goal.choice-scalars-requires
 choice-scalars-requires t c =
-    (omega arith, (c.requires.0, code_within _ _ _ c.judgments-next.ensures.answers c.requires.1 c.if-next-ge-CODES.false, c.requires.2))
+    (omega arith, (c.requires.0, step_within (λ a. 0) _ _ _ c.requires.1 c.in_ok-next.ensures.answers refl, c.requires.2))
 
 pub choice-returns : goal.choice-returns
-choice-returns t c =
-    first_then _ _ _ _ _ judgment-sort _ c.judgments-next.ensures c.if-next-ge-CODES.false _ c.scalars.ensures
+choice-returns t c = first_then _ _ _ _ _ judgment-sort _ c.in_ok-next.ensures refl _ c.scalars.ensures
 
-pub exists-up_to-f1-requires : goal.exists-up_to-f1-requires
-unfolding entry_of table
-exists-up_to-f1-requires t c = (c.requires.0, c.requires.1, up_to-any 85 refl)
-
-pub exists-returns-then-f1-ne0 : goal.exists-returns-then-f1-ne0
-unfolding follow fields fields_of
-exists-returns-then-f1-ne0 t c =
-    let g = fault_large _ _ _ _ (c.up_to-f1.ensures c.args.heads.now.names) c.if-f1-ne0.true in let q = fault_code _ _ _ _
-    (c.up_to-f1.ensures c.args.heads.now.names) c.if-f1-ne0.true in refuses _ (then_code _ _ _ _ (last_code _ _ _ _ q) c.requires.0 c.requires.1 g) g
+pub exists-returns-in_err-body : goal.exists-returns-in_err-body
+unfolding fields_of
+exists-returns-in_err-body t c =
+    handed_noted _ _ _ _ _ _ _ c.from_residual.ensures.1 (fields-refused _ _ 0 _ true Exists _ _ (c.in_err-body.ensures _) refl)
 
 pub exists-judgments-requires : goal.exists-judgments-requires
 exists-judgments-requires t c =
-    let m = passed _ _ _ _ (c.up_to-f1.ensures c.args.heads.now.names) c.requires.0 c.requires.1 c.if-f1-ne0.false
-    (c.args.at + 1) refl in (omega arith, (c.requires.0, m.there, c.requires.2))
+    (omega arith, (c.requires.0, step_within (λ a. 0) _ _ _ c.requires.1 (c.in_ok-body.ensures 0) refl, c.requires.2))
 
 pub exists-returns : goal.exists-returns
-exists-returns t c =
-    let m = passed _ _ _ _ (c.up_to-f1.ensures c.args.heads.now.names) c.requires.0 c.requires.1 c.if-f1-ne0.false
-    (c.args.at + 1) refl in exists_rows _ _ _ _ _ m c.requires.1 c.note.ensures.1 c.judgments.ensures
+unfolding fields_of
+exists-returns t c = exists_rows _ _ _ _ _ (c.in_ok-body.ensures _) refl c.note.ensures.1 c.judgments.ensures
 
-pub judgments-returns-then-f-ne0 : goal.judgments-returns-then-f-ne0
-judgments-returns-then-f-ne0 t c = head_refused c.loop-k.invariant.0 c.requires.0 (omega arith) c.head-f.ensures c.if-f-ne0.true
+pub judgments-returns-in_err-next : goal.judgments-returns-in_err-next
+judgments-returns-in_err-next t c = handed_noted _ _ _ _ _ _ _ c.from_residual.ensures.1 (head_refused c.loop-k.invariant.0 (omega arith) c.in_err-next.ensures refl)
 
 pub judgments-bounds-s-at : goal.judgments-bounds-s-at
-judgments-bounds-s-at t c =
-    (begun c.loop-k.invariant.0 c.requires.0 (omega arith) c.head-f.ensures c.if-f-ne0.false).inside
+judgments-bounds-s-at t c = (begun c.loop-k.invariant.0 (omega arith) c.in_ok-next.ensures refl).inside
 
 pub judgments-children-k-requires : goal.judgments-children-k-requires
-judgments-children-k-requires t c =
-    let k : ℕ = kind_of (get_or c.args.s.now c.loop-k.at 0) in (
-      omega arith,
-      judgments_in_row k (omega arith) (omega arith),
-    )
+judgments-children-k-requires t c = (omega (arith, c.shared_slice_known-in-loop-k-1.given c.loop-k.at), judgments_in_row (kind_of (get_or c.args.s.now c.loop-k.at 0)) (omega arith) (omega arith))
 
 pub judgments-overflow_sub-left : goal.judgments-overflow_sub-left
-judgments-overflow_sub-left t c =
-    (begun c.loop-k.invariant.0 c.requires.0 (omega arith) c.head-f.ensures c.if-f-ne0.false).level
+judgments-overflow_sub-left t c = (begun c.loop-k.invariant.0 (omega arith) c.in_ok-next.ensures refl).level
+
+pub judgments-loop-k-smaller-then-kind-le-NOT : goal.judgments-loop-k-smaller-then-kind-le-NOT
+judgments-loop-k-smaller-then-kind-le-NOT t c =
+    let u = begun c.loop-k.invariant.0 (omega arith) c.in_ok-next.ensures refl in omega (arith, u.inside, u.on)
 
 pub judgments-loop-k-preserved-then-kind-le-NOT : goal.judgments-loop-k-preserved-then-kind-le-NOT
 judgments-loop-k-preserved-then-kind-le-NOT t c = (
-  let k : ℕ = kind_of (get_or c.args.s.now c.loop-k.at 0) in let lo : 97 ≤ k = omega arith in let hi : k < 101 = omega arith in
-      let one : c.loop-k.k ≡ 1 = omega arith in past-last c.loop-k.invariant.0 c.requires.0 (omega arith)
-      c.head-f.ensures c.if-f-ne0.false one (judgment_row (value_of (get_or c.args.s.now c.loop-k.at 0)) k lo hi)
-      c.children-k.ensures (steady_judgment k (omega (arith, lo)) hi),
+  let k : ℕ = kind_of (get_or c.args.s.now c.loop-k.at 0) in
+      let one : c.loop-k.k ≡ 1 = omega arith in
+      past-last c.loop-k.invariant.0 (omega arith) c.in_ok-next.ensures refl one (judgment_row (value_of (get_or c.args.s.now c.loop-k.at 0)) k (omega arith) (omega arith)) c.children-k.ensures (steady_judgment k (omega arith) (omega arith)),
   omega (arith, c.loop-k.invariant.1),
 )
 
 pub judgments-overflow_sub-left-else-k-eq0 : goal.judgments-overflow_sub-left-else-k-eq0
-judgments-overflow_sub-left-else-k-eq0 t c =
-    (begun c.loop-k.invariant.0 c.requires.0 (omega arith) c.head-f.ensures c.if-f-ne0.false).level
+judgments-overflow_sub-left-else-k-eq0 t c = (begun c.loop-k.invariant.0 (omega arith) c.in_ok-next.ensures refl).level
 
-pub judgments-after_judgment-at-requires : goal.judgments-after_judgment-at-requires
-judgments-after_judgment-at-requires t c =
-    let u = begun c.loop-k.invariant.0 c.requires.0 (omega arith) c.head-f.ensures c.if-f-ne0.false in (
-      omega (arith, u.level, c.loop-k.invariant.0.deep),
-      (c.requires.0, u.inside, judgment-kind (kind_of (get_or c.args.s.now c.loop-k.at 0)) u.kind, c.requires.2),
-    )
+pub judgments-after_judgment-requires : goal.judgments-after_judgment-requires
+judgments-after_judgment-requires t c =
+    let u = begun c.loop-k.invariant.0 (omega arith) c.in_ok-next.ensures refl in
+    (omega (arith, u.level, c.loop-k.invariant.0.deep), (c.requires.0, u.inside, judgment-kind (kind_of (get_or c.args.s.now c.loop-k.at 0)) u.kind, c.requires.2))
 
-pub judgments-returns-then-at-ge-CODES : goal.judgments-returns-then-at-ge-CODES
-judgments-returns-then-at-ge-CODES t c =
-    node-refused c.loop-k.invariant.0 c.requires.0 (omega arith) c.head-f.ensures c.if-f-ne0.false c.after_judgment-at.ensures c.if-at-ge-CODES.true
+pub judgments-returns-in_err-at : goal.judgments-returns-in_err-at
+judgments-returns-in_err-at t c =
+    handed_noted _ _ _ _ _ _ _ c.from_residual-in_err-at.ensures.1 (node-refused c.loop-k.invariant.0 (omega arith) c.in_ok-next.ensures refl c.in_err-at.ensures refl)
 
-pub judgments-loop-k-smaller-else-at-ge-CODES : goal.judgments-loop-k-smaller-else-at-ge-CODES
-judgments-loop-k-smaller-else-at-ge-CODES t c =
-    let w = forward c.loop-k.invariant.0 c.requires.0 (omega arith) c.head-f.ensures c.if-f-ne0.false c.after_judgment-at.ensures
-    c.if-at-ge-CODES.false in omega (arith, w.0, w.1)
+pub judgments-loop-k-smaller-else-k-eq0 : goal.judgments-loop-k-smaller-else-k-eq0
+judgments-loop-k-smaller-else-k-eq0 t c =
+    let w = forward c.loop-k.invariant.0 (omega arith) c.in_ok-next.ensures refl c.in_ok-at.ensures refl in omega (arith, w.0, w.1)
 
-pub judgments-loop-k-preserved-else-at-ge-CODES : goal.judgments-loop-k-preserved-else-at-ge-CODES
-judgments-loop-k-preserved-else-at-ge-CODES t c = (
-  past-node c.loop-k.invariant.0 c.requires.0 (omega arith) c.head-f.ensures c.if-f-ne0.false c.after_judgment-at.ensures
-      c.if-at-ge-CODES.false,
-  omega (arith, c.loop-k.invariant.1),
-)
+pub judgments-loop-k-preserved-else-k-eq0 : goal.judgments-loop-k-preserved-else-k-eq0
+judgments-loop-k-preserved-else-k-eq0 t c =
+    (past-node c.loop-k.invariant.0 (omega arith) c.in_ok-next.ensures refl c.in_ok-at.ensures refl, omega (arith, c.loop-k.invariant.1))
+
+pub judgments-loop-k-smaller : goal.judgments-loop-k-smaller
+judgments-loop-k-smaller t c =
+    let u = begun c.loop-k.invariant.0 (omega arith) c.in_ok-next.ensures refl in omega (arith, u.inside, u.on)
 
 pub judgments-loop-k-preserved : goal.judgments-loop-k-preserved
 judgments-loop-k-preserved t c = (
   let k : ℕ = kind_of (get_or c.args.s.now c.loop-k.at 0) in let lo : 104 < k = c.if-kind-le-SAME_ENTITY.false in let hi : k < 256 = omega
-      (arith, c.shared_slice_known-in-loop-k-1.given c.loop-k.at) in past_leaf c.loop-k.invariant.0 c.requires.0 (omega arith)
-      c.head-f.ensures c.if-f-ne0.false (leaf_last (value_of (get_or c.args.s.now c.loop-k.at 0)) k (omega (arith, lo)) hi) (plain-last k lo hi),
-  omega
-      (arith, c.loop-k.invariant.1),
+      (arith, c.shared_slice_known-in-loop-k-1.given c.loop-k.at) in past_leaf c.loop-k.invariant.0 (omega arith) c.in_ok-next.ensures refl
+      (leaf_last (value_of (get_or c.args.s.now c.loop-k.at 0)) k (omega (arith, lo)) hi) (plain-last k lo hi),
+  omega (arith, c.loop-k.invariant.1),
 )
 
 pub judgments-returns : goal.judgments-returns
-judgments-returns t c = walked c.loop-k.invariant.0 (omega arith)
+judgments-returns t c = row_walked c.loop-k.invariant.0 (omega arith)
 
-pub patterns-returns-then-next-ge-CODES : goal.patterns-returns-then-next-ge-CODES
-patterns-returns-then-next-ge-CODES t c =
-    let z : c.args.count + 1 ≡ suc c.args.count = omega arith in rw z
-    (first-refused _ _ _ _ _ scalar-sort _ c.scalars-next.ensures c.requires.0 c.requires.1 c.if-next-ge-CODES.true _)
+pub patterns-returns-in_err-next : goal.patterns-returns-in_err-next
+patterns-returns-in_err-next t c =
+    let z : c.args.count + 1 ≡ suc c.args.count = omega arith in
+    handed_noted _ _ _ _ _ _ _ c.from_residual.ensures.1 (rw z (first-refused _ _ _ _ _ scalar-sort _ c.in_err-next.ensures refl _))
 
-pub patterns-scalars-requires : goal.patterns-scalars-requires
-patterns-scalars-requires t c = (
-  omega arith,
-  (
-    c.requires.0,
-    code_within _ _ _ c.scalars-next.ensures.answers c.requires.1 c.if-next-ge-CODES.false,
-    based_losing _ c.requires.2
-        c.lost-without.ensures,
-  ),
-)
+pub patterns-scalars-requires-2 : goal.patterns-scalars-requires-2
+patterns-scalars-requires-2 t c =
+    (omega arith, (c.requires.0, step_within (λ a. 0) _ _ _ c.requires.1 c.in_ok-next.ensures.answers refl, based_losing _ c.requires.2 c.lost-without.ensures))
 
 pub patterns-returns : goal.patterns-returns
 patterns-returns t c =
     let z : c.args.count + 1 ≡ suc c.args.count = omega arith in rw z
-    (first_then _ _ _ _ _ scalar-sort _ c.scalars-next.ensures c.if-next-ge-CODES.false _
-    (rows_as _ _ scalar-sort _ {m = c.args.count} refl c.lost-without.ensures c.scalars.ensures))
+    (first_then _ _ _ _ _ scalar-sort _ c.in_ok-next.ensures refl _
+    (rows_as _ _ scalar-sort _ {m = c.args.count} refl c.lost-without.ensures c.scalars-2.ensures))
 
-pub scalars-returns-then-f-ne0 : goal.scalars-returns-then-f-ne0
-scalars-returns-then-f-ne0 t c = head_refused c.loop-k.invariant.0 c.requires.0 (omega arith) c.head-f.ensures c.if-f-ne0.true
+pub scalars-returns-in_err-next : goal.scalars-returns-in_err-next
+scalars-returns-in_err-next t c = handed_noted _ _ _ _ _ _ _ c.from_residual.ensures.1 (head_refused c.loop-k.invariant.0 (omega arith) c.in_err-next.ensures refl)
 
 pub scalars-bounds-s-at : goal.scalars-bounds-s-at
-scalars-bounds-s-at t c =
-    (begun c.loop-k.invariant.0 c.requires.0 (omega arith) c.head-f.ensures c.if-f-ne0.false).inside
+scalars-bounds-s-at t c = (begun c.loop-k.invariant.0 (omega arith) c.in_ok-next.ensures refl).inside
 
 pub scalars-children-k-requires : goal.scalars-children-k-requires
-scalars-children-k-requires t c =
-    let k : ℕ = kind_of (get_or c.args.s.now c.loop-k.at 0) in (
-      omega arith,
-      scalars_in_row k c.if-kind-ge-ONE_CHILD.true
-          (omega arith),
-    )
+scalars-children-k-requires t c = (omega (arith, c.shared_slice_known-in-loop-k-1.given c.loop-k.at), scalars_in_row (kind_of (get_or c.args.s.now c.loop-k.at 0)) (omega arith) (omega arith))
 
 pub scalars-overflow_sub-left : goal.scalars-overflow_sub-left
-scalars-overflow_sub-left t c =
-    (begun c.loop-k.invariant.0 c.requires.0 (omega arith) c.head-f.ensures c.if-f-ne0.false).level
+scalars-overflow_sub-left t c = (begun c.loop-k.invariant.0 (omega arith) c.in_ok-next.ensures refl).level
+
+pub scalars-loop-k-smaller-then-kind-le-MAX : goal.scalars-loop-k-smaller-then-kind-le-MAX
+scalars-loop-k-smaller-then-kind-le-MAX t c =
+    let u = begun c.loop-k.invariant.0 (omega arith) c.in_ok-next.ensures refl in omega (arith, u.inside, u.on)
 
 pub scalars-loop-k-preserved-then-kind-le-MAX : goal.scalars-loop-k-preserved-then-kind-le-MAX
 scalars-loop-k-preserved-then-kind-le-MAX t c = (
-  let k : ℕ = kind_of (get_or c.args.s.now c.loop-k.at 0) in let lo : 66 ≤ k = c.if-kind-ge-ONE_CHILD.true in let hi : k < 71 = omega arith in let one : c.loop-k.k ≡ 1 = omega arith in past-last c.loop-k.invariant.0 c.requires.0 (omega arith)
-      c.head-f.ensures c.if-f-ne0.false one (scalar_row (value_of (get_or c.args.s.now c.loop-k.at 0)) k lo (omega (arith, hi)) (λ z. omega (arith, hi)))
-      c.children-k.ensures (steady_scalar k lo hi),
+  let k : ℕ = kind_of (get_or c.args.s.now c.loop-k.at 0) in
+      let one : c.loop-k.k ≡ 1 = omega arith in
+      past-last c.loop-k.invariant.0 (omega arith) c.in_ok-next.ensures refl one (scalar_row (value_of (get_or c.args.s.now c.loop-k.at 0)) k (omega arith) (omega arith) (λ z. omega arith)) c.children-k.ensures (steady_scalar k (omega arith) (omega arith)),
   omega (arith, c.loop-k.invariant.1),
 )
 
 pub scalars-overflow_sub-left-else-k-eq0 : goal.scalars-overflow_sub-left-else-k-eq0
-scalars-overflow_sub-left-else-k-eq0 t c =
-    (begun c.loop-k.invariant.0 c.requires.0 (omega arith) c.head-f.ensures c.if-f-ne0.false).level
+scalars-overflow_sub-left-else-k-eq0 t c = (begun c.loop-k.invariant.0 (omega arith) c.in_ok-next.ensures refl).level
 
-pub scalars-after_scalar-at-requires : goal.scalars-after_scalar-at-requires
-scalars-after_scalar-at-requires t c =
-    let u = begun c.loop-k.invariant.0 c.requires.0 (omega arith) c.head-f.ensures c.if-f-ne0.false in (
-      omega (arith, u.level, c.loop-k.invariant.0.deep),
-      (
-        c.requires.0,
-        u.inside,
-        scalar-kind (kind_of (get_or c.args.s.now c.loop-k.at 0))
-            (omega (arith, c.shared_slice_known-in-loop-k-1.given c.loop-k.at)) u.kind,
-        c.requires.2,
-      ),
-    )
+pub scalars-after_scalar-requires : goal.scalars-after_scalar-requires
+scalars-after_scalar-requires t c =
+    let u = begun c.loop-k.invariant.0 (omega arith) c.in_ok-next.ensures refl in
+    (omega (arith, u.level, c.loop-k.invariant.0.deep), (c.requires.0, u.inside, scalar-kind (kind_of (get_or c.args.s.now c.loop-k.at 0)) (omega (arith, c.shared_slice_known-in-loop-k-1.given c.loop-k.at)) u.kind, c.requires.2))
 
-pub scalars-returns-then-at-ge-CODES : goal.scalars-returns-then-at-ge-CODES
-scalars-returns-then-at-ge-CODES t c =
-    node-refused c.loop-k.invariant.0 c.requires.0 (omega arith) c.head-f.ensures c.if-f-ne0.false c.after_scalar-at.ensures c.if-at-ge-CODES.true
+pub scalars-returns-in_err-at : goal.scalars-returns-in_err-at
+scalars-returns-in_err-at t c =
+    handed_noted _ _ _ _ _ _ _ c.from_residual-in_err-at.ensures.1 (node-refused c.loop-k.invariant.0 (omega arith) c.in_ok-next.ensures refl c.in_err-at.ensures refl)
 
-pub scalars-loop-k-smaller-else-at-ge-CODES : goal.scalars-loop-k-smaller-else-at-ge-CODES
-scalars-loop-k-smaller-else-at-ge-CODES t c =
-    let w = forward c.loop-k.invariant.0 c.requires.0 (omega arith) c.head-f.ensures c.if-f-ne0.false c.after_scalar-at.ensures
-    c.if-at-ge-CODES.false in omega (arith, w.0, w.1)
+pub scalars-loop-k-smaller-else-k-eq0 : goal.scalars-loop-k-smaller-else-k-eq0
+scalars-loop-k-smaller-else-k-eq0 t c =
+    let w = forward c.loop-k.invariant.0 (omega arith) c.in_ok-next.ensures refl c.in_ok-at.ensures refl in omega (arith, w.0, w.1)
 
-pub scalars-loop-k-preserved-else-at-ge-CODES : goal.scalars-loop-k-preserved-else-at-ge-CODES
-scalars-loop-k-preserved-else-at-ge-CODES t c = (
-  past-node c.loop-k.invariant.0 c.requires.0 (omega arith) c.head-f.ensures c.if-f-ne0.false c.after_scalar-at.ensures
-      c.if-at-ge-CODES.false,
-  omega (arith, c.loop-k.invariant.1),
-)
+pub scalars-loop-k-preserved-else-k-eq0 : goal.scalars-loop-k-preserved-else-k-eq0
+scalars-loop-k-preserved-else-k-eq0 t c =
+    (past-node c.loop-k.invariant.0 (omega arith) c.in_ok-next.ensures refl c.in_ok-at.ensures refl, omega (arith, c.loop-k.invariant.1))
 
 pub scalars-loop-k-smaller : goal.scalars-loop-k-smaller
 scalars-loop-k-smaller t c =
-    omega (arith, (begun c.loop-k.invariant.0 c.requires.0 (omega arith) c.head-f.ensures c.if-f-ne0.false).inside)
+    let u = begun c.loop-k.invariant.0 (omega arith) c.in_ok-next.ensures refl in omega (arith, u.inside, u.on)
 
 pub scalars-loop-k-preserved : goal.scalars-loop-k-preserved
 scalars-loop-k-preserved t c = (
-  past_leaf c.loop-k.invariant.0 c.requires.0 (omega arith) c.head-f.ensures c.if-f-ne0.false
+  past_leaf c.loop-k.invariant.0 (omega arith) c.in_ok-next.ensures refl
       (leaf_low (value_of (get_or c.args.s.now c.loop-k.at 0)) (kind_of (get_or c.args.s.now c.loop-k.at 0)) c.if-kind-ge-ONE_CHILD.false)
       (plain-low (kind_of (get_or c.args.s.now c.loop-k.at 0)) c.if-kind-ge-ONE_CHILD.false),
   omega (arith, c.loop-k.invariant.1),
 )
 
 pub scalars-returns : goal.scalars-returns
-scalars-returns t c = walked c.loop-k.invariant.0 (omega arith)
+scalars-returns t c = row_walked c.loop-k.invariant.0 (omega arith)

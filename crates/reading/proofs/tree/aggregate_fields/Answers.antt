@@ -1,15 +1,14 @@
 -- `reading::tree::aggregate_fields` meets its contract: fields of the right kinds leave it to the flag.
 use native.Mathlib.Omega.{arith}
-use mathlib.Core.Path.{refl, ◌∙◌}
+use mathlib.Core.Path.{refl}
 use Rattle.definitions.specs.Table.{entry_of, table}
-use Rattle.reading.proofs.CodeLaws.{up_to-most}
+use Rattle.reading.proofs.WalkLaws.{up_to-most}
 use Rattle.reading.proofs.RowLaws.{flag_alone}
 use Rattle.reading.proofs.tree.aggregate_fields.Goals as goal
 
 pub up_to-requires : goal.up_to-requires
 unfolding entry_of table
-up_to-requires c = (omega arith, omega arith, up_to-most 83 1 refl)
+up_to-requires c = (c.requires.0, omega arith, up_to-most 83 1 refl)
 
 pub returns : goal.returns
-returns c n =
-    c.up_to.ensures n ∙ flag_alone n _ _ (omega arith) c.if-s-at-ne-CURRENT.false c.if-s-at-ne-RELATED.false c.if-s-at-ne-VALUE.false
+returns c n = flag_alone n _ _ (omega arith) c.if-s-at-ne-CURRENT.false c.if-s-at-ne-RELATED.false c.if-s-at-ne-VALUE.false (c.up_to.ensures n)

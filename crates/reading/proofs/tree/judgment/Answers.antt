@@ -1,52 +1,40 @@
 -- `reading::tree::judgment` meets its contract: a leaf is a row that ends after its word.
+use Prim.Native.Nat.{ℕ, ◌<◌}
 use native.Mathlib.Omega.{arith}
-use mathlib.Core.Path.{sym}
-use Prim.Native.Nat.{◌<◌}
+use mathlib.Core.Path.{refl, sym}
 use lib.ListN.{get_or}
 use Rattle.definitions.specs.Table.{kind_of, value_of, judgment}
 use Rattle.definitions.specs.Tree.{root}
-use Rattle.reading.proofs.CodeLaws.{tree_code, decode_on}
+use Rattle.pack.proofs.StepLaws.{exit}
 use Rattle.reading.proofs.TreeLaws.{leaf_last}
 use Rattle.reading.proofs.NotingLaws.{plain-last}
-use Rattle.reading.proofs.RowLaws.{walking, begun, past_leaf, walked, step_noted}
-use Rattle.reading.proofs.PartLaws.{based_own}
+use Rattle.reading.proofs.RowLaws.{walking, head_refused, begun, past_leaf, row_walked, noted_as, tree_noted}
 use Rattle.reading.proofs.tree.judgment.Goals as goal
 
-pub head-requires : goal.head-requires
-head-requires c = (c.requires.0, c.requires.1, omega arith)
-
-pub offset_bounds-s-at : goal.offset_bounds-s-at
-offset_bounds-s-at c =
-    let w = walking _ judgment 0 c.args.s.now 32 1 _ c.args.notes.now c.requires.1 in
-    omega (arith, (begun w c.requires.0 (omega arith) c.head.ensures c.if-head-eq0.true).inside, c.requires.0)
-
-pub bounds-s-at : goal.bounds-s-at
-bounds-s-at c =
-    let w = walking _ judgment 0 c.args.s.now 32 1 _ c.args.notes.now c.requires.1 in
-    (begun w c.requires.0 (omega arith) c.head.ensures c.if-head-eq0.true).inside
-
-pub overflow_add-result : goal.overflow_add-result
-overflow_add-result c = omega (arith, c.requires.1, c.requires.0)
-
-pub returns-then-s-at-gt-SAME_ENTITY : goal.returns-then-s-at-gt-SAME_ENTITY
+pub returns-in_err-next : goal.returns-in_err-next
 unfolding root
-returns-then-s-at-gt-SAME_ENTITY c =
-    let k = kind_of (get_or c.args.s.now c.args.c.at 0) in
-    let hi : k < 256 = omega (arith, c.shared_slice_known-then-head-eq0-1.given c.args.c.at) in
+returns-in_err-next c =
     let w = walking _ judgment c.args.context c.args.s.now 32 1 _ c.args.notes.now c.requires.1 in
-    let l = past_leaf w c.requires.0 (omega arith) c.head.ensures c.if-head-eq0.true
-    (leaf_last (value_of (get_or c.args.s.now c.args.c.at 0)) k (omega (arith, c.if-s-at-gt-SAME_ENTITY.true)) hi) (plain-last k c.if-s-at-gt-SAME_ENTITY.true hi) in
-    step_noted _ _ _ _ _ _ c.requires.0 c.requires.1 (walked l (omega arith)) (sym (decode_on _ (omega (arith, c.requires.1, c.requires.0))))
+    noted_as _ _ _ _ _ (sym (exit c.from_residual.ensures.1)) (tree_noted _ _ _ _ _ _ (head_refused w (omega arith) c.in_err-next.ensures refl))
 
-pub judgments-requires : goal.judgments-requires
-judgments-requires c =
-    (c.requires.0, c.requires.1, based_own _ c.requires.2 c.requires.0)
+pub bounds-s-c : goal.bounds-s-c
+bounds-s-c c =
+    let w = walking _ judgment 0 c.args.s.now 32 1 _ c.args.notes.now c.requires.1 in
+    (begun w (omega arith) c.in_ok-next.ensures refl).inside
 
-pub step_of-requires : goal.step_of-requires
-step_of-requires c =
-    (tree_code _ _ _ _ _ c.requires.0 c.requires.1 c.judgments.ensures.answers).small
+pub returns-then-s-c-gt-SAME_ENTITY : goal.returns-then-s-c-gt-SAME_ENTITY
+unfolding root
+returns-then-s-c-gt-SAME_ENTITY c =
+    let k : ℕ = kind_of (get_or c.args.s.now c.args.c.at 0) in
+    let hi : k < 256 = omega (arith, c.type_inv.s c.args.c.at) in
+    let w = walking _ judgment c.args.context c.args.s.now 32 1 _ c.args.notes.now c.requires.1 in
+    let l = leaf_last (value_of (get_or c.args.s.now c.args.c.at 0)) k (omega (arith, c.if-s-c-gt-SAME_ENTITY.true)) hi in
+    tree_noted _ _ _ _ _ _ (row_walked (past_leaf w (omega arith) c.in_ok-next.ensures refl l (plain-last k c.if-s-c-gt-SAME_ENTITY.true hi)) (omega arith))
+
+pub returns-in_err-at : goal.returns-in_err-at
+unfolding root
+returns-in_err-at c = noted_as _ _ _ _ _ (sym (exit c.from_residual-in_err-at.ensures.1)) (tree_noted _ _ _ _ _ _ c.in_err-at.ensures)
 
 pub returns : goal.returns
 unfolding root
-returns c =
-    step_noted _ _ _ _ _ _ c.requires.0 c.requires.1 c.judgments.ensures c.step_of.ensures
+returns c = tree_noted _ _ _ _ _ _ c.in_ok-at.ensures

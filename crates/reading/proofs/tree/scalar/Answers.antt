@@ -1,17 +1,14 @@
--- `reading::tree::scalar` meets its contract.
+-- `reading::tree::scalar` meets its contract: a tree is a row of one.
+use mathlib.Core.Path.{sym}
 use Rattle.definitions.specs.Tree.{root}
-use Rattle.reading.proofs.CodeLaws.{tree_code}
-use Rattle.reading.proofs.RowLaws.{step_noted}
-use Rattle.reading.proofs.PartLaws.{based_own}
+use Rattle.pack.proofs.StepLaws.{exit}
+use Rattle.reading.proofs.RowLaws.{noted_as, tree_noted}
 use Rattle.reading.proofs.tree.scalar.Goals as goal
 
-pub scalars-requires : goal.scalars-requires
-scalars-requires c = (c.requires.0, c.requires.1, based_own _ c.requires.2 c.requires.0)
-
-pub step_of-requires : goal.step_of-requires
-step_of-requires c = (tree_code _ _ _ _ _ c.requires.0 c.requires.1 c.scalars.ensures.answers).small
+pub returns-in_err-at : goal.returns-in_err-at
+unfolding root
+returns-in_err-at c = noted_as _ _ _ _ _ (sym (exit c.from_residual.ensures.1)) (tree_noted _ _ _ _ _ _ c.in_err-at.ensures)
 
 pub returns : goal.returns
 unfolding root
-returns c =
-    step_noted _ _ _ _ _ _ c.requires.0 c.requires.1 c.scalars.ensures c.step_of.ensures
+returns c = tree_noted _ _ _ _ _ _ c.in_ok-at.ensures

@@ -2,7 +2,7 @@
 use Rattle.definitions.specs.Pack.{member}
 use Rattle.definitions.specs.Tree.{root}
 use Rattle.pack.proofs.StepLaws.{last_err, then_ok, then_err}
-use Rattle.reading.proofs.CodeLaws.{field-within, step_within}
+use Rattle.reading.proofs.WalkLaws.{field-within, step_within}
 use Rattle.records.proofs.KeptLaws.{noted_err}
 use Rattle.records.proofs.NotesLaws.{rooted, member-noted}
 use Rattle.records.proofs.derivation.member.Goals as goal
@@ -18,9 +18,6 @@ returns-in_err-c2 c = noted_err (last_err (λ a. 0) _ _ _ _ (search (then_ok, th
 pub returns-in_err-many : goal.returns-in_err-many
 unfolding member root
 returns-in_err-many c = noted_err (last_err (λ a. 0) _ _ _ _ (search (then_ok, then_err, c.in_ok-c1.ensures, c.in_ok-c2.ensures, c.in_err-many.ensures) depth 16)) c.from_residual-in_err-many.ensures.1
-
-pub derived-noted-requires : goal.derived-noted-requires
-derived-noted-requires c = let pre = c.requires in (pre.2, pre.3)
 
 pub judgment-requires : goal.judgment-requires
 judgment-requires c = (c.requires.0, step_within _ _ _ _ (field-within _ _ _ _ _ c.skip-2.ensures c.in_ok-c2.was) c.name_list.ensures c.in_ok-many.was, c.requires.1)

@@ -14,10 +14,6 @@ returns-in_err-count c = noted_err (search (count_err, c.in_err-count.ensures)) 
 pub loop-i-init : goal.loop-i-init
 loop-i-init c = let r = count-read _ _ _ c.field.ensures c.in_ok-count.was in relating _ _ c.requires.1 r.few r.late
 
-pub relation-requires : goal.relation-requires
-relation-requires c =
-    let g = c.loop-i.invariant in (c.requires.0, omega (arith, g.few), omega (arith, g.kept, c.requires.1.long))
-
 pub returns-in_err-next : goal.returns-in_err-next
 unfolding relations says
 returns-in_err-next c =

@@ -5,7 +5,7 @@ use Rattle.pack.proofs.StepLaws.{more-stop, first-stop}
 use Rattle.records.specs.Notes.{note_body, note_bodies}
 use Rattle.records.proofs.RecordLaws.{bodies_one}
 use Rattle.records.proofs.KeptLaws.{noted_err}
-use Rattle.records.proofs.LoopLaws.{left_all, left_next, more_err, noted_more}
+use Rattle.records.proofs.LoopLaws.{left_next, more_err, noted_more}
 use Rattle.records.proofs.rule.bodies.Goals as goal
 
 pub returns-in_err-count : goal.returns-in_err-count
@@ -15,10 +15,6 @@ returns-in_err-count c = noted_err (more-stop _ _ _ _ _ _ _ _ c.in_err-count.ens
 pub returns-in_err-first : goal.returns-in_err-first
 unfolding bodies
 returns-in_err-first c = noted_err (first-stop _ _ _ _ _ _ _ _ c.field.ensures c.in_ok-count.was _ c.in_err-first.ensures.answers refl) c.from_residual-in_err-first.ensures.1
-
-pub loop-init : goal.loop-init
-unfolding bodies
-loop-init c = (left_all, refl)
 
 pub returns-in_err-next : goal.returns-in_err-next
 unfolding bodies

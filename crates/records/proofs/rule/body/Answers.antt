@@ -2,7 +2,7 @@
 use Rattle.std.proofs.Common.{◌≡◌, arith}
 use Rattle.definitions.specs.Pack.{body}
 use Rattle.pack.proofs.StepLaws.{walks}
-use Rattle.reading.proofs.CodeLaws.{field-within}
+use Rattle.reading.proofs.WalkLaws.{field-within}
 use Rattle.records.proofs.RecordLaws.{body-sort}
 use Rattle.records.proofs.KeptLaws.{noted_err}
 use Rattle.records.proofs.NotesLaws.{rooted, body-noted}

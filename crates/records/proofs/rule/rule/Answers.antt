@@ -2,7 +2,7 @@
 use Rattle.definitions.specs.Pack.{rule}
 use Rattle.pack.proofs.StepLaws.{by-via, then_ok, then_err}
 use Rattle.records.proofs.KeptLaws.{noted_err}
-use Rattle.records.proofs.NotesLaws.{rule-place, rule_context, rule-noted}
+use Rattle.records.proofs.NotesLaws.{rule-place, rule-noted}
 use Rattle.records.proofs.rule.rule.Goals as goal
 
 pub returns-in_err-c1 : goal.returns-in_err-c1
@@ -22,9 +22,6 @@ returns-in_err-c3 c =
 
 pub open-context-requires : goal.open-context-requires
 open-context-requires c = rule-place _ _ _ c.skip.ensures c.in_ok-c1.was c.requires
-
-pub bodies-requires : goal.bodies-requires
-bodies-requires c = (c.requires, rule_context c.args.notes.now c.open-context.ensures.0)
 
 pub returns : goal.returns
 returns c =

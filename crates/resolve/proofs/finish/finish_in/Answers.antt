@@ -1,6 +1,7 @@
 -- `resolve::finish::finish_in` meets its contract.
 use native.Mathlib.Omega.{arith}
-use mathlib.Core.Path.{refl}
+use mathlib.Core.Path.{refl, ap}
+use Rattle.std.specs.Prelude.{Err}
 use Rattle.resolve.proofs.FinishLaws.{whole-short, few_starts, table-room, table_fits, finish_lists, found-room, too_long, too_short, finish_asked, finish_done}
 use Rattle.resolve.proofs.finish.finish_in.Goals as goal
 
@@ -26,11 +27,11 @@ overflow_add-len c =
 
 pub returns-then-len-gt-MOST_WORDS : goal.returns-then-len-gt-MOST_WORDS
 returns-then-len-gt-MOST_WORDS c =
-    too_long c.requires.0 c.lists-more.ensures refl _ c.if-len-gt-MOST_WORDS.true c.refuse.ensures
+    too_long c.requires.0 c.lists-more.ensures refl _ c.if-len-gt-MOST_WORDS.true (ap Err c.refused.ensures)
 
 pub returns-then-out-len : goal.returns-then-out-len
 returns-then-out-len c =
-    too_short c.requires.0 c.lists-more.ensures refl _ c.if-out-len.true c.refuse-then-out-len.ensures
+    too_short c.requires.0 c.lists-more.ensures refl _ c.if-out-len.true (ap Err c.refused-then-out-len.ensures)
 
 pub slice_bounds-write-end : goal.slice_bounds-write-end
 slice_bounds-write-end c =

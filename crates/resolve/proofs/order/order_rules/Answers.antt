@@ -1,58 +1,20 @@
 -- `resolve::order::order_rules` meets its contract.
-use native.Mathlib.Omega.{arith}
-use mathlib.Core.Path.{refl, sym}
-use Rattle.resolve.proofs.PlacesLaws.{roots_begin, roots_pass, some_root, root-room, roots_next, roots_end}
+use Rattle.resolve.proofs.PlacesLaws.{roots_pass, some_root, root-room, roots_next, roots_end}
+use Rattle.resolve.proofs.order.order_rules.Goals.{then-note-eq0, else-note-eq0}
 use Rattle.resolve.proofs.order.order_rules.Goals as goal
 
-pub loop-i-init : goal.loop-i-init
-loop-i-init c = λ room e a. roots_begin a _ (sym e)
+pub overflow_sub-note : goal.overflow_sub-note
+overflow_sub-note c = some_root c.requires (c.loop-note.invariant c.requires) c.loop-note-test.true
 
-pub bounds-notes-i : goal.bounds-notes-i
-bounds-notes-i c = omega (arith, c.requires.within)
+pub put_word-requires : goal.put_word-requires
+put_word-requires c = root-room c.requires (c.loop-note.invariant c.requires) c.loop-note-test.true c.if-note-eq0.true
 
-pub overflow_add-i : goal.overflow_add-i
-overflow_add-i c = omega (arith, c.requires.within)
-
-pub loop-i-smaller-then-note-ne0 : goal.loop-i-smaller-then-note-ne0
-loop-i-smaller-then-note-ne0 c = omega arith
-
-pub loop-i-preserved-then-note-ne0 : goal.loop-i-preserved-then-note-ne0
-loop-i-preserved-then-note-ne0 c = λ room e a. roots_pass a (c.loop-i.invariant room e a) c.loop-i-test.true c.if-note-ne0.true
-
-pub overflow_sub-places : goal.overflow_sub-places
-overflow_sub-places c = omega (arith, some_root c.requires (c.loop-i.invariant _ refl c.requires) c.loop-i-test.true)
-
-pub offset_bounds-places-k : goal.offset_bounds-places-k
-offset_bounds-places-k c =
-    omega (
-      arith,
-      c.requires.few,
-      (c.loop-i.invariant _ refl c.requires).long,
-      root-room c.requires (c.loop-i.invariant _ refl c.requires) c.loop-i-test.true
-          c.if-note-ne0.false,
-    )
-
-pub bounds-places-k : goal.bounds-places-k
-bounds-places-k c = root-room c.requires (c.loop-i.invariant _ refl c.requires) c.loop-i-test.true c.if-note-ne0.false
-
-pub overflow_add-k : goal.overflow_add-k
-overflow_add-k c =
-    omega (
-      arith,
-      c.requires.few,
-      (c.loop-i.invariant _ refl c.requires).long,
-      root-room c.requires (c.loop-i.invariant _ refl c.requires) c.loop-i-test.true
-          c.if-note-ne0.false,
-    )
-
-pub loop-i-smaller : goal.loop-i-smaller
-loop-i-smaller c = omega arith
-
-pub loop-i-preserved : goal.loop-i-preserved
-loop-i-preserved c = λ room e a. roots_next a (c.loop-i.invariant room e a) c.loop-i-test.true c.if-note-ne0.false
-
-pub shape_of-places : goal.shape_of-places
-shape_of-places c = (c.loop-i.invariant _ refl c.requires).long
+pub loop-note-preserved : goal.loop-note-preserved
+loop-note-preserved c =
+    λ a. elim c.if-note-eq0.branch [
+      | then-note-eq0 w ↦ rw w.places-is (roots_next a (c.loop-note.invariant a) c.loop-note-test.true w.if-note-eq0.true w.put_word.ensures)
+      | else-note-eq0 w ↦ rw w.places-is (roots_pass a (c.loop-note.invariant a) c.loop-note-test.true w.if-note-eq0.false)
+    ]
 
 pub returns : goal.returns
-returns c a = roots_end a (c.loop-i.invariant _ refl a) c.loop-i-test.false
+returns c a = roots_end a (c.loop-note.invariant a) c.loop-note-test.false

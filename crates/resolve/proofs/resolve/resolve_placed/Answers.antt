@@ -1,36 +1,27 @@
 -- `resolve::resolve::resolve_placed` meets its contract.
 use native.Mathlib.Omega.{arith}
-use mathlib.Core.Path.{refl, sym, ◌∙◌}
-use lib.Seq.{length-take-le}
-use Rattle.resolve.proofs.ResolveLaws.{turns-asked, placed_finish, placed-all, placed_stopped, into_part, into_refused}
+use borrow.Author.Rules.{rules}
+use mathlib.Core.Path.{refl, ◌∙◌}
+use Rattle.resolve.proofs.FinishLaws.{front_length}
+use Rattle.resolve.proofs.ResolveLaws.{turns-asked, placed_finish, placed-all, placed_stopped, into_part, into_stopped}
 use Rattle.resolve.proofs.resolve.resolve_placed.Goals as goal
-use Rattle.resolve.proofs.resolve.resolve_placed.Goals.{In-All}
-
-pub copy-requires : goal.copy-requires
-copy-requires c =
-    c.requires.resolves.room
 
 pub turn_pack-requires : goal.turn_pack-requires
-turn_pack-requires c =
-    turns-asked c.requires c.copy.ensures
+turn_pack-requires g c =
+    turns-asked c.requires.0 c.copy_from_slice.ensures.after
 
 pub slice_bounds-finish-end : goal.slice_bounds-finish-end
-slice_bounds-finish-end c =
-    omega (arith, c.requires.resolves.fits)
-
-pub slice_bounds-finish-end-in-All : goal.slice_bounds-finish-end-in-All
-slice_bounds-finish-end-in-All c = sym (length-take-le _ _ (slice_bounds-finish-end (goal.at.slice_bounds-finish-end-in-All c).In-All))
+slice_bounds-finish-end g c =
+    omega (arith, c.requires.0.resolves.fits)
 
 pub finish-requires : goal.finish-requires
-finish-requires c =
-    placed_finish c.requires c.turn_pack.ensures c.in-All.is
+finish-requires g c = (placed_finish c.requires.0 c.turn_pack.ensures c.in_ok-turn_pack.was, c.requires.1, c.requires.2)
 
-pub returns-in-All : goal.returns-in-All
-returns-in-All c =
-    into_part _ _ _ (length-take-le _ _ (slice_bounds-finish-end (goal.at.returns-in-All c).In-All))
-    (placed-all c.requires c.turn_pack.ensures c.in-All.is c.finish.ensures)
-    (c.finish.auto.out ∙ length-take-le _ _ (slice_bounds-finish-end (goal.at.returns-in-All c).In-All)) refl
+pub returns : goal.returns
+returns g c =
+    let room = front_length c.turn_pack.new.notes c.args.checked.now.figures.room (omega (arith, c.turn_pack.auto.notes, c.requires.0.resolves.fits)) in
+    into_part _ _ _ room (placed-all c.requires.0 c.turn_pack.ensures c.in_ok-turn_pack.was c.finish.ensures) (c.finish.auto.out ∙ room) refl
 
-pub returns-in-Refused : goal.returns-in-Refused
-returns-in-Refused c =
-    into_refused _ _ refl (placed_stopped c.requires c.turn_pack.ensures c.in-Refused.is)
+pub returns-in_err-turn_pack : goal.returns-in_err-turn_pack
+returns-in_err-turn_pack g c =
+    into_stopped _ _ (placed_stopped c.requires.0 c.turn_pack.ensures c.in_err-turn_pack.was) (search rules)

@@ -1,11 +1,6 @@
 -- `stamping::lists` meets its contract.
-use Prim.Native.Nat.{◌-◌}
-use lib.ListN.{length}
 use Rattle.stamping.proofs.ListForLaws.{Listing}
 use Rattle.stamping.proofs.lists.lists.Given as goal
 
 abbrev pub invariant-loop-i : goal.invariant-loop-i
 invariant-loop-i l = Listing l.pack l.work l.acts l.asked l.order l.table l.more l.i
-
-abbrev pub decreases-loop-i : goal.decreases-loop-i
-decreases-loop-i l = length l.order - l.i

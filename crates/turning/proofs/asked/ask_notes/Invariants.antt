@@ -1,10 +1,7 @@
 -- `turning::asked::ask_notes` meets its contract.
-use Prim.Native.Nat.{◌+◌, ◌-◌}
+use Rattle.std.proofs.Common.{◌+◌}
 use Rattle.turning.proofs.MarkLaws.{Marking}
 use Rattle.turning.proofs.asked.ask_notes.Given as goal
 
-abbrev pub invariant-loop-i : goal.invariant-loop-i
-invariant-loop-i l = Marking l.pack l.notes l.all l.initial.table l.i l.current l.table
-
-abbrev pub decreases-loop-i : goal.decreases-loop-i
-decreases-loop-i l = l.all + 1 - l.i
+abbrev pub invariant-loop-code : goal.invariant-loop-code
+invariant-loop-code l = Marking l.pack l.notes l.all l.fn.table (l.code-index + 1) l.current l.table

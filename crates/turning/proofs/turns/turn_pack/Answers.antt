@@ -1,43 +1,21 @@
 -- `turning::turns::turn_pack` meets its contract.
-use Rattle.turning.proofs.PackLaws.{few-relations, few-notes, refused_not, rules-asked, pack_stopped, relations-asked, pack-ended}
-use mathlib.Core.Path.{◌∙◌}
-use native.Mathlib.Omega.{arith}
+use Rattle.std.proofs.lemmas.Result.{err_from_is_err_and}
+use Rattle.turning.specs.declared.known.Known.{Known}
+use Rattle.turning.proofs.PackLaws.{rules-asked, pack_stopped, relations-asked, pack-ended}
 use Rattle.turning.proofs.turns.turn_pack.Goals as goal
-
-pub overflow_add-from : goal.overflow_add-from
-overflow_add-from c =
-    omega (arith, few-relations _ _ _ _ _ _ _ _ _ (c.requires))
-
-pub overflow_add-to : goal.overflow_add-to
-overflow_add-to c =
-    omega (arith, few-notes _ _ _ _ _ _ _ _ _ (c.requires))
-
-pub turns-rules-requires : goal.turns-rules-requires
-turns-rules-requires c =
-    rules-asked _ _ _ _ _ _ _ _ _ (c.requires)
-
-pub shape_of-work-in_default : goal.shape_of-work-in_default
-shape_of-work-in_default c = c.turns-rules.ensures.long
-
-pub shape_of-notes-in_default : goal.shape_of-notes-in_default
-shape_of-notes-in_default c = c.turns-rules.ensures.wide
-
-pub returns-in_default : goal.returns-in_default
-returns-in_default c =
-    pack_stopped _ _ _ _ _ _ _ _ _ (c.requires) c.turns-rules.ensures (λ e. refused_not c.in_default.is e)
 
 pub turns-requires : goal.turns-requires
 turns-requires c =
-    relations-asked _ _ _ _ _ _ _ _ _ (c.requires) c.turns-rules.ensures c.in-All.is
+    let k : Known = record { pack = c.args.pack; acts = c.args.acts; taken = c.args.taken; blocks = c.args.counts.blocks; low = c.requires.low; few = c.requires.few } in
+    rules-asked k _ _ _ _ c.requires
 
-pub shape_of-work : goal.shape_of-work
-shape_of-work c =
-    c.turns.ensures.long ∙ c.turns-rules.ensures.long
+pub returns-in_err-turns : goal.returns-in_err-turns
+returns-in_err-turns c =
+    let p = err_from_is_err_and c.from_residual.result c.from_residual.ensures.1 in
+    rw (p.1, p.2) (pack_stopped _ _ _ _ _ c.requires c.turns.ensures c.in_err-turns.was)
 
-pub shape_of-notes : goal.shape_of-notes
-shape_of-notes c =
-    c.turns.ensures.wide ∙ c.turns-rules.ensures.wide
+pub turns-requires-2 : goal.turns-requires-2
+turns-requires-2 c = relations-asked _ _ _ _ _ c.requires c.turns.ensures c.in_ok-turns.was
 
 pub returns : goal.returns
-returns c =
-    pack-ended _ _ _ _ _ _ _ _ _ (c.requires) c.turns-rules.ensures c.in-All.is c.turns.ensures
+returns c = pack-ended _ _ _ _ _ c.requires c.turns.ensures c.in_ok-turns.was c.turns-2.ensures

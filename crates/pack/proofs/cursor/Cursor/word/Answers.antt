@@ -1,5 +1,5 @@
 -- `pack::cursor::Cursor::word` meets its contract.
-use Rattle.std.proofs.Common.{◌∙◌, ap, arith}
+use Rattle.std.proofs.Common.{◌∙◌, ap}
 use Rattle.std.specs.Prelude.{Err}
 use Rattle.pack.proofs.StepLaws.{word-there, word-ended}
 use Rattle.pack.proofs.cursor.Cursor.word.Goals as goal

@@ -1,5 +1,5 @@
 -- `pack::heads::Heads::begins` meets its contract.
-use Rattle.std.proofs.Common.{◌≡◌, ◌<◌, ◌≤◌, ℕ, arith, sym}
+use Rattle.std.proofs.Common.{arith, sym}
 use Rattle.pack.proofs.HeadLaws.{other-sort, by_end}
 use Rattle.pack.proofs.heads.Heads.begins.Goals as goal
 

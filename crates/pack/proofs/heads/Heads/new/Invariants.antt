@@ -1,5 +1,5 @@
 -- `pack::heads::Heads::new` meets its contract.
-use Rattle.std.proofs.Common.{◌≡◌, ℕ, ◌<◌, ◌≤◌, ◌+◌, ◌-◌, ◌*◌, length, get_or}
+use Rattle.std.proofs.Common.{ℕ, ◌<◌, ◌+◌, get_or}
 use Rattle.pack.specs.Packed.{EndsAt}
 use Rattle.pack.proofs.heads.Heads.new.Given as goal
 

@@ -1,0 +1,22 @@
+-- `kinds::search::Search::reach` meets its contract.
+use mathlib.Core.Path.{sym}
+use Rattle.kinds.proofs.SearchLaws.{inside, fits, reached-before, reached_now, room_kept, added}
+use Rattle.kinds.proofs.search.Search.reach.Goals as goal
+
+pub bounds-self-inside-n : goal.bounds-self-inside-n
+bounds-self-inside-n c = inside _ _ (rw (← c.self.view_is) at c.requires)
+
+pub bounds-self-inside-n-then-self-n-eq0 : goal.bounds-self-inside-n-then-self-n-eq0
+bounds-self-inside-n-then-self-n-eq0 c = inside _ _ (rw (← c.self.view_is) at c.requires)
+
+pub bounds-self-inside-self-inside : goal.bounds-self-inside-self-inside
+bounds-self-inside-self-inside c = fits _ _ (rw (← c.self.view_is) at c.requires) c.self.invariant c.if-self-n-eq0.true
+
+pub invariant_of-self : goal.invariant_of-self
+invariant_of-self c = room_kept c.self.invariant (added _ _ (rw (← c.self.view_is) at c.requires) c.if-self-n-eq0.true)
+
+pub returns-then-self-n-eq0 : goal.returns-then-self-n-eq0
+returns-then-self-n-eq0 c = rw (← c.self.view_is) (sym (reached_now _ _ c.if-self-n-eq0.true))
+
+pub returns-else-self-n-eq0 : goal.returns-else-self-n-eq0
+returns-else-self-n-eq0 c = rw (← c.self.view_is) (sym (reached-before _ _ c.if-self-n-eq0.false))

@@ -1,0 +1,82 @@
+// A checked pack with its tables.
+ghost use Rattle.std.specs.Prelude.{◌≡◌, ◌+◌, ◌<◌, ◌≤◌};
+ghost use Rattle.chains.specs.Record.{value_at};
+
+use chains::record::value_at;
+use pack::kinds::Pack;
+use records::directory::Layout;
+use turning::step::Blocks;
+use turning::turns::Counts;
+
+// How many pieces are neither relations nor rules nor blocks, how many small packs have, and how many there are at most.
+#[derive(Clone, Copy)]
+pub struct Places {}
+
+impl Places {
+    pub const OTHERS: usize = 3;
+
+    pub const FEW: usize = 128;
+
+    pub const MOST: usize = Places::OTHERS
+        + (Pack::MOST_RELATIONS + Pack::MOST_RULES + Pack::MOST_BLOCKS) as usize;
+}
+
+// Of a checked pack: its relations, the place of its count of rules, its notes, and the declarations that were read for its
+// kinds; and how many words there is room for.
+#[derive(Clone, Copy)]
+pub struct Figures {
+    pub relations: usize,
+    pub rules: usize,
+    pub notes: Counts,
+    pub steps: u32,
+    pub room: usize,
+}
+
+// A pack, its directory, what aggregates over its relations do and the kinds that entities take, each by name, and its figures.
+#[derive(Clone, Copy)]
+pub struct Checked<'a> {
+    pub pack: &'a [u32],
+    pub dir: &'a [u32],
+    pub acts: &'a [u32],
+    pub taken: &'a [u32],
+    pub figures: Figures,
+}
+
+impl Figures {
+    // As the layout of a pack says.
+    pub fn of(pack: &[u32], layout: Layout, steps: u32, room: usize) -> Figures
+        requires { layout.blocks < 8192 }
+        ensures { result ≡ record { relations = layout.relations; rules = layout.rules; notes = record { noted = layout.noted; all = layout.all; blocks = record { at = layout.blocks + 1; count = value_at pack.now layout.blocks } }; steps = steps; room = room } }
+    {
+        let blocks = Blocks {
+            at: layout.blocks + 1,
+            count: value_at(pack, layout.blocks) as usize,
+        };
+        let notes = Counts {
+            noted: layout.noted as usize,
+            all: layout.all as usize,
+            blocks,
+        };
+        Figures {
+            relations: layout.relations as usize,
+            rules: layout.rules,
+            notes,
+            steps,
+            room,
+        }
+    }
+}
+
+impl Checked<'_> {
+    // How many pieces the pack has.
+    pub fn pieces(&self) -> usize
+        requires { (self.now.figures.relations ≤ 512) × (self.now.figures.notes.blocks.count ≤ 64) }
+        ensures { result ≡ self.now.figures.relations + value_at self.now.pack.now self.now.figures.rules + self.now.figures.notes.blocks.count + 3 }
+    {
+        let figures = self.figures;
+        figures.relations
+            + value_at(self.pack, figures.rules) as usize
+            + figures.notes.blocks.count
+            + Places::OTHERS
+    }
+}

@@ -1,0 +1,106 @@
+// Words that are written one after the other into a slice. `pack` are the words in which the lists stand.
+ghost use Rattle.std.specs.Prelude.{◌≡◌, [], ◌∷◌, ◌≤◌, ◌<◌, length};
+
+use chains::record::{kind_count, slots_place, value_at};
+use pack::kinds::Pack;
+use stamping::lists::names_at;
+
+// The slice, and the running place: how many words of it are written.
+#[derive(Drop)]
+pub struct Writer<'a> {
+    out: &'a mut [u32],
+    pub to: usize,
+    ghost within: { to ≤ length out.now },
+    ghost few: { length out.now ≤ 8192 },
+}
+
+// Words.
+impl<'a> Writer<'a> {
+    ghost use Rattle.resolve.specs.Writing.{HasRoom, Begins, Writes};
+
+    pub fn new(out: &'a mut [u32]) -> Writer<'a>
+        requires { length out.old ≤ 8192 }
+        ensures same_reference { result.out.ghost_name ≡ out.entry.ghost_name }
+        ensures begins { Begins result out.old }
+    {
+        Writer { out, to: 0 }
+    }
+
+    pub fn put_word(&mut self, word: u32)
+        requires { HasRoom self.old (word ∷ []) }
+        ensures { Writes self.old (word ∷ []) self.new }
+    {
+        self.out[self.to] = word;
+        self.to += 1;
+    }
+
+    fn put_words(&mut self, words: &[u32])
+        requires { HasRoom self.old words.now }
+        ensures { Writes self.old words.now self.new }
+    {
+        let next = self.to + words.len();
+        self.out[self.to..next].copy_from_slice(words);
+        self.to = next;
+    }
+}
+
+// Records, with the list at a place of the pack.
+impl Writer<'_> {
+    ghost use Rattle.definitions.specs.Table.{word_of};
+    ghost use Rattle.definitions.specs.Places.{names_at};
+    ghost use Rattle.stamping.specs.Stamping.{names_or, Lists};
+    ghost use Rattle.resolve.specs.Pieces.{list_words, put_for, piece_out, Stampable, RecordPut};
+    ghost use Rattle.resolve.specs.Writing.{HasRoom, Writes};
+    ghost use Rattle.std.specs.Prelude.{map};
+
+    // The names of the list, of which there are so many.
+    fn put_names(&mut self, pack: &[u32], list: u32, names: u32)
+        requires { Lists pack.now list names × HasRoom self.old (map (word_of 10) (names_or (names_at pack.now list))) }
+        ensures { Writes self.old (map (word_of 10) (names_or (names_at pack.now list))) self.new }
+    {
+        for j in 0..names as usize {
+            let name = value_at(pack, list as usize + 1 + j);
+            self.put_word(Pack::SLOT_KIND * Pack::VALUES + name);
+        }
+    }
+
+    // The list, as one of a kind.
+    fn put_list(&mut self, pack: &[u32], list: u32, kind: u32)
+        requires { (kind ≤ 21) × HasRoom self.old (list_words kind (names_or (names_at pack.now list))) }
+        ensures { Writes self.old (list_words kind (names_or (names_at pack.now list))) self.new }
+    {
+        let names = names_at(pack, list);
+        self.put_word(kind * Pack::VALUES + names);
+        self.put_names(pack, list, names);
+    }
+
+    // A relation's record up to the count of its list 21, which stands at a place, with the list stamped on it.
+    fn put_lists(&mut self, pack: &[u32], list: u32, words: &[u32], place: usize)
+        requires { (4 ≤ place) × (place ≤ length words.now) × HasRoom self.old (put_for (names_or (names_at pack.now list)) words.now place) }
+        ensures { Writes self.old (put_for (names_or (names_at pack.now list)) words.now place) self.new }
+    {
+        let mut from = 0;
+        if kind_count(words, 0) == 0 {
+            self.put_words(&words[..3]);
+            self.put_list(pack, list, Pack::SLOT_KINDS);
+            from = 4;
+        }
+        self.put_words(&words[from..place]);
+        self.put_list(pack, list, Pack::SLOT_ENTITIES);
+    }
+
+    // A record, with the list stamped on it; at place 0 there is none.
+    pub fn put_record(&mut self, pack: &[u32], list: u32, words: &[u32])
+        requires { Stampable list words.now × HasRoom self.old (piece_out pack.now list words.now) }
+        ensures written { Writes self.old (piece_out pack.now list words.now) self.new }
+        ensures carried { RecordPut self.old.out.now self.old.to (piece_out pack.now list words.now) self.new.out.now self.new.to }
+    {
+        if list == 0 {
+            self.put_words(words);
+            return;
+        }
+        let place = slots_place(words, 0) + 4;
+        self.put_lists(pack, list, words, place);
+        self.put_words(&words[place + 1..]);
+    }
+}
