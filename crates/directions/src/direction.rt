@@ -54,11 +54,10 @@ pub fn between(a: u32, b: u32, c: u32, r: u32, current: u32, related: u32) -> Di
 fn matching_kind(taken: &[u32], entity: u32) -> u32
     ensures { result ≡ or_else (direct_in taken.now entity) entity }
 {
-    let e = entity as usize;
-    if taken.len() <= e {
-        return entity;
+    match taken.get(entity as usize) {
+        Some(x) => Taken::from(*x).direct().unwrap_or(entity),
+        None => entity,
     }
-    Taken::from(taken[e]).direct().unwrap_or(entity)
 }
 
 // The two kinds of a typed relation, by its number.

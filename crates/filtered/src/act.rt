@@ -47,10 +47,7 @@ impl Part {
 pub fn act_of(acts: &[u32], name: usize) -> u32
     ensures { result ≡ get_or acts.now name 0 }
 {
-    if acts.len() <= name {
-        return 0;
-    }
-    acts[name]
+    acts.get(name).copied().unwrap_or(0)
 }
 
 // The place of the list; 0, as everywhere a list is looked up by its place, for none.

@@ -47,8 +47,8 @@ fn say_all(taken: &[u32], filter: Filter, out: &mut [u32])
     requires { (length out.old ≤ length taken.now) × (length out.old ≤ 4096) }
     ensures { out.new ≡ table_from (said_in filter taken.now out.old) 0 (length out.old) }
 {
-    for j in 0..out.len() {
-        out[j] = say(filter, taken[j], out[j], j as u32);
+    for (j, word) in out.iter_mut().enumerate() {
+        *word = say(filter, taken[j], *word, j as u32);
     }
 }
 
