@@ -4,3 +4,4 @@ pub mod Declaration
 pub mod Mark
 pub mod Settle
 pub mod PackDirectory
+pub mod Walks
