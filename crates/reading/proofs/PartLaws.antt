@@ -21,7 +21,8 @@ use Rattle.pack.proofs.StepLaws.{on_place}
 use Rattle.reading.proofs.WalkLaws.{no_on}
 use Rattle.pack.proofs.FormLaws.{clash}
 use Rattle.reading.specs.Notes.{look_by, noted}
-use Rattle.reading.specs.Noting.{Based, Context, State, losing, push, in_next, past, child_in, note_tree, note_forest, later, Came, Sorted, Rows}
+use Rattle.reading.specs.Faults.{later}
+use Rattle.reading.specs.Noting.{Based, Context, State, losing, push, in_next, past, child_in, note_tree, note_forest, Came, Sorted, Rows}
 
 -- ---- bases
 

@@ -1,7 +1,7 @@
 -- Laws of the walkers: a row of trees word by word, an aggregate with its where tree, a tree.
 use Rattle.std.specs.Prelude.{Result, Err}
 use Rattle.std.specs.Result.{IsErrAnd}
-use Rattle.reading.specs.declared.tree.Fault.{Fault}
+use Rattle.reading.specs.declared.fault.Fault.{Fault}
 use Prim.Native.Nat.{ℕ, ◌+◌, ◌-◌, ◌%◌, ◌≤◌, ◌<◌}
 use native.Mathlib.Omega.{arith}
 use mathlib.Core.Path.{◌≡◌, refl, sym, ◌∙◌, subst}
@@ -20,7 +20,8 @@ use Rattle.pack.specs.Packed.{Compares}
 use Rattle.definitions.specs.Form.{Form, word, only, each, allowed_here}
 use Rattle.definitions.specs.Tree.{heads, last_field, fields, follow, tree}
 use Rattle.reading.specs.Notes.{noted}
-use Rattle.reading.specs.Noting.{refusal_of, walked, State, push, in_next, note_tree, NotedStep, Sorted, Rows, Shape, After}
+use Rattle.reading.specs.Faults.{refusal_of, walked}
+use Rattle.reading.specs.Noting.{State, push, in_next, note_tree, NotedStep, Sorted, Rows, Shape, After}
 use Rattle.reading.proofs.TreeLaws.{comparison_row, compared, Row, Leaf}
 use Rattle.reading.proofs.WalkLaws.{no_on, handed, Turn, turn, Fielded, stands, step_forward, step_within, test-read, row_stop, row_leaf, row_last, node-stop, node_on, one_row, head_compared, by_compared}
 use Rattle.reading.proofs.NotingLaws.{Rowed, rowed_end, rowed_next, rowed_turn, rowed_one, Followed, treed, row_followed, noted_to, leaf_came, where_came, exists_came, Steady, steady_judgment}

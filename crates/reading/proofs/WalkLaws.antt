@@ -1,7 +1,7 @@
 -- Laws of walks: what the step that a walker of trees answers says of the words.
 use Rattle.std.specs.Prelude.{Result, Ok, Err}
 use Rattle.std.specs.Result.{IsErrAnd}
-use Rattle.reading.specs.declared.tree.Fault.{Fault}
+use Rattle.reading.specs.declared.fault.Fault.{Fault}
 use Prim.Native.Nat.{ℕ, zero, suc, ◌+◌, ◌-◌, ◌≤◌, ◌<◌}
 use native.Mathlib.Omega.{arith}
 use mathlib.Core.Path.{◌≡◌, refl, ap, sym, ◌∙◌, subst}
@@ -19,7 +19,7 @@ use Rattle.pack.specs.Readers.{on}
 use Rattle.definitions.specs.declared.table.Values.TheVariants.{Any, AtMost}
 use Rattle.definitions.specs.declared.table.Follows.TheVariants.{Aggregate}
 use Rattle.definitions.specs.Table.{pick, kind_of, value_of, entry_of, how_many, fields_of, scalar, judgment, table}
-use Rattle.reading.specs.Noting.{refusal_of, walked, Plain}
+use Rattle.reading.specs.Faults.{refusal_of, walked, Plain}
 use Rattle.pack.specs.Packed.{UpTo, Compares}
 use Rattle.definitions.specs.Form.{Read, got, refused, because, bind, map_read, allowed_here, read_word, among, only, Form, field, word, empty, each, ◌▹◌, via, words_by, Fine, read_by}
 use Rattle.definitions.specs.Tree.{Tree, heads, last_field, fields, follow, tree}

@@ -1,7 +1,6 @@
 -- The nodes that resolving looks at, noted by the readers of trees on their way, in an array whose word 0 is how many there are.
-use Rattle.std.specs.Prelude.{ℕ, ◌+◌, ◌-◌, ◌*◌, ◌/◌, ◌%◌, ◌<◌, ◌≤◌, ◌≡◌, List, [], ◌∷◌, map, Bool, length, get_or, set, drop, replicate, Result, Ok, Err}
+use Rattle.std.specs.Prelude.{ℕ, ◌+◌, ◌-◌, ◌*◌, ◌/◌, ◌%◌, ◌<◌, ◌≤◌, ◌≡◌, List, [], ◌∷◌, map, Bool, length, get_or, set, drop, replicate}
 use Rattle.pack.specs.declared.cursor.Cursor.{Cursor}
-use Rattle.definitions.specs.declared.answer.Refusal.{Refusal}
 use Rattle.pack.specs.Readers.{Step, on}
 use Rattle.definitions.specs.declared.table.Follows.{Follows}
 use Rattle.definitions.specs.Table.{pick, kind_of, value_of, entry_of, fields_of}
@@ -9,29 +8,7 @@ use Rattle.definitions.specs.Form.{got, Form, each, read_by}
 use Rattle.definitions.specs.Tree.{Tree, Forest, node, more, to_forest, follow, tree, size}
 use Rattle.definitions.specs.Tree as trees
 use Rattle.pack.specs.Readers.{skip_over}
-use Rattle.reading.specs.declared.tree.Fault.{Fault}
 use Rattle.reading.specs.Notes.{look_by, noted, notes_of, note_code}
-
--- ---- what a walker answers
-
--- the refusal that a fault tells
-abbrev pub refusal_of : Fault → Refusal
-refusal_of f = record { number = f.code % 64; place = f.code / 64; name = 0; other = 0 }
-
--- the step that an answer tells
-abbrev pub walked : Result ℕ Fault → Step
-walked (Ok at) = on 0 (record { at = at })
-walked (Err f) = Err (refusal_of f)
-
--- a refusal that a fault can tell, of which the place is up to a most
-pub record Plain (most : ℕ) (r : Refusal) : Type 0 where
-  pub number : r.number ≤ 5
-  pub place : r.place ≤ most
-  pub bare : r ≡ record { number = r.number; place = r.place; name = 0; other = 0 }
-
--- what is refused in a part of the words, in the words
-abbrev pub later : ℕ → Refusal → Refusal
-later b r = record { number = r.number; place = r.place + b; name = r.name; other = r.other }
 
 -- ---- contexts
 

@@ -1,7 +1,7 @@
 -- The walkers of trees meet their contracts.
 use Rattle.std.specs.Prelude.{Result, Err}
-use Rattle.reading.specs.declared.tree.Fault.{Fault}
-use Rattle.reading.specs.Noting.{walked}
+use Rattle.reading.specs.declared.fault.Fault.{Fault}
+use Rattle.reading.specs.Faults.{walked}
 use Prim.Native.Nat.{ℕ, suc, ◌+◌, ◌%◌, ◌<◌, ◌≤◌}
 use native.Mathlib.Omega.{arith}
 use mathlib.Core.Path.{◌≡◌, refl, ap, sym, ◌∙◌}
@@ -22,114 +22,114 @@ use Rattle.reading.proofs.tree.+walkers.Goals.{after_judgment-in_default-via-the
 
 pub after_judgment-children-requires : goal.after_judgment-children-requires
 after_judgment-children-requires t c =
-    let k : ℕ = kind_of (get_or c.args.s.now c.args.at 0) in (
-      omega (arith, c.type_inv.s c.args.at),
+    let k : ℕ = kind_of (get_or c.args.part.words.now c.args.at 0) in (
+      omega arith,
       judgments_in_row k
           (omega arith) (omega arith),
     )
 
 pub after_judgment-returns-in-96 : goal.after_judgment-returns-in-96
 after_judgment-returns-in-96 t c =
-    let k : ℕ = kind_of (get_or c.args.s.now c.args.at 0) in let e = c.in-96.is in after_row _ _ _ _ k
-    (value_of (get_or c.args.s.now c.args.at 0)) _ scalar-sort (comparison_row (value_of (get_or c.args.s.now c.args.at 0)) k e)
-    (compared k (value_of (get_or c.args.s.now c.args.at 0)) e) (steady_judgment k (omega (arith, e)) (omega (arith, e))) c.scalars.ensures
+    let k : ℕ = kind_of (get_or c.args.part.words.now c.args.at 0) in let e = c.in-96.is in after_row _ _ _ _ k
+    (value_of (get_or c.args.part.words.now c.args.at 0)) _ scalar-sort (comparison_row (value_of (get_or c.args.part.words.now c.args.at 0)) k e)
+    (compared k (value_of (get_or c.args.part.words.now c.args.at 0)) e) (steady_judgment k (omega (arith, e)) (omega (arith, e))) c.scalars.ensures
 
 pub after_judgment-returns-in-101 : goal.after_judgment-returns-in-101
 unfolding entry_of table fields_of children_of noted look_by
 after_judgment-returns-in-101 t c =
-    after-words _ _ _ _ (kind_of (get_or c.args.s.now c.args.at 0)) (value_of (get_or c.args.s.now c.args.at 0)) _ Slots
+    after-words _ _ _ _ (kind_of (get_or c.args.part.words.now c.args.at 0)) (value_of (get_or c.args.part.words.now c.args.at 0)) _ Slots
     (ap (λ (k : ℕ). (entry_of k).follows) c.in-101.is) (ap noted c.in-101.is) (λ last. refl) (c.slots.ensures _) c.note.ensures.1
 
 pub after_judgment-returns-in-102 : goal.after_judgment-returns-in-102
 unfolding entry_of table fields_of children_of noted look_by
 after_judgment-returns-in-102 t c =
-    after-words _ _ _ _ (kind_of (get_or c.args.s.now c.args.at 0)) (value_of (get_or c.args.s.now c.args.at 0)) _ Atom
+    after-words _ _ _ _ (kind_of (get_or c.args.part.words.now c.args.at 0)) (value_of (get_or c.args.part.words.now c.args.at 0)) _ Atom
     (ap (λ (k : ℕ). (entry_of k).follows) c.in-102.is) (ap noted c.in-102.is) (λ last. refl) (c.atom.ensures _) c.note-in-102.ensures.1
 
 pub after_judgment-returns-in-103 : goal.after_judgment-returns-in-103
 unfolding entry_of table fields_of children_of noted look_by follow
 after_judgment-returns-in-103 t c =
-    by_shape _ _ _ _ (kind_of (get_or c.args.s.now c.args.at 0)) (value_of (get_or c.args.s.now c.args.at 0)) _ true Exists
+    by_shape _ _ _ _ (kind_of (get_or c.args.part.words.now c.args.at 0)) (value_of (get_or c.args.part.words.now c.args.at 0)) _ true Exists
     (ap (λ (k : ℕ). (entry_of k).follows) c.in-103.is) (ap noted c.in-103.is) c.exists.ensures
 
 pub after_judgment-returns-in-104 : goal.after_judgment-returns-in-104
 unfolding entry_of table noted look_by
 after_judgment-returns-in-104 t c =
-    after_leaf _ _ _ _ (kind_of (get_or c.args.s.now c.args.at 0)) (value_of (get_or c.args.s.now c.args.at 0)) _
-    (leaf_last (value_of (get_or c.args.s.now c.args.at 0)) (kind_of (get_or c.args.s.now c.args.at 0)) (omega (arith, c.in-104.is))
+    after_leaf _ _ _ _ (kind_of (get_or c.args.part.words.now c.args.at 0)) (value_of (get_or c.args.part.words.now c.args.at 0)) _
+    (leaf_last (value_of (get_or c.args.part.words.now c.args.at 0)) (kind_of (get_or c.args.part.words.now c.args.at 0)) (omega (arith, c.in-104.is))
     (omega (arith, c.in-104.is))) true (ap noted c.in-104.is) _ c.note-in-104.ensures.1
 
 pub after_judgment-returns-in-97-to-100 : goal.after_judgment-returns-in-97-to-100
 after_judgment-returns-in-97-to-100 t c =
-    let k : ℕ = kind_of (get_or c.args.s.now c.args.at 0) in let lo : 97 ≤ k = omega arith in after_row _ _ _ _ k
-    (value_of (get_or c.args.s.now c.args.at 0)) _ judgment-sort
-    (judgment_row (value_of (get_or c.args.s.now c.args.at 0)) k lo (omega arith)) c.children.ensures
+    let k : ℕ = kind_of (get_or c.args.part.words.now c.args.at 0) in let lo : 97 ≤ k = omega arith in after_row _ _ _ _ k
+    (value_of (get_or c.args.part.words.now c.args.at 0)) _ judgment-sort
+    (judgment_row (value_of (get_or c.args.part.words.now c.args.at 0)) k lo (omega arith)) c.children.ensures
     (steady_judgment k (omega arith) (omega arith)) c.judgments.ensures
 
 pub after_judgment-returns-in_default : goal.after_judgment-returns-in_default
 after_judgment-returns-in_default t c =
-    let k : ℕ = kind_of (get_or c.args.s.now c.args.at 0) in let lo : 104 < k =
+    let k : ℕ = kind_of (get_or c.args.part.words.now c.args.at 0) in let lo : 104 < k =
     elim c.in_default.branch [
-      | after_judgment-in_default-via-then-kind-lt96 w ↦ absurd (omega (arith, c.requires.2))
+      | after_judgment-in_default-via-then-kind-lt96 w ↦ absurd (omega (arith, c.requires.1))
       | after_judgment-in_default-via-else-kind-lt96+else-kind-lt101 w ↦ omega arith
-    ] in let hi : k < 256 = omega (arith, c.type_inv.s c.args.at) in after_leaf _ _ _ _ k
-    (value_of (get_or c.args.s.now c.args.at 0)) _ (leaf_last (value_of (get_or c.args.s.now c.args.at 0)) k (omega (arith, lo)) hi) false
+    ] in let hi : k < 256 = omega arith in after_leaf _ _ _ _ k
+    (value_of (get_or c.args.part.words.now c.args.at 0)) _ (leaf_last (value_of (get_or c.args.part.words.now c.args.at 0)) k (omega (arith, lo)) hi) false
     (plain-last k lo hi) _ refl
 
 pub after_other-scalars-requires : goal.after_other-scalars-requires
 after_other-scalars-requires t c =
-    (omega arith, (c.requires.0, omega (arith, c.requires.1), based_losing _ c.requires.3 c.lost.ensures))
+    (omega arith, (omega (arith, c.requires.0), based_losing _ c.requires.2 c.lost.ensures))
 
 pub after_other-returns-in-72 : goal.after_other-returns-in-72
 unfolding entry_of table fields_of children_of noted look_by
 after_other-returns-in-72 t c =
-    after_bare _ _ _ _ (kind_of (get_or c.args.s.now c.args.at 0)) (value_of (get_or c.args.s.now c.args.at 0)) _ Patterns
+    after_bare _ _ _ _ (kind_of (get_or c.args.part.words.now c.args.at 0)) (value_of (get_or c.args.part.words.now c.args.at 0)) _ Patterns
     (ap (λ (k : ℕ). (entry_of k).follows) c.in-72.is) (ap noted c.in-72.is) refl c.patterns.ensures
 
 pub after_other-returns-in-73 : goal.after_other-returns-in-73
 unfolding entry_of table fields_of children_of noted look_by
 after_other-returns-in-73 t c =
-    after_bare _ _ _ _ (kind_of (get_or c.args.s.now c.args.at 0)) (value_of (get_or c.args.s.now c.args.at 0)) _ Periods
+    after_bare _ _ _ _ (kind_of (get_or c.args.part.words.now c.args.at 0)) (value_of (get_or c.args.part.words.now c.args.at 0)) _ Periods
     (ap (λ (k : ℕ). (entry_of k).follows) c.in-73.is) (ap noted c.in-73.is) refl
-    (rows_as _ _ scalar-sort _ (c.by_table.ensures ∙ ap (λ (k : ℕ). how_many (entry_of k).follows (value_of (get_or c.args.s.now c.args.at 0)))
+    (rows_as _ _ scalar-sort _ (c.by_table.ensures ∙ ap (λ (k : ℕ). how_many (entry_of k).follows (value_of (get_or c.args.part.words.now c.args.at 0)))
     c.in-73.is) c.lost.ensures c.scalars.ensures)
 
 pub after_other-returns-in-71 : goal.after_other-returns-in-71
 unfolding entry_of table fields_of children_of noted look_by
 after_other-returns-in-71 t c =
-    after_bare _ _ _ _ (kind_of (get_or c.args.s.now c.args.at 0)) (value_of (get_or c.args.s.now c.args.at 0)) _ Choice
+    after_bare _ _ _ _ (kind_of (get_or c.args.part.words.now c.args.at 0)) (value_of (get_or c.args.part.words.now c.args.at 0)) _ Choice
     (ap (λ (k : ℕ). (entry_of k).follows) c.in-71.is) (ap noted c.in-71.is) refl c.choice.ensures
 
 pub after_other-returns-in-78 : goal.after_other-returns-in-78
 unfolding entry_of table fields_of children_of noted look_by
 after_other-returns-in-78 t c =
-    after-words _ _ _ _ (kind_of (get_or c.args.s.now c.args.at 0)) (value_of (get_or c.args.s.now c.args.at 0)) _ OnlyRelated
+    after-words _ _ _ _ (kind_of (get_or c.args.part.words.now c.args.at 0)) (value_of (get_or c.args.part.words.now c.args.at 0)) _ OnlyRelated
     (ap (λ (k : ℕ). (entry_of k).follows) c.in-78.is) (ap noted c.in-78.is) (λ last. refl) c.only_related.ensures c.note.ensures.1
 
 pub after_other-returns-in_default : goal.after_other-returns-in_default
 after_other-returns-in_default t c =
     let m = c.in_default.in_default-own.rest in
-    let k : ℕ = kind_of (get_or c.args.s.now c.args.at 0) in let v = value_of (get_or c.args.s.now c.args.at 0) in
-    other_leaf k c.requires.2 m.0.1 m.0.0.0.1 m.0.0.1 m.1
+    let k : ℕ = kind_of (get_or c.args.part.words.now c.args.at 0) in let v = value_of (get_or c.args.part.words.now c.args.at 0) in
+    other_leaf k c.requires.1 m.0.1 m.0.0.0.1 m.0.0.1 m.1
     (λ lo. after_leaf _ _ _ _ k v _ (leaf_low v k lo) false (plain-low k lo) _ refl)
     (λ lo hi. after_leaf _ _ _ _ k v _ (leaf_between v k (omega (arith, lo)) m.1 hi) false (plain-between k lo hi) _ refl)
 
 pub after_scalar-children-count-requires : goal.after_scalar-children-count-requires
 after_scalar-children-count-requires t c =
-    let k : ℕ = kind_of (get_or c.args.s.now c.args.at 0) in
+    let k : ℕ = kind_of (get_or c.args.part.words.now c.args.at 0) in
     (omega arith, scalars_in_row k (omega arith) (omega arith))
 
 pub after_scalar-returns-in-66-to-70 : goal.after_scalar-returns-in-66-to-70
 after_scalar-returns-in-66-to-70 t c =
-    let k : ℕ = kind_of (get_or c.args.s.now c.args.at 0) in let lo : 66 ≤ k = omega arith in let hi : k < 71 = omega arith in after_row _ _ _ _ k
-    (value_of (get_or c.args.s.now c.args.at 0)) _ scalar-sort
-    (scalar_row (value_of (get_or c.args.s.now c.args.at 0)) k lo (omega (arith, hi)) (λ z. omega (arith, hi))) c.children-count.ensures
+    let k : ℕ = kind_of (get_or c.args.part.words.now c.args.at 0) in let lo : 66 ≤ k = omega arith in let hi : k < 71 = omega arith in after_row _ _ _ _ k
+    (value_of (get_or c.args.part.words.now c.args.at 0)) _ scalar-sort
+    (scalar_row (value_of (get_or c.args.part.words.now c.args.at 0)) k lo (omega (arith, hi)) (λ z. omega (arith, hi))) c.children-count.ensures
     (steady_scalar k lo hi) c.scalars.ensures
 
 pub after_scalar-returns-in-74-to-77 : goal.after_scalar-returns-in-74-to-77
 unfolding follow children_of
 after_scalar-returns-in-74-to-77 t c =
-    let k : ℕ = kind_of (get_or c.args.s.now c.args.at 0) in by_shape _ _ _ _ k (value_of (get_or c.args.s.now c.args.at 0)) _ true Aggregate
+    let k : ℕ = kind_of (get_or c.args.part.words.now c.args.at 0) in by_shape _ _ _ _ k (value_of (get_or c.args.part.words.now c.args.at 0)) _ true Aggregate
     (aggregate-kind k (omega arith) (omega arith)) (noted-aggregate k (omega arith) (omega arith)) c.aggregate.ensures
 
 -- of an aggregate, its fields that were read
@@ -137,73 +137,73 @@ pub aggregate-returns-in_err-root : goal.aggregate-returns-in_err-root
 aggregate-returns-in_err-root t c =
     handed_noted _ _ _ _ _ _ _ c.from_residual.ensures.1 (fields-refused _ _ 0 _ true Aggregate _ _ (c.in_err-root.ensures _) refl)
 
-pub aggregate-bounds-s-at : goal.aggregate-bounds-s-at
-aggregate-bounds-s-at t c =
-    let f = fielded 0 _ _ c.requires.1 (c.in_ok-root.ensures 0) refl in omega (arith, f.past, f.there)
+pub aggregate-bounds-part-at : goal.aggregate-bounds-part-at
+aggregate-bounds-part-at t c =
+    let f = fielded 0 _ _ c.requires.0 (c.in_ok-root.ensures 0) refl in omega (arith, f.past, f.there)
 
 pub aggregate-returns-then-compares : goal.aggregate-returns-then-compares
 aggregate-returns-then-compares t c =
-    let f = fielded c.args.heads.now.names _ _ c.requires.1 (c.in_ok-root.ensures _) refl in
+    let f = fielded c.args.part.heads.now.names _ _ c.requires.0 (c.in_ok-root.ensures _) refl in
     where_rows _ _ c.args.context _ _ f
     (ap (λ (i : ℕ). i + c.args.context % 8192) c.note.ensures.0) c.note.ensures.1
     (compared_rows _ _ _ _ _ (c.compares.ensures c.if-compares.true) c.if-flag-eq1.true _ refl c.scalars.ensures)
 
-pub aggregate-offset_bounds-s-root : goal.aggregate-offset_bounds-s-root
-aggregate-offset_bounds-s-root t c =
-    let f = fielded 0 _ _ c.requires.1 (c.in_ok-root.ensures 0) refl in omega (arith, f.there, c.requires.0)
+pub aggregate-offset_bounds-part-root : goal.aggregate-offset_bounds-part-root
+aggregate-offset_bounds-part-root t c =
+    let f = fielded 0 _ _ c.requires.0 (c.in_ok-root.ensures 0) refl in omega (arith, f.there, c.args.part.few)
 
-pub aggregate-slice_bounds-judgments-count : goal.aggregate-slice_bounds-judgments-count
-aggregate-slice_bounds-judgments-count t c = (fielded 0 _ _ c.requires.1 (c.in_ok-root.ensures 0) refl).there
+pub aggregate-slice_bounds-inside-count : goal.aggregate-slice_bounds-inside-count
+aggregate-slice_bounds-inside-count t c = (fielded 0 _ _ c.requires.0 (c.in_ok-root.ensures 0) refl).there
 
-pub aggregate-slice_bounds-judgments-start : goal.aggregate-slice_bounds-judgments-start
-aggregate-slice_bounds-judgments-start t c =
-    let f = fielded 0 _ _ c.requires.1 (c.in_ok-root.ensures 0) refl in omega (arith, f.there, c.requires.0)
+pub aggregate-slice_bounds-inside-start : goal.aggregate-slice_bounds-inside-start
+aggregate-slice_bounds-inside-start t c =
+    let f = fielded 0 _ _ c.requires.0 (c.in_ok-root.ensures 0) refl in omega (arith, f.there, c.args.part.few)
 
 pub aggregate-overflow_cast-root : goal.aggregate-overflow_cast-root
 aggregate-overflow_cast-root t c =
-    let f = fielded 0 _ _ c.requires.1 (c.in_ok-root.ensures 0) refl in omega (arith, f.there, c.requires.0)
+    let f = fielded 0 _ _ c.requires.0 (c.in_ok-root.ensures 0) refl in omega (arith, f.there, c.args.part.few)
 
 pub aggregate-overflow_add-inner-2 : goal.aggregate-overflow_add-inner-2
 aggregate-overflow_add-inner-2 t c =
-    let f = fielded 0 _ _ c.requires.1 (c.in_ok-root.ensures 0) refl in omega (arith, f.there, c.requires.0, c.note.ensures.0)
+    let f = fielded 0 _ _ c.requires.0 (c.in_ok-root.ensures 0) refl in omega (arith, f.there, c.args.part.few, c.note.ensures.0)
 
-pub aggregate-judgments-part-requires : goal.aggregate-judgments-part-requires
-aggregate-judgments-part-requires t c =
-    let f = fielded 0 _ _ c.requires.1 (c.in_ok-root.ensures 0) refl in
-    let l = part_long c.args.s.now c.in_ok-root.root f.there in
-    (omega arith, (omega (arith, l, c.requires.0), omega arith, based_part _ _ l c.requires.2 c.args.notes.now c.note.ensures.0))
+pub aggregate-judgments-requires : goal.aggregate-judgments-requires
+aggregate-judgments-requires t c =
+    let f = fielded 0 _ _ c.requires.0 (c.in_ok-root.ensures 0) refl in
+    let l = part_long c.args.part.words.now c.in_ok-root.root f.there in
+    (omega arith, (omega arith, based_part _ _ l c.requires.1 c.args.notes.now c.note.ensures.0))
 
 pub aggregate-overflow_add-result : goal.aggregate-overflow_add-result
 aggregate-overflow_add-result t c =
-    let f = fielded 0 _ _ c.requires.1 (c.in_ok-root.ensures 0) refl in
-    let l = part_long c.args.s.now c.in_ok-root.root f.there in
-    let w = step_within (λ a. 0) _ _ 0 (omega arith) (c.judgments-part.ensures.answers) (ap walked c.in-Ok.is) in
-    omega (arith, l, w, c.requires.0)
+    let f = fielded 0 _ _ c.requires.0 (c.in_ok-root.ensures 0) refl in
+    let l = part_long c.args.part.words.now c.in_ok-root.root f.there in
+    let w = step_within (λ a. 0) _ _ 0 (omega arith) (c.judgments.ensures.answers) (ap walked c.in-Ok.is) in
+    omega (arith, l, w, c.args.part.few)
 
 pub aggregate-behind-requires : goal.aggregate-behind-requires
 aggregate-behind-requires t c =
-    let f = fielded 0 _ _ c.requires.1 (c.in_ok-root.ensures 0) refl in
-    let l = part_long c.args.s.now c.in_ok-root.root f.there in
-    let p = row_plain _ _ _ _ 0 (omega arith) c.judgments-part.ensures.answers (ap walked c.in-Err.is) in
-    (omega (arith, p.place, l, c.requires.0), omega (arith, f.there, c.requires.0))
+    let f = fielded 0 _ _ c.requires.0 (c.in_ok-root.ensures 0) refl in
+    let l = part_long c.args.part.words.now c.in_ok-root.root f.there in
+    let p = row_plain _ _ _ _ 0 (omega arith) c.judgments.ensures.answers (ap walked c.in-Err.is) in
+    (omega (arith, p.place, l, c.args.part.few), omega (arith, f.there, c.args.part.few))
 
 pub aggregate-returns-in-Ok : goal.aggregate-returns-in-Ok
 aggregate-returns-in-Ok t c =
-    let f = fielded c.args.heads.now.names _ _ c.requires.1 (c.in_ok-root.ensures _) refl in
+    let f = fielded c.args.part.heads.now.names _ _ c.requires.0 (c.in_ok-root.ensures _) refl in
     let i = ap (λ (i : ℕ). i + c.args.context % 8192) c.note.ensures.0 in
-    let g = based_inside _ c.requires.2 c.args.notes.now c.note.ensures.0 in
+    let g = based_inside _ c.requires.1 c.args.notes.now c.note.ensures.0 in
     noted_as _ _ _ _ _ (ap (λ (y : Result ℕ Fault). shifted c.in_ok-root.root (walked y)) c.in-Ok.is)
     (where_rows _ _ c.args.context _ _ f i c.note.ensures.1
-    (part_rows _ _ judgment-sort (value_of (get_or c.args.s.now (c.args.at + 3) 0)) _ _ _ g.room (part_to_end c.args.s.now c.in_ok-root.root) c.judgments-part.ensures))
+    (part_rows _ _ judgment-sort (value_of (get_or c.args.part.words.now (c.args.at + 3) 0)) _ _ _ g.room (part_to_end c.args.part.words.now c.in_ok-root.root) c.judgments.ensures))
 
 pub aggregate-returns-in-Err : goal.aggregate-returns-in-Err
 aggregate-returns-in-Err t c =
-    let f = fielded c.args.heads.now.names _ _ c.requires.1 (c.in_ok-root.ensures _) refl in
+    let f = fielded c.args.part.heads.now.names _ _ c.requires.0 (c.in_ok-root.ensures _) refl in
     let i = ap (λ (i : ℕ). i + c.args.context % 8192) c.note.ensures.0 in
-    let g = based_inside _ c.requires.2 c.args.notes.now c.note.ensures.0 in
+    let g = based_inside _ c.requires.1 c.args.notes.now c.note.ensures.0 in
     noted_as _ _ _ _ _ (ap (λ (y : Result ℕ Fault). shifted c.in_ok-root.root (walked y)) c.in-Err.is ∙ ap Err (sym c.behind.ensures))
     (where_rows _ _ c.args.context _ _ f i c.note.ensures.1
-    (part_rows _ _ judgment-sort (value_of (get_or c.args.s.now (c.args.at + 3) 0)) _ _ _ g.room (part_to_end c.args.s.now c.in_ok-root.root) c.judgments-part.ensures))
+    (part_rows _ _ judgment-sort (value_of (get_or c.args.part.words.now (c.args.at + 3) 0)) _ _ _ g.room (part_to_end c.args.part.words.now c.in_ok-root.root) c.judgments.ensures))
 
 pub choice-returns-in_err-next : goal.choice-returns-in_err-next
 choice-returns-in_err-next t c =
@@ -211,7 +211,7 @@ choice-returns-in_err-next t c =
 
 pub choice-scalars-requires : goal.choice-scalars-requires
 choice-scalars-requires t c =
-    (omega arith, (c.requires.0, step_within (λ a. 0) _ _ _ c.requires.1 c.in_ok-next.ensures.answers refl, c.requires.2))
+    (omega arith, (step_within (λ a. 0) _ _ _ c.requires.0 c.in_ok-next.ensures.answers refl, c.requires.1))
 
 pub choice-returns : goal.choice-returns
 choice-returns t c = first_then _ _ _ _ _ judgment-sort _ c.in_ok-next.ensures refl _ c.scalars.ensures
@@ -223,7 +223,7 @@ exists-returns-in_err-body t c =
 
 pub exists-judgments-requires : goal.exists-judgments-requires
 exists-judgments-requires t c =
-    (omega arith, (c.requires.0, step_within (λ a. 0) _ _ _ c.requires.1 (c.in_ok-body.ensures 0) refl, c.requires.2))
+    (omega arith, (step_within (λ a. 0) _ _ _ c.requires.0 (c.in_ok-body.ensures 0) refl, c.requires.1))
 
 pub exists-returns : goal.exists-returns
 unfolding fields_of
@@ -232,11 +232,11 @@ exists-returns t c = exists_rows _ _ _ _ _ (c.in_ok-body.ensures _) refl c.note.
 pub judgments-returns-in_err-next : goal.judgments-returns-in_err-next
 judgments-returns-in_err-next t c = handed_noted _ _ _ _ _ _ _ c.from_residual.ensures.1 (head_refused c.loop-k.invariant.0 (omega arith) c.in_err-next.ensures refl)
 
-pub judgments-bounds-s-at : goal.judgments-bounds-s-at
-judgments-bounds-s-at t c = (begun c.loop-k.invariant.0 (omega arith) c.in_ok-next.ensures refl).inside
+pub judgments-bounds-part-at : goal.judgments-bounds-part-at
+judgments-bounds-part-at t c = (begun c.loop-k.invariant.0 (omega arith) c.in_ok-next.ensures refl).inside
 
 pub judgments-children-k-requires : goal.judgments-children-k-requires
-judgments-children-k-requires t c = (omega (arith, c.shared_slice_known-in-loop-k-1.given c.loop-k.at), judgments_in_row (kind_of (get_or c.args.s.now c.loop-k.at 0)) (omega arith) (omega arith))
+judgments-children-k-requires t c = (omega arith, judgments_in_row (kind_of (get_or c.args.part.words.now c.loop-k.at 0)) (omega arith) (omega arith))
 
 pub judgments-overflow_sub-left : goal.judgments-overflow_sub-left
 judgments-overflow_sub-left t c = (begun c.loop-k.invariant.0 (omega arith) c.in_ok-next.ensures refl).level
@@ -247,9 +247,9 @@ judgments-loop-k-smaller-then-kind-le-NOT t c =
 
 pub judgments-loop-k-preserved-then-kind-le-NOT : goal.judgments-loop-k-preserved-then-kind-le-NOT
 judgments-loop-k-preserved-then-kind-le-NOT t c = (
-  let k : ℕ = kind_of (get_or c.args.s.now c.loop-k.at 0) in
+  let k : ℕ = kind_of (get_or c.args.part.words.now c.loop-k.at 0) in
       let one : c.loop-k.k ≡ 1 = omega arith in
-      past-last c.loop-k.invariant.0 (omega arith) c.in_ok-next.ensures refl one (judgment_row (value_of (get_or c.args.s.now c.loop-k.at 0)) k (omega arith) (omega arith)) c.children-k.ensures (steady_judgment k (omega arith) (omega arith)),
+      past-last c.loop-k.invariant.0 (omega arith) c.in_ok-next.ensures refl one (judgment_row (value_of (get_or c.args.part.words.now c.loop-k.at 0)) k (omega arith) (omega arith)) c.children-k.ensures (steady_judgment k (omega arith) (omega arith)),
   omega (arith, c.loop-k.invariant.1),
 )
 
@@ -259,7 +259,7 @@ judgments-overflow_sub-left-else-k-eq0 t c = (begun c.loop-k.invariant.0 (omega 
 pub judgments-after_judgment-requires : goal.judgments-after_judgment-requires
 judgments-after_judgment-requires t c =
     let u = begun c.loop-k.invariant.0 (omega arith) c.in_ok-next.ensures refl in
-    (omega (arith, u.level, c.loop-k.invariant.0.deep), (c.requires.0, u.inside, judgment-kind (kind_of (get_or c.args.s.now c.loop-k.at 0)) u.kind, c.requires.2))
+    (omega (arith, u.level, c.loop-k.invariant.0.deep), (u.inside, judgment-kind (kind_of (get_or c.args.part.words.now c.loop-k.at 0)) u.kind, c.requires.1))
 
 pub judgments-returns-in_err-at : goal.judgments-returns-in_err-at
 judgments-returns-in_err-at t c =
@@ -279,9 +279,8 @@ judgments-loop-k-smaller t c =
 
 pub judgments-loop-k-preserved : goal.judgments-loop-k-preserved
 judgments-loop-k-preserved t c = (
-  let k : ℕ = kind_of (get_or c.args.s.now c.loop-k.at 0) in let lo : 104 < k = c.if-kind-le-SAME_ENTITY.false in let hi : k < 256 = omega
-      (arith, c.shared_slice_known-in-loop-k-1.given c.loop-k.at) in past_leaf c.loop-k.invariant.0 (omega arith) c.in_ok-next.ensures refl
-      (leaf_last (value_of (get_or c.args.s.now c.loop-k.at 0)) k (omega (arith, lo)) hi) (plain-last k lo hi),
+  let k : ℕ = kind_of (get_or c.args.part.words.now c.loop-k.at 0) in let lo : 104 < k = c.if-kind-le-SAME_ENTITY.false in let hi : k < 256 = omega arith in past_leaf c.loop-k.invariant.0 (omega arith) c.in_ok-next.ensures refl
+      (leaf_last (value_of (get_or c.args.part.words.now c.loop-k.at 0)) k (omega (arith, lo)) hi) (plain-last k lo hi),
   omega (arith, c.loop-k.invariant.1),
 )
 
@@ -295,7 +294,7 @@ patterns-returns-in_err-next t c =
 
 pub patterns-scalars-requires-2 : goal.patterns-scalars-requires-2
 patterns-scalars-requires-2 t c =
-    (omega arith, (c.requires.0, step_within (λ a. 0) _ _ _ c.requires.1 c.in_ok-next.ensures.answers refl, based_losing _ c.requires.2 c.lost-without.ensures))
+    (omega arith, (step_within (λ a. 0) _ _ _ c.requires.0 c.in_ok-next.ensures.answers refl, based_losing _ c.requires.1 c.lost-without.ensures))
 
 pub patterns-returns : goal.patterns-returns
 patterns-returns t c =
@@ -306,11 +305,11 @@ patterns-returns t c =
 pub scalars-returns-in_err-next : goal.scalars-returns-in_err-next
 scalars-returns-in_err-next t c = handed_noted _ _ _ _ _ _ _ c.from_residual.ensures.1 (head_refused c.loop-k.invariant.0 (omega arith) c.in_err-next.ensures refl)
 
-pub scalars-bounds-s-at : goal.scalars-bounds-s-at
-scalars-bounds-s-at t c = (begun c.loop-k.invariant.0 (omega arith) c.in_ok-next.ensures refl).inside
+pub scalars-bounds-part-at : goal.scalars-bounds-part-at
+scalars-bounds-part-at t c = (begun c.loop-k.invariant.0 (omega arith) c.in_ok-next.ensures refl).inside
 
 pub scalars-children-k-requires : goal.scalars-children-k-requires
-scalars-children-k-requires t c = (omega (arith, c.shared_slice_known-in-loop-k-1.given c.loop-k.at), scalars_in_row (kind_of (get_or c.args.s.now c.loop-k.at 0)) (omega arith) (omega arith))
+scalars-children-k-requires t c = (omega arith, scalars_in_row (kind_of (get_or c.args.part.words.now c.loop-k.at 0)) (omega arith) (omega arith))
 
 pub scalars-overflow_sub-left : goal.scalars-overflow_sub-left
 scalars-overflow_sub-left t c = (begun c.loop-k.invariant.0 (omega arith) c.in_ok-next.ensures refl).level
@@ -321,9 +320,9 @@ scalars-loop-k-smaller-then-kind-le-MAX t c =
 
 pub scalars-loop-k-preserved-then-kind-le-MAX : goal.scalars-loop-k-preserved-then-kind-le-MAX
 scalars-loop-k-preserved-then-kind-le-MAX t c = (
-  let k : ℕ = kind_of (get_or c.args.s.now c.loop-k.at 0) in
+  let k : ℕ = kind_of (get_or c.args.part.words.now c.loop-k.at 0) in
       let one : c.loop-k.k ≡ 1 = omega arith in
-      past-last c.loop-k.invariant.0 (omega arith) c.in_ok-next.ensures refl one (scalar_row (value_of (get_or c.args.s.now c.loop-k.at 0)) k (omega arith) (omega arith) (λ z. omega arith)) c.children-k.ensures (steady_scalar k (omega arith) (omega arith)),
+      past-last c.loop-k.invariant.0 (omega arith) c.in_ok-next.ensures refl one (scalar_row (value_of (get_or c.args.part.words.now c.loop-k.at 0)) k (omega arith) (omega arith) (λ z. omega arith)) c.children-k.ensures (steady_scalar k (omega arith) (omega arith)),
   omega (arith, c.loop-k.invariant.1),
 )
 
@@ -333,7 +332,7 @@ scalars-overflow_sub-left-else-k-eq0 t c = (begun c.loop-k.invariant.0 (omega ar
 pub scalars-after_scalar-requires : goal.scalars-after_scalar-requires
 scalars-after_scalar-requires t c =
     let u = begun c.loop-k.invariant.0 (omega arith) c.in_ok-next.ensures refl in
-    (omega (arith, u.level, c.loop-k.invariant.0.deep), (c.requires.0, u.inside, scalar-kind (kind_of (get_or c.args.s.now c.loop-k.at 0)) (omega (arith, c.shared_slice_known-in-loop-k-1.given c.loop-k.at)) u.kind, c.requires.2))
+    (omega (arith, u.level, c.loop-k.invariant.0.deep), (u.inside, scalar-kind (kind_of (get_or c.args.part.words.now c.loop-k.at 0)) (omega arith) u.kind, c.requires.1))
 
 pub scalars-returns-in_err-at : goal.scalars-returns-in_err-at
 scalars-returns-in_err-at t c =
@@ -354,8 +353,8 @@ scalars-loop-k-smaller t c =
 pub scalars-loop-k-preserved : goal.scalars-loop-k-preserved
 scalars-loop-k-preserved t c = (
   past_leaf c.loop-k.invariant.0 (omega arith) c.in_ok-next.ensures refl
-      (leaf_low (value_of (get_or c.args.s.now c.loop-k.at 0)) (kind_of (get_or c.args.s.now c.loop-k.at 0)) c.if-kind-ge-ONE_CHILD.false)
-      (plain-low (kind_of (get_or c.args.s.now c.loop-k.at 0)) c.if-kind-ge-ONE_CHILD.false),
+      (leaf_low (value_of (get_or c.args.part.words.now c.loop-k.at 0)) (kind_of (get_or c.args.part.words.now c.loop-k.at 0)) c.if-kind-ge-ONE_CHILD.false)
+      (plain-low (kind_of (get_or c.args.part.words.now c.loop-k.at 0)) c.if-kind-ge-ONE_CHILD.false),
   omega (arith, c.loop-k.invariant.1),
 )
 

@@ -35,14 +35,14 @@ decreases-scalars l = l.levels * 8 + 1
 
 abbrev pub invariant-judgments-loop-k : goal.invariant-judgments-loop-k
 invariant-judgments-loop-k l =
-    Walking (l.heads.names) judgment-sort l.context l.s l.levels l.count l.start l.initial.notes l.left l.k l.at l.notes × (length l.notes ≡ length l.initial.notes)
+    Walking l.part.heads.now.names judgment-sort l.context l.part.words.now l.levels l.count l.start l.initial.notes l.left l.k l.at l.notes × (length l.notes ≡ length l.initial.notes)
 
 abbrev pub decreases-judgments-loop-k : goal.decreases-judgments-loop-k
-decreases-judgments-loop-k l = length l.s - l.at
+decreases-judgments-loop-k l = length l.part.words.now - l.at
 
 abbrev pub invariant-scalars-loop-k : goal.invariant-scalars-loop-k
 invariant-scalars-loop-k l =
-    Walking (l.heads.names) scalar-sort l.context l.s l.levels l.count l.start l.initial.notes l.left l.k l.at l.notes × (length l.notes ≡ length l.initial.notes)
+    Walking l.part.heads.now.names scalar-sort l.context l.part.words.now l.levels l.count l.start l.initial.notes l.left l.k l.at l.notes × (length l.notes ≡ length l.initial.notes)
 
 abbrev pub decreases-scalars-loop-k : goal.decreases-scalars-loop-k
-decreases-scalars-loop-k l = length l.s - l.at
+decreases-scalars-loop-k l = length l.part.words.now - l.at

@@ -1,13 +1,13 @@
--- `reading::tree::head` meets its contract.
+-- `reading::words::Words::head` meets its contract.
 use native.Mathlib.Omega.{arith}
 use mathlib.Core.Path.{sym, ◌∙◌, refl}
 use Rattle.pack.proofs.HeadLaws.{begun_sort, begun_value, unbegun_value}
 use Rattle.reading.proofs.TreeLaws.{heads-other, heads_deep, heads_in}
 use Rattle.reading.proofs.WalkLaws.{test-ended, test_turned, test-value, test-read}
-use Rattle.reading.proofs.tree.head.Goals as goal
+use Rattle.reading.proofs.words.Words.head.Goals as goal
 
-pub returns-then-s-at : goal.returns-then-s-at
-returns-then-s-at c = test-ended _ _ _ _ (omega arith) c.new.ensures
+pub returns-then-self-at : goal.returns-then-self-at
+returns-then-self-at c = test-ended _ _ _ _ (omega arith) c.new.ensures
 
 pub returns-then-left-gt0 : goal.returns-then-left-gt0
 returns-then-left-gt0 c =
