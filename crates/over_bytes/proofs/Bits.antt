@@ -8,13 +8,11 @@ use mathlib.Core.Option.{none}
 use lib.ListN.{length, length-map}
 use lib.Dec.{leb, ltb}
 use borrow.Author.Tests.{leb-true}
-use Rattle.definitions.specs.declared.answer.Answer.{Answer}
-use Rattle.definitions.specs.declared.answer.Answer.TheVariants.{Given}
 use Rattle.definitions.specs.Table.{pick}
 use Rattle.definitions.specs.Form.{among}
 use Rattle.definitions.specs.Records.{Relation, Pack}
 use Rattle.definitions.specs.Pack.{WellFormed, Reading, yes, refuse, read, total, words}
-use Rattle.definitions.specs.Answers.{answer, out_of_room, write_answer, unknown, yes_no, Outcome, done, refused}
+use Rattle.definitions.specs.Answers.{Answer, gives, answer, out_of_room, write_answer, unknown, yes_no, Outcome, done, refused}
 use Rattle.definitions.specs.Checking.{check_answer, rewrite_answer}
 use Rattle.pack.proofs.PackLaws.{words-read}
 use Rattle.pack.proofs.Refusals.{read_numbers}
@@ -48,7 +46,7 @@ reads ws f h = go (read ws) refl
 writes : (out : List ℕ) (steps room : ℕ) → length out < 2 ^ 32 → steps < 2 ^ 12 → FitsBits (write_answer out steps room)
 writes out steps room h k = go (leb (length out) room)
   where
-    go : (b : Bool) → FitsBits (pick b (Given (length out) steps) out_of_room)
+    go : (b : Bool) → FitsBits (pick b (gives (length out) steps) out_of_room)
     go true = (h, k)
     go false = (omega arith, omega arith, omega arith, omega arith, omega arith)
 
@@ -98,7 +96,7 @@ resolve_gives ws room p e = go (resolved p) refl (resolved_told p fine)
     steps : ℕ
     steps = (all_kinds p.relations).steps
 
-    given : (a b : Bool) (n : ℕ) → leb n 8192 ≡ a → FitsBits (pick (a && b) (Given n steps) out_of_room)
+    given : (a b : Bool) (n : ℕ) → leb n 8192 ≡ a → FitsBits (pick (a && b) (gives n steps) out_of_room)
     given true true n h = (let k = leb-true n 8192 h in omega arith, omega (arith, few-steps p fine))
     given true false n h = (omega arith, omega arith, omega arith, omega arith, omega arith)
     given false b n h = (omega arith, omega arith, omega arith, omega arith, omega arith)
@@ -129,11 +127,11 @@ pub kinds_of-fits : (ws : List ℕ) (name : ℕ) → name < 2 ^ 32 → FitsBits 
 unfolding kinds_of_answer
 kinds_of-fits ws name h = reads ws _ (λ p e. go p (words-read ws p e).fine (ltb name p.names))
   where
-    go : (p : Pack) → WellFormed p → (b : Bool) → FitsBits (pick b (Given (place_of p (own_answer p.relations name)) 0) (unknown name))
+    go : (p : Pack) → WellFormed p → (b : Bool) → FitsBits (pick b (gives (place_of p (own_answer p.relations name)) 0) (unknown name))
     go p w true = (omega (arith, place-small p w name), omega arith)
     go p w false = unknown-fits name h
 
-yes_no-fits : (b : Bool) → FitsBits (Given (yes_no b) 0)
+yes_no-fits : (b : Bool) → FitsBits (gives (yes_no b) 0)
 yes_no-fits true = (omega arith, omega arith)
 yes_no-fits false = (omega arith, omega arith)
 
@@ -141,7 +139,7 @@ pub lean-fits : (ws : List ℕ) (a b : ℕ) → a < 2 ^ 32 → b < 2 ^ 32 → Fi
 unfolding lean_answer
 lean-fits ws a b h k = reads ws _ (λ p e. go p (ltb a p.names) (ltb b p.names))
   where
-    go : (p : Pack) (s t : Bool) → FitsBits (pick s (pick t (Given (yes_no (leans p.relations a b)) 0) (unknown b)) (unknown a))
+    go : (p : Pack) (s t : Bool) → FitsBits (pick s (pick t (gives (yes_no (leans p.relations a b)) 0) (unknown b)) (unknown a))
     go p true true = yes_no-fits (leans p.relations a b)
     go p true false = unknown-fits b k
     go p false t = unknown-fits a h

@@ -5,12 +5,12 @@ use mathlib.Core.Path.{◌≡◌, refl, ap, sym, ◌∙◌}
 use mathlib.Core.List.{List, ◌++◌}
 use lib.ListN.{length, take, drop, replicate, length-replicate, get_or-replicate}
 use lib.Seq.{length-take-le}
-use Rattle.definitions.specs.declared.answer.Answer.{Answer}
-use Rattle.definitions.specs.declared.answer.Answer.TheVariants.{Given, Refused}
+use Rattle.std.specs.Prelude.{Ok, Err}
+use Rattle.definitions.specs.Answers.{Answer}
 use Rattle.definitions.specs.Operations.{resolve_answer, resolve_buffer}
 use Rattle.resolve.specs.Finish.{RoomFor, front_of, Into}
 use Rattle.resolve.proofs.ResolveLaws.{answer-within}
-use Rattle.definitions.specs.Bytes.{words_of, bytes_of, encode, out_after}
+use Rattle.definitions.specs.Bytes.{words_of, bytes_of, out_after}
 use Rattle.wire.specs.Loading.{loaded_of, Loaded, Tried, FitsOutput}
 use Rattle.wire.proofs.ByteLaws.{words-length}
 use Rattle.over_bytes.specs.BytesPromises.{RoomIn}
@@ -19,8 +19,8 @@ use Rattle.over_bytes.proofs.Writes.{writes}
 
 after_front : (a : Answer) (x y out : List ℕ) → front_of a x ≡ front_of a y → out_after a x out ≡ out_after a y out
 unfolding out_after
-after_front (Given n s) x y out e = ap (λ (l : List ℕ). bytes_of l ++ drop (4 * n) out) e
-after_front (Refused r) x y out e = refl
+after_front (Ok g) x y out e = ap (λ (l : List ℕ). bytes_of l ++ drop (4 * g.value) out) e
+after_front (Err r) x y out e = refl
 
 module _ {bytes words : List ℕ} {n : ℕ} (l : Loaded bytes n words) {made : List ℕ} {most : ℕ} (r : RoomIn (length words) made most) (out : List ℕ) {m : ℕ} (e : m ≡ min (length out / 4) most) where
   pub room_into : RoomFor (take n words) made m
@@ -42,24 +42,24 @@ module _ {bytes words : List ℕ} {n : ℕ} (l : Loaded bytes n words) {made : L
     fits_into k = go a refl
       where
         go : (b : Answer) → a ≡ b → FitsOutput b (length left) (length out)
-        go (Given x s) f =
+        go (Ok g) f =
             let w = answer-within (take n words) (length own) (sym here ∙ f) in
             (omega (arith, w, own-long, e, r.fits, k), omega (arith, w, own-long, e))
-        go (Refused x) f = tt
+        go (Err x) f = tt
 
-    pub tried_into : {n₂ : ℕ} {after : List ℕ} → (n₂ ≡ encode a) × (after ≡ out_after a left out) → Tried resolve_answer resolve_buffer bytes most out n₂ after
+    pub tried_into : {after : List ℕ} → after ≡ out_after a left out → Tried resolve_answer resolve_buffer bytes most out a after
     tried_into h =
         let ws = loaded_of bytes in
         let at : a ≡ resolve_answer ws (length own) = here ∙ ap (λ (x : List ℕ). resolve_answer x (length own)) l.front in
         let m₂ : length own ≡ min (length out / 4) most = own-long ∙ e in
         let room : length own ≤ length (words_of out) = omega (arith, words-length out, m₂) in
         record {
-          answers = h.0 ∙ ap encode (at ∙ ap (resolve_answer ws) m₂);
-          leaves = h.1
+          answers = at ∙ ap (resolve_answer ws) m₂;
+          leaves = h
               ∙ after_front a left (resolve_buffer (take n words) own) out (t.each own own-long).1
               ∙ (λ i. out_after (at i) (resolve_buffer (l.front i) own) out)
               ∙ (writes Resolve).own ws own (words_of out) out room
-              ∙ ap (λ (x : ℕ). out_after (resolve_answer ws x) (resolve_buffer ws (words_of out)) out) m₂;
+              ∙ ap (λ (x : Answer). out_after x (resolve_buffer ws (words_of out)) out) (sym at);
         }
 
 -- of cleared words

@@ -7,12 +7,10 @@ use mathlib.Core.List.{List, []}
 use lib.ListN.{length, length-map}
 use lib.Dec.{leb}
 use borrow.Author.Tests.{leb-true}
-use Rattle.definitions.specs.declared.answer.Answer.{Answer}
-use Rattle.definitions.specs.declared.answer.Answer.TheVariants.{Given}
 use Rattle.definitions.specs.Table.{pick}
 use Rattle.definitions.specs.Records.{Pack}
 use Rattle.definitions.specs.Pack.{Reading, yes, refuse, read, total, words}
-use Rattle.definitions.specs.Answers.{answer, buffer, out_of_room, write_answer, write_buffer, Outcome, done, refused}
+use Rattle.definitions.specs.Answers.{Answer, gives, answer, buffer, out_of_room, write_answer, write_buffer, Outcome, done, refused}
 use Rattle.definitions.specs.Checking.{check_answer, rewrite_answer, rewrite_buffer}
 use Rattle.pack.proofs.PackLaws.{words-length, words-read}
 use Rattle.definitions.specs.Kinds.{all_kinds}
@@ -58,7 +56,7 @@ module _ (make : Pack → List ℕ) (steps : Pack → ℕ) where
   made_fits : (r : Reading) (room : ℕ) → Within (answer r (made room)) room
   made_fits (yes p) room = go (leb (length (make p)) room) refl
     where
-      go : (b : Bool) → leb (length (make p)) room ≡ b → Within (pick b (Given (length (make p)) (steps p)) out_of_room) room
+      go : (b : Bool) → leb (length (make p)) room ≡ b → Within (pick b (gives (length (make p)) (steps p)) out_of_room) room
       go true e = leb-true (length (make p)) room e
       go false e = tt
   made_fits (refuse r) room = tt
@@ -114,7 +112,7 @@ module _ (steps : ℕ) where
   outcome_fits (refused r) room = tt
   outcome_fits (done q) room = go (leb (total q) 8192) (leb (total q) room) refl
     where
-      go : (a b : Bool) → leb (total q) room ≡ b → Within (pick (a && b) (Given (total q) steps) out_of_room) room
+      go : (a b : Bool) → leb (total q) room ≡ b → Within (pick (a && b) (gives (total q) steps) out_of_room) room
       go true true e = leb-true (total q) room e
       go true false e = tt
       go false b e = tt
@@ -135,8 +133,8 @@ module _ (steps : ℕ) where
   outcome_own (refused r) lent other out h = after-refusal r lent other out
   outcome_own (done q) lent other out h = tested-own (total q) steps (λ room. leb (total q) 8192 && leb (total q) room) (both_more (total q)) (words q) lent other out (words-length q) h
 
-abbrev gives : ℕ → Pack → Answer
-gives room p = given_out (all_kinds p.relations).steps room (resolved p)
+abbrev resolving : ℕ → Pack → Answer
+resolving room p = given_out (all_kinds p.relations).steps room (resolved p)
 
 resolve-writes : Writes resolve_answer resolve_buffer
 unfolding resolve_answer resolve_buffer
@@ -149,20 +147,20 @@ resolve-writes =
       own = λ ws. own (read ws);
     }
   where
-    fits : (r : Reading) (room : ℕ) → Within (answer r (gives room)) room
+    fits : (r : Reading) (room : ℕ) → Within (answer r (resolving room)) room
     fits (yes p) room = outcome_fits (all_kinds p.relations).steps (resolved p) room
     fits (refuse r) room = tt
 
-    enough : (r : Reading) (room : ℕ) → answer r (gives (min room 8192)) ≡ answer r (gives room)
+    enough : (r : Reading) (room : ℕ) → answer r (resolving (min room 8192)) ≡ answer r (resolving room)
     enough (yes p) room = given_enough (all_kinds p.relations).steps (resolved p) room
     enough (refuse r) room = refl
 
-    more : (r : Reading) (few room : ℕ) → few ≤ room → (answer r (gives few) ≡ out_of_room → ⊥) → answer r (gives few) ≡ answer r (gives room)
+    more : (r : Reading) (few room : ℕ) → few ≤ room → (answer r (resolving few) ≡ out_of_room → ⊥) → answer r (resolving few) ≡ answer r (resolving room)
     more (yes p) few room h other = outcome_more (all_kinds p.relations).steps (resolved p) few room h other
     more (refuse r) few room h other = refl
 
     own : (r : Reading) (lent other out : List ℕ) → length lent ≤ length other
-        → out_after (answer r (gives (length lent))) (buffer r (λ p. written_out lent (resolved p)) lent) out ≡ out_after (answer r (gives (length lent))) (buffer r (λ p. written_out other (resolved p)) other) out
+        → out_after (answer r (resolving (length lent))) (buffer r (λ p. written_out lent (resolved p)) lent) out ≡ out_after (answer r (resolving (length lent))) (buffer r (λ p. written_out other (resolved p)) other) out
     own (yes p) lent other out h = outcome_own (all_kinds p.relations).steps (resolved p) lent other out h
     own (refuse r) lent other out h = after-refusal r lent other out
 

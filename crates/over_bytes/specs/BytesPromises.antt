@@ -1,9 +1,8 @@
 -- What the parts of the operations over bytes promise each other.
 use Rattle.std.specs.Prelude.{ℕ, ◌<◌, ◌≤◌, ◌≡◌, List, length, get_or}
 use Rattle.std.specs.Borrow.{Bor, MutBor}
-use Rattle.definitions.specs.declared.answer.Answer.{Answer}
 use Rattle.definitions.specs.declared.operation.Writing.{Writing}
-use Rattle.definitions.specs.Answers.{Answered}
+use Rattle.definitions.specs.Answers.{Answer, Answered}
 use Rattle.definitions.specs.Operations.{answer_of, buffer_of}
 
 -- what is known after each call is that it was that operation

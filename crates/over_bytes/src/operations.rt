@@ -10,7 +10,7 @@ ghost use Rattle.over_bytes.specs.BytesPromises.{Runs, RoomIn};
 
 use checking::check::check;
 use checking::rewrite::rewrite;
-use definitions::answer::{Answer, Number};
+use definitions::answer::Answer;
 use definitions::operation::{Question, Writing};
 use filtered::filtered::filtered;
 use kinds::all_kinds::all_kinds;
@@ -18,7 +18,7 @@ use kinds::kinds_of::kinds_of;
 use kinds::lean::lean;
 use pack::kinds::Pack;
 use resolve::resolve::resolve_into;
-use wire::answer::{encode, give};
+use wire::answer::{encode, lacks_room, put};
 use wire::bytes::{load, room};
 
 // How many words small packs have, and how many most of what they give has.
@@ -34,9 +34,6 @@ impl Short {
     pub const MADE: usize = Short::WRITTEN + 1;
 
     pub const MOST_MADE: usize = Pack::MOST_WORDS + 1;
-
-    // What is answered where they do not suffice.
-    pub const NO_ROOM: u64 = Number::NO_ROOM as u64;
 }
 
 fn answer_to(q: Question, words: &[u32]) -> Answer
@@ -74,7 +71,7 @@ fn write_in<F: Fn(&[u32], &mut [u32]) -> Answer, const WORDS: usize, const ROOM:
     run: &F,
     pack: &[u8],
     out: &mut [u8],
-) -> u64
+) -> Answer
     requires { Holds (length pack.now) WORDS × (WORDS ≤ 8192) × (ROOM ≤ 8192) × F.IsAlwaysCallable run.now × ((w : Writing) × Runs (F.post run.now) w) }
     ensures { (w : Writing) → Runs (F.post run.now) w → Tried (answer_of w) (buffer_of w) pack.now ROOM out.old result out.new }
 {
@@ -85,7 +82,8 @@ fn write_in<F: Fn(&[u32], &mut [u32]) -> Answer, const WORDS: usize, const ROOM:
     let n = load(pack, words);
     let m = room(out.len(), written.len());
     let a = run(&words[..n], &mut written[..m]);
-    give(a, written, out)
+    put(a, written, out);
+    a
 }
 
 // No operation writes more than 8,192 words. What a small pack gives most often fits the short slice: only where that is
@@ -95,12 +93,13 @@ fn written<F: Fn(&[u32], &mut [u32]) -> Answer>(run: F, pack: &[u8], out: &mut [
     ensures { (w : Writing) → Runs (F.post run) w → Gives (answer_of w) (buffer_of w) pack.now out.old result out.new }
 {
     if pack.len() <= Short::BYTES {
-        let r = write_in::<F, { Pack::FEW_WORDS }, { Short::WRITTEN }>(&run, pack, out);
-        if r != Short::NO_ROOM {
-            return r;
+        let a = write_in::<F, { Pack::FEW_WORDS }, { Short::WRITTEN }>(&run, pack, out);
+        if !lacks_room(a) {
+            return encode(a);
         }
     }
-    write_in::<F, { Pack::MOST_WORDS }, { Pack::MOST_WORDS }>(&run, pack, out)
+    let a = write_in::<F, { Pack::MOST_WORDS }, { Pack::MOST_WORDS }>(&run, pack, out);
+    encode(a)
 }
 
 // Resolve likewise, whose notes stand in the slice before what is written; so it has one word more than may be written, and is
@@ -108,7 +107,7 @@ fn written<F: Fn(&[u32], &mut [u32]) -> Answer>(run: F, pack: &[u8], out: &mut [
 fn resolve_in<const WORDS: usize, const ROOM: usize, const MADE: usize>(
     pack: &[u8],
     out: &mut [u8],
-) -> u64
+) -> Answer
     requires { Holds (length pack.now) WORDS × (WORDS ≤ ROOM) × (ROOM ≤ 8192) × (MADE ≡ ROOM + 1) }
     ensures { Tried resolve_answer resolve_buffer pack.now ROOM out.old result out.new }
 {
@@ -119,7 +118,8 @@ fn resolve_in<const WORDS: usize, const ROOM: usize, const MADE: usize>(
     let n = load(pack, words);
     let m = room(out.len(), ROOM);
     let a = resolve_into(&words[..n], made, m);
-    give(a, made, out)
+    put(a, made, out);
+    a
 }
 
 fn resolved(pack: &[u8], out: &mut [u8]) -> u64
@@ -129,11 +129,14 @@ fn resolved(pack: &[u8], out: &mut [u8]) -> u64
         let given = resolve_in::<{ Pack::FEW_WORDS }, { Short::WRITTEN }, { Short::MADE }>(
             pack, out,
         );
-        if given != Short::NO_ROOM {
-            return given;
+        if !lacks_room(given) {
+            return encode(given);
         }
     }
-    resolve_in::<{ Pack::MOST_WORDS }, { Pack::MOST_WORDS }, { Short::MOST_MADE }>(pack, out)
+    let a = resolve_in::<{ Pack::MOST_WORDS }, { Pack::MOST_WORDS }, { Short::MOST_MADE }>(
+        pack, out,
+    );
+    encode(a)
 }
 
 pub fn write(w: Writing, pack: &[u8], out: &mut [u8]) -> u64

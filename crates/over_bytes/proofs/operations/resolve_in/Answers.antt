@@ -11,12 +11,12 @@ resolve_into-a-requires g c =
     let made = made_room (length c.load-n.new.words) g.row.ROOM c.requires.3 (omega (arith, c.load-n.auto.words, length-replicate {A = ℕ} g.row.WORDS 0, c.requires.1)) in
     room_into c.load-n.ensures made c.args.out.now c.room-m.ensures
 
-pub give-requires : goal.give-requires
-give-requires g c =
+pub put-requires : goal.put-requires
+put-requires g c =
     let made = made_room (length c.load-n.new.words) g.row.ROOM c.requires.3 (omega (arith, c.load-n.auto.words, length-replicate {A = ℕ} g.row.WORDS 0, c.requires.1)) in
     fits_into c.load-n.ensures made c.args.out.now c.room-m.ensures c.resolve_into-a.ensures (search rules)
 
 pub returns : goal.returns
 returns g c =
     let made = made_room (length c.load-n.new.words) g.row.ROOM c.requires.3 (omega (arith, c.load-n.auto.words, length-replicate {A = ℕ} g.row.WORDS 0, c.requires.1)) in
-    tried_into c.load-n.ensures made c.args.out.now c.room-m.ensures c.resolve_into-a.ensures c.give.ensures
+    tried_into c.load-n.ensures made c.args.out.now c.room-m.ensures c.resolve_into-a.ensures c.put.ensures
