@@ -4,16 +4,16 @@
 #![tactic(auto)]
 
 mod call;
-mod compare;
+mod difference;
 mod list;
 mod operation;
-mod report;
 mod run;
+mod totals;
 
-fn main() {
-    let mut bytes = io::large_buffer();
-    let mut words = [0u32; 8448];
-    let mut pack = [0u32; 8448];
-    let mut out = [0u32; 10240];
-    run::run_list(&mut bytes, &mut words, &mut pack, &mut out);
+use std::io;
+use std::io::BufReader;
+
+fn main(rt: HostRuntime) -> io::Result<()> {
+    let reader = BufReader::new(rt.alloc(), rt.reader())?;
+    run::run_list(&rt, rt.alloc(), reader)
 }

@@ -1,26 +1,46 @@
-// What an entry is, by its operation: the part of another, a pack, a call, or the end.
-pub const PART: u32 = 0;
+// What an entry is, by its operation.
+use crate::list::IllFormed;
+use definitions::operation::Filter;
 
-pub const PACK: u32 = 1;
+// The part of another entry, a pack, a call on it, or the end of the list.
+#[derive(Clone, Copy)]
+pub enum Operation {
+    Part,
+    Pack,
+    Call(Call),
+    End,
+}
 
-pub const CHECK: u32 = 2;
+#[derive(Clone, Copy)]
+pub enum Call {
+    Check,
+    Rewrite,
+    AllKinds,
+    KindsOf,
+    Lean,
+    Filtered(Filter),
+    Resolve,
+}
 
-pub const REWRITE: u32 = 3;
+impl TryFrom<u32> for Operation {
+    type Error = IllFormed;
 
-pub const ALL_KINDS: u32 = 4;
-
-pub const KINDS_OF: u32 = 5;
-
-pub const LEAN: u32 = 6;
-
-pub const DIRECT: u32 = 7;
-
-pub const INNERMOST: u32 = 8;
-
-pub const ALIAS: u32 = 9;
-
-pub const UNRESOLVED: u32 = 10;
-
-pub const RESOLVE: u32 = 11;
-
-pub const END: u32 = 12;
+    fn try_from(number: u32) -> Result<Self, IllFormed> {
+        Ok(match number {
+            0 => Operation::Part,
+            1 => Operation::Pack,
+            2 => Operation::Call(Call::Check),
+            3 => Operation::Call(Call::Rewrite),
+            4 => Operation::Call(Call::AllKinds),
+            5 => Operation::Call(Call::KindsOf),
+            6 => Operation::Call(Call::Lean),
+            7 => Operation::Call(Call::Filtered(Filter::Direct)),
+            8 => Operation::Call(Call::Filtered(Filter::Innermost)),
+            9 => Operation::Call(Call::Filtered(Filter::Alias)),
+            10 => Operation::Call(Call::Filtered(Filter::Unresolved)),
+            11 => Operation::Call(Call::Resolve),
+            12 => Operation::End,
+            _ => return Err(IllFormed),
+        })
+    }
+}

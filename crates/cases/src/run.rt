@@ -1,119 +1,106 @@
 // Running the entries of a list.
 use crate::call::judge;
-use crate::compare::Found;
-use crate::list::ListEntry;
-use crate::{compare, list, operation, report};
+use crate::difference::Difference;
+use crate::list::{IllFormed, List};
+use crate::operation::Operation;
+use crate::totals::Totals;
+use std::alloc::{AllocError, Global};
+use std::io;
+use std::io::BufRead;
 
-// What was run so far: how many cases, how many words the pack of the last of them has, and the calls on it; and whether the
-// list has ended.
-#[derive(Clone, Copy)]
-pub struct Totals {
-    pub cases: u64,
-    pub length: usize,
-    pub call: u64,
-    pub calls: u64,
-    pub rewrites: u64,
-    pub differ: u64,
-    pub words: u64,
-    pub sum: u32,
-    pub ended: bool,
+// Why the entries of a list are not all run.
+#[derive(Drop)]
+enum Stop {
+    IllFormed,
+    Failed(io::Error),
 }
 
-fn more(n: u64) -> u64 {
-    std::num::wrapping_add_u64(n, 1)
+impl From<IllFormed> for Stop {
+    fn from(_list: IllFormed) -> Self {
+        Stop::IllFormed
+    }
 }
 
-impl Totals {
-    fn found(mut self, f: Found) -> Self {
-        if let Found::Same = f {
-            return self;
+impl From<io::Error> for Stop {
+    fn from(error: io::Error) -> Self {
+        Stop::Failed(error)
+    }
+}
+
+impl From<AllocError> for Stop {
+    fn from(error: AllocError) -> Self {
+        Stop::Failed(io::Error::from(error))
+    }
+}
+
+// The pack of the last case, what calls write to, and what was run so far.
+#[derive(Drop)]
+struct Run {
+    pack: Vec<u32>,
+    out: Vec<u32>,
+    totals: Totals,
+}
+
+impl Run {
+    // The words that can be lent to a call.
+    const ROOM: usize = 10240;
+
+    fn new(alloc: Global) -> Result<Self, AllocError> {
+        Ok(Run {
+            pack: Vec::new(alloc),
+            out: vec![in alloc; 0; Self::ROOM]?,
+            totals: Totals::default(),
+        })
+    }
+
+    // Reads an entry and its words, and runs it. False at the end of the list.
+    fn next<R: BufRead + Drop>(
+        &mut self,
+        rt: &impl Print,
+        list: &mut List<R>,
+    ) -> Result<bool, Stop> {
+        let entry = list.entry()?;
+        if let Operation::End = entry.operation {
+            list.end()?;
+            return Ok(false);
         }
-        report::differs(self.cases, self.call, f);
-        self.differ = more(self.differ);
-        self
-    }
-
-    // The list cannot be read on.
-    fn broken(mut self) -> Self {
-        self.ended = true;
-        self.found(Found::IllFormed)
-    }
-
-    // After the end of the list nothing may stand.
-    fn end(mut self, bytes: &mut [u8]) -> Self {
-        if io::read_full(0, bytes) != 0 {
-            return self.broken();
-        }
-        self.ended = true;
-        self
-    }
-
-    // One case more, whose pack are these words.
-    fn case(mut self, words: &[u32], pack: &mut [u32]) -> Self {
-        self.sum = compare::take_up(words, pack, self.sum);
-        self.words = std::num::wrapping_add_u64(self.words, words.len() as u64);
-        self.length = words.len();
-        self.cases = more(self.cases);
-        self.call = 0;
-        self
-    }
-
-    // One call more.
-    fn call(mut self, operation: u32) -> Self {
-        self.call = more(self.call);
-        match operation {
-            operation::CHECK => {}
-            operation::REWRITE => self.rewrites = more(self.rewrites),
-            _ => self.calls = more(self.calls),
-        }
-        self
-    }
-
-    fn entry(self, e: ListEntry, words: &[u32], pack: &mut [u32], out: &mut [u32]) -> Self {
-        let operation = e.operation;
-        match operation {
-            operation::PART => self,
-            operation::PACK => self.case(words, pack),
-            operation::CHECK..=operation::RESOLVE => {
-                let f = judge(e, pack, self.length, words, out);
-                self.call(operation).found(f)
+        let words = list.words(entry)?;
+        match entry.operation {
+            Operation::Pack => {
+                self.pack.clear();
+                self.pack.extend_from_slice(words)?;
+                self.totals.case(words);
             }
-            _ => self.broken(),
+            Operation::Call(call) => {
+                let found = judge(call, entry, &self.pack, words, &mut self.out);
+                self.totals.call(call);
+                if let Err(difference) = found {
+                    self.totals.tell(rt, difference)?;
+                }
+            }
+            Operation::Part | Operation::End => {}
         }
+        Ok(true)
     }
 
-    // Reads an entry and its words, and runs it.
-    fn next(self, bytes: &mut [u8], words: &mut [u32], pack: &mut [u32], out: &mut [u32]) -> Self {
-        let e = list::read_entry(bytes);
-        if e.operation == operation::END {
-            return self.end(bytes);
+    fn all<R: BufRead + Drop>(&mut self, rt: &impl Print, list: &mut List<R>) -> Result<(), Stop> {
+        for _ in 0..u64::MAX {
+            if !self.next(rt, list)? {
+                break;
+            }
         }
-        let end = list::bring(bytes, words, e);
-        if words.len() < end {
-            return self.broken();
-        }
-        self.entry(e, &words[0..end], pack, out)
+        Ok(())
     }
 }
 
-// The whole of standard input.
-// A proved loop has to end: it counts its turns down, from a number that no run uses up.
-pub fn run_list(bytes: &mut [u8], words: &mut [u32], pack: &mut [u32], out: &mut [u32]) {
-    let mut t = Totals {
-        cases: 0,
-        length: 0,
-        call: 0,
-        calls: 0,
-        rewrites: 0,
-        differ: 0,
-        words: 0,
-        sum: 0,
-        ended: false,
-    };
-    let mut turns = u64::MAX;
-    while 0 < turns && !t.ended {
-        t = t.next(bytes, words, pack, out);
-        turns -= 1;
+// Runs the whole list, and tells what differs and what was run.
+pub fn run_list<R: BufRead + Drop>(rt: &impl Print, alloc: Global, reader: R) -> io::Result<()> {
+    let mut list = List::new(alloc, reader)?;
+    let mut run = Run::new(alloc)?;
+    match run.all(rt, &mut list) {
+        Ok(()) => {}
+        Err(Stop::IllFormed) => run.totals.tell(rt, Difference::IllFormed)?,
+        Err(Stop::Failed(error)) => return Err(error),
     }
-    report::totals(t);
+    print!(rt; "{}", run.totals)
 }

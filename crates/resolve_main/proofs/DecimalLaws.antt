@@ -1,15 +1,16 @@
--- The digits of a number are below ten and read as the number, with no zero in front; and they are those that `io::decimal` writes.
-use Prim.Native.Nat.{ℕ, zero, suc, ◌+◌, ◌-◌, ◌*◌, ◌/◌, ◌%◌, ◌^◌, ◌<◌, ◌≤◌}
-use native.Mathlib.Nat.{pow-suc, one-le-pow, pow-le-pow_right, mod-eq_of_lt}
+-- The digits of a number are below ten and read as the number, with no zero in front; and they are those that std writes.
+use Prim.Native.Nat.{ℕ, zero, suc, ◌+◌, ◌*◌, ◌/◌, ◌%◌, ◌^◌, ◌<◌, ◌≤◌}
 use native.Mathlib.Omega.{arith}
 use mathlib.Core.Path.{◌≡◌, refl, ap, ◌∙◌}
 use mathlib.Core.Bool.{Bool, true, false}
-use mathlib.Core.List.{List, [], ◌∷◌, ◌++◌, map, map-append}
-use lib.Dec.{ltb, leb}
-use borrow.Author.Tests.{lt-ltb, le-ltb, ltb-true, ltb-false, leb-true, leb-false}
-use Rattle.io.specs.Digits.{hex_digit_ascii, last_digits, IsDigitCount}
+use mathlib.Core.List.{List, [], ◌∷◌, ◌++◌, append_assoc, map, map-append}
+use lib.Dec.{ltb}
+use borrow.Author.Tests.{lt-ltb, le-ltb, ltb-true, ltb-false}
+use Rattle.std.specs.Fmt.{decimal as as_text}
+use Rattle.std.proofs.lemmas.Fmt.{decimal_digit, decimal_step}
 use Rattle.definitions.specs.Table.{pick}
-use Rattle.definitions.specs.Text.{digit_of, digits_up_to, decimal, hexadecimal}
+use Rattle.definitions.specs.Text.{digit_of, digits_up_to, decimal, spaced, hexadecimal}
+use Rattle.resolve_main.proofs.Digits.{digit_decimal}
 
 -- the number that digits read as
 unfoldable pub read_on : ℕ → ℕ → List ℕ → ℕ
@@ -89,7 +90,7 @@ first_digit (suc k) n ds h e = go (ltb n 10) refl (λ ds l f. first_digit k (n /
 pub decimal-first : (n : ℕ) (ds : List ℕ) → decimal n ≡ 0 ∷ ds → n ≡ 0
 decimal-first n ds e = first_digit n n ds (omega arith) e
 
--- ---- as `io::decimal` writes them
+-- ---- as std writes them
 
 one_digit : (f n : ℕ) → n < 10 → digits_up_to f n ≡ n ∷ []
 unfolding digits_up_to
@@ -100,34 +101,24 @@ more_digits : (f n : ℕ) → 10 ≤ n → digits_up_to (suc f) n ≡ digits_up_
 unfolding digits_up_to
 more_digits f n h = rw (le-ltb n 10 h)
 
-same_character : (d : ℕ) → d < 10 → hex_digit_ascii d ≡ digit_of d
-same_character d h = rw (lt-ltb d 10 h)
-
-spelled : (f n k : ℕ) → n ≤ f → n < 10 ^ suc k → (0 < k → 10 ^ k ≤ n) → last_digits 10 (suc k) n ≡ map digit_of (digits_up_to f n)
-spelled f n zero h q r =
-    let l : n < 10 = q in
-    rw (one_digit f n l, mod-eq_of_lt l) (ap (λ (d : ℕ). d ∷ []) (same_character n l))
-spelled zero n (suc k) h q r = let z = one-le-pow (suc k) 10 (omega arith) in absurd (omega (arith, r (omega arith)))
-spelled (suc f) n (suc k) h q r =
-    let low : 10 ^ suc k ≤ n = r (omega arith) in
-    let p = pow-suc 10 k in
-    let p' = pow-suc 10 (suc k) in
-    let z = one-le-pow k 10 (omega arith) in
-    let l : 10 ≤ n = omega arith in
-    let rest = spelled f (n / 10) k (omega arith) (omega arith) (λ j. omega arith) in
-    rw (more_digits f n l, map-append digit_of (digits_up_to f (n / 10)) (n % 10 ∷ []), ← rest) (ap (λ (d : ℕ). last_digits 10 (suc k) (n / 10) ++ (d ∷ [])) (same_character (n % 10) (omega arith)))
-
-pub as_written : (n k : ℕ) → IsDigitCount 10 1 n k → last_digits 10 k n ≡ map digit_of (decimal n)
-as_written n zero h = absurd (omega arith)
-as_written n (suc k) (a, b, c) = spelled n n k (omega arith) b (λ j. let m : suc k - 1 ≡ k = omega arith in rw m at (c (omega arith)))
-
--- a number of 64 bits has at most twenty
-pub few_digits : (n k : ℕ) → n < 2 ^ 64 → IsDigitCount 10 1 n k → k ≤ 20
-few_digits n k h (a, b, c) = go (leb k 20) refl
+spelled : (f n : ℕ) → n ≤ f → n < 2 ^ 64 → as_text n ≡ map digit_of (digits_up_to f n)
+spelled zero n h k =
+    let l : n < 10 = omega arith in
+    rw (one_digit zero n l, decimal_digit n l) (ap (λ (d : ℕ). d ∷ []) (digit_decimal n l))
+spelled (suc f) n h k = go (ltb n 10) refl (spelled f (n / 10))
   where
-    go : (t : Bool) → leb k 20 ≡ t → k ≤ 20
-    go true e = leb-true k 20 e
-    go false e =
-        let l = leb-false k 20 e in
-        let p : 10 ^ 20 ≤ 10 ^ (k - 1) = pow-le-pow_right (omega arith) {i = 20} {j = k - 1} (omega arith) in
-        absurd (omega (arith, c (omega arith)))
+    go : (b : Bool) → ltb n 10 ≡ b → (n / 10 ≤ f → n / 10 < 2 ^ 64 → as_text (n / 10) ≡ map digit_of (digits_up_to f (n / 10))) → as_text n ≡ map digit_of (digits_up_to (suc f) n)
+    go true e rest =
+        let l = ltb-true n 10 e in
+        rw (one_digit (suc f) n l, decimal_digit n l) (ap (λ (d : ℕ). d ∷ []) (digit_decimal n l))
+    go false e rest =
+        let l = ltb-false n 10 e in
+        rw (more_digits f n l, map-append digit_of (digits_up_to f (n / 10)) (n % 10 ∷ []), decimal_step n l k, rest (omega arith) (omega arith))
+        (ap (λ (d : ℕ). map digit_of (digits_up_to f (n / 10)) ++ (d ∷ [])) (digit_decimal (n % 10) (omega arith)))
+
+as_written : (n : ℕ) → n < 2 ^ 64 → as_text n ≡ map digit_of (decimal n)
+as_written n h = spelled n n (omega arith) h
+
+-- a space, and the number after it
+pub spaced_as : (text : List ℕ) (n : ℕ) {after digits : List ℕ} → n < 2 ^ 64 → digits ≡ as_text n → after ≡ (text ++ (32 ∷ [])) ++ digits → after ≡ text ++ spaced n
+spaced_as text n h d e = rw (e, d, as_written n h) (append_assoc text (32 ∷ []) (map digit_of (decimal n)))

@@ -1,6 +1,6 @@
 -- What the host's function answers and leaves in the output, as a text, is what is to be printed.
-use Prim.Native.Nat.{ℕ, ◌*◌, ◌/◌, ◌%◌, ◌^◌, ◌≤◌}
-use native.Mathlib.Nat.{div-div-eq-div-mul}
+use Rattle.std.specs.Prelude.{Ok, Err}
+use Prim.Native.Nat.{ℕ, ◌*◌, ◌/◌, ◌≤◌}
 use native.Mathlib.Omega.{arith}
 use mathlib.Core.Path.{◌≡◌, refl, ap, sym, subst, ◌∙◌}
 use mathlib.Core.Bool.{Bool, true, false, ◌&&◌}
@@ -9,56 +9,28 @@ use lib.ListN.{length, take, drop, replicate, length-append, length-drop, length
 use lib.Seq.{take-append_seam, length-take-le}
 use lib.Dec.{leb}
 use borrow.Author.Tests.{leb-true}
-use Rattle.definitions.specs.declared.answer.Answer.{Answer}
-use Rattle.definitions.specs.declared.answer.Answer.TheVariants.{Given, Refused}
 use Rattle.definitions.specs.Table.{pick}
 use Rattle.definitions.specs.Records.{Pack}
 use Rattle.definitions.specs.Pack.{Reading, yes, refuse, read, words, total}
-use Rattle.definitions.specs.Answers.{buffer, Outcome, done, refused}
+use Rattle.definitions.specs.declared.answer.Given.{Given}
+use Rattle.definitions.specs.Answers.{Answer, buffer, Outcome, done, refused}
 use Rattle.definitions.specs.Resolving.{resolved}
 use Rattle.definitions.specs.Operations.{resolve_answer, resolve_buffer}
-use Rattle.definitions.specs.Bytes.{word_from, words_of, bytes_of, encode, decode, are_words, not_words, over_bytes, out_after, in_room, out_bytes, Gives}
-use Rattle.definitions.specs.Text.{digit_of, line_of, lines_of, ok_line, text_of, printed}
+use Rattle.definitions.specs.Bytes.{words_of, bytes_of, encode, decode, are_words, not_words, over_bytes, out_after, in_room, out_bytes, Gives}
+use Rattle.definitions.specs.Text.{line_of, lines_of, ok_line, text_of, printed}
 use Rattle.pack.proofs.PackLaws as pack
 use Rattle.resolve.specs.Finish.{front_of, written_out}
 use Rattle.resolve.proofs.ResolveLaws.{front_alike, answer-within}
 use Rattle.wire.proofs.ByteLaws.{words-length, bytes_length}
 use Rattle.over_bytes.proofs.Bits.{resolve-decoded}
-use Rattle.resolve_main.specs.Printing.{Prints}
-use Rattle.resolve_main.proofs.Digits.{line_from}
-use Rattle.resolve_main.proofs.PrintingLaws.{prints_as}
+use Rattle.resolve_main.proofs.Digits.{word_line}
 
--- ---- a word's line is that of its four bytes, which keep all that is printed of it
-
-low : (n : ℕ) → n % 16 ≡ n % 256 % 16
-low n = omega arith
-
-high : (n m : ℕ) → n / 16 ≡ m → m % 16 ≡ n % 256 / 16
-high n m e = omega arith
-
-byte : (n : ℕ) → n % 256 ≤ 255
-byte n = omega arith
-
-word_line : (w : ℕ) → line_of (word_from (w % 256) (w / 256 % 256) (w / 65536 % 256) (w / 16777216 % 256)) ≡ line_of w
-word_line w =
-    sym
-    (line_from (w % 256) (w / 256 % 256) (w / 65536 % 256) (w / 16777216 % 256)
-    (omega arith) (omega (arith, byte (w / 256))) (omega (arith, byte (w / 65536))) (omega (arith, byte (w / 16777216)))
-    (ap digit_of (high (w / 16777216) (w / 16 ^ 7) (div-div-eq-div-mul w 16777216 16)))
-    (ap digit_of (low (w / 16777216)))
-    (ap digit_of (high (w / 65536) (w / 16 ^ 5) (div-div-eq-div-mul w 65536 16)))
-    (ap digit_of (low (w / 65536)))
-    (ap digit_of (high (w / 256) (w / 16 ^ 3) (div-div-eq-div-mul w 256 16)))
-    (ap digit_of (low (w / 256)))
-    (ap digit_of (high w (w / 16) refl))
-    (ap digit_of (low w)))
+-- ---- the words at the front of the output
 
 lines_again : (ws : List ℕ) → lines_of (words_of (bytes_of ws)) ≡ lines_of ws
 unfolding lines_of words_of bytes_of
 lines_again [] = refl
 lines_again (w ∷ ws) = ap (λ (l : List ℕ). l ++ lines_of (words_of (bytes_of ws))) (word_line w) ∙ ap (λ (l : List ℕ). line_of w ++ l) (lines_again ws)
-
--- ---- the words at the front of the output
 
 words_append : (ws rest : List ℕ) → words_of (bytes_of ws ++ rest) ≡ words_of (bytes_of ws) ++ words_of rest
 unfolding words_of bytes_of
@@ -71,17 +43,17 @@ words-front ws rest n e =
     rw (words_append ws rest, ← l) (take-append_seam (words_of (bytes_of ws)) (words_of rest))
 
 -- an answer's text with the output after it, and with the words that were written
-text_after : (a : Answer) (made out : List ℕ) → ((n s : ℕ) → a ≡ Given n s → n ≤ length made) → text_of a (words_of (out_after a made out)) ≡ text_of a made
+text_after : (a : Answer) (made out : List ℕ) → ((g : Given) → a ≡ Ok g → g.value ≤ length made) → text_of a (words_of (out_after a made out)) ≡ text_of a made
 unfolding text_of out_after
-text_after (Given n s) made out h =
-    ap (λ (l : List ℕ). ok_line n s ++ l)
-    (ap lines_of (words-front (take n made) (drop (4 * n) out) n (length-take-le n made (h n s refl))) ∙ lines_again (take n made))
-text_after (Refused r) made out h = refl
+text_after (Ok g) made out h =
+    ap (λ (l : List ℕ). ok_line g.value g.steps ++ l)
+    (ap lines_of (words-front (take g.value made) (drop (4 * g.value) out) g.value (length-take-le g.value made (h g refl))) ∙ lines_again (take g.value made))
+text_after (Err r) made out h = refl
 
 text_front : (a : Answer) (x y : List ℕ) → front_of a x ≡ front_of a y → text_of a x ≡ text_of a y
 unfolding text_of
-text_front (Given n s) x y e = ap (λ (l : List ℕ). ok_line n s ++ lines_of l) e
-text_front (Refused r) x y e = refl
+text_front (Ok g) x y e = ap (λ (l : List ℕ). ok_line g.value g.steps ++ lines_of l) e
+text_front (Err r) x y e = refl
 
 -- ---- Resolve
 
@@ -107,7 +79,7 @@ buffer-long ws lent = go (read ws)
 resolved_alike : (ws lent other out : List ℕ) (room : ℕ) → length lent ≡ room → length other ≡ room
     → text_of (resolve_answer ws room) (words_of (out_after (resolve_answer ws room) (resolve_buffer ws lent) out)) ≡ text_of (resolve_answer ws room) (resolve_buffer ws other)
 resolved_alike ws lent other out room e f =
-    text_after (resolve_answer ws room) (resolve_buffer ws lent) out (λ n s g. omega (arith, answer-within ws room g, buffer-long ws lent))
+    text_after (resolve_answer ws room) (resolve_buffer ws lent) out (λ g e. omega (arith, answer-within ws room e, buffer-long ws lent))
     ∙ text_front (resolve_answer ws room) (resolve_buffer ws lent) (resolve_buffer ws other)
     (subst (λ (k : ℕ). front_of (resolve_answer ws k) (resolve_buffer ws lent) ≡ front_of (resolve_answer ws k) (resolve_buffer ws other)) e (front_alike ws lent other (e ∙ sym f)))
 
@@ -122,14 +94,14 @@ printed-is bytes out e = go (are_words (length bytes)) (omega arith)
         → text_of (pick b (resolve_answer (words_of bytes) (length out / 4)) not_words) (words_of (out_after (pick b (resolve_answer (words_of bytes) (length out / 4)) not_words) (resolve_buffer (words_of bytes) (words_of out)) out))
         ≡ text_of (pick b (resolve_answer (words_of bytes) 8192) not_words) (resolve_buffer (words_of bytes) blank)
     go true l = rw l (resolved_alike (words_of bytes) (words_of out) blank out 8192 (words-length out ∙ l) (length-replicate {A = ℕ} 8192 0))
-    go false l = text_after not_words (resolve_buffer (words_of bytes) (words_of out)) out (λ n s g. let z : ◌≡◌ {A = ℕ} 0 1 = cc in absurd (omega arith)) ∙ text_front not_words _ _ refl
+    go false l = text_after not_words (resolve_buffer (words_of bytes) (words_of out)) out (λ g e. cc) ∙ text_front not_words _ _ refl
 
 -- the program has the number, and the output
-pub resolved-text : {bytes out after before text : List ℕ} {r e : ℕ} → Gives resolve_answer resolve_buffer bytes out r after
-    → Prints (text_of (decode r) (words_of after)) before e text → length out ≡ 32768 → Prints (printed bytes) before e text
+pub resolved-text : {bytes out after text : List ℕ} {r : ℕ} → Gives resolve_answer resolve_buffer bytes out r after
+    → text ≡ text_of (decode r) (words_of after) → length out ≡ 32768 → text ≡ printed bytes
 resolved-text {bytes} {out} {after} g p l =
-    prints_as p
-    (ap (λ (r : ℕ). text_of (decode r) (words_of after)) g.answers
+    p
+    ∙ ap (λ (r : ℕ). text_of (decode r) (words_of after)) g.answers
     ∙ ap (λ (l : List ℕ). text_of (decode (encode (in_room resolve_answer (length out) bytes))) (words_of l)) g.leaves
     ∙ ap (λ (a : Answer). text_of a (words_of (out_bytes resolve_answer resolve_buffer bytes out))) (resolve-decoded (length out) bytes)
-    ∙ printed-is bytes out l)
+    ∙ printed-is bytes out l

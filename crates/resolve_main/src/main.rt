@@ -4,17 +4,17 @@
 
 mod report;
 
+use pack::kinds::Pack;
 use report::{Text, resolved_text};
+use std::io;
+use std::io::{Read, Write};
 
-// The standard streams.
-const STDIN: i32 = 0;
+// One byte more than a pack has at most, so that too many are seen and refused.
+const MOST_BYTES: usize = 4 * Pack::MOST_WORDS + 1;
 
-const STDOUT: i32 = 1;
-
-fn main() {
-    let mut pack = io::large_buffer();
-    let mut text = [0u8; Text::ALL];
-    let n = io::read_full(STDIN, &mut pack);
-    let count = resolved_text(&pack[..n], &mut text);
-    io::write_all(STDOUT, &text[..count]);
+fn main(rt: HostRuntime) -> io::Result<()> {
+    let mut pack = Vec::new(rt.alloc());
+    rt.reader().take(MOST_BYTES as u64).read_to_end(&mut pack)?;
+    let text = resolved_text::<{ Text::ALL }>(&pack);
+    io::writer(&rt).write_all(text.as_slice())
 }

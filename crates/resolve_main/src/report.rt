@@ -1,14 +1,17 @@
-// An answer as text. Each function adds to the text that stands in the slice before `at`, and gives where it ends then.
+// An answer as text. Each function adds to a text what it says. `write!` may fail, and what is printed never does, so the pieces are put
+// one behind the other.
 ghost use Rattle.std.specs.Prelude.{◌≡◌, ◌++◌, ◌+◌, ◌*◌, ◌/◌, ◌<◌, ◌≤◌, length, take};
-ghost use Rattle.definitions.specs.Bytes.{word_from, words_of, decode};
+ghost use Rattle.arrayvec.specs.ArrayVec.{array_vec_len};
+ghost use Rattle.definitions.specs.Bytes.{words_of, decode};
 ghost use Rattle.definitions.specs.Text.{digit_of, spaced, line_of, lines_of, ok_line, refused_line, text_of, printed};
-ghost use Rattle.resolve_main.specs.Printing.{number_bytes, first_line_bytes, word_line_bytes, Adds, Prints};
+ghost use Rattle.resolve_main.specs.Printing.{number_bytes, first_line_bytes, word_line_bytes};
 
+use arrayvec::ArrayVec;
 use cogunwa::cogunwa_resolve;
-use definitions::answer::{Answer, Refusal};
+use definitions::answer::{Given, Refusal};
+use itoa::Buffer;
 use pack::kinds::Pack;
 use wire::answer::decode;
-use wire::bytes::room;
 
 // How many bytes a text has at most.
 #[derive(Clone, Copy)]
@@ -31,120 +34,113 @@ impl Text {
     pub const ALL: usize = Text::FIRST_LINE + Text::WORD_LINE * Pack::MOST_WORDS;
 }
 
-fn put(bytes: &[u8], text: &mut [u8], at: usize) -> usize
-    requires { at + length bytes.now ≤ length text.old }
-    ensures { Adds bytes.now (length bytes.now) at text.old result text.new }
+fn put<const N: usize>(bytes: &[u8], text: &mut ArrayVec<u8, N>)
+    requires { array_vec_len text.old + length bytes.now ≤ N }
+    ensures { text.new.items ≡ text.old.items ++ bytes.now }
 {
-    let mut i = 0;
-    while i < bytes.len() {
-        text[at + i] = bytes[i];
-        i += 1;
-    }
-    at + i
+    text.try_extend_from_slice(bytes).unwrap()
 }
 
 // A number after a space.
-fn next(n: u64, text: &mut [u8], at: usize) -> usize
-    requires { at + number_bytes ≤ length text.old }
-    ensures { Adds (spaced n) number_bytes at text.old result text.new }
+#[tactic(auto, using(crate::proofs::DecimalLaws::spaced_as))]
+fn put_number<const N: usize>(n: u64, text: &mut ArrayVec<u8, N>)
+    requires { array_vec_len text.old + number_bytes ≤ N }
+    ensures added { text.new.items ≡ text.old.items ++ spaced n }
+    ensures few { array_vec_len text.new ≤ array_vec_len text.old + number_bytes }
 {
-    let mut digits = [0u8; Text::DIGITS];
-    let count = io::decimal(n, &mut digits);
-    let from = put(b" ", text, at);
-    put(&digits[..count], text, from)
+    text.push(b' ');
+    put(Buffer::new().format(n).as_bytes(), text)
 }
 
-// An upper-case hexadecimal digit.
-fn digit(d: u8) -> u8
+// An upper-case hexadecimal digit; those of `char::from_digit` are lower-case.
+fn digit(d: u32) -> u8
     requires { d < 16 }
     ensures { result ≡ digit_of d }
 {
-    if d < 10 { b'0' + d } else { b'A' - 10 + d }
+    if d < 10 {
+        b'0' + d as u8
+    } else {
+        b'A' - 10 + d as u8
+    }
 }
 
-// A word on a line of its own, from its bytes, the low one first.
-fn line(a: u8, b: u8, c: u8, d: u8, text: &mut [u8], at: usize) -> usize
-    requires { at + word_line_bytes ≤ length text.old }
-    ensures { Adds (line_of (word_from a b c d)) word_line_bytes at text.old result text.new }
+// A word on a line of its own.
+fn put_line<const N: usize>(word: u32, text: &mut ArrayVec<u8, N>)
+    requires { array_vec_len text.old + word_line_bytes ≤ N }
+    ensures { text.new.items ≡ text.old.items ++ line_of word }
 {
     let digits = [
-        digit(d / 16),
-        digit(d % 16),
-        digit(c / 16),
-        digit(c % 16),
-        digit(b / 16),
-        digit(b % 16),
-        digit(a / 16),
-        digit(a % 16),
+        digit(word / 0x1000_0000 % 16),
+        digit(word / 0x100_0000 % 16),
+        digit(word / 0x10_0000 % 16),
+        digit(word / 0x1_0000 % 16),
+        digit(word / 0x1000 % 16),
+        digit(word / 0x100 % 16),
+        digit(word / 0x10 % 16),
+        digit(word % 16),
         b'\n',
     ];
-    put(&digits, text, at)
+    put(&digits, text)
 }
 
-// The first words of the output.
-fn lines(out: &[u8], count: usize, text: &mut [u8], from: usize) -> usize
-    requires { (4 * count ≤ length out.now) × (from + word_line_bytes * count ≤ length text.old) }
-    ensures { Adds (lines_of (take count (words_of out.now))) (word_line_bytes * count) from text.old result text.new }
+// The first words of the output, or all where there are fewer.
+#[tactic(auto, using(crate::proofs::LineLaws::no_lines, crate::proofs::LineLaws::line_more, crate::proofs::LineLaws::line_long, crate::proofs::LineLaws::lines_all))]
+fn put_lines<const N: usize>(out: &[u8], count: usize, text: &mut ArrayVec<u8, N>)
+    requires { array_vec_len text.old + word_line_bytes * (length out.now / 4) ≤ N }
+    ensures { text.new.items ≡ text.old.items ++ lines_of (take count (words_of out.now)) }
 {
-    let mut at = from;
-    let mut i = 0;
-    while i < count {
-        let word = 4 * i;
-        at = line(
-            out[word],
-            out[word + 1],
-            out[word + 2],
-            out[word + 3],
-            text,
-            at,
-        );
-        i += 1;
+    let (words, _) = out.as_chunks::<4>();
+    for word in &words[..count.min(words.len())] {
+        put_line(u32::from_le_bytes(*word), text);
     }
-    at
 }
 
-fn ok_line(count: u32, steps: u32, text: &mut [u8]) -> usize
-    requires { first_line_bytes ≤ length text.old }
-    ensures { Adds (ok_line count steps) first_line_bytes 0 text.old result text.new }
+fn put_ok_line<const N: usize>(given: Given, text: &mut ArrayVec<u8, N>)
+    requires { array_vec_len text.old + first_line_bytes ≤ N }
+    ensures added { text.new.items ≡ text.old.items ++ ok_line given.value given.steps }
+    ensures few { array_vec_len text.new ≤ array_vec_len text.old + first_line_bytes }
 {
-    let name = put(b"ok", text, 0);
-    let other = next(count as u64, text, name);
-    let end = next(steps as u64, text, other);
-    put(b"\n", text, end)
+    put(b"ok", text);
+    put_number(u64::from(given.value), text);
+    put_number(u64::from(given.steps), text);
+    text.push(b'\n');
 }
 
-fn refused_line(r: Refusal, text: &mut [u8]) -> usize
-    requires { first_line_bytes ≤ length text.old }
-    ensures { Adds (refused_line r.number r.place r.name r.other) first_line_bytes 0 text.old result text.new }
+fn put_refused_line<const N: usize>(r: Refusal, text: &mut ArrayVec<u8, N>)
+    requires { array_vec_len text.old + first_line_bytes ≤ N }
+    ensures { text.new.items ≡ text.old.items ++ refused_line r.number r.place r.name r.other }
 {
-    let number = put(b"refused", text, 0);
-    let place = next(r.number as u64, text, number);
-    let name = next(r.place as u64, text, place);
-    let other = next(r.name as u64, text, name);
-    let end = next(r.other as u64, text, other);
-    put(b"\n", text, end)
+    put(b"refused", text);
+    put_number(r.number as u64, text);
+    put_number(r.place as u64, text);
+    put_number(r.name as u64, text);
+    put_number(r.other as u64, text);
+    text.push(b'\n');
 }
 
 // The text of the answer that a number is of, with the words of the output.
-pub fn report(answer: u64, out: &[u8], text: &mut [u8]) -> usize
-    requires { first_line_bytes + word_line_bytes * (length out.now / 4) ≤ length text.old }
-    ensures { Prints (text_of (decode answer) (words_of out.now)) text.old result text.new }
+#[tactic(auto, unfolding(definitions::specs::Text::text_of))]
+pub fn report<const N: usize>(answer: u64, out: &[u8]) -> ArrayVec<u8, N>
+    requires { first_line_bytes + word_line_bytes * (length out.now / 4) ≤ N }
+    ensures { result.items ≡ text_of (decode answer) (words_of out.now) }
 {
+    let mut text = ArrayVec::new();
     match decode(answer) {
-        Answer::Given(count, steps) => {
-            let at = ok_line(count, steps, text);
-            lines(out, room(out.len(), count as usize), text, at)
+        Ok(given) => {
+            put_ok_line(given, &mut text);
+            put_lines(out, given.value as usize, &mut text);
         }
-        Answer::Refused(r) => refused_line(r, text),
+        Err(r) => put_refused_line(r, &mut text),
     }
+    text
 }
 
 // The text of what Resolve answers for a pack, and of the words that it writes.
-pub fn resolved_text(pack: &[u8], text: &mut [u8]) -> usize
-    requires { first_line_bytes + word_line_bytes * 8192 ≤ length text.old }
-    ensures { Prints (printed pack.now) text.old result text.new }
+pub fn resolved_text<const N: usize>(pack: &[u8]) -> ArrayVec<u8, N>
+    requires { first_line_bytes + word_line_bytes * 8192 ≤ N }
+    ensures { result.items ≡ printed pack.now }
 {
     let mut out = [0u8; 4 * Pack::MOST_WORDS];
     let answer = cogunwa_resolve(pack, &mut out);
-    report(answer, &out, text)
+    report(answer, &out)
 }

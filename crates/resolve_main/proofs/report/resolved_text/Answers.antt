@@ -4,5 +4,4 @@ use Rattle.resolve_main.proofs.PrintedLaws.{resolved-text}
 use Rattle.resolve_main.proofs.report.resolved_text.Goals as goal
 
 pub returns : goal.returns
-returns c =
-    resolved-text c.cogunwa_resolve-answer.ensures c.report.ensures (search rules)
+returns g c = resolved-text c.cogunwa_resolve-answer.ensures c.report.ensures (search rules)
