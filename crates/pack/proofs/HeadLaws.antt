@@ -78,6 +78,11 @@ below-most kind l v = go (leb v l) refl
     go true e = lt-ltb (kind * 16777216 + v) (kind * 16777216 + l + 1) (omega (arith, leb-true v l e)) ∙ sym e
     go false e = le-ltb (kind * 16777216 + v) (kind * 16777216 + l + 1) (omega (arith, leb-false v l e)) ∙ sym e
 
+-- above the last kind that is in use none begins a tree
+unused_none : (k : ℕ) → 107 ≤ k → k < 128 → (entry_of k).sort ≡ 2
+unfolding entry_of table
+unused_none k l h = in_range (λ (k : ℕ). (entry_of k).sort) 2 107 21 refl k l h
+
 -- the end of a kind's words, by its entry
 module _ (n kind : ℕ) where
   pub ends-none : (entry_of kind).sort ≡ 2 → EndsAt n kind 0
@@ -109,6 +114,14 @@ module _ (n kind : ℕ) where
 
         named : (entry_of kind).values ≡ Name
         named = go (entry_of kind).values refl (head_rules kind k s)
+
+-- the ends of all kinds: those of the kinds in use as they are found, and 0 behind them
+pub all_ended : (n : ℕ) (ends : List ℕ) → ((i : ℕ) → i < 43 → EndsAt n (64 + i) (get_or ends i 0)) → ((i : ℕ) → 43 ≤ i → get_or ends i 0 ≡ 0) → Ended n ends
+all_ended n ends used rest i h = go (ltb i 43) refl
+  where
+    go : (b : Bool) → ltb i 43 ≡ b → EndsAt n (64 + i) (get_or ends i 0)
+    go true e = used i (ltb-true i 43 e)
+    go false e = let l = ltb-false i 43 e in rw (rest i l) (ends-none n (64 + i) (unused_none (64 + i) (omega arith) (omega arith)))
 
 -- ---- words that may begin a tree
 

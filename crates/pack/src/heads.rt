@@ -34,14 +34,17 @@ fn end_of(kind: u32, n: u32) -> u32
 }
 
 impl Heads {
+    // No kind past these is in use: of the others no word begins a tree.
+    const USED: usize = (Pack::LAST_OF_TREES - Pack::FIRST_OF_TREES + 1) as usize;
+
     // For so many names.
     pub fn new(names: u32) -> Self
         requires { names ≤ 4096 }
         ensures { result.names ≡ names }
     {
         let mut ends = [0u32; Pack::KINDS_OF_TREES];
-        for (i, end) in ends.iter_mut().enumerate() {
-            *end = end_of(Pack::FIRST_OF_TREES + i as u32, names);
+        for i in 0..Heads::USED {
+            ends[i] = end_of(Pack::FIRST_OF_TREES + i as u32, names);
         }
         Heads { names, ends }
     }

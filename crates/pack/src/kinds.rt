@@ -138,10 +138,12 @@ impl Pack {
     pub const NO_TREE: u32 = 2;
 }
 
-// The kinds of tree nodes; the words of trees, fields among them, have kinds from FIRST_OF_TREES on. The first KINDS_OF_A_SORT of them begin
-// scalars, the next ones judgments.
+// The kinds of tree nodes; the words of trees, fields among them, have kinds from FIRST_OF_TREES to LAST_OF_TREES. The first
+// KINDS_OF_A_SORT of them begin scalars, the next ones judgments.
 impl Pack {
     pub const FIRST_OF_TREES: u32 = 64;
+
+    pub const LAST_OF_TREES: u32 = Pack::ROLE_DERIVED;
 
     pub const KINDS_OF_A_SORT: u32 = 32;
 
