@@ -86,7 +86,8 @@ fn equal_kinds(dir: &[u32], name: u32) -> Refusal
     }
 }
 
-// With a directory and tables for the names that the words say, and a slice for a copy of the words.
+// With a directory and tables for the names that the words say, and a slice for a copy of the words; lent one by one, since they
+// are filled one after the other and read from then on.
 fn resolve_by(
     pack: &[u32],
     dir: &mut [u32],
