@@ -83,6 +83,7 @@ impl Run {
         Ok(true)
     }
 
+    // A proved loop has to end: no list has so many entries.
     fn all<R: BufRead + Drop>(&mut self, rt: &impl Print, list: &mut List<R>) -> Result<(), Stop> {
         for _ in 0..u64::MAX {
             if !self.next(rt, list)? {

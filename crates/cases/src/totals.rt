@@ -16,6 +16,7 @@ pub struct Totals {
     sum: u32,
 }
 
+// No run counts so far that it wraps.
 fn more(n: u64) -> u64 {
     n.wrapping_add(1)
 }
