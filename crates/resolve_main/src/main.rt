@@ -4,6 +4,8 @@
 
 mod report;
 
+ghost use Rattle.std.specs.Prelude.{◌≤◌, length};
+
 use pack::kinds::Pack;
 use report::{Text, resolved_text};
 use std::io;
@@ -12,9 +14,24 @@ use std::io::{Read, Write};
 // One byte more than a pack has at most, so that too many are seen and refused.
 const MOST_BYTES: usize = 4 * Pack::MOST_WORDS + 1;
 
-fn main(rt: HostRuntime) -> io::Result<()> {
-    let mut pack = Vec::new(rt.alloc());
-    rt.reader().take(MOST_BYTES as u64).read_to_end(&mut pack)?;
-    let text = resolved_text::<{ Text::ALL }>(&pack);
-    io::writer(&rt).write_all(text.as_slice())
+// Fills the bytes as far as there are any to read: how many there were. Where reading fails, what was read before is all.
+fn read_full<R: Read>(reader: &mut R, bytes: &mut [u8]) -> usize
+    ensures { result ≤ length bytes.new }
+{
+    let mut count = 0;
+    for _ in 0..bytes.len() {
+        match reader.read(&mut bytes[count..]) {
+            Ok(more) if 0 < more => count += more,
+            _ => break,
+        }
+    }
+    count
+}
+
+// What cannot be written is lost: the program has no other status than 0.
+fn main(rt: HostRuntime) {
+    let mut pack = [0u8; MOST_BYTES];
+    let count = read_full(&mut rt.reader(), &mut pack);
+    let text = resolved_text::<{ Text::ALL }>(&pack[..count]);
+    let _ = io::writer(&rt).write_all(text.as_slice());
 }
