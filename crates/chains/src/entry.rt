@@ -17,7 +17,7 @@ impl Declaration {
     // Every place is below this. In the definitions, a declaration that leads on is the number of the name and this.
     pub const LEADS: u32 = 65536;
 
-    // The name that it leads on to, 0 if it does not.
+    // The name that it leads on to. It is 0 and no Option if it leads to none, since that is the 0 that tables of names hold.
     pub fn next_name(self) -> usize
         requires { Ends self }
         ensures { result ≡ number_of self - 65536 }

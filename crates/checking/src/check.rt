@@ -56,7 +56,7 @@ pub fn check_directory(pack: &[u32], dir: &mut [u32]) -> Laid
     check_notes(pack, dir, &mut none[0..0])
 }
 
-// N as the words say it, 0 where that can't be N.
+// N as the words say it, 0 where that can't be N. It is no Option: 0 is also the number of names to make room for then.
 pub fn names_said(pack: &[u32]) -> usize
     ensures { result ≡ names_said pack.now }
 {

@@ -140,7 +140,8 @@ pub fn kind_at(pack: &[u32], place: u32, slot: u32) -> Option<u32>
         .map(|word| word % Pack::VALUES)
 }
 
-// An entity of a derivation and the kind that it takes there; one past the table is none and passed over.
+// An entity of a derivation and the kind that it takes there; one past the table is none and passed over. The index is tested by
+// hand: with `get_mut` the proof that the other entries stay was not found.
 pub fn take_at(table: &mut [u32], entity: u32, kind: Option<u32>)
     requires { IfSome kind (λ k. k < 16777216) }
     ensures { table.new ≡ take_at table.old entity (option_in kind) }

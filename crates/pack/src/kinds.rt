@@ -3,7 +3,8 @@
 #[derive(Clone, Copy)]
 pub struct Pack {}
 
-// A word is its kind, and its value below VALUES.
+// A word is its kind, and its value below VALUES. Kinds are numbers and no enum: the format has them inside of words, where they are
+// compared, and a table is looked up by them.
 impl Pack {
     pub const KINDS: usize = 256;
 

@@ -56,7 +56,7 @@ fn path(from: Cursor, s: &[u32], n: u32) -> Step
     Ok((count, c))
 }
 
-// The name that a source leads on to and 1, if the path is none; else 0.
+// The name that a source leads on to and 1, if the path is none; else 0. A number, as it is a part of the word noted of a relation.
 fn lead(source: u32, steps: u32) -> u32
     requires { source ≤ 16777215 }
     ensures { result ≡ lead_in source steps }
@@ -90,7 +90,7 @@ struct Front {
     lead: u32,
 }
 
-// What is noted of a relation with so many kinds and without a derivation.
+// What is noted of a relation with so many kinds and without a derivation: a number, since the directory holds a word of it.
 fn plain(kinds: u32) -> u32
     ensures { result ≡ plain_by kinds }
 {
