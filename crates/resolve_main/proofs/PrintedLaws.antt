@@ -79,7 +79,7 @@ buffer-long ws lent = go (read ws)
 resolved_alike : (ws lent other out : List ℕ) (room : ℕ) → length lent ≡ room → length other ≡ room
     → text_of (resolve_answer ws room) (words_of (out_after (resolve_answer ws room) (resolve_buffer ws lent) out)) ≡ text_of (resolve_answer ws room) (resolve_buffer ws other)
 resolved_alike ws lent other out room e f =
-    text_after (resolve_answer ws room) (resolve_buffer ws lent) out (λ g e. omega (arith, answer-within ws room e, buffer-long ws lent))
+    text_after (resolve_answer ws room) (resolve_buffer ws lent) out (λ g given. omega (arith, answer-within ws room given, buffer-long ws lent))
     ∙ text_front (resolve_answer ws room) (resolve_buffer ws lent) (resolve_buffer ws other)
     (subst (λ (k : ℕ). front_of (resolve_answer ws k) (resolve_buffer ws lent) ≡ front_of (resolve_answer ws k) (resolve_buffer ws other)) e (front_alike ws lent other (e ∙ sym f)))
 
@@ -94,7 +94,7 @@ printed-is bytes out e = go (are_words (length bytes)) (omega arith)
         → text_of (pick b (resolve_answer (words_of bytes) (length out / 4)) not_words) (words_of (out_after (pick b (resolve_answer (words_of bytes) (length out / 4)) not_words) (resolve_buffer (words_of bytes) (words_of out)) out))
         ≡ text_of (pick b (resolve_answer (words_of bytes) 8192) not_words) (resolve_buffer (words_of bytes) blank)
     go true l = rw l (resolved_alike (words_of bytes) (words_of out) blank out 8192 (words-length out ∙ l) (length-replicate {A = ℕ} 8192 0))
-    go false l = text_after not_words (resolve_buffer (words_of bytes) (words_of out)) out (λ g e. cc) ∙ text_front not_words _ _ refl
+    go false l = text_after not_words (resolve_buffer (words_of bytes) (words_of out)) out (λ g given. cc) ∙ text_front not_words _ _ refl
 
 -- the program has the number, and the output
 pub resolved-text : {bytes out after text : List ℕ} {r : ℕ} → Gives resolve_answer resolve_buffer bytes out r after
