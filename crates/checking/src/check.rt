@@ -11,6 +11,7 @@ use definitions::table::Values;
 use pack::heads::Heads;
 use pack::kinds::Pack;
 use pack::refusal::refused;
+use reading::words::Words;
 use records::all::records;
 use records::directory::{Directory, Laid};
 
@@ -23,7 +24,11 @@ fn layout(s: &[u32], len: u32, dir: &mut [u32], notes: &mut [u32]) -> Laid
     let (_, c1) = c.skip(s, len, Pack::TOTAL, Values::Total)?;
     let (n, c2) = c1.field(s, 0, Pack::NAMES, Values::FromOne(Pack::MOST_NAMES))?;
     let heads = Heads::new(n);
-    records(c2, s, &heads, dir, notes)
+    let part = Words {
+        words: s,
+        heads: &heads,
+    };
+    records(c2, part, dir, notes)
 }
 
 // Where the records of a pack stand, with a directory of its relations, and notes of what resolving looks at, as far as there

@@ -13,7 +13,6 @@ ghost use Rattle.reading.specs.Noting.{next_note, Based, Context, losing, push, 
 use crate::fault::Fault;
 use crate::words::Words;
 use pack::cursor::{Cursor, Step};
-use pack::heads::Heads;
 use pack::kinds::Pack;
 use pack::table::{children, entry_of, how_many};
 
@@ -317,25 +316,23 @@ fn after_judgment(
 }
 
 // The tree of a body or predicate in a context.
-pub fn scalar(s: &[u32], heads: &Heads, c: Cursor, context: u32, notes: &mut [u32]) -> Step
-    requires { (length s.now ≤ 8192) × (c.at ≤ length s.now) × Context context }
-    ensures { NotedStep (root heads.now.names scalar) (λ u. note_tree context u) s.now c.at notes.old result notes.new }
+pub fn scalar(part: Words, c: Cursor, context: u32, notes: &mut [u32]) -> Step
+    requires { (c.at ≤ length part.words.now) × Context context }
+    ensures { NotedStep (root part.entry.heads.now.names scalar) (λ u. note_tree context u) part.entry.words.now c.at notes.old result notes.new }
 {
-    let pack = Words { words: s, heads };
-    let at = scalars(pack, c.at, 1, Pack::DEPTH, context, notes)?;
+    let at = scalars(part, c.at, 1, Pack::DEPTH, context, notes)?;
     Ok((0, Cursor { at }))
 }
 
-pub fn judgment(s: &[u32], heads: &Heads, c: Cursor, context: u32, notes: &mut [u32]) -> Step
-    requires { (length s.now ≤ 8192) × (c.at ≤ length s.now) × Context context }
-    ensures { NotedStep (root heads.now.names judgment) (λ u. note_tree context u) s.now c.at notes.old result notes.new }
+pub fn judgment(part: Words, c: Cursor, context: u32, notes: &mut [u32]) -> Step
+    requires { (c.at ≤ length part.words.now) × Context context }
+    ensures { NotedStep (root part.entry.heads.now.names judgment) (λ u. note_tree context u) part.entry.words.now c.at notes.old result notes.new }
 {
-    let pack = Words { words: s, heads };
-    let next = pack.head(c.at, Pack::JUDGMENT, Pack::DEPTH)?;
+    let next = part.head(c.at, Pack::JUDGMENT, Pack::DEPTH)?;
     // many predicates are a leaf, for which a call would take longer than the work
-    if Pack::SAME_ENTITY < s[c.at] / Pack::VALUES {
+    if Pack::SAME_ENTITY < part.words[c.at] / Pack::VALUES {
         return Ok((0, Cursor { at: next }));
     }
-    let at = judgments(pack, c.at, 1, Pack::DEPTH, context, notes)?;
+    let at = judgments(part, c.at, 1, Pack::DEPTH, context, notes)?;
     Ok((0, Cursor { at }))
 }

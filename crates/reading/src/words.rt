@@ -26,7 +26,7 @@ pub struct Words<'a> {
 
 impl<'a> Words<'a> {
     // The word that begins a tree of the sort, where so many levels are left: the place after it.
-    pub fn head(self, at: usize, sort: u32, left: u32) -> Result<usize, Fault>
+    pub(crate) fn head(self, at: usize, sort: u32, left: u32) -> Result<usize, Fault>
         requires { (at ≤ length self.words.now) × (sort < 2) }
         ensures { walked result ≡ skip_over (word (begin_with sort left) self.entry.heads.now.names) self.entry.words.now at }
     {
@@ -51,7 +51,7 @@ impl<'a> Words<'a> {
     }
 
     // A word of this kind, with any value up to a most: the place after it.
-    pub fn up_to(self, at: usize, kind: u32, most: u32) -> Result<usize, Fault>
+    pub(crate) fn up_to(self, at: usize, kind: u32, most: u32) -> Result<usize, Fault>
         requires { (at ≤ length self.words.now) × UpTo kind most }
         ensures { (n : ℕ) → walked result ≡ skip_over (word (only (kind ∷ [])) n) self.entry.words.now at }
     {
@@ -69,7 +69,7 @@ impl<'a> Words<'a> {
     }
 
     // The slots of a RelationMember.
-    pub fn slots(self, at: usize) -> Result<usize, Fault>
+    pub(crate) fn slots(self, at: usize) -> Result<usize, Fault>
         requires { at ≤ length self.words.now }
         ensures { (n : ℕ) → walked result ≡ skip_over (fields n (fields_of Slots)) self.entry.words.now at }
     {
@@ -78,7 +78,7 @@ impl<'a> Words<'a> {
     }
 
     // The arguments of a RelationAtom.
-    pub fn atom(self, at: usize) -> Result<usize, Fault>
+    pub(crate) fn atom(self, at: usize) -> Result<usize, Fault>
         requires { at ≤ length self.words.now }
         ensures { (n : ℕ) → walked result ≡ skip_over (fields n (fields_of Atom)) self.entry.words.now at }
     {
@@ -86,7 +86,7 @@ impl<'a> Words<'a> {
     }
 
     // The slots of an OnlyRelated, and its input's or derived name.
-    pub fn only_related(self, at: usize) -> Result<usize, Fault>
+    pub(crate) fn only_related(self, at: usize) -> Result<usize, Fault>
         requires { at ≤ length self.words.now }
         ensures { walked result ≡ skip_over (fields self.entry.heads.now.names (fields_of OnlyRelated)) self.entry.words.now at }
     {
@@ -105,7 +105,7 @@ impl<'a> Words<'a> {
     }
 
     // The fields of an aggregate.
-    pub fn aggregate_words(self, at: usize) -> Result<usize, Fault>
+    pub(crate) fn aggregate_words(self, at: usize) -> Result<usize, Fault>
         requires { at ≤ length self.words.now }
         ensures { (n : ℕ) → walked result ≡ skip_over (fields n (fields_of Aggregate)) self.entry.words.now at }
     {
@@ -115,7 +115,7 @@ impl<'a> Words<'a> {
     }
 
     // The same, with one look at the end of the words where all are as they must be: without it nested where trees took 1.11 times as long.
-    pub fn aggregate_fields(self, at: usize) -> Result<usize, Fault>
+    pub(crate) fn aggregate_fields(self, at: usize) -> Result<usize, Fault>
         requires { at ≤ length self.words.now }
         ensures { (n : ℕ) → walked result ≡ skip_over (fields n (fields_of Aggregate)) self.entry.words.now at }
     {
@@ -135,7 +135,7 @@ impl<'a> Words<'a> {
     }
 
     // Whether a Comparison stands at a place, with a level left.
-    pub fn compares(self, at: usize, left: u32) -> bool
+    pub(crate) fn compares(self, at: usize, left: u32) -> bool
         ensures { result ≡ true → Compares self.entry.words.now at left }
     {
         match self.words.get(at) {

@@ -1,7 +1,7 @@
 // Derivations: lists of names, paths, and what else a derivation says.
 #![tactic(auto, unfolding(definitions::specs::Table::entry_of, definitions::specs::Table::table))]
 
-ghost use Rattle.std.specs.Prelude.{◌≡◌, ◌≤◌, length};
+ghost use Rattle.std.specs.Prelude.{◌≡◌, ◌≤◌};
 ghost use Rattle.definitions.specs.declared.table.Values.TheVariants.{AtMost};
 ghost use Rattle.pack.specs.Packed.{Ruled};
 ghost use Rattle.definitions.specs.Pack.{name_list, hop, path, chain, member, derivation, optional_derivation};
@@ -16,9 +16,9 @@ use crate::count::repeats;
 use crate::directory::Directory;
 use definitions::table::Values;
 use pack::cursor::{Cursor, Step};
-use pack::heads::Heads;
 use pack::kinds::Pack;
 use reading::tree::{judgment, open};
+use reading::words::Words;
 
 // A count of this kind, and as many names: how many.
 pub fn name_list(from: Cursor, s: &[u32], n: u32, kind: u32) -> Step
@@ -119,61 +119,51 @@ fn derived(front: Front, many: u32) -> u32
 }
 
 // The entity, the member relation, the list and the predicate: what is noted of the relation.
-fn member(
-    from: Cursor,
-    s: &[u32],
-    heads: &Heads,
-    front: Front,
-    context: u32,
-    notes: &mut [u32],
-) -> Step
-    requires { (length s.now ≤ 8192) × Context context × (front.slots ≤ 8300) × (front.lead ≤ 4096) }
-    ensures { Noted (member_note front.kinds front.slots front.lead) (member heads.now.names) (note_member context from.at) s.now from.at notes.old result notes.new }
+fn member(from: Cursor, part: Words, front: Front, context: u32, notes: &mut [u32]) -> Step
+    requires { Context context × (front.slots ≤ 8300) × (front.lead ≤ 4096) }
+    ensures { Noted (member_note front.kinds front.slots front.lead) (member part.entry.heads.now.names) (note_member context from.at) part.entry.words.now from.at notes.old result notes.new }
 {
-    let n = heads.names;
-    let (_, c1) = from.skip(s, n, Pack::ENTITY, Values::NameOrNone)?;
-    let (_, c2) = c1.skip(s, n, Pack::MEMBER, Values::NameOrNone)?;
-    let (many, c3) = name_list(c2, s, n, Pack::SLOT_ENTITIES)?;
+    let n = part.heads.names;
+    let (_, c1) = from.skip(part.words, n, Pack::ENTITY, Values::NameOrNone)?;
+    let (_, c2) = c1.skip(part.words, n, Pack::MEMBER, Values::NameOrNone)?;
+    let (many, c3) = name_list(c2, part.words, n, Pack::SLOT_ENTITIES)?;
     let noted = derived(front, many);
-    let (_, c4) = judgment(s, heads, c3, context, notes)?;
+    let (_, c4) = judgment(part, c3, context, notes)?;
     Ok((noted, c4))
 }
 
 // A derivation of the relation that starts at a place and has so many kinds: what is noted of it. It stands among the notes too.
-fn derivation(
-    from: Cursor,
-    s: &[u32],
-    heads: &Heads,
-    kinds: u32,
-    start: usize,
-    notes: &mut [u32],
-) -> Step
-    requires { (length s.now ≤ 8192) × (kinds ≤ 8) × (start ≤ from.at) }
-    ensures { Noted (λ d. note_in kinds (some d)) (derivation heads.now.names) (note_derivation start from.at) s.now from.at notes.old result notes.new }
+fn derivation(from: Cursor, part: Words, kinds: u32, start: usize, notes: &mut [u32]) -> Step
+    requires { (kinds ≤ 8) × (start ≤ from.at) }
+    ensures { Noted (λ d. note_in kinds (some d)) (derivation part.entry.heads.now.names) (note_derivation start from.at) part.entry.words.now from.at notes.old result notes.new }
 {
     let first = from.at;
-    let (lead, c1) = chain(from, s, heads.names)?;
+    let (lead, c1) = chain(from, part.words, part.heads.names)?;
     let context = open(notes, start);
     // before a derivation stand 6 to 9, the kinds and 11; the slots are the last two words of the chain
     let slots = 3 + kinds + (c1.at - first) as u32;
-    member(c1, s, heads, Front { kinds, slots, lead }, context, notes)
+    member(c1, part, Front { kinds, slots, lead }, context, notes)
 }
 
 // A flag, and a derivation where it is 1: what is noted of the relation.
 pub fn optional_derivation(
     from: Cursor,
-    s: &[u32],
-    heads: &Heads,
+    part: Words,
     kinds: u32,
     start: usize,
     notes: &mut [u32],
 ) -> Step
-    requires { (length s.now ≤ 8192) × (kinds ≤ 8) × (start ≤ from.at) }
-    ensures { Noted (note_in kinds) (optional_derivation heads.now.names) (note_optional start from.at) s.now from.at notes.old result notes.new }
+    requires { (kinds ≤ 8) × (start ≤ from.at) }
+    ensures { Noted (note_in kinds) (optional_derivation part.entry.heads.now.names) (note_optional start from.at) part.entry.words.now from.at notes.old result notes.new }
 {
-    let (flag, c) = from.field(s, heads.names, Pack::DERIVATION, Values::AtMost(1))?;
+    let (flag, c) = from.field(
+        part.words,
+        part.heads.names,
+        Pack::DERIVATION,
+        Values::AtMost(1),
+    )?;
     if flag == 0 {
         return Ok((plain(kinds), c));
     }
-    derivation(c, s, heads, kinds, start, notes)
+    derivation(c, part, kinds, start, notes)
 }

@@ -13,20 +13,20 @@ use crate::directory::Directory;
 use definitions::answer::{Number, Refusal};
 use definitions::table::Values;
 use pack::cursor::{Cursor, Step};
-use pack::heads::Heads;
 use pack::kinds::Pack;
 use pack::refusal::refused;
+use reading::words::Words;
 
 // What follows the name of a relation that starts at a place: what is noted of the relation.
-fn relation_tail(from: Cursor, s: &[u32], heads: &Heads, start: usize, notes: &mut [u32]) -> Step
-    requires { (length s.now ≤ 8192) × (start ≤ from.at) }
-    ensures { Noted tail_note (relation_tail heads.now.names) (note_tail start from.at) s.now from.at notes.old result notes.new }
+fn relation_tail(from: Cursor, part: Words, start: usize, notes: &mut [u32]) -> Step
+    requires { start ≤ from.at }
+    ensures { Noted tail_note (relation_tail part.entry.heads.now.names) (note_tail start from.at) part.entry.words.now from.at notes.old result notes.new }
 {
-    let n = heads.names;
-    let (_, c1) = from.skip(s, n, Pack::RELATION_ORIGIN, Values::NameOrNone)?;
-    let (_, c2) = c1.skip(s, n, Pack::ARITY, Values::Any)?;
-    let (kinds, c3) = name_list(c2, s, n, Pack::SLOT_KINDS)?;
-    optional_derivation(c3, s, heads, kinds, start, notes)
+    let n = part.heads.names;
+    let (_, c1) = from.skip(part.words, n, Pack::RELATION_ORIGIN, Values::NameOrNone)?;
+    let (_, c2) = c1.skip(part.words, n, Pack::ARITY, Values::Any)?;
+    let (kinds, c3) = name_list(c2, part.words, n, Pack::SLOT_KINDS)?;
+    optional_derivation(c3, part, kinds, start, notes)
 }
 
 // A name that no relation before it has.
@@ -45,39 +45,32 @@ fn new_name(from: Cursor, s: &[u32], n: u32, dir: &[u32]) -> Step
 }
 
 // A relation: its name. It is noted as the one of a number.
-fn relation(
-    from: Cursor,
-    s: &[u32],
-    heads: &Heads,
-    dir: &mut [u32],
-    i: usize,
-    notes: &mut [u32],
-) -> Step
-    requires { (length s.now ≤ 8192) × (i < 512) × (512 + heads.now.names ≤ length dir.old) }
-    ensures { Noted name_of (relation heads.now.names (entered dir.old)) (note_both i from.at) s.now from.at (dir.old, notes.old) result (dir.new, notes.new) }
+fn relation(from: Cursor, part: Words, dir: &mut [u32], i: usize, notes: &mut [u32]) -> Step
+    requires { (i < 512) × (512 + part.heads.now.names ≤ length dir.old) }
+    ensures { Noted name_of (relation part.entry.heads.now.names (entered dir.old)) (note_both i from.at) part.entry.words.now from.at (dir.old, notes.old) result (dir.new, notes.new) }
 {
     let start = from.at;
-    let (v, c1) = new_name(from, s, heads.names, dir)?;
-    let (note, c2) = relation_tail(c1, s, heads, start, notes)?;
+    let (v, c1) = new_name(from, part.words, part.heads.names, dir)?;
+    let (note, c2) = relation_tail(c1, part, start, notes)?;
     dir[i] = v;
     dir[Directory::NAMES + v as usize] = start as u32 + Directory::PLACES * note;
     Ok((v, c2))
 }
 
 // The relations: how many. None is noted at first.
-pub fn relations(from: Cursor, s: &[u32], heads: &Heads, dir: &mut [u32], notes: &mut [u32]) -> Step
-    requires { (length s.now ≤ 8192) × Clear heads.now.names dir.old }
-    ensures { Noted (count list) (relations heads.now.names) (note_all heads.now.names from.at) s.now from.at (dir.old, notes.old) result (dir.new, notes.new) }
+pub fn relations(from: Cursor, part: Words, dir: &mut [u32], notes: &mut [u32]) -> Step
+    requires { Clear part.heads.now.names dir.old }
+    ensures { Noted (count list) (relations part.entry.heads.now.names) (note_all part.entry.heads.now.names from.at) part.entry.words.now from.at (dir.old, notes.old) result (dir.new, notes.new) }
 {
     let (count, first) = from.field(
-        s,
-        heads.names,
+        part.words,
+        part.heads.names,
         Pack::RELATION_COUNT,
         Values::AtMost(Pack::MOST_RELATIONS),
     )?;
     let mut c = first;
     for i in 0..count {
-        let (_, next) = relation(c, s, heads, dir, i as usize, notes)?;
+        let (_, next) = relation(c, part, dir, i as usize, notes)?;
         c = next;
     }
     Ok((count, c))

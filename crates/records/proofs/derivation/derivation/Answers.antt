@@ -25,8 +25,8 @@ overflow_add-slots-2 c = let r = chain-read _ _ _ c.chain.ensures c.in_ok-lead.w
 
 pub member-requires : goal.member-requires
 member-requires c =
-    let few = c.args.heads.now.few in
-    let r = chain-read _ _ _ c.chain.ensures c.in_ok-lead.was in (c.requires.0, rule_context c.args.notes.now c.open-context.ensures.0, omega arith, omega arith)
+    let few = c.args.part.heads.now.few in
+    let r = chain-read _ _ _ c.chain.ensures c.in_ok-lead.was in (rule_context c.args.notes.now c.open-context.ensures.0, omega arith, omega arith)
 
 pub returns : goal.returns
 returns c = derivation-noted _ _ _ _ _ _ c.chain.ensures c.in_ok-lead.was c.open-context.ensures.0 c.open-context.ensures.1 _ refl c.member.ensures

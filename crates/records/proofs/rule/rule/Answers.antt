@@ -21,7 +21,7 @@ returns-in_err-c3 c =
     (λ _. then_ok _ _ _ _ _ _ c.in_ok-c2.ensures (λ _. then_err _ _ _ _ _ _ c.in_err-c3.ensures)))) c.from_residual-in_err-c3.ensures.1
 
 pub open-context-requires : goal.open-context-requires
-open-context-requires c = rule-place _ _ _ c.skip.ensures c.in_ok-c1.was c.requires
+open-context-requires c = rule-place _ _ _ c.skip.ensures c.in_ok-c1.was c.args.part.few
 
 pub returns : goal.returns
 returns c =

@@ -7,5 +7,5 @@ use Rattle.records.proofs.rule.rules.Given as goal
 
 abbrev pub invariant-loop : goal.invariant-loop
 invariant-loop l =
-    LeftOf (rule l.heads.names) (note_rule l.heads.names) l.s l.count l.initial.c.at l.initial.notes (l.count - l.counter) l.c.at l.notes
+    LeftOf (rule l.part.heads.now.names) (note_rule l.part.heads.now.names) l.part.words.now l.count l.initial.c.at l.initial.notes (l.count - l.counter) l.c.at l.notes
     × (length l.notes ≡ length l.initial.notes)
