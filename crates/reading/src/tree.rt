@@ -1,14 +1,13 @@
 // Trees: scalar and judgment walkers, which call each other. With each level the number of levels left falls.
 // They answer the place after the tree, or what is wrong with it. On their way they note the nodes that resolving looks at.
-// Notes are a slice, and no struct round it: every function of the cycle would have to promise that the struct still holds that slice. A
-// context is a number, since a note is its sum with a place.
+// Notes are a slice, and no struct round it: every function of the cycle would have to promise that the struct still holds that slice.
 ghost use Rattle.std.specs.Prelude.{◌≡◌, ◌+◌, ◌≤◌, ◌<◌, [], ◌∷◌, true, false, length, get_or, set, replicate};
 ghost use Rattle.definitions.specs.declared.table.Follows.TheVariants.{Aggregate, Exists};
 ghost use Rattle.definitions.specs.Table.{scalar, judgment, kind_of};
 ghost use Rattle.definitions.specs.Tree.{root};
 ghost use Rattle.reading.specs.Faults.{walked};
 ghost use Rattle.reading.specs.Notes.{context_of, note_code, note};
-ghost use Rattle.reading.specs.Noting.{next_note, Based, Context, losing, push, in_next, note_tree, NotedStep, Sorted, Rows, Shape, OtherScalar, After};
+ghost use Rattle.reading.specs.Noting.{next_note, Based, Context as InPack, losing, push, in_next, note_tree, NotedStep, Sorted, Rows, Shape, OtherScalar, After};
 
 use crate::fault::Fault;
 use crate::words::Words;
@@ -46,12 +45,20 @@ fn note(notes: &mut [u32], code: u32) -> u32
     Pack::INSIDE * i + Pack::LOST
 }
 
+// The context of the trees of a rule or relation: a number, since a note is its sum with a place.
+#[derive(Clone, Copy)]
+pub struct Context {
+    pub number: u32,
+    pub ghost in_pack: { InPack number },
+}
+
 // A rule or relation at a place is noted, inside no other: the context of its trees.
-pub fn open(notes: &mut [u32], at: usize) -> u32
+pub fn open(notes: &mut [u32], at: usize) -> Context
     requires { at ≤ 8192 }
-    ensures { (result ≡ context_of (next_note notes.old) false) × (notes.new ≡ push (note_code (note at 0 false)) notes.old) }
+    ensures { (result.number ≡ context_of (next_note notes.old) false) × (notes.new ≡ push (note_code (note at 0 false)) notes.old) }
 {
-    note(notes, at as u32 + 1) - Pack::LOST
+    let number = note(notes, at as u32 + 1) - Pack::LOST;
+    Context { number }
 }
 
 // A context without membership.
@@ -316,23 +323,23 @@ fn after_judgment(
 }
 
 // The tree of a body or predicate in a context.
-pub fn scalar(part: Words, c: Cursor, context: u32, notes: &mut [u32]) -> Step
-    requires { (c.at ≤ length part.words.now) × Context context }
-    ensures { NotedStep (root part.entry.heads.now.names scalar) (λ u. note_tree context u) part.entry.words.now c.at notes.old result notes.new }
+pub fn scalar(part: Words, c: Cursor, context: Context, notes: &mut [u32]) -> Step
+    requires { c.at ≤ length part.words.now }
+    ensures { NotedStep (root part.entry.heads.now.names scalar) (λ u. note_tree context.number u) part.entry.words.now c.at notes.old result notes.new }
 {
-    let at = scalars(part, c.at, 1, Pack::DEPTH, context, notes)?;
+    let at = scalars(part, c.at, 1, Pack::DEPTH, context.number, notes)?;
     Ok((0, Cursor { at }))
 }
 
-pub fn judgment(part: Words, c: Cursor, context: u32, notes: &mut [u32]) -> Step
-    requires { (c.at ≤ length part.words.now) × Context context }
-    ensures { NotedStep (root part.entry.heads.now.names judgment) (λ u. note_tree context u) part.entry.words.now c.at notes.old result notes.new }
+pub fn judgment(part: Words, c: Cursor, context: Context, notes: &mut [u32]) -> Step
+    requires { c.at ≤ length part.words.now }
+    ensures { NotedStep (root part.entry.heads.now.names judgment) (λ u. note_tree context.number u) part.entry.words.now c.at notes.old result notes.new }
 {
     let next = part.head(c.at, Pack::JUDGMENT, Pack::DEPTH)?;
     // many predicates are a leaf, for which a call would take longer than the work
     if Pack::SAME_ENTITY < part.words[c.at] / Pack::VALUES {
         return Ok((0, Cursor { at: next }));
     }
-    let at = judgments(part, c.at, 1, Pack::DEPTH, context, notes)?;
+    let at = judgments(part, c.at, 1, Pack::DEPTH, context.number, notes)?;
     Ok((0, Cursor { at }))
 }

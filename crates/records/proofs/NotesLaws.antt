@@ -14,7 +14,7 @@ use Rattle.definitions.specs.FieldRows.{MemberRow, RelationTail, to_body, to_der
 use Rattle.definitions.specs.Pack.{body, bodies, rule, name_list, chain, member, derivation, optional_derivation, relation_tail}
 use Rattle.definitions.specs.Places.{hops}
 use Rattle.pack.specs.Readers.{step_of, skip_over, itself, field_step}
-use Rattle.reading.specs.Noting.{Context, note_tree, NotedStep}
+use Rattle.reading.specs.Noting.{note_tree, NotedStep}
 use Rattle.records.specs.Directory.{Noted, chain_lead, derived_note, member_note, note_in, tail_note, note_relation}
 use Rattle.records.specs.Notes.{opened, inside, note_body, note_member, note_derivation, note_optional, note_tail, note_predicate, Both, note_both, note_bodies, note_rule}
 use Rattle.records.proofs.KeptLaws.{there, within, noted_then, noted-via, noted_as, noted-last, tree-noted}
@@ -107,9 +107,6 @@ list_on n ws at e o = omega (arith, (there (count list) (name_list n 9) ws at e 
 pub rule-place : (n : ℕ) (ws : List ℕ) (at : ℕ) {y : Step} {v : ℕ} {k : Cursor} → y ≡ skip_over (field n 23) ws at → y ≡ on v k → length ws ≤ 8192 → at ≤ 8192
 unfolding words_by
 rule-place n ws at e o m = omega (arith, field_on n 23 ws at e o, within (λ a. 0) (field n 23) ws at e o (λ a. omega arith))
-
-pub rule_context : (d : List ℕ) {context : ℕ} → context ≡ inside d → Context context
-rule_context d e = omega (arith, e)
 
 -- ---- a rule, and a relation
 

@@ -8,7 +8,6 @@ ghost use Rattle.definitions.specs.Pack.{name_list, hop, path, chain, member, de
 ghost use Rattle.pack.specs.Readers.{skip_over, step_of};
 ghost use Rattle.definitions.specs.Form.{count, list, list_or_none};
 ghost use Rattle.std.proofs.Math.Option.{some};
-ghost use Rattle.reading.specs.Noting.{Context};
 ghost use Rattle.records.specs.Directory.{Noted, lead_in, chain_lead, plain_by, derived_note, member_note, note_in};
 ghost use Rattle.records.specs.Notes.{note_member, note_derivation, note_optional};
 
@@ -17,7 +16,7 @@ use crate::directory::Directory;
 use definitions::table::Values;
 use pack::cursor::{Cursor, Step};
 use pack::kinds::Pack;
-use reading::tree::{judgment, open};
+use reading::tree::{Context, judgment, open};
 use reading::words::Words;
 
 // A count of this kind, and as many names: how many.
@@ -119,9 +118,9 @@ fn derived(front: Front, many: u32) -> u32
 }
 
 // The entity, the member relation, the list and the predicate: what is noted of the relation.
-fn member(from: Cursor, part: Words, front: Front, context: u32, notes: &mut [u32]) -> Step
-    requires { Context context × (front.slots ≤ 8300) × (front.lead ≤ 4096) }
-    ensures { Noted (member_note front.kinds front.slots front.lead) (member part.entry.heads.now.names) (note_member context from.at) part.entry.words.now from.at notes.old result notes.new }
+fn member(from: Cursor, part: Words, front: Front, context: Context, notes: &mut [u32]) -> Step
+    requires { (front.slots ≤ 8300) × (front.lead ≤ 4096) }
+    ensures { Noted (member_note front.kinds front.slots front.lead) (member part.entry.heads.now.names) (note_member context.number from.at) part.entry.words.now from.at notes.old result notes.new }
 {
     let n = part.heads.names;
     let (_, c1) = from.skip(part.words, n, Pack::ENTITY, Values::NameOrNone)?;

@@ -4,20 +4,18 @@
 ghost use Rattle.std.specs.Prelude.{ℕ};
 ghost use Rattle.definitions.specs.Form.{count, list};
 ghost use Rattle.definitions.specs.Pack.{body, bodies, rule, rules};
-ghost use Rattle.reading.specs.Noting.{Context};
 ghost use Rattle.records.specs.Directory.{Noted};
 ghost use Rattle.records.specs.Notes.{note_body, note_bodies, note_rule, note_rules};
 
 use definitions::table::Values;
 use pack::cursor::{Cursor, Step};
 use pack::kinds::Pack;
-use reading::tree::{judgment, open, scalar};
+use reading::tree::{Context, judgment, open, scalar};
 use reading::words::Words;
 
 // A body: the sort of its tree, and the tree.
-fn body(from: Cursor, part: Words, context: u32, notes: &mut [u32]) -> Step
-    requires { Context context }
-    ensures { Noted (λ b. 0) (body part.entry.heads.now.names) (note_body context from.at) part.entry.words.now from.at notes.old result notes.new }
+fn body(from: Cursor, part: Words, context: Context, notes: &mut [u32]) -> Step
+    ensures { Noted (λ b. 0) (body part.entry.heads.now.names) (note_body context.number from.at) part.entry.words.now from.at notes.old result notes.new }
 {
     let (sort, c) = from.field(part.words, part.heads.names, Pack::BODY, Values::AtMost(1))?;
     if sort == Pack::SCALAR {
@@ -28,9 +26,8 @@ fn body(from: Cursor, part: Words, context: u32, notes: &mut [u32]) -> Step
 }
 
 // The semantics and the versions.
-fn bodies(from: Cursor, part: Words, context: u32, notes: &mut [u32]) -> Step
-    requires { Context context }
-    ensures { Noted (λ b. 0) (bodies part.entry.heads.now.names) (note_bodies part.entry.heads.now.names context from.at) part.entry.words.now from.at notes.old result notes.new }
+fn bodies(from: Cursor, part: Words, context: Context, notes: &mut [u32]) -> Step
+    ensures { Noted (λ b. 0) (bodies part.entry.heads.now.names) (note_bodies part.entry.heads.now.names context.number from.at) part.entry.words.now from.at notes.old result notes.new }
 {
     let (count, c0) = from.field(
         part.words,

@@ -14,12 +14,12 @@ use Rattle.reading.proofs.tree.judgment.Goals as goal
 pub returns-in_err-next : goal.returns-in_err-next
 unfolding root
 returns-in_err-next c =
-    let w = walking c.args.part.heads.now.names judgment c.args.context c.args.part.words.now 32 1 _ c.args.notes.now c.requires.0 in
+    let w = walking c.args.part.heads.now.names judgment c.args.context.number c.args.part.words.now 32 1 _ c.args.notes.now c.requires in
     noted_as _ _ _ _ _ (sym (exit c.from_residual.ensures.1)) (tree_noted _ _ _ _ _ _ (head_refused w (omega arith) c.in_err-next.ensures refl))
 
 pub bounds-part-c : goal.bounds-part-c
 bounds-part-c c =
-    let w = walking c.args.part.heads.now.names judgment 0 c.args.part.words.now 32 1 _ c.args.notes.now c.requires.0 in
+    let w = walking c.args.part.heads.now.names judgment 0 c.args.part.words.now 32 1 _ c.args.notes.now c.requires in
     (begun w (omega arith) c.in_ok-next.ensures refl).inside
 
 pub returns-then-part-c-gt-SAME_ENTITY : goal.returns-then-part-c-gt-SAME_ENTITY
@@ -27,7 +27,7 @@ unfolding root
 returns-then-part-c-gt-SAME_ENTITY c =
     let k : ℕ = kind_of (get_or c.args.part.words.now c.args.c.at 0) in
     let hi : k < 256 = omega arith in
-    let w = walking c.args.part.heads.now.names judgment c.args.context c.args.part.words.now 32 1 _ c.args.notes.now c.requires.0 in
+    let w = walking c.args.part.heads.now.names judgment c.args.context.number c.args.part.words.now 32 1 _ c.args.notes.now c.requires in
     let l = leaf_last (value_of (get_or c.args.part.words.now c.args.c.at 0)) k (omega (arith, c.if-part-c-gt-SAME_ENTITY.true)) hi in
     tree_noted _ _ _ _ _ _ (row_walked (past_leaf w (omega arith) c.in_ok-next.ensures refl l (plain-last k c.if-part-c-gt-SAME_ENTITY.true hi)) (omega arith))
 

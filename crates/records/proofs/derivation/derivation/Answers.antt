@@ -4,7 +4,7 @@ use Rattle.definitions.specs.Pack.{derivation}
 use Rattle.pack.proofs.StepLaws.{by-via, then_ok, then_err, last_err}
 use Rattle.records.proofs.KeptLaws.{noted_err}
 use Rattle.records.proofs.DirectoryLaws.{chain-read}
-use Rattle.records.proofs.NotesLaws.{rule_context, derivation-noted}
+use Rattle.records.proofs.NotesLaws.{derivation-noted}
 use Rattle.records.proofs.derivation.derivation.Goals as goal
 
 pub returns-in_err-lead : goal.returns-in_err-lead
@@ -26,7 +26,7 @@ overflow_add-slots-2 c = let r = chain-read _ _ _ c.chain.ensures c.in_ok-lead.w
 pub member-requires : goal.member-requires
 member-requires c =
     let few = c.args.part.heads.now.few in
-    let r = chain-read _ _ _ c.chain.ensures c.in_ok-lead.was in (rule_context c.args.notes.now c.open-context.ensures.0, omega arith, omega arith)
+    let r = chain-read _ _ _ c.chain.ensures c.in_ok-lead.was in (omega arith, omega arith)
 
 pub returns : goal.returns
 returns c = derivation-noted _ _ _ _ _ _ c.chain.ensures c.in_ok-lead.was c.open-context.ensures.0 c.open-context.ensures.1 _ refl c.member.ensures

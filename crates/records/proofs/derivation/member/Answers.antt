@@ -20,7 +20,7 @@ unfolding member root
 returns-in_err-many c = noted_err (last_err (λ a. 0) _ _ _ _ (search (then_ok, then_err, c.in_ok-c1.ensures, c.in_ok-c2.ensures, c.in_err-many.ensures) depth 16)) c.from_residual-in_err-many.ensures.1
 
 pub judgment-requires : goal.judgment-requires
-judgment-requires c = (step_within _ _ _ _ (field-within _ _ _ _ _ c.skip-2.ensures c.in_ok-c2.was) c.name_list.ensures c.in_ok-many.was, c.requires.0)
+judgment-requires c = step_within _ _ _ _ (field-within _ _ _ _ _ c.skip-2.ensures c.in_ok-c2.was) c.name_list.ensures c.in_ok-many.was
 
 pub returns-in_err-c4 : goal.returns-in_err-c4
 unfolding member

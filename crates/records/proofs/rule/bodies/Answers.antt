@@ -27,4 +27,4 @@ pub returns : goal.returns
 unfolding bodies note_bodies
 returns c =
     let one = bodies_one _ _ _ c.field.ensures c.in_ok-count.was in
-    noted_more (note_body c.args.context) c.field.ensures c.in_ok-count.was c.body.ensures c.in_ok-first.was c.loop.invariant.0 (omega arith)
+    noted_more (note_body c.args.context.number) c.field.ensures c.in_ok-count.was c.body.ensures c.in_ok-first.was c.loop.invariant.0 (omega arith)

@@ -13,10 +13,10 @@ unfolding body
 returns-in_err-sort c = noted_err (search (walks, c.in_err-sort.ensures) depth 12) c.from_residual.ensures.1
 
 pub scalar-requires : goal.scalar-requires
-scalar-requires c = (field-within _ _ _ _ _ c.field.ensures c.in_ok-sort.was, c.requires)
+scalar-requires c = field-within _ _ _ _ _ c.field.ensures c.in_ok-sort.was
 
 pub judgment-requires : goal.judgment-requires
-judgment-requires c = (field-within _ _ _ _ _ c.field.ensures c.in_ok-sort.was, c.requires)
+judgment-requires c = field-within _ _ _ _ _ c.field.ensures c.in_ok-sort.was
 
 pub returns-then-sort-eq-SCALAR : goal.returns-then-sort-eq-SCALAR
 returns-then-sort-eq-SCALAR c =
