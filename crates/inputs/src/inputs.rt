@@ -76,72 +76,75 @@ fn seen_items(pack: &[u32], first: usize, count: usize, name: u32, before: Seen)
     seen
 }
 
-// How many items a block has whose record starts at a place, if it has a sequence.
-fn item_count(pack: &[u32], at: usize) -> Option<usize>
-    requires { at ≤ 4294967296 }
-    ensures { (result ≡ item_count pack.now at) × IfSome result (λ count. count < 16777216) }
-{
-    match value_at(pack, at + 1) {
-        Pack::NONE => None,
-        count => Some(count as usize),
+// A block, by the place where its record starts.
+#[derive(Clone, Copy)]
+pub struct Block {
+    pub at: usize,
+    pub ghost near: { at ≤ 4294967296 },
+}
+
+impl Block {
+    // How many items it has, if it has a sequence.
+    fn item_count(self, pack: &[u32]) -> Option<usize>
+        ensures { (result ≡ item_count pack.now self.at) × IfSome result (λ count. count < 16777216) }
+    {
+        match value_at(pack, self.at + 1) {
+            Pack::NONE => None,
+            count => Some(count as usize),
+        }
+    }
+
+    // Its items, if it is of the origin.
+    fn seen(self, pack: &[u32], origin: u32, name: u32, before: Seen) -> Result<Seen, Number>
+        ensures { result ≡ seen_block pack.now origin name self.at before }
+    {
+        if value_at(pack, self.at) != origin {
+            return Ok(before);
+        }
+        let Some(count) = self.item_count(pack) else {
+            return Err(Number::NoSequence);
+        };
+        Ok(seen_items(pack, self.at + 2, count, name, before))
+    }
+
+    // The place after it.
+    pub fn after(self, pack: &[u32]) -> usize
+        ensures { AfterBlock pack.now self.at result }
+    {
+        self.at + 2 + 3 * self.item_count(pack).unwrap_or(0)
     }
 }
 
-// A block whose record starts at a place: its items, if it is of the origin.
-fn seen_block(pack: &[u32], at: usize, origin: u32, name: u32, before: Seen) -> Result<Seen, Number>
-    requires { at ≤ 4294967296 }
-    ensures { result ≡ seen_block pack.now origin name at before }
-{
-    if value_at(pack, at) != origin {
-        return Ok(before);
+// The blocks of a pack: the place where the record of the first one starts, and how many there are.
+#[derive(Clone, Copy)]
+pub struct Blocks {
+    pub at: usize,
+    pub count: usize,
+    pub ghost near: { at ≤ 65536 },
+    pub ghost few: { count ≤ 64 },
+}
+
+impl Blocks {
+    // The declarations of a name in those of the origin.
+    #[tactic(auto, using(crate::proofs::Loops::blocks_turn, crate::proofs::Loops::blocks_end))]
+    fn seen(self, pack: &[u32], origin: u32, name: u32) -> Result<Seen, Number>
+        ensures { result ≡ seen_blocks pack.now origin name self.at self.count Seen.Never }
+    {
+        let mut seen = Seen::Never;
+        let mut at = self.at;
+        for _ in 0..self.count {
+            let block = Block { at };
+            seen = block.seen(pack, origin, name, seen)?;
+            at = block.after(pack);
+        }
+        Ok(seen)
     }
-    let Some(count) = item_count(pack, at) else {
-        return Err(Number::NoSequence);
-    };
-    Ok(seen_items(pack, at + 2, count, name, before))
-}
 
-// The place after a block.
-pub fn after_block(pack: &[u32], at: usize) -> usize
-    requires { at ≤ 4294967296 }
-    ensures { AfterBlock pack.now at result }
-{
-    at + 2 + 3 * item_count(pack, at).unwrap_or(0)
-}
-
-// So many blocks from a place on.
-#[tactic(auto, using(crate::proofs::Loops::blocks_turn, crate::proofs::Loops::blocks_end))]
-fn seen_blocks(
-    pack: &[u32],
-    first: usize,
-    count: usize,
-    origin: u32,
-    name: u32,
-) -> Result<Seen, Number>
-    requires { (first ≤ 65536) × (count ≤ 64) }
-    ensures { result ≡ seen_blocks pack.now origin name first count Seen.Never }
-{
-    let mut seen = Seen::Never;
-    let mut at = first;
-    for _ in 0..count {
-        seen = seen_block(pack, at, origin, name, seen)?;
-        at = after_block(pack, at);
+    // Whether a name and its owner may be an input; else the number of its refusal.
+    #[tactic(auto, unfolding(crate::specs::Blocks::input_in))]
+    pub fn input(self, pack: &[u32], origin: u32, owner: u32, name: u32) -> Result<(), Number>
+        ensures { result ≡ input_in pack.now self.at self.count origin owner name }
+    {
+        self.seen(pack, origin, name)?.allowed(owner)
     }
-    Ok(seen)
-}
-
-#[tactic(auto, unfolding(crate::specs::Blocks::input_in))]
-// Whether a name and its owner may be an input, over the blocks that stand from a place on; else the number of its refusal.
-pub fn input(
-    pack: &[u32],
-    at: usize,
-    count: usize,
-    origin: u32,
-    owner: u32,
-    name: u32,
-) -> Result<(), Number>
-    requires { (at ≤ 65536) × (count ≤ 64) }
-    ensures { result ≡ input_in pack.now at count origin owner name }
-{
-    seen_blocks(pack, at, count, origin, name)?.allowed(owner)
 }
