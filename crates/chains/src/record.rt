@@ -12,34 +12,38 @@ pub fn value_at(pack: &[u32], at: usize) -> u32
     pack.get(at).copied().unwrap_or(0) % Pack::VALUES
 }
 
-// The number of a relation's slot kinds.
-#[tactic(auto, unfolding(crate::specs::Record::kind_count))]
-pub fn kind_count(pack: &[u32], start: usize) -> usize
-    requires { start ≤ 65536 }
-    ensures { (result ≡ kind_count pack.now start) × (result < 16777216) }
-{
-    value_at(pack, start + 3) as usize
+// The place where a record starts; none starts further on.
+#[derive(Clone, Copy)]
+pub struct RecordPlace {
+    pub at: usize,
+    pub ghost near: { at ≤ 65536 },
 }
 
-// Whether it has a derivation.
-#[tactic(auto, unfolding(crate::specs::Record::flag_at))]
-pub fn flag_at(pack: &[u32], start: usize) -> u32
-    requires { start ≤ 65536 }
-    ensures { result ≡ flag_at pack.now start }
-{
-    value_at(pack, start + 4 + kind_count(pack, start))
-}
-
-// The place of its current slot, after which the related one stands.
-#[tactic(auto, unfolding(crate::specs::Record::slots_place))]
-pub fn slots_place(pack: &[u32], start: usize) -> usize
-    requires { start ≤ 65536 }
-    ensures { (result ≡ slots_place pack.now start) × (result < 134217728) }
-{
-    let at = start + 4 + kind_count(pack, start);
-    let steps = value_at(pack, at + 2);
-    if steps == Pack::NONE {
-        return at + 3;
+#[tactic(auto, unfolding(crate::specs::Record::kind_count, crate::specs::Record::flag_at, crate::specs::Record::slots_place))]
+impl RecordPlace {
+    // The number of a relation's slot kinds.
+    pub fn kind_count(self, pack: &[u32]) -> usize
+        ensures { (result ≡ kind_count pack.now self.at) × (result < 16777216) }
+    {
+        value_at(pack, self.at + 3) as usize
     }
-    at + 3 + 3 * steps as usize
+
+    // Whether it has a derivation.
+    pub fn flag_at(self, pack: &[u32]) -> u32
+        ensures { result ≡ flag_at pack.now self.at }
+    {
+        value_at(pack, self.at + 4 + self.kind_count(pack))
+    }
+
+    // The place of its current slot, after which the related one stands.
+    pub fn slots_place(self, pack: &[u32]) -> usize
+        ensures { (result ≡ slots_place pack.now self.at) × (result < 134217728) }
+    {
+        let at = self.at + 4 + self.kind_count(pack);
+        let steps = value_at(pack, at + 2);
+        if steps == Pack::NONE {
+            return at + 3;
+        }
+        at + 3 + 3 * steps as usize
+    }
 }

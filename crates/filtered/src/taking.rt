@@ -11,7 +11,7 @@ ghost use Rattle.filtered.specs.Taking.{option_in, ListFound, KindFound, number_
 
 use crate::act::{Part, list};
 use chains::entry::{name_at, slots, start};
-use chains::record::{kind_count, value_at};
+use chains::record::{RecordPlace, value_at};
 use chains::settle::settle_all;
 use pack::kinds::Pack;
 use records::directory::Layout;
@@ -154,11 +154,10 @@ pub fn take_at(table: &mut [u32], entity: u32, kind: Option<u32>)
 }
 
 // The part of a relation without derivation, whose record starts at a place: it is typed with two slot kinds.
-fn typed(pack: &[u32], start: usize) -> Part
-    requires { start ≤ 65536 }
-    ensures { part_number result ≡ pick (eqb (kind_count pack.now start) 2) 1 0 }
+fn typed(pack: &[u32], place: RecordPlace) -> Part
+    ensures { part_number result ≡ pick (eqb (kind_count pack.now place.at) 2) 1 0 }
 {
-    if kind_count(pack, start) == 2 {
+    if place.kind_count(pack) == 2 {
         Part::Typed
     } else {
         Part::Neither
@@ -173,7 +172,10 @@ fn read_relation(pack: &[u32], dir: &[u32], acts: &mut [u32], taken: &mut [u32],
     let at = slots(dir, name);
     let x = acts[name] % Part::MARKS;
     if at == 0 {
-        acts[name] = x + Part::MARKS * typed(pack, start(dir, name)).number();
+        let place = RecordPlace {
+            at: start(dir, name),
+        };
+        acts[name] = x + Part::MARKS * typed(pack, place).number();
         return;
     }
     let kind = kind_at(pack, list(x), value_at(pack, at));

@@ -7,7 +7,7 @@ ghost use Rattle.kinds.specs.Search.{Search as Searched, HasRoom, NextTaken, Rea
 ghost use Rattle.definitions.specs.Lean.{source_name};
 
 use chains::entry::start;
-use chains::record::{flag_at, kind_count, value_at};
+use chains::record::{RecordPlace, value_at};
 use pack::kinds::Pack;
 use std::marker::Model;
 
@@ -87,17 +87,17 @@ impl<'a> Search<'a> {
     }
 
     // All names to which the relation leads whose record starts at a place are reached. At 0 there is none.
-    fn enter(&mut self, pack: &[u32], start: usize)
-        requires { (start ≤ 65536) × Reachable (edges_in pack.now start) self.old }
-        ensures { self.new ≡ reached_all (edges_in pack.now start) self.old }
+    fn enter(&mut self, pack: &[u32], place: RecordPlace)
+        requires { Reachable (edges_in pack.now place.at) self.old }
+        ensures { self.new ≡ reached_all (edges_in pack.now place.at) self.old }
     {
-        if start == 0 {
+        if place.at == 0 {
             return;
         }
-        if flag_at(pack, start) != 1 {
+        if place.flag_at(pack) != 1 {
             return;
         }
-        let at = start + 4 + kind_count(pack, start);
+        let at = place.at + 4 + place.kind_count(pack);
         self.reach_source(value_at(pack, at + 1));
         self.reach_path(pack, at + 2);
     }
@@ -124,12 +124,12 @@ pub fn leads(
         count: 0,
         entered: 0,
     };
-    search.enter(pack, start(dir, a));
+    search.enter(pack, RecordPlace { at: start(dir, a) });
     while !search.has_reached(b) {
         let Some(n) = search.take_next() else {
             return false;
         };
-        search.enter(pack, start(dir, n));
+        search.enter(pack, RecordPlace { at: start(dir, n) });
     }
     true
 }

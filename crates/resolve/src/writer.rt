@@ -1,7 +1,7 @@
 // Words that are written one after the other into a slice. `pack` are the words in which the lists stand.
 ghost use Rattle.std.specs.Prelude.{◌≡◌, [], ◌∷◌, ◌≤◌, ◌<◌, length};
 
-use chains::record::{kind_count, slots_place};
+use chains::record::RecordPlace;
 use filtered::taking::list_at;
 use pack::kinds::Pack;
 
@@ -79,7 +79,8 @@ impl Writer<'_> {
         ensures { Writes self.old (put_for (names_or (names_at pack.now list)) words.now place) self.new }
     {
         let mut from = 0;
-        if kind_count(words, 0) == 0 {
+        let record = RecordPlace { at: 0 };
+        if record.kind_count(words) == 0 {
             self.put_words(&words[..3]);
             self.put_list(pack, list, Pack::SLOT_KINDS);
             from = 4;
@@ -98,7 +99,8 @@ impl Writer<'_> {
             self.put_words(words);
             return;
         }
-        let place = slots_place(words, 0) + 4;
+        let record = RecordPlace { at: 0 };
+        let place = record.slots_place(words) + 4;
         self.put_lists(pack, list, words, place);
         self.put_words(&words[place + 1..]);
     }

@@ -3,7 +3,7 @@ ghost use Rattle.std.specs.Prelude.{◌≡◌, ◌<◌, ◌≤◌, length, unwra
 ghost use Rattle.chains.specs.Record.{Recorded};
 ghost use Rattle.stamping.specs.Stamping.{unstamped, passed_in, unlike_in, list_for, Lists, added_for, Listed};
 
-use chains::record::{kind_count, value_at};
+use chains::record::{RecordPlace, value_at};
 use filtered::act::{Part, act_of, list};
 use filtered::taking::{kind_at, list_at};
 
@@ -38,19 +38,17 @@ impl Resolved<'_> {
     }
 
     // Whether the relation of a name, whose record starts at a place, is passed over: without slot kinds, and asked for.
-    fn is_passed_over(&self, name: usize, start: usize) -> bool
-        requires { start ≤ 65536 }
-        ensures { result ≡ passed_in self.now.work.now self.now.asked.now name start }
+    fn is_passed_over(&self, name: usize, place: RecordPlace) -> bool
+        ensures { result ≡ passed_in self.now.work.now self.now.asked.now name place.at }
     {
-        kind_count(self.work, start) == 0 && name < self.asked.len() && self.asked[name] == 1
+        place.kind_count(self.work) == 0 && name < self.asked.len() && self.asked[name] == 1
     }
 
     // The place of the list that is stamped on the relation whose record starts at a place.
-    fn list_for(&self, start: usize) -> Option<u32>
-        requires { start ≤ 65536 }
-        ensures { unwrap_or result 0 ≡ list_for self.now.pack.now self.now.work.now self.now.acts.now self.now.asked.now start }
+    fn list_for(&self, place: RecordPlace) -> Option<u32>
+        ensures { unwrap_or result 0 ≡ list_for self.now.pack.now self.now.work.now self.now.acts.now self.now.asked.now place.at }
     {
-        let name = value_at(self.work, start) as usize;
+        let name = value_at(self.work, place.at) as usize;
         let x = act_of(self.acts, name);
         let Part::Derived(slots) = Part::of(x) else {
             return None;
@@ -58,17 +56,16 @@ impl Resolved<'_> {
         let list = list(x);
         let stamped = self.is_unstamped(slots)
             && self.is_unlike(list, slots)
-            && !self.is_passed_over(name, start);
+            && !self.is_passed_over(name, place);
         if stamped { Some(list) } else { None }
     }
 
     // How many words more the relation has with a list stamped on it.
-    fn added(&self, list: u32, start: usize) -> usize
-        requires { start ≤ 65536 }
-        ensures { (result ≡ added_for self.now.pack.now self.now.work.now list start) × (result < 33554432) }
+    fn added(&self, list: u32, place: RecordPlace) -> usize
+        ensures { (result ≡ added_for self.now.pack.now self.now.work.now list place.at) × (result < 33554432) }
     {
         let names = names_at(self.pack, list) as usize;
-        if kind_count(self.work, start) == 0 {
+        if place.kind_count(self.work) == 0 {
             names * 2
         } else {
             names
@@ -103,10 +100,12 @@ pub fn lists(
     };
     let mut more: usize = 0;
     for i in 0..order.len() {
-        let start = order[i] as usize;
-        let list = resolved.list_for(start).unwrap_or(0);
+        let place = RecordPlace {
+            at: order[i] as usize,
+        };
+        let list = resolved.list_for(place).unwrap_or(0);
         table[i] = list;
-        more += resolved.added(list, start);
+        more += resolved.added(list, place);
     }
     more
 }

@@ -1,8 +1,7 @@
 -- `kinds::search::leads` meets its contract.
 use native.Mathlib.Omega.{arith}
-use mathlib.Core.Path.{refl}
 use Rattle.chains.proofs.EntryLaws.{reaches_one}
-use Rattle.kinds.proofs.SearchLaws.{undeclared, room-first, asked-first, begun, arrived, not_there, queued_below, asked-next, entered_one, fewer}
+use Rattle.kinds.proofs.SearchLaws.{undeclared, room-first, asked-first, begun, not_there, queued_below, asked-next, entered_one, fewer}
 use Rattle.kinds.proofs.search.leads.Goals as goal
 
 pub returns-then-start-eq0 : goal.returns-then-start-eq0
@@ -12,7 +11,7 @@ pub invariant_of-search : goal.invariant_of-search
 invariant_of-search c = room-first _ _ _ _ c.requires
 
 pub enter-requires : goal.enter-requires
-enter-requires c = (omega (arith, c.start-2.ensures.1), asked-first _ _ _ _ c.requires c.start-2.ensures.0)
+enter-requires c = asked-first _ _ _ _ c.requires c.start-2.ensures.0
 
 pub loop-search-init : goal.loop-search-init
 loop-search-init c = begun _ _ _ _ c.requires c.start-2.ensures.0 c.enter.ensures
@@ -25,10 +24,8 @@ start-requires-in-loop-search c =
     let f = c.loop-search.invariant in reaches_one f.reaches (queued_below _ _ _ _ f c.in-Some.ensures.0 c.in-Some.ensures.1 c.in-Some.ensures.2)
 
 pub enter-requires-in-loop-search : goal.enter-requires-in-loop-search
-enter-requires-in-loop-search c = (
-  omega (arith, c.start-in-loop-search.ensures.1),
-  asked-next _ _ _ _ c.loop-search.invariant c.in-Some.ensures.0 c.in-Some.ensures.1 c.in-Some.ensures.2 c.start-in-loop-search.ensures.0,
-)
+enter-requires-in-loop-search c =
+    asked-next _ _ _ _ c.loop-search.invariant c.in-Some.ensures.0 c.in-Some.ensures.1 c.in-Some.ensures.2 c.start-in-loop-search.ensures.0
 
 pub loop-search-smaller : goal.loop-search-smaller
 loop-search-smaller c = fewer _ _ _ _ c.loop-search.invariant c.in-Some.ensures.0 c.in-Some.ensures.1 c.in-Some.ensures.2 c.start-in-loop-search.ensures.0 c.enter-in-loop-search.ensures
