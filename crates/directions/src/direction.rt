@@ -8,6 +8,7 @@ ghost use Rattle.filtered.specs.Taking.{option_in};
 ghost use Rattle.definitions.specs.Direction.{bearing, or_else, kind_or_zero, matched, towards, turn, related_kind, between, tested};
 ghost use Rattle.directions.specs.Words.{typed_in, derived_in, tables_in, member_in, MemberTurned};
 
+use crate::tables::Tables;
 use chains::record::value_at;
 use definitions::direction::Direction;
 use filtered::act::{Part, act_of, list};
@@ -49,121 +50,104 @@ pub fn between(a: u32, b: u32, c: u32, r: u32, current: u32, related: u32) -> Di
     }
 }
 
-// The kind by which an entity is matched: the one that it takes, or itself.
-#[tactic(auto, using(std::proofs::lemmas::List::get_or_past), unfolding(filtered::specs::Said::direct_in, filtered::specs::Said::direct_by, filtered::specs::Said::direct_of))]
-fn matching_kind(taken: &[u32], entity: u32) -> u32
-    ensures { result ≡ or_else (direct_in taken.now entity) entity }
-{
-    match taken.get(entity as usize) {
-        Some(x) => Taken::from(*x).direct().unwrap_or(entity),
-        None => entity,
-    }
-}
-
-// The two kinds of a typed relation, by its number.
-#[tactic(auto, unfolding(crate::specs::Words::typed_in))]
-fn typed_kinds(pack: &[u32], x: u32) -> (u32, u32)
-    requires { act_part x ≡ 1 }
-    ensures { typed_in pack.now x ≡ some (result.0 ∷ result.1 ∷ []) }
-{
-    let at = list(x) as usize;
-    (value_at(pack, at + 1), value_at(pack, at + 2))
-}
-
-// An aggregate over a typed relation, by its number.
-fn towards(
-    pack: &[u32],
-    taken: &[u32],
-    x: u32,
-    entity: u32,
-    current: u32,
-    related: u32,
-) -> Direction
-    requires { act_part x ≡ 1 }
-    ensures { result ≡ towards (direct_in taken.now) (typed_in pack.now x) entity current related }
-{
-    let (a, b) = typed_kinds(pack, x);
-    matched(a, b, matching_kind(taken, entity), entity, current, related)
-}
-
-// An aggregate over a relation.
-#[tactic(auto, using(std::proofs::lemmas::Bool::Decides::nat_tests), unfolding(definitions::specs::Direction::turn, crate::specs::Words::tables_in, crate::specs::Words::typed_in, crate::specs::Words::derived_in))]
-pub fn turn(
-    pack: &[u32],
-    acts: &[u32],
-    taken: &[u32],
-    relation: usize,
-    entity: u32,
-    current: u32,
-    related: u32,
-) -> Direction
-    ensures { result ≡ turn (tables_in pack.now acts.now taken.now) relation entity current related }
-{
-    let x = act_of(acts, relation);
-    match Part::of(x) {
-        Part::Neither => Direction::Directed(current, related, 0),
-        Part::Typed => towards(pack, taken, x, entity, current, related),
-        Part::Derived(at) => {
-            let r = value_at(pack, at + 1);
-            Direction::Directed(value_at(pack, at), r, kind_or_zero(pack, list(x), r))
+impl Tables<'_> {
+    // The kind by which an entity is matched: the one that it takes, or itself.
+    #[tactic(auto, using(std::proofs::lemmas::List::get_or_past), unfolding(filtered::specs::Said::direct_in, filtered::specs::Said::direct_by, filtered::specs::Said::direct_of))]
+    fn matching_kind(&self, entity: u32) -> u32
+        ensures { result ≡ or_else (direct_in self.now.taken.now entity) entity }
+    {
+        match self.taken.get(entity as usize) {
+            Some(x) => Taken::from(*x).direct().unwrap_or(entity),
+            None => entity,
         }
     }
-}
 
-// The current and the related kind in the slots of a derived relation, by its number, where both are known.
-#[tactic(auto, using(std::proofs::lemmas::Bool::Decides::nat_tests), unfolding(crate::specs::Words::member_in, crate::specs::Words::derived_in))]
-pub fn slot_kinds(pack: &[u32], x: u32) -> Option<(u32, u32)>
-    ensures { (option_in result ≡ member_in pack.now x) × IfSome result (λ m. (m.0 < 16777216) × (m.1 < 16777216)) }
-{
-    let Part::Derived(at) = Part::of(x) else {
-        return None;
-    };
-    let list = list(x);
-    let c = kind_at(pack, list, value_at(pack, at))?;
-    let r = kind_at(pack, list, value_at(pack, at + 1))?;
-    Some((c, r))
-}
-
-// The kind at the related slot of a derived relation, by its number; it is the entity of what stands in its predicate, which is 0
-// where no kind is known.
-#[tactic(auto, using(std::proofs::lemmas::Bool::Decides::nat_tests), unfolding(crate::specs::Words::derived_in))]
-pub fn related_kind(pack: &[u32], x: u32) -> u32
-    ensures { result ≡ related_kind (derived_in pack.now x) }
-{
-    match Part::of(x) {
-        Part::Derived(at) => kind_or_zero(pack, list(x), value_at(pack, at + 1)),
-        _ => 0,
+    // The two kinds of a typed relation, by its number.
+    #[tactic(auto, unfolding(crate::specs::Words::typed_in))]
+    fn typed_kinds(&self, x: u32) -> (u32, u32)
+        requires { act_part x ≡ 1 }
+        ensures { typed_in self.now.pack.now x ≡ some (result.0 ∷ result.1 ∷ []) }
+    {
+        let at = list(x) as usize;
+        (value_at(self.pack, at + 1), value_at(self.pack, at + 2))
     }
-}
 
-// A test of membership over a typed relation, by its number, in the predicate of another.
-fn tested(pack: &[u32], x: u32, own: u32, current: u32, related: u32) -> Direction
-    requires { act_part x ≡ 1 }
-    ensures { result ≡ tested (typed_in pack.now x) (member_in pack.now own) current related }
-{
-    let Some((c, r)) = slot_kinds(pack, own) else {
-        return Direction::Directed(current, related, 0);
-    };
-    let (a, b) = typed_kinds(pack, x);
-    between(a, b, c, r, current, related)
-}
+    // An aggregate over a typed relation, by its number.
+    fn towards(&self, x: u32, entity: u32, current: u32, related: u32) -> Direction
+        requires { act_part x ≡ 1 }
+        ensures { result ≡ towards (direct_in self.now.taken.now) (typed_in self.now.pack.now x) entity current related }
+    {
+        let (a, b) = self.typed_kinds(x);
+        matched(a, b, self.matching_kind(entity), entity, current, related)
+    }
 
-// A test of membership in a relation, in the predicate of the one with this number.
-#[tactic(auto, using(std::proofs::lemmas::Bool::Decides::nat_tests), unfolding(definitions::specs::Direction::member_direction, crate::specs::Words::tables_in, crate::specs::Words::typed_in, crate::specs::Words::derived_in))]
-pub fn member(
-    pack: &[u32],
-    acts: &[u32],
-    relation: usize,
-    own: u32,
-    current: u32,
-    related: u32,
-) -> Direction
-    ensures { MemberTurned pack.now acts.now relation (member_in pack.now own) current related result }
-{
-    let x = act_of(acts, relation);
-    match Part::of(x) {
-        Part::Neither => Direction::Directed(current, related, 0),
-        Part::Typed => tested(pack, x, own, current, related),
-        Part::Derived(at) => { Direction::Directed(value_at(pack, at), value_at(pack, at + 1), 0) }
+    // An aggregate over a relation.
+    #[tactic(auto, using(std::proofs::lemmas::Bool::Decides::nat_tests), unfolding(definitions::specs::Direction::turn, crate::specs::Words::tables_in, crate::specs::Words::typed_in, crate::specs::Words::derived_in))]
+    pub fn turn(&self, relation: usize, entity: u32, current: u32, related: u32) -> Direction
+        ensures { result ≡ turn (tables_in self.now.pack.now self.now.acts.now self.now.taken.now) relation entity current related }
+    {
+        let x = act_of(self.acts, relation);
+        match Part::of(x) {
+            Part::Neither => Direction::Directed(current, related, 0),
+            Part::Typed => self.towards(x, entity, current, related),
+            Part::Derived(at) => {
+                let r = value_at(self.pack, at + 1);
+                let kind = kind_or_zero(self.pack, list(x), r);
+                Direction::Directed(value_at(self.pack, at), r, kind)
+            }
+        }
+    }
+
+    // The current and the related kind in the slots of a derived relation, by its number, where both are known.
+    #[tactic(auto, using(std::proofs::lemmas::Bool::Decides::nat_tests), unfolding(crate::specs::Words::member_in, crate::specs::Words::derived_in))]
+    pub fn slot_kinds(&self, x: u32) -> Option<(u32, u32)>
+        ensures { (option_in result ≡ member_in self.now.pack.now x) × IfSome result (λ m. (m.0 < 16777216) × (m.1 < 16777216)) }
+    {
+        let Part::Derived(at) = Part::of(x) else {
+            return None;
+        };
+        let list = list(x);
+        let c = kind_at(self.pack, list, value_at(self.pack, at))?;
+        let r = kind_at(self.pack, list, value_at(self.pack, at + 1))?;
+        Some((c, r))
+    }
+
+    // The kind at the related slot of a derived relation, by its number; it is the entity of what stands in its predicate, which is 0
+    // where no kind is known.
+    #[tactic(auto, using(std::proofs::lemmas::Bool::Decides::nat_tests), unfolding(crate::specs::Words::derived_in))]
+    pub fn related_kind(&self, x: u32) -> u32
+        ensures { result ≡ related_kind (derived_in self.now.pack.now x) }
+    {
+        match Part::of(x) {
+            Part::Derived(at) => kind_or_zero(self.pack, list(x), value_at(self.pack, at + 1)),
+            _ => 0,
+        }
+    }
+
+    // A test of membership over a typed relation, by its number, in the predicate of another.
+    fn tested(&self, x: u32, own: u32, current: u32, related: u32) -> Direction
+        requires { act_part x ≡ 1 }
+        ensures { result ≡ tested (typed_in self.now.pack.now x) (member_in self.now.pack.now own) current related }
+    {
+        let Some((c, r)) = self.slot_kinds(own) else {
+            return Direction::Directed(current, related, 0);
+        };
+        let (a, b) = self.typed_kinds(x);
+        between(a, b, c, r, current, related)
+    }
+
+    // A test of membership in a relation, in the predicate of the one with this number.
+    #[tactic(auto, using(std::proofs::lemmas::Bool::Decides::nat_tests), unfolding(definitions::specs::Direction::member_direction, crate::specs::Words::tables_in, crate::specs::Words::typed_in, crate::specs::Words::derived_in))]
+    pub fn member(&self, relation: usize, own: u32, current: u32, related: u32) -> Direction
+        ensures { MemberTurned self.now.pack.now self.now.acts.now relation (member_in self.now.pack.now own) current related result }
+    {
+        let x = act_of(self.acts, relation);
+        match Part::of(x) {
+            Part::Neither => Direction::Directed(current, related, 0),
+            Part::Typed => self.tested(x, own, current, related),
+            Part::Derived(at) => {
+                Direction::Directed(value_at(self.pack, at), value_at(self.pack, at + 1), 0)
+            }
+        }
     }
 }

@@ -3,6 +3,7 @@ ghost use Rattle.std.specs.Prelude.{◌≡◌, ◌+◌, ◌<◌, ◌≤◌};
 ghost use Rattle.chains.specs.Record.{value_at};
 
 use chains::record::value_at;
+use directions::tables::Tables;
 use pack::kinds::Pack;
 use records::directory::Layout;
 use turning::step::Blocks;
@@ -32,13 +33,11 @@ pub struct Figures {
     pub room: usize,
 }
 
-// A pack, its directory, what aggregates over its relations do and the kinds that entities take, each by name, and its figures.
+// The words and the tables of a pack, its directory, and its figures.
 #[derive(Clone, Copy)]
 pub struct Checked<'a> {
-    pub pack: &'a [u32],
+    pub tables: Tables<'a>,
     pub dir: &'a [u32],
-    pub acts: &'a [u32],
-    pub taken: &'a [u32],
     pub figures: Figures,
 }
 
@@ -71,11 +70,11 @@ impl Checked<'_> {
     // How many pieces the pack has.
     pub fn pieces(&self) -> usize
         requires { (self.now.figures.relations ≤ 512) × (self.now.figures.notes.blocks.count ≤ 64) }
-        ensures { result ≡ self.now.figures.relations + value_at self.now.pack.now self.now.figures.rules + self.now.figures.notes.blocks.count + 3 }
+        ensures { result ≡ self.now.figures.relations + value_at self.now.tables.pack.now self.now.figures.rules + self.now.figures.notes.blocks.count + 3 }
     {
         let figures = self.figures;
         figures.relations
-            + value_at(self.pack, figures.rules) as usize
+            + value_at(self.tables.pack, figures.rules) as usize
             + figures.notes.blocks.count
             + Places::OTHERS
     }

@@ -19,13 +19,20 @@ fn finish_in(
     found: &mut [u32],
     out: &mut [u32],
 ) -> Answer
-    requires { FinishAsked checked.now.pack.now places.now checked.now.acts.now asked.now work.now checked.now.figures.relations checked.now.figures.steps × ClearFor places.now found.old }
-    ensures { FinishCame checked.now.pack.now out.old result out.new }
+    requires { FinishAsked checked.now.tables.pack.now places.now checked.now.tables.acts.now asked.now work.now checked.now.figures.relations checked.now.figures.steps × ClearFor places.now found.old }
+    ensures { FinishCame checked.now.tables.pack.now out.old result out.new }
 {
-    let pack = checked.pack;
+    let pack = checked.tables.pack;
     let after = checked.figures.relations + 1;
     let order = &places[1..after];
-    let more = lists(pack, work, checked.acts, asked, order, &mut found[1..after]);
+    let more = lists(
+        pack,
+        work,
+        checked.tables.acts,
+        asked,
+        order,
+        &mut found[1..after],
+    );
     let len = work.len() + more;
     if Pack::MOST_WORDS < len {
         return Err(refused(Number::NoRoom, 0));
@@ -49,8 +56,8 @@ pub fn finish<const MOST: usize>(
     work: &[u32],
     out: &mut [u32],
 ) -> Answer
-    requires { FinishAsked checked.now.pack.now places.now checked.now.acts.now asked.now work.now checked.now.figures.relations checked.now.figures.steps × (length places.now ≤ MOST) × (MOST ≤ 8192) }
-    ensures { FinishCame checked.now.pack.now out.old result out.new }
+    requires { FinishAsked checked.now.tables.pack.now places.now checked.now.tables.acts.now asked.now work.now checked.now.figures.relations checked.now.figures.steps × (length places.now ≤ MOST) × (MOST ≤ 8192) }
+    ensures { FinishCame checked.now.tables.pack.now out.old result out.new }
 {
     let mut found = [0u32; MOST];
     finish_in(checked, asked, places, work, &mut found, out)

@@ -47,8 +47,8 @@ fn order_blocks(pack: &[u32], first: usize, count: usize, places: &mut Writer)
 
 // All pieces, from the directory and the notes of a pack; one word for each.
 pub fn order(checked: &Checked, notes: &[u32], places: &mut [u32])
-    requires { OrderAsked checked.now.pack.now checked.now.dir.now notes.now checked.now.figures (length places.old) }
-    ensures { OrderCame checked.now.pack.now checked.now.dir.now notes.now checked.now.figures (length places.old) places.new }
+    requires { OrderAsked checked.now.tables.pack.now checked.now.dir.now notes.now checked.now.figures (length places.old) }
+    ensures { OrderCame checked.now.tables.pack.now checked.now.dir.now notes.now checked.now.figures (length places.old) places.new }
 {
     let figures = checked.figures;
     let counts = figures.notes;
@@ -59,5 +59,5 @@ pub fn order(checked: &Checked, notes: &[u32], places: &mut [u32])
     places.put_word(figures.rules as u32);
     order_rules(notes, counts.noted + 1, counts.all, &mut places);
     places.put_word((blocks.at - 1) as u32);
-    order_blocks(checked.pack, blocks.at, blocks.count, &mut places);
+    order_blocks(checked.tables.pack, blocks.at, blocks.count, &mut places);
 }

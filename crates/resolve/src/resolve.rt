@@ -13,7 +13,7 @@ use chains::entry::start;
 use checking::check::{check_notes, names_said};
 use checking::rewrite::written;
 use definitions::answer::{Answer, Number, Refusal};
-use directions::equal::first_equal;
+use directions::tables::Tables;
 use filtered::taking::read_tables;
 use pack::kinds::Pack;
 use records::directory::Directory;
@@ -29,12 +29,12 @@ fn resolve_placed<const MOST: usize>(
     out: &mut [u32],
     work: &mut [u32],
 ) -> Answer
-    requires { PlacedAsked checked.now.pack.now checked.now.acts.now checked.now.taken.now asked.now places.now out.old checked.now.figures work.old × (length places.now ≤ MOST) × (MOST ≤ 8192) }
-    ensures { Into checked.now.pack.now checked.now.figures.room result out.new }
+    requires { PlacedAsked checked.now.tables.pack.now checked.now.tables.acts.now checked.now.tables.taken.now asked.now places.now out.old checked.now.figures work.old × (length places.now ≤ MOST) × (MOST ≤ 8192) }
+    ensures { Into checked.now.tables.pack.now checked.now.figures.room result out.new }
 {
-    work.copy_from_slice(checked.pack);
+    work.copy_from_slice(checked.tables.pack);
     let notes = checked.figures.notes;
-    turn_pack(checked.pack, checked.acts, checked.taken, work, out, notes)?;
+    turn_pack(checked.tables, work, out, notes)?;
     let room = checked.figures.room;
     finish::<MOST>(checked, asked, places, work, &mut out[0..room])
 }
@@ -46,8 +46,8 @@ fn resolve_pieces<const MOST: usize>(
     out: &mut [u32],
     work: &mut [u32],
 ) -> Answer
-    requires { PiecesAsked checked.now.pack.now checked.now.dir.now checked.now.acts.now checked.now.taken.now asked.now out.old checked.now.figures work.old MOST × (MOST ≤ 8192) }
-    ensures { Into checked.now.pack.now checked.now.figures.room result out.new }
+    requires { PiecesAsked checked.now.tables.pack.now checked.now.dir.now checked.now.tables.acts.now checked.now.tables.taken.now asked.now out.old checked.now.figures work.old MOST × (MOST ≤ 8192) }
+    ensures { Into checked.now.tables.pack.now checked.now.figures.room result out.new }
 {
     let mut table = [0u32; MOST];
     let count = checked.pieces();
@@ -60,13 +60,13 @@ fn resolve_pieces<const MOST: usize>(
 // A checked pack with its notes, and a slice for its words. Defaulted names with equal kinds are refused. What stamping asks of
 // the notes, and where rules stand, is read before they are turned.
 fn resolve_in(checked: &Checked, asked: &mut [u8], out: &mut [u32], work: &mut [u32]) -> Answer
-    requires { ResolveAsked checked.now.pack.now checked.now.dir.now checked.now.acts.now checked.now.taken.now asked.old out.old checked.now.figures work.old }
-    ensures { Into checked.now.pack.now checked.now.figures.room result out.new }
+    requires { ResolveAsked checked.now.tables.pack.now checked.now.dir.now checked.now.tables.acts.now checked.now.tables.taken.now asked.old out.old checked.now.figures work.old }
+    ensures { Into checked.now.tables.pack.now checked.now.figures.room result out.new }
 {
-    if let Some(name) = first_equal(checked.pack, checked.acts) {
+    if let Some(name) = checked.tables.first_equal() {
         return Err(equal_kinds(checked.dir, name));
     }
-    ask_notes(checked.pack, out, checked.figures.notes.all, asked);
+    ask_notes(checked.tables.pack, out, checked.figures.notes.all, asked);
     if checked.pieces() <= Places::FEW {
         return resolve_pieces::<{ Places::FEW }>(checked, asked, out, work);
     }
@@ -104,10 +104,8 @@ fn resolve_by(
     let layout = check_notes(pack, dir, out)?;
     let steps = read_tables(pack, layout, dir, acts, taken);
     let checked = Checked {
-        pack,
+        tables: Tables { pack, acts, taken },
         dir,
-        acts,
-        taken,
         figures: Figures::of(pack, layout, steps, room),
     };
     let count = pack.len();

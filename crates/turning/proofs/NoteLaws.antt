@@ -100,7 +100,7 @@ module _ {ws words notes : List ℕ} {i : ℕ} (a : NoteAsked ws words notes i) 
 
 module _ (k : Known) (words notes : List ℕ) (i : ℕ) (r : code.Root) {note : taken.Note} (q : note ≡ note_in (get_or notes i 0)) where
   abbrev ws : List ℕ
-  ws = k.pack.now
+  ws = k.tables.pack.now
 
   abbrev K : KnownTables
   K = known_by k
@@ -177,11 +177,11 @@ sets_slots C entity m ws at name {o} e h = go (look_of (kind_here ws at)).slots 
     go false q e = absurd (h e)
 
 module _ (k : Known) (n : Node) {o : Result Out Refusal} (t : StepTaken k n o) where
-  its-slots : (o ≡ Ok Passes → ⊥) → (look_of (kind_here k.pack.now n.note.place)).slots ≡ true
-  its-slots h = let root : Root = record { name = 0; origin = n.root.origin; member = none } in sets_slots (citing (known_by k) root) n.entity (held n.note.lost (member_in k.pack.now n.root.own)) k.pack.now n.note.place n.root.name (t.each root refl) h
+  its-slots : (o ≡ Ok Passes → ⊥) → (look_of (kind_here k.tables.pack.now n.note.place)).slots ≡ true
+  its-slots h = let root : Root = record { name = 0; origin = n.root.origin; member = none } in sets_slots (citing (known_by k) root) n.entity (held n.note.lost (member_in k.tables.pack.now n.root.own)) k.tables.pack.now n.note.place n.root.name (t.each root refl) h
 
-  pub opens_some : {c r y : ℕ} → o ≡ Ok (Opens c r y) → (look_of (kind_here k.pack.now n.note.place)).slots ≡ true
+  pub opens_some : {c r y : ℕ} → o ≡ Ok (Opens c r y) → (look_of (kind_here k.tables.pack.now n.note.place)).slots ≡ true
   opens_some e = its-slots (λ q. let z : ◌≡◌ {A = ℕ} 0 1 = cc in omega arith)
 
-  pub sets_some : {c r : ℕ} → o ≡ Ok (Sets c r) → (look_of (kind_here k.pack.now n.note.place)).slots ≡ true
+  pub sets_some : {c r : ℕ} → o ≡ Ok (Sets c r) → (look_of (kind_here k.tables.pack.now n.note.place)).slots ≡ true
   sets_some e = its-slots (λ q. let z : ◌≡◌ {A = ℕ} 0 1 = cc in omega arith)

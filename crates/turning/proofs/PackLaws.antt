@@ -92,9 +92,9 @@ held_below : (notes left : List ℕ) (top : ℕ) → ((j : ℕ) → j < top → 
 held_below notes left top same i [] h g = tt
 held_below notes left top same i (n ∷ ns) h g = (same i (omega arith) ∙ g.0, held_below notes left top same (suc i) ns (omega arith) g.1)
 
-module _ (k : Known) (words₀ notes₀ : List ℕ) (relations all : ℕ) (a : PackAsked k.pack.now k.acts.now k.taken.now words₀ notes₀ k.blocks.at k.blocks.count relations all) where
+module _ (k : Known) (words₀ notes₀ : List ℕ) (relations all : ℕ) (a : PackAsked k.tables.pack.now k.tables.acts.now k.tables.taken.now words₀ notes₀ k.blocks.at k.blocks.count relations all) where
   abbrev ws : List ℕ
-  ws = k.pack.now
+  ws = k.tables.pack.now
 
   abbrev p : Pack
   p = a.pack

@@ -13,10 +13,10 @@ use Rattle.turning.specs.TurnPromises.{RootOpened}
 
 module _ (k : Known) (at : ℕ) where
   abbrev ws : List ℕ
-  ws = k.pack.now
+  ws = k.tables.pack.now
 
   abbrev acts : List ℕ
-  acts = k.acts.now
+  acts = k.tables.acts.now
 
   pub rule-opened : {word name origin entity : ℕ} → word ≡ get_or ws at 0 → kind_of word ≡ 23 → name ≡ value_of word → origin ≡ value_in ws (at + 1) → entity ≡ value_in ws (at + 2)
       → RootOpened k at (record { name = name; origin = origin; entity = entity; own = 0 })

@@ -144,43 +144,43 @@ only_out n allowed a b word fs (Directed c r owner) = go (eqb (kind_of word) 84)
     go false (Ok u) = refl
     go false (Err e) = refl
 
-module _ {k : Known} {n : Node} (s : NodeStands k.pack.now n.note.place) where
-  pub went_taken : (entry_of (kind_here k.pack.now n.note.place)).follows ≡ Aggregate → {o : Result Out Refusal} → (o ≡ went_by n (turned_in k n)) × OutFits o → StepTaken k n o
+module _ {k : Known} {n : Node} (s : NodeStands k.tables.pack.now n.note.place) where
+  pub went_taken : (entry_of (kind_here k.tables.pack.now n.note.place)).follows ≡ Aggregate → {o : Result Out Refusal} → (o ≡ went_by n (turned_in k n)) × OutFits o → StepTaken k n o
   unfolding out_at step_at node_step fields_of turn_at look_by
   went_taken e q =
       record {
-        each = λ root same. q.0 ∙ rw (e, two_fields k.pack.now n.note.place 2 (three_words s (slots_of e aggregate-slots)))
-            (went_out n (field_at k.pack.now (n.note.place + 1)) (field_at k.pack.now (n.note.place + 2)) (fields_at k.pack.now (n.note.place + 3) 2) (turned_in k n));
+        each = λ root same. q.0 ∙ rw (e, two_fields k.tables.pack.now n.note.place 2 (three_words s (slots_of e aggregate-slots)))
+            (went_out n (field_at k.tables.pack.now (n.note.place + 1)) (field_at k.tables.pack.now (n.note.place + 2)) (fields_at k.tables.pack.now (n.note.place + 3) 2) (turned_in k n));
         fits = q.1;
       }
 
-  pub only-taken : (entry_of (kind_here k.pack.now n.note.place)).follows ≡ OnlyRelated → {o : Result Out Refusal} → (o ≡ only_in k n (turned_in k n)) × OutFits o → StepTaken k n o
+  pub only-taken : (entry_of (kind_here k.tables.pack.now n.note.place)).follows ≡ OnlyRelated → {o : Result Out Refusal} → (o ≡ only_in k n (turned_in k n)) × OutFits o → StepTaken k n o
   unfolding out_at step_at node_step fields_of turn_at look_by
   only-taken e q =
       record {
-        each = λ root same. q.0 ∙ rw (e, same, two_fields k.pack.now n.note.place 1 (three_words s (slots_of e only-slots)), one_field k.pack.now (n.note.place + 3) 0 (four_words s e))
-            (only_out n (input_in k.pack.now k.blocks.at k.blocks.count n.root.origin) (field_at k.pack.now (n.note.place + 1)) (field_at k.pack.now (n.note.place + 2)) (get_or k.pack.now (n.note.place + 3) 0) [] (turned_in k n));
+        each = λ root same. q.0 ∙ rw (e, same, two_fields k.tables.pack.now n.note.place 1 (three_words s (slots_of e only-slots)), one_field k.tables.pack.now (n.note.place + 3) 0 (four_words s e))
+            (only_out n (input_in k.tables.pack.now k.blocks.at k.blocks.count n.root.origin) (field_at k.tables.pack.now (n.note.place + 1)) (field_at k.tables.pack.now (n.note.place + 2)) (get_or k.tables.pack.now (n.note.place + 3) 0) [] (turned_in k n));
         fits = q.1;
       }
 
-  pub test_taken : (entry_of (kind_here k.pack.now n.note.place)).follows ≡ Slots → {o : Result Out Refusal} → (o ≡ tested_in k n) × OutFits o → StepTaken k n o
+  pub test_taken : (entry_of (kind_here k.tables.pack.now n.note.place)).follows ≡ Slots → {o : Result Out Refusal} → (o ≡ tested_in k n) × OutFits o → StepTaken k n o
   unfolding out_at step_at node_step fields_of look_by
   test_taken e q =
       record {
-        each = λ root same. q.0 ∙ rw (e, two_fields k.pack.now n.note.place 0 (three_words s (slots_of e test_slots)))
-            (test_out n (field_at k.pack.now (n.note.place + 1)) (field_at k.pack.now (n.note.place + 2)) [] n.entity (held n.note.lost (member_in k.pack.now n.root.own)) (member_at k n));
+        each = λ root same. q.0 ∙ rw (e, two_fields k.tables.pack.now n.note.place 0 (three_words s (slots_of e test_slots)))
+            (test_out n (field_at k.tables.pack.now (n.note.place + 1)) (field_at k.tables.pack.now (n.note.place + 2)) [] n.entity (held n.note.lost (member_in k.tables.pack.now n.root.own)) (member_at k n));
         fits = q.1;
       }
 
   -- an aggregate of any kind
-  pub aggregate_taken : 74 ≤ kind_here k.pack.now n.note.place → kind_here k.pack.now n.note.place < 79 → {o : Result Out Refusal} → (o ≡ aggregate_in k n (kind_here k.pack.now n.note.place)) × OutFits o → StepTaken k n o
-  aggregate_taken l h {o} q = go (eqb (kind_here k.pack.now n.note.place) 78) refl q.0
+  pub aggregate_taken : 74 ≤ kind_here k.tables.pack.now n.note.place → kind_here k.tables.pack.now n.note.place < 79 → {o : Result Out Refusal} → (o ≡ aggregate_in k n (kind_here k.tables.pack.now n.note.place)) × OutFits o → StepTaken k n o
+  aggregate_taken l h {o} q = go (eqb (kind_here k.tables.pack.now n.note.place) 78) refl q.0
     where
-      go : (b : Bool) → eqb (kind_here k.pack.now n.note.place) 78 ≡ b → o ≡ pick b (only_in k n (turned_in k n)) (went_by n (turned_in k n)) → StepTaken k n o
-      go true e f = only-taken (only-kind _ (eqb-true (kind_here k.pack.now n.note.place) 78 e)) (f, q.1)
-      go false e f = went_taken (aggregates _ l (let z = eqb-false (kind_here k.pack.now n.note.place) 78 e in omega arith)) (f, q.1)
+      go : (b : Bool) → eqb (kind_here k.tables.pack.now n.note.place) 78 ≡ b → o ≡ pick b (only_in k n (turned_in k n)) (went_by n (turned_in k n)) → StepTaken k n o
+      go true e f = only-taken (only-kind _ (eqb-true (kind_here k.tables.pack.now n.note.place) 78 e)) (f, q.1)
+      go false e f = went_taken (aggregates _ l (let z = eqb-false (kind_here k.tables.pack.now n.note.place) 78 e in omega arith)) (f, q.1)
 
-  pub none-taken : (look_of (kind_here k.pack.now n.note.place)).slots ≡ false → StepTaken k n (Ok Passes)
+  pub none-taken : (look_of (kind_here k.tables.pack.now n.note.place)).slots ≡ false → StepTaken k n (Ok Passes)
   unfolding out_at
   none-taken e = record { each = λ root same. rw e refl; fits = tt }
 
@@ -192,24 +192,24 @@ by_direction n (Open other) c r x e = let z : ◌≡◌ {A = ℕ} 0 1 = cc in ab
 
 -- the relation of a node and its slots
 abbrev words_of : Known → Node → ℕ × ℕ × ℕ
-words_of k n = (value_in k.pack.now n.note.place, value_in k.pack.now (n.note.place + 1), value_in k.pack.now (n.note.place + 2))
+words_of k n = (value_in k.tables.pack.now n.note.place, value_in k.tables.pack.now (n.note.place + 1), value_in k.tables.pack.now (n.note.place + 2))
 
-pub turned-out : (k : Known) (n : Node) {w : ℕ × ℕ × ℕ} → w ≡ words_of k n → {d : Direction} → d ≡ direction.turn (tables_in k.pack.now k.acts.now k.taken.now) w.0 n.entity w.1 w.2 → (d ≡ turned_in k n) × SlotsFit d
+pub turned-out : (k : Known) (n : Node) {w : ℕ × ℕ × ℕ} → w ≡ words_of k n → {d : Direction} → d ≡ direction.turn (tables_in k.tables.pack.now k.tables.acts.now k.tables.taken.now) w.0 n.entity w.1 w.2 → (d ≡ turned_in k n) × SlotsFit d
 unfolding turn_at
 turned-out k n q {d} e =
-    let ws : List ℕ = k.pack.now in
-    let T : Tables = tables_in ws k.acts.now k.taken.now in
+    let ws : List ℕ = k.tables.pack.now in
+    let T : Tables = tables_in ws k.tables.acts.now k.tables.taken.now in
     let t : d ≡ direction.turn T (value_in ws n.note.place) n.entity (value_in ws (n.note.place + 1)) (value_in ws (n.note.place + 2)) = e ∙ ap (λ (x : ℕ × ℕ × ℕ). direction.turn T x.0 n.entity x.1 x.2) q in
     (t, turned_fits _ _ _ _ _ _ _ (omega arith) (omega arith) t)
 
 pub tested-out : (k : Known) (n : Node) {w : ℕ × ℕ × ℕ} → w ≡ words_of k n → (own : ℕ) → ((ws : List ℕ) → member_in ws own ≡ held n.note.lost (member_in ws n.root.own)) → {d : Direction} {c r x : ℕ}
-    → MemberTurned k.pack.now k.acts.now w.0 (member_in k.pack.now own) w.1 w.2 d → Ok (c, r, x) ≡ directed_by n d → (Ok (Sets c r) ≡ tested_in k n) × OutFits (Ok (Sets c r))
+    → MemberTurned k.tables.pack.now k.tables.acts.now w.0 (member_in k.tables.pack.now own) w.1 w.2 d → Ok (c, r, x) ≡ directed_by n d → (Ok (Sets c r) ≡ tested_in k n) × OutFits (Ok (Sets c r))
 tested-out k n w own keep {d} {c} {r} {x} t e =
-    let ws : List ℕ = k.pack.now in
+    let ws : List ℕ = k.tables.pack.now in
     let q : d ≡ Directed c r x = by_direction n d c r x (sym e) in
-    let at : MemberTurned ws k.acts.now (value_in ws n.note.place) (member_in ws own) (value_in ws (n.note.place + 1)) (value_in ws (n.note.place + 2)) d = subst (λ (y : ℕ × ℕ × ℕ). MemberTurned ws k.acts.now y.0 (member_in ws own) y.1 y.2 d) w t in
-    let f : SlotsFit d = member_fits_code ws k.acts.now (value_in ws n.note.place) (member_in ws own) (value_in ws (n.note.place + 1)) (value_in ws (n.note.place + 2)) (omega arith) (omega arith) at in
-    let m : d ≡ member_at k n = rw (← keep ws) (at k.taken.now) in
+    let at : MemberTurned ws k.tables.acts.now (value_in ws n.note.place) (member_in ws own) (value_in ws (n.note.place + 1)) (value_in ws (n.note.place + 2)) d = subst (λ (y : ℕ × ℕ × ℕ). MemberTurned ws k.tables.acts.now y.0 (member_in ws own) y.1 y.2 d) w t in
+    let f : SlotsFit d = member_fits_code ws k.tables.acts.now (value_in ws n.note.place) (member_in ws own) (value_in ws (n.note.place + 1)) (value_in ws (n.note.place + 2)) (omega arith) (omega arith) at in
+    let m : d ≡ member_at k n = rw (← keep ws) (at k.tables.taken.now) in
     (ap (tested_by n) (sym q ∙ m), subst SlotsFit q f)
 
 pub two_sets : (l : List ℕ) (at a b : ℕ) → set (set l (at + 1) a) (at + 2) b ≡ sets l (at + 1) (a ∷ b ∷ [])

@@ -31,7 +31,7 @@ refusal_is {x} {y} e = let z : x ≡ y = cc in z
 
 module _ (k : Known) (from to : ℕ) (words₀ notes₀ : List ℕ) where
   abbrev ws : List ℕ
-  ws = k.pack.now
+  ws = k.tables.pack.now
 
   abbrev K : KnownTables
   K = known_by k

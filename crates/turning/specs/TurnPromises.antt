@@ -28,7 +28,7 @@ abbrev pub known_in : List ℕ → List ℕ → List ℕ → ℕ → ℕ → Kno
 known_in ws acts taken blocks count = record { tables = tables_in ws acts taken; input = λ origin owner n. refused_by (input_in ws blocks count origin owner n) }
 
 abbrev pub known_by : Known → KnownTables
-known_by k = known_in k.pack.now k.acts.now k.taken.now k.blocks.at k.blocks.count
+known_by k = known_in k.tables.pack.now k.tables.acts.now k.tables.taken.now k.blocks.at k.blocks.count
 
 -- ---- where notes stand
 
@@ -112,19 +112,19 @@ only_by allowed word n (Open other) = Err (refused_at n DirectionOpen other)
 
 -- what is known of its relation
 abbrev pub turned_in : Known → Node → Direction
-turned_in k n = turn_at (tables_in k.pack.now k.acts.now k.taken.now) k.pack.now n.note.place n.entity
+turned_in k n = turn_at (tables_in k.tables.pack.now k.tables.acts.now k.tables.taken.now) k.tables.pack.now n.note.place n.entity
 
 abbrev pub allowed_in : Known → Node → ℕ → Result (Unit {0}) Refusal
-allowed_in k n owner = allowed_by (input_in k.pack.now k.blocks.at k.blocks.count n.root.origin) (get_or k.pack.now (n.note.place + 3) 0) n owner
+allowed_in k n owner = allowed_by (input_in k.tables.pack.now k.blocks.at k.blocks.count n.root.origin) (get_or k.tables.pack.now (n.note.place + 3) 0) n owner
 
 abbrev pub only_in : Known → Node → Direction → Result Out Refusal
-only_in k n d = only_by (input_in k.pack.now k.blocks.at k.blocks.count n.root.origin) (get_or k.pack.now (n.note.place + 3) 0) n d
+only_in k n d = only_by (input_in k.tables.pack.now k.blocks.at k.blocks.count n.root.origin) (get_or k.tables.pack.now (n.note.place + 3) 0) n d
 
 abbrev pub aggregate_in : Known → Node → ℕ → Result Out Refusal
 aggregate_in k n kind = pick (eqb kind 78) (only_in k n (turned_in k n)) (went_by n (turned_in k n))
 
 abbrev pub member_at : Known → Node → Direction
-member_at k n = member_direction (tables_in k.pack.now k.acts.now k.taken.now) (value_in k.pack.now n.note.place) (held n.note.lost (member_in k.pack.now n.root.own)) (value_in k.pack.now (n.note.place + 1)) (value_in k.pack.now (n.note.place + 2))
+member_at k n = member_direction (tables_in k.tables.pack.now k.tables.acts.now k.tables.taken.now) (value_in k.tables.pack.now n.note.place) (held n.note.lost (member_in k.tables.pack.now n.root.own)) (value_in k.tables.pack.now (n.note.place + 1)) (value_in k.tables.pack.now (n.note.place + 2))
 
 abbrev pub tested_in : Known → Node → Result Out Refusal
 tested_in k n = tested_by n (member_at k n)
@@ -138,7 +138,7 @@ OutFits (Err s) = Unit {0}
 -- what comes of it does not depend on the name of its rule or relation
 pub record StepTaken (k : Known) (n : Node) (o : Result Out Refusal) : Type 0 where
   pub each : (root : Root) → root.origin ≡ n.root.origin
-      → o ≡ told_by n.root.name n.note.place (out_at (citing (known_by k) root) n.entity (held n.note.lost (member_in k.pack.now n.root.own)) k.pack.now n.note.place)
+      → o ≡ told_by n.root.name n.note.place (out_at (citing (known_by k) root) n.entity (held n.note.lost (member_in k.tables.pack.now n.root.own)) k.tables.pack.now n.note.place)
   pub fits : OutFits o
 
 -- ---- a rule or relation
@@ -147,9 +147,9 @@ abbrev pub root_in : List ℕ → code.Root → Root
 root_in ws r = record { name = r.name; origin = r.origin; member = member_in ws r.own }
 
 pub record RootOpened (k : Known) (at : ℕ) (r : code.Root) : Type 0 where
-  pub rule : kind_here k.pack.now at ≡ 23 → (r.entity ≡ value_in k.pack.now (at + 2)) × (root_in k.pack.now r ≡ rule_root k.pack.now at)
-  pub relation : (kind_here k.pack.now at ≡ 23 → ⊥)
-      → (r.entity ≡ related_kind ((known_by k).tables.derived (value_in k.pack.now at))) × (root_in k.pack.now r ≡ relation_root (known_by k) k.pack.now at)
+  pub rule : kind_here k.tables.pack.now at ≡ 23 → (r.entity ≡ value_in k.tables.pack.now (at + 2)) × (root_in k.tables.pack.now r ≡ rule_root k.tables.pack.now at)
+  pub relation : (kind_here k.tables.pack.now at ≡ 23 → ⊥)
+      → (r.entity ≡ related_kind ((known_by k).tables.derived (value_in k.tables.pack.now at))) × (root_in k.tables.pack.now r ≡ relation_root (known_by k) k.tables.pack.now at)
 
 -- ---- notes
 
@@ -167,7 +167,7 @@ pub record NoteAsked (ws words notes : List ℕ) (i : ℕ) : Type 0 where
   pub stands : Stands ws i n
 
 pub record NoteTurned (k : Known) (i : ℕ) (r : code.Root) (words notes : List ℕ) (o : Result code.Root Refusal) (left kinds : List ℕ) : Type 0 where
-  pub each : (n : Note) → get_or notes i 0 ≡ note_code n → Stands k.pack.now i n → NextBy k.pack.now (turn_note (known_by k) k.pack.now i n (work words notes (root_in k.pack.now r))) o left kinds
+  pub each : (n : Note) → get_or notes i 0 ≡ note_code n → Stands k.tables.pack.now i n → NextBy k.tables.pack.now (turn_note (known_by k) k.tables.pack.now i n (work words notes (root_in k.tables.pack.now r))) o left kinds
   pub long : length left ≡ length words
   pub wide : length kinds ≡ length notes
   pub others : (j : ℕ) → (j ≡ i → ⊥) → get_or kinds j 0 ≡ get_or notes j 0
@@ -191,8 +191,8 @@ pub record TurnsAsked (ws words notes : List ℕ) (from to : ℕ) : Type 0 where
 
 -- the notes become results where something stands inside them
 pub record NotesTurned (k : Known) (from to : ℕ) (words notes : List ℕ) (o : Result (Unit {0}) Refusal) (left kinds : List ℕ) : Type 0 where
-  pub each : (ns : List Note) → Held notes from ns → to ≡ from + length ns → Placed k.pack.now from ns
-      → EndedBy (turn_notes (known_by k) k.pack.now from ns (work words notes nowhere)) o left kinds
+  pub each : (ns : List Note) → Held notes from ns → to ≡ from + length ns → Placed k.tables.pack.now from ns
+      → EndedBy (turn_notes (known_by k) k.tables.pack.now from ns (work words notes nowhere)) o left kinds
   pub long : length left ≡ length words
   pub wide : length kinds ≡ length notes
   pub earlier : (j : ℕ) → j < from → get_or kinds j 0 ≡ get_or notes j 0

@@ -2,13 +2,12 @@
 ghost use Rattle.std.specs.Prelude.{◌≤◌};
 
 use crate::step::Blocks;
+use directions::tables::Tables;
 
-// Its words, its tables, and its blocks.
+// Its words with its tables, and its blocks.
 #[derive(Clone, Copy)]
 pub struct Known<'a> {
-    pub pack: &'a [u32],
-    pub acts: &'a [u32],
-    pub taken: &'a [u32],
+    pub tables: Tables<'a>,
     pub blocks: Blocks,
     ghost low: { blocks.at ≤ 65536 },
     ghost few: { blocks.count ≤ 64 },

@@ -2,7 +2,6 @@
 ghost use Rattle.turning.specs.TurnPromises.{RootStands, RootOpened};
 
 use crate::known::Known;
-use directions::direction::related_kind;
 use filtered::act::act_of;
 use pack::kinds::Pack;
 
@@ -19,10 +18,10 @@ pub struct Root {
 impl Root {
     // The one whose record starts at a place.
     pub fn opened(known: &Known, at: usize) -> Root
-        requires { RootStands known.now.pack.now at }
+        requires { RootStands known.now.tables.pack.now at }
         ensures { RootOpened known.now at result }
     {
-        let pack = known.pack;
+        let pack = known.tables.pack;
         let word = pack[at];
         let name = word % Pack::VALUES;
         let origin = pack[at + 1] % Pack::VALUES;
@@ -35,8 +34,8 @@ impl Root {
                 own: 0,
             };
         }
-        let own = act_of(known.acts, name as usize);
-        let entity = related_kind(pack, own);
+        let own = act_of(known.tables.acts, name as usize);
+        let entity = known.tables.related_kind(own);
         Root {
             name,
             origin,

@@ -11,7 +11,6 @@ use crate::note::Note;
 use crate::root::Root;
 use definitions::answer::{Number, Refusal};
 use definitions::direction::Direction;
-use directions::direction::{member, turn};
 use inputs::inputs::input;
 use pack::kinds::Pack;
 
@@ -66,52 +65,50 @@ impl Known<'_> {
     // The relation of a node, and its slots.
     #[inline]
     fn slots(&self, at: usize) -> (usize, u32, u32)
-        requires { at + 2 < length self.now.pack.now }
-        ensures { result ≡ (value_in self.now.pack.now at, value_in self.now.pack.now (at + 1), value_in self.now.pack.now (at + 2)) }
+        requires { at + 2 < length self.now.tables.pack.now }
+        ensures { result ≡ (value_in self.now.tables.pack.now at, value_in self.now.tables.pack.now (at + 1), value_in self.now.tables.pack.now (at + 2)) }
     {
-        let relation = (self.pack[at] % Pack::VALUES) as usize;
-        let current = self.pack[at + 1] % Pack::VALUES;
-        let related = self.pack[at + 2] % Pack::VALUES;
+        let relation = (self.tables.pack[at] % Pack::VALUES) as usize;
+        let current = self.tables.pack[at + 1] % Pack::VALUES;
+        let related = self.tables.pack[at + 2] % Pack::VALUES;
         (relation, current, related)
     }
 
     // The direction of an aggregate.
     fn turned(&self, node: Node) -> Direction
-        requires { HasSlots self.now.pack.now node.note.place }
+        requires { HasSlots self.now.tables.pack.now node.note.place }
         ensures { (result ≡ turned_in self.now node) × SlotsFit result }
     {
         let (relation, current, related) = self.slots(node.note.place);
-        turn(
-            self.pack,
-            self.acts,
-            self.taken,
-            relation,
-            node.entity,
-            current,
-            related,
-        )
+        self.tables.turn(relation, node.entity, current, related)
     }
 
     // Whether an OnlyRelated may have its input, for an owner.
     fn allowed(&self, node: Node, owner: u32) -> Result<(), Refusal>
-        requires { NodeStands self.now.pack.now node.note.place × ((entry_of (kind_here self.now.pack.now node.note.place)).follows ≡ OnlyRelated) }
+        requires { NodeStands self.now.tables.pack.now node.note.place × ((entry_of (kind_here self.now.tables.pack.now node.note.place)).follows ≡ OnlyRelated) }
         ensures { result ≡ allowed_in self.now node owner }
     {
-        let word = self.pack[node.note.place + 3];
+        let word = self.tables.pack[node.note.place + 3];
         let name = word % Pack::VALUES;
         if word / Pack::VALUES == Pack::DERIVED {
             return Err(node.refused(Number::DerivedInput, name));
         }
         let blocks = self.blocks;
         let origin = node.root.origin;
-        input(self.pack, blocks.at, blocks.count, origin, owner, name).map_err(
-            |number| node.refused(number, name),
+        input(
+            self.tables.pack,
+            blocks.at,
+            blocks.count,
+            origin,
+            owner,
+            name,
         )
+        .map_err(|number| node.refused(number, name))
     }
 
     // An aggregate, of any kind. Inside an OnlyRelated there is no entity, since its kind is the owner of its input.
     fn aggregate(&self, node: Node, kind: u32) -> Result<Out, Refusal>
-        requires { HasSlots self.now.pack.now node.note.place × (kind ≡ kind_here self.now.pack.now node.note.place) }
+        requires { HasSlots self.now.tables.pack.now node.note.place × (kind ≡ kind_here self.now.tables.pack.now node.note.place) }
         ensures { (result ≡ aggregate_in self.now node kind) × OutFits result }
     {
         let (current, related, entity) = node.directed(self.turned(node))?;
@@ -124,22 +121,22 @@ impl Known<'_> {
 
     // A test of membership.
     fn membership(&self, node: Node) -> Result<Out, Refusal>
-        requires { HasSlots self.now.pack.now node.note.place }
+        requires { HasSlots self.now.tables.pack.now node.note.place }
         ensures { (result ≡ tested_in self.now node) × OutFits result }
     {
         let (relation, current, related) = self.slots(node.note.place);
         let own = node.note.kept(node.root.own);
-        let direction = member(self.pack, self.acts, relation, own, current, related);
+        let direction = self.tables.member(relation, own, current, related);
         let (current, related, _) = node.directed(direction)?;
         Ok(Out::Sets(current, related))
     }
 
     // By its kind.
     pub fn step(&self, node: Node) -> Result<Out, Refusal>
-        requires { NodeStands self.now.pack.now node.note.place }
+        requires { NodeStands self.now.tables.pack.now node.note.place }
         ensures { StepTaken self.now node result }
     {
-        let kind = self.pack[node.note.place] / Pack::VALUES;
+        let kind = self.tables.pack[node.note.place] / Pack::VALUES;
         match kind {
             Pack::RELATION_MEMBER => self.membership(node),
             Pack::COUNT..=Pack::ONLY_RELATED => self.aggregate(node, kind),

@@ -10,6 +10,7 @@ use crate::note::Note;
 use crate::root::Root;
 use crate::step::{Blocks, Node, Out};
 use definitions::answer::Refusal;
+use directions::tables::Tables;
 use pack::kinds::Pack;
 
 // The notes of a pack with these blocks: so many of relations, which come first, and so many in all.
@@ -41,7 +42,7 @@ impl Known<'_> {
         notes: &mut [u32],
         i: usize,
     ) -> Result<Root, Refusal>
-        requires { NoteAsked self.now.pack.now work.old notes.old i × (note ≡ note_in (get_or notes.old i 0)) × (note.inside ≡ 0 → ⊥) }
+        requires { NoteAsked self.now.tables.pack.now work.old notes.old i × (note ≡ note_in (get_or notes.old i 0)) × (note.inside ≡ 0 → ⊥) }
         ensures { NoteTurned self.now i root work.old notes.old result work.new notes.new }
     {
         let node = Node {
@@ -68,7 +69,7 @@ impl Known<'_> {
         notes: &mut [u32],
         i: usize,
     ) -> Result<Root, Refusal>
-        requires { NoteAsked self.now.pack.now work.old notes.old i }
+        requires { NoteAsked self.now.tables.pack.now work.old notes.old i }
         ensures { NoteTurned self.now i root work.old notes.old result work.new notes.new }
     {
         let note = Note::read(notes[i]);
@@ -88,7 +89,7 @@ impl Known<'_> {
         from: usize,
         to: usize,
     ) -> Result<(), Refusal>
-        requires { TurnsAsked self.now.pack.now work.old notes.old from to }
+        requires { TurnsAsked self.now.tables.pack.now work.old notes.old from to }
         ensures { NotesTurned self.now from to work.old notes.old result work.new notes.new }
     {
         let mut root = Root::default();
@@ -101,23 +102,16 @@ impl Known<'_> {
 
 // All notes of a pack: those of its rules, then those of its relations.
 pub fn turn_pack(
-    pack: &[u32],
-    acts: &[u32],
-    taken: &[u32],
+    tables: Tables,
     work: &mut [u32],
     notes: &mut [u32],
     counts: Counts,
 ) -> Result<(), Refusal>
-    requires { PackAsked pack.now acts.now taken.now work.old notes.old counts.blocks.at counts.blocks.count counts.noted counts.all }
-    ensures { PackTurned pack.now result work.new }
+    requires { PackAsked tables.pack.now tables.acts.now tables.taken.now work.old notes.old counts.blocks.at counts.blocks.count counts.noted counts.all }
+    ensures { PackTurned tables.entry.pack.now result work.new }
 {
     let blocks = counts.blocks;
-    let known = Known {
-        pack,
-        acts,
-        taken,
-        blocks,
-    };
+    let known = Known { tables, blocks };
     let rules = counts.noted + 1;
     known.turns(work, notes, rules, counts.all + 1)?;
     known.turns(work, notes, 1, rules)
