@@ -309,8 +309,8 @@ abbrev pub order_of : {ws dir acts taken marks notes : List ℕ} {f : Figures} {
 order_of {acts = acts} {taken} {marks} {work = work} a e = record { acts = acts; taken = taken; marks = marks; work = work; asked = a; size = e }
 
 module _ {ws dir acts taken marks notes : List ℕ} {f : Figures} {work : List ℕ} (a : ResolveAsked ws dir acts taken marks notes f work) where
-  pub pieces_asked : (f.relations ≤ 512) × (f.notes.blocks.count ≤ 64)
-  pieces_asked = let n = numbers (order_of a refl) in (n.0, n.1)
+  pub relations_few : f.relations ≤ 512
+  relations_few = (numbers (order_of a refl)).0
 
   module _ {r : ℕ} (e : r ≡ f.relations + value_at ws f.rules + f.notes.blocks.count + 3) where
     pub pieces_few : r ≤ 1603

@@ -42,7 +42,7 @@ use Rattle.chains.specs.Record.{value_at}
 use Rattle.directions.specs.RecordRuns.{with_records, trees_resolved, TablesFilled}
 use Rattle.resolve.specs.declared.checked.Figures.{Figures}
 use Rattle.definitions.specs.WrittenRecords.{beginnings, pieces_of}
-use Rattle.resolve.specs.Finish.{stamp_all, resolved_trees, AskedOf, TreesAsked, TreesCame, ResolveAsked, PlacedAsked, TablesFor, CheckedAsked, RoomFor, front_of, Into, FinishAsked, FinishCame, given_out, written_out}
+use Rattle.resolve.specs.Finish.{stamp_all, resolved_trees, AskedOf, TreesAsked, TreesCame, FiguresSaid, ResolveAsked, PlacedAsked, TablesFor, CheckedAsked, RoomFor, front_of, Into, FinishAsked, FinishCame, given_out, written_out}
 use Rattle.turning.specs.declared.turns.Counts.{Counts}
 use Rattle.turning.specs.Notes.{notes_of_pack}
 use Rattle.turning.specs.TurnPromises.{known_in, TurnedAs, PackAsked, PackTurned}
@@ -308,20 +308,20 @@ module _ {ws dir acts taken asked₀ notes : List ℕ} {f : Figures} {work : Lis
           pack = its;
           checked = checked;
           knows = (λ j. known_in ws acts taken (a.blocks j) (a.many j)) ∙ known_is ws acts taken its checked a.filled.says a.filled.knows a.directory.blocked;
-          low = omega (arith, i.near);
-          few = omega (arith, i.counts, i.few, a.many);
           copied = e;
           noted = a.noted;
         };
       }
 
-pub blocks-near : {ws : List ℕ} {l : Layout} {dir : List ℕ} → IsDirectory ws l dir → l.blocks < 8192
-blocks-near {ws} d = let s = short-checked d.checked in omega (arith, (reads_inputs ws d.checked.pack d.checked.reads d.blocked).near)
+pub blocks-near : {ws : List ℕ} {l : Layout} {dir : List ℕ} → IsDirectory ws l dir → (l.blocks < 8192) × (value_at ws l.blocks ≤ 64)
+blocks-near {ws} d =
+    let s = short-checked d.checked in
+    let i = reads_inputs ws d.checked.pack d.checked.reads d.blocked in
+    (omega (arith, i.near), omega (arith, i.counts, i.few))
 
 pub in_asked : {ws : List ℕ} {l : Layout} {dir acts₀ taken₀ asked out work : List ℕ} {room : ℕ} → CheckedAsked ws l dir acts₀ taken₀ asked out room work
-    → {acts taken : List ℕ} {steps : ℕ} → Filled ws (names_in dir l.relations) (starts_in dir) acts taken steps → {count : ℕ} → count ≡ value_at ws l.blocks
-    → ResolveAsked ws dir acts taken asked out (record { relations = l.relations; rules = l.rules; notes = record { noted = l.noted; all = l.all; blocks = record { at = l.blocks + 1; count = count } }; steps = steps; room = room }) work
-in_asked {l = l} a f e = record { layout = l; directory = a.directory; filled = f; lent = a.asked-lent; counts = refl; ruled = refl; blocks = refl; many = e; noted = a.notes_in; room = a.same; fits = a.fits }
+    → {acts taken : List ℕ} {steps : ℕ} → Filled ws (names_in dir l.relations) (starts_in dir) acts taken steps → {g : Figures} → FiguresSaid ws l steps room g → ResolveAsked ws dir acts taken asked out g work
+in_asked {l = l} a f h = record { layout = l; directory = a.directory; filled = rw h.steps f; lent = a.asked-lent; counts = h.counts; ruled = h.ruled; blocks = h.blocks; many = h.many; noted = rw (h.noted, h.all) a.notes_in; room = a.same; fits = rw h.room a.fits }
 
 -- a pack that was checked and noted where there is room for its notes
 module _ {ws d e d' e' : List ℕ} {r : Result Layout Refusal} {l : Layout} (clear : Clear (names_said ws) d) (c : CheckedNotes ws d e r d' e') (o : r ≡ Ok l) where

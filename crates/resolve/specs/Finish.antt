@@ -121,6 +121,17 @@ pub record FinishCame (ws lent : List ℕ) (answer : Answer) (left : List ℕ) :
   pub answers : (p q : Pack) → read ws ≡ yes p → trees_resolved p ≡ done q → answer ≡ given_out (all_kinds p.relations).steps (length lent) (done (stamp_all p q))
   pub leaves : (p q : Pack) → read ws ≡ yes p → trees_resolved p ≡ done q → left ≡ written_out lent (done (stamp_all p q))
 
+-- the figures of a pack with a layout
+pub record FiguresSaid (ws : List ℕ) (l : Layout) (declared room_told : ℕ) (f : Figures) : Type 0 where
+  pub counts : f.relations ≡ l.relations
+  pub ruled : f.rules ≡ l.rules
+  pub blocks : f.notes.blocks.at ≡ l.blocks + 1
+  pub many : f.notes.blocks.count ≡ value_at ws l.blocks
+  pub noted : f.notes.noted ≡ l.noted
+  pub all : f.notes.all ≡ l.all
+  pub steps : f.steps ≡ declared
+  pub room : f.room ≡ room_told
+
 -- a checked pack with its directory, its tables and its notes, and a slice for as many words
 pub record ResolveAsked (ws dir acts taken asked notes : List ℕ) (f : Figures) (work : List ℕ) : Type 0 where
   pub layout : Layout

@@ -1,12 +1,13 @@
 // A checked pack with its tables.
 ghost use Rattle.std.specs.Prelude.{◌≡◌, ◌+◌, ◌<◌, ◌≤◌};
 ghost use Rattle.chains.specs.Record.{value_at};
+ghost use Rattle.resolve.specs.Finish.{FiguresSaid};
 
 use chains::record::value_at;
 use directions::tables::Tables;
+use inputs::inputs::Blocks;
 use pack::kinds::Pack;
 use records::directory::Layout;
-use turning::step::Blocks;
 use turning::turns::Counts;
 
 // How many pieces are neither relations nor rules nor blocks, how many small packs have, and how many there are at most.
@@ -44,8 +45,8 @@ pub struct Checked<'a> {
 impl Figures {
     // As the layout of a pack says.
     pub fn of(pack: &[u32], layout: Layout, steps: u32, room: usize) -> Figures
-        requires { layout.blocks < 8192 }
-        ensures { result ≡ record { relations = layout.relations; rules = layout.rules; notes = record { noted = layout.noted; all = layout.all; blocks = record { at = layout.blocks + 1; count = value_at pack.now layout.blocks } }; steps = steps; room = room } }
+        requires { (layout.blocks < 8192) × (value_at pack.now layout.blocks ≤ 64) }
+        ensures { FiguresSaid pack.now layout steps room result }
     {
         let blocks = Blocks {
             at: layout.blocks + 1,
@@ -69,7 +70,7 @@ impl Figures {
 impl Checked<'_> {
     // How many pieces the pack has.
     pub fn pieces(&self) -> usize
-        requires { (self.now.figures.relations ≤ 512) × (self.now.figures.notes.blocks.count ≤ 64) }
+        requires { self.now.figures.relations ≤ 512 }
         ensures { result ≡ self.now.figures.relations + value_at self.now.tables.pack.now self.now.figures.rules + self.now.figures.notes.blocks.count + 3 }
     {
         let figures = self.figures;

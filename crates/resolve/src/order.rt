@@ -7,7 +7,7 @@ ghost use Rattle.resolve.specs.Writing.{HasRoom, Writes};
 use crate::checked::Checked;
 use crate::writer::Writer;
 use chains::entry::{name_at, start};
-use inputs::inputs::after_block;
+use inputs::inputs::{Block, Blocks};
 use pack::kinds::Pack;
 
 // So many relations, as the directory says.
@@ -33,15 +33,16 @@ fn order_rules(notes: &[u32], from: usize, all: usize, places: &mut Writer)
     }
 }
 
-// So many blocks, one after the other from a place on.
-fn order_blocks(pack: &[u32], first: usize, count: usize, places: &mut Writer)
-    requires { (first ≤ 65536) × (count ≤ 64) × HasRoom places.old (block_places pack.now first count) }
-    ensures { Writes places.old (block_places pack.now first count) places.new }
+// The blocks, one after the other.
+fn order_blocks(pack: &[u32], blocks: Blocks, places: &mut Writer)
+    requires { HasRoom places.old (block_places pack.now blocks.at blocks.count) }
+    ensures { Writes places.old (block_places pack.now blocks.at blocks.count) places.new }
 {
-    let mut at = first;
-    for _ in 0..count {
+    let mut at = blocks.at;
+    for _ in 0..blocks.count {
         places.put_word(at as u32);
-        at = after_block(pack, at);
+        let block = Block { at };
+        at = block.after(pack);
     }
 }
 
@@ -59,5 +60,5 @@ pub fn order(checked: &Checked, notes: &[u32], places: &mut [u32])
     places.put_word(figures.rules as u32);
     order_rules(notes, counts.noted + 1, counts.all, &mut places);
     places.put_word((blocks.at - 1) as u32);
-    order_blocks(checked.tables.pack, blocks.at, blocks.count, &mut places);
+    order_blocks(checked.tables.pack, blocks, &mut places);
 }

@@ -204,8 +204,6 @@ pub record PackAsked (ws acts taken words notes : List ℕ) (blocks count relati
   pub pack : Pack
   pub checked : read ws ≡ yes pack
   pub knows : known_in ws acts taken blocks count ≡ known_of pack
-  pub low : blocks ≤ 65536
-  pub few : count ≤ 64
   pub copied : words ≡ ws
   pub noted : NotesIn pack notes relations all
 

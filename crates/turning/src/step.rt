@@ -11,7 +11,6 @@ use crate::note::Note;
 use crate::root::Root;
 use definitions::answer::{Number, Refusal};
 use definitions::direction::Direction;
-use inputs::inputs::input;
 use pack::kinds::Pack;
 
 // Its slots and the entity of what stands inside it; its slots, where nothing stands inside it; or nothing, where it has no slots.
@@ -20,13 +19,6 @@ pub enum Out {
     Opens(u32, u32, u32),
     Sets(u32, u32),
     Passes,
-}
-
-// The blocks of a pack: where the first stands, and how many they are.
-#[derive(Clone, Copy)]
-pub struct Blocks {
-    pub at: usize,
-    pub count: usize,
 }
 
 // A node: its note, the entity with which it stands, and in which rule or relation.
@@ -93,17 +85,10 @@ impl Known<'_> {
         if word / Pack::VALUES == Pack::DERIVED {
             return Err(node.refused(Number::DerivedInput, name));
         }
-        let blocks = self.blocks;
         let origin = node.root.origin;
-        input(
-            self.tables.pack,
-            blocks.at,
-            blocks.count,
-            origin,
-            owner,
-            name,
-        )
-        .map_err(|number| node.refused(number, name))
+        self.blocks
+            .input(self.tables.pack, origin, owner, name)
+            .map_err(|number| node.refused(number, name))
     }
 
     // An aggregate, of any kind. Inside an OnlyRelated there is no entity, since its kind is the owner of its input.

@@ -8,9 +8,10 @@ ghost use Rattle.turning.specs.TurnPromises.{NoteAsked, NoteTurned, TurnsAsked, 
 use crate::known::Known;
 use crate::note::Note;
 use crate::root::Root;
-use crate::step::{Blocks, Node, Out};
+use crate::step::{Node, Out};
 use definitions::answer::Refusal;
 use directions::tables::Tables;
+use inputs::inputs::Blocks;
 use pack::kinds::Pack;
 
 // The notes of a pack with these blocks: so many of relations, which come first, and so many in all.

@@ -30,11 +30,8 @@ put_word-requires-3 c =
 
 pub order_blocks-requires : goal.order_blocks-requires
 order_blocks-requires c =
-    let r = rules-written c.requires c.order_rules.ensures (omega (arith, numbers c.requires, order_long c.requires, rules-long c.requires)) in (
-      (first-near c.requires).1,
-      (numbers c.requires).1,
-      omega (arith, numbers c.requires, order_long c.requires, rules-long c.requires, B-long c.requires),
-    )
+    let r = rules-written c.requires c.order_rules.ensures (omega (arith, numbers c.requires, order_long c.requires, rules-long c.requires)) in
+    omega (arith, numbers c.requires, order_long c.requires, rules-long c.requires, B-long c.requires)
 
 pub returns : goal.returns
 returns c a =

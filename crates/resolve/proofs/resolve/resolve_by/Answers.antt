@@ -32,4 +32,4 @@ pub resolve_in-requires : goal.resolve_in-requires
 resolve_in-requires c =
     let m = its-words c.requires.1.clear c.check_notes.ensures c.in_ok-layout.was in
     let a = checked-asked c.requires.1.clear c.check_notes.ensures c.in_ok-layout.was c.requires.0 c.requires.1 c.check_notes.auto.dir c.check_notes.auto.notes (front_length c.args.words.now (length c.args.pack.now) (c.requires.2 m)) in
-    rw c.of.ensures (in_asked a c.read_tables-steps.ensures refl)
+    in_asked a c.read_tables-steps.ensures c.of.ensures

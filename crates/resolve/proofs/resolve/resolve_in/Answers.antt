@@ -3,7 +3,7 @@ use native.Mathlib.Omega.{arith}
 use mathlib.Core.Path.{refl, ap, sym, ◌∙◌}
 use Rattle.std.specs.Prelude.{Err}
 use Rattle.filtered.specs.Taking.{option_in}
-use Rattle.resolve.proofs.PlacesLaws.{pieces_asked, pieces_few}
+use Rattle.resolve.proofs.PlacesLaws.{relations_few, pieces_few}
 use Rattle.resolve.proofs.ResolveLaws.{marks-asked, equal_reached, equal_refused, into_refused}
 use Rattle.resolve.proofs.resolve.resolve_in.Goals as goal
 
@@ -19,7 +19,7 @@ ask_notes-requires c =
     marks-asked c.requires
 
 pub pieces-requires : goal.pieces-requires
-pieces-requires c = pieces_asked c.requires
+pieces-requires c = relations_few c.requires
 
 pub resolve_pieces-requires : goal.resolve_pieces-requires
 resolve_pieces-requires c = (

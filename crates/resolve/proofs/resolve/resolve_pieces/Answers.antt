@@ -1,10 +1,10 @@
 -- `resolve::resolve::resolve_pieces` meets its contract.
 use native.Mathlib.Omega.{arith}
-use Rattle.resolve.proofs.PlacesLaws.{order_of, pieces_asked, pieces_room, pieces_long}
+use Rattle.resolve.proofs.PlacesLaws.{order_of, relations_few, pieces_room, pieces_long}
 use Rattle.resolve.proofs.resolve.resolve_pieces.Goals as goal
 
 pub pieces-count-requires : goal.pieces-count-requires
-pieces-count-requires g c = pieces_asked c.requires.0.resolves
+pieces-count-requires g c = relations_few c.requires.0.resolves
 
 pub order-requires : goal.order-requires
 order-requires g c = order_of c.requires.0.resolves (pieces_room c.requires.0.resolves c.pieces-count.ensures g.row.MOST (omega (arith, c.requires.0.few)))

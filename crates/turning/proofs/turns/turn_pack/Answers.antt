@@ -6,7 +6,7 @@ use Rattle.turning.proofs.turns.turn_pack.Goals as goal
 
 pub turns-requires : goal.turns-requires
 turns-requires c =
-    let k : Known = record { tables = c.args.tables; blocks = c.args.counts.blocks; low = c.requires.low; few = c.requires.few } in
+    let k : Known = record { tables = c.args.tables; blocks = c.args.counts.blocks } in
     rules-asked k _ _ _ _ c.requires
 
 pub returns-in_err-turns : goal.returns-in_err-turns
