@@ -12,7 +12,7 @@ pub fn value_at(pack: &[u32], at: usize) -> u32
     pack.get(at).copied().unwrap_or(0) % Pack::VALUES
 }
 
-// The place where a record starts; none starts further on.
+// The place where a record starts, low enough that no sum from it overflows.
 #[derive(Clone, Copy)]
 pub struct RecordPlace {
     pub at: usize,
