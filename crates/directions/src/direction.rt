@@ -5,7 +5,7 @@ ghost use Rattle.definitions.specs.Places.{names_at};
 ghost use Rattle.filtered.specs.Acts.{act_part};
 ghost use Rattle.filtered.specs.Said.{direct_in};
 ghost use Rattle.filtered.specs.Taking.{option_in};
-ghost use Rattle.definitions.specs.Direction.{bearing, or_else, kind_or_zero, matched, towards, turn, related_kind, between, tested};
+ghost use Rattle.definitions.specs.Direction.{bearing, or_else, kind_or_zero, matched, turn, related_kind, between};
 ghost use Rattle.directions.specs.Words.{typed_in, derived_in, tables_in, member_in, MemberTurned};
 
 use crate::tables::Tables;
@@ -72,15 +72,6 @@ impl Tables<'_> {
         (value_at(self.pack, at + 1), value_at(self.pack, at + 2))
     }
 
-    // An aggregate over a typed relation, by its number.
-    fn towards(&self, x: u32, entity: u32, current: u32, related: u32) -> Direction
-        requires { act_part x ≡ 1 }
-        ensures { result ≡ towards (direct_in self.now.taken.now) (typed_in self.now.pack.now x) entity current related }
-    {
-        let (a, b) = self.typed_kinds(x);
-        matched(a, b, self.matching_kind(entity), entity, current, related)
-    }
-
     // An aggregate over a relation.
     #[tactic(auto, using(std::proofs::lemmas::Bool::Decides::nat_tests), unfolding(definitions::specs::Direction::turn, crate::specs::Words::tables_in, crate::specs::Words::typed_in, crate::specs::Words::derived_in))]
     pub fn turn(&self, relation: usize, entity: u32, current: u32, related: u32) -> Direction
@@ -89,7 +80,10 @@ impl Tables<'_> {
         let x = act_of(self.acts, relation);
         match Part::of(x) {
             Part::Neither => Direction::Directed(current, related, 0),
-            Part::Typed => self.towards(x, entity, current, related),
+            Part::Typed => {
+                let (a, b) = self.typed_kinds(x);
+                matched(a, b, self.matching_kind(entity), entity, current, related)
+            }
             Part::Derived(at) => {
                 let r = value_at(self.pack, at + 1);
                 let kind = kind_or_zero(self.pack, list(x), r);
@@ -124,18 +118,6 @@ impl Tables<'_> {
         }
     }
 
-    // A test of membership over a typed relation, by its number, in the predicate of another.
-    fn tested(&self, x: u32, own: u32, current: u32, related: u32) -> Direction
-        requires { act_part x ≡ 1 }
-        ensures { result ≡ tested (typed_in self.now.pack.now x) (member_in self.now.pack.now own) current related }
-    {
-        let Some((c, r)) = self.slot_kinds(own) else {
-            return Direction::Directed(current, related, 0);
-        };
-        let (a, b) = self.typed_kinds(x);
-        between(a, b, c, r, current, related)
-    }
-
     // A test of membership in a relation, in the predicate of the one with this number.
     #[tactic(auto, using(std::proofs::lemmas::Bool::Decides::nat_tests), unfolding(definitions::specs::Direction::member_direction, crate::specs::Words::tables_in, crate::specs::Words::typed_in, crate::specs::Words::derived_in))]
     pub fn member(&self, relation: usize, own: u32, current: u32, related: u32) -> Direction
@@ -144,7 +126,13 @@ impl Tables<'_> {
         let x = act_of(self.acts, relation);
         match Part::of(x) {
             Part::Neither => Direction::Directed(current, related, 0),
-            Part::Typed => self.tested(x, own, current, related),
+            Part::Typed => {
+                let Some((c, r)) = self.slot_kinds(own) else {
+                    return Direction::Directed(current, related, 0);
+                };
+                let (a, b) = self.typed_kinds(x);
+                between(a, b, c, r, current, related)
+            }
             Part::Derived(at) => {
                 Direction::Directed(value_at(self.pack, at), value_at(self.pack, at + 1), 0)
             }
