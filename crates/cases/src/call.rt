@@ -12,6 +12,7 @@ use kinds::kinds_of::kinds_of;
 use kinds::lean::lean;
 use resolve::resolve::resolve;
 
+// A list names its calls by numbers, and this is the one place that goes from them to the functions.
 fn answer_of(call: Call, entry: Entry, pack: &[u32], out: &mut [u32]) -> Answer {
     match call {
         Call::Check => check(pack),

@@ -11,6 +11,7 @@ pub enum Operation {
     End,
 }
 
+// Any operation: the definitions have those that only answer (`Question`) and those that write (`Writing`), and Resolve apart from both.
 #[derive(Clone, Copy)]
 pub enum Call {
     Check,

@@ -1,5 +1,5 @@
 // What the directory of a pack says of a name, and its relations in record order.
-ghost use Rattle.std.specs.Prelude.{◌≡◌, ◌+◌, ◌-◌, ◌/◌, ◌<◌, length, get_or};
+ghost use Rattle.std.specs.Prelude.{◌≡◌, ◌+◌, ◌-◌, ◌/◌, ◌<◌, length, get_or, unwrap_or, IfSome};
 ghost use Rattle.chains.specs.DirectoryWord.{Reaches, starts_in, slots_in, declared_in};
 ghost use Rattle.chains.specs.Declaration.{Noted, Ends, number_of};
 
@@ -17,7 +17,8 @@ impl Declaration {
     // Every place is below this. In the definitions, a declaration that leads on is the number of the name and this.
     pub const LEADS: u32 = 65536;
 
-    // The name that it leads on to. It is 0 and no Option if it leads to none, since that is the 0 that tables of names hold.
+    // The name that it leads on to. It is 0 and no Option if it leads to none: that is so at the end of a path alone, where it is asked
+    // for once more and not used.
     pub fn next_name(self) -> usize
         requires { Ends self }
         ensures { result ≡ number_of self - 65536 }
@@ -59,18 +60,18 @@ fn link_of(word: u32) -> Link
     }
 }
 
-// The place of its slots. Without a derivation it is 0, as with `start`.
+// The place of its slots, if it has a derivation.
 #[tactic(auto, using(crate::proofs::ByName::slots_by), unfolding(crate::specs::DirectoryWord::slot_in))]
-pub fn slots(dir: &[u32], name: usize) -> usize
+pub fn slots(dir: &[u32], name: usize) -> Option<usize>
     requires { Reaches dir.now (name + 1) }
-    ensures { (result ≡ get_or (slots_in dir.now) name 0) × (result < 16384) }
+    ensures { (unwrap_or result 0 ≡ get_or (slots_in dir.now) name 0) × IfSome result (λ at. (0 < at) × (at < 16384)) }
 {
     let word = dir[Directory::NAMES + name];
     let at = word % Directory::PLACES;
     match link_of(word) {
-        Link::NoDerivation => 0,
-        Link::Slots(behind) => (at + behind) as usize,
-        Link::Leads(_) => (at + Directory::LEADING_SLOTS) as usize,
+        Link::NoDerivation => None,
+        Link::Slots(behind) => Some((at + behind) as usize),
+        Link::Leads(_) => Some((at + Directory::LEADING_SLOTS) as usize),
     }
 }
 

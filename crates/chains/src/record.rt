@@ -1,5 +1,5 @@
 // What a relation's record says, read at the place where it starts. Past the end words are 0.
-ghost use Rattle.std.specs.Prelude.{◌≡◌, ◌<◌, ◌≤◌};
+ghost use Rattle.std.specs.Prelude.{◌≡◌, ◌<◌, ◌≤◌, eqb};
 ghost use Rattle.chains.specs.Record.{value_at, kind_count, flag_at, slots_place};
 
 use pack::kinds::Pack;
@@ -19,7 +19,7 @@ pub struct RecordPlace {
     pub ghost near: { at ≤ 65536 },
 }
 
-#[tactic(auto, unfolding(crate::specs::Record::kind_count, crate::specs::Record::flag_at, crate::specs::Record::slots_place))]
+#[tactic(auto, using(std::proofs::lemmas::Bool::Decides::nat_tests), unfolding(crate::specs::Record::kind_count, crate::specs::Record::flag_at, crate::specs::Record::slots_place))]
 impl RecordPlace {
     // The number of a relation's slot kinds.
     pub fn kind_count(self, pack: &[u32]) -> usize
@@ -29,10 +29,10 @@ impl RecordPlace {
     }
 
     // Whether it has a derivation.
-    pub fn flag_at(self, pack: &[u32]) -> u32
-        ensures { result ≡ flag_at pack.now self.at }
+    pub fn has_derivation(self, pack: &[u32]) -> bool
+        ensures { result ≡ eqb (flag_at pack.now self.at) 1 }
     {
-        value_at(pack, self.at + 4 + self.kind_count(pack))
+        value_at(pack, self.at + 4 + self.kind_count(pack)) == 1
     }
 
     // The place of its current slot, after which the related one stands.

@@ -23,17 +23,7 @@ impl Mark {
     // A settled name's mark is this and its answer.
     pub const SETTLED: u32 = 2;
 
-    pub fn of(number: u32) -> Mark
-        ensures { number_of_mark result ≡ number }
-    {
-        match number {
-            Mark::UNSEEN => Mark::Unseen,
-            Mark::ON_PATH => Mark::OnPath,
-            _ => Mark::Settled(number - Mark::SETTLED),
-        }
-    }
-
-    // The answer of a settled name, 0 where none is known.
+    // The answer of a settled name, 0 where none is known: as `start` and `walk`, no Option.
     pub fn answer(self) -> u32
         ensures { result ≡ number_of_mark self - 2 }
     {
@@ -41,6 +31,19 @@ impl Mark {
             Mark::Unseen => 0,
             Mark::OnPath => 0,
             Mark::Settled(answer) => answer,
+        }
+    }
+}
+
+// What a number of a table says.
+impl From<u32> for Mark {
+    ghost from_gives = { λ number mark. number_of_mark mark ≡ number };
+
+    fn from(number: u32) -> Mark {
+        match number {
+            Mark::UNSEEN => Mark::Unseen,
+            Mark::ON_PATH => Mark::OnPath,
+            _ => Mark::Settled(number - Mark::SETTLED),
         }
     }
 }
@@ -77,7 +80,7 @@ impl<'a> Walks<'a> {
     {
         let mut n = start;
         for _ in 0..fuel {
-            match Mark::of(self.marks[n]) {
+            match Mark::from(self.marks[n]) {
                 Mark::Settled(answer) => return answer,
                 Mark::OnPath => return 0,
                 Mark::Unseen => self.marks[n] = Mark::ON_PATH,

@@ -86,7 +86,7 @@ fn check_sized<const WORDS: usize>(pack: &[u32]) -> Answer
 }
 
 // Whether the words are a pack, or the first refusal. Few names have a small directory, since clearing a large one would take
-// longer than the work.
+// longer than the work; a size is an argument that must be a constant, so each is written out.
 pub fn check(pack: &[u32]) -> Answer
     ensures { result ≡ check_answer pack.now }
 {

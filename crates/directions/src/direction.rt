@@ -78,7 +78,7 @@ impl Tables<'_> {
         ensures { result ≡ turn (tables_in self.now.pack.now self.now.acts.now self.now.taken.now) relation entity current related }
     {
         let x = act_of(self.acts, relation);
-        match Part::of(x) {
+        match Part::from(x) {
             Part::Neither => Direction::Directed(current, related, 0),
             Part::Typed => {
                 let (a, b) = self.typed_kinds(x);
@@ -97,7 +97,7 @@ impl Tables<'_> {
     pub fn slot_kinds(&self, x: u32) -> Option<(u32, u32)>
         ensures { (option_in result ≡ member_in self.now.pack.now x) × IfSome result (λ m. (m.0 < 16777216) × (m.1 < 16777216)) }
     {
-        let Part::Derived(at) = Part::of(x) else {
+        let Part::Derived(at) = Part::from(x) else {
             return None;
         };
         let list = list(x);
@@ -112,7 +112,7 @@ impl Tables<'_> {
     pub fn related_kind(&self, x: u32) -> u32
         ensures { result ≡ related_kind (derived_in self.now.pack.now x) }
     {
-        match Part::of(x) {
+        match Part::from(x) {
             Part::Derived(at) => kind_or_zero(self.pack, list(x), value_at(self.pack, at + 1)),
             _ => 0,
         }
@@ -124,7 +124,7 @@ impl Tables<'_> {
         ensures { MemberTurned self.now.pack.now self.now.acts.now relation (member_in self.now.pack.now own) current related result }
     {
         let x = act_of(self.acts, relation);
-        match Part::of(x) {
+        match Part::from(x) {
             Part::Neither => Direction::Directed(current, related, 0),
             Part::Typed => {
                 let Some((c, r)) = self.slot_kinds(own) else {

@@ -5,7 +5,8 @@ ghost use Rattle.filtered.specs.Acts.{act_part, act_list, part_number, PartFits}
 use chains::entry::Declaration;
 use chains::settle::Mark;
 
-// What it does by the relation's slots. A table packs it into one number with the mark of the list that settles the relation's name.
+// What it does by the relation's slots. A table packs it into one number with the mark of the list that settles the relation's
+// name; a number with both is handed on as it is, and each who reads it takes out what it wants.
 #[derive(Clone, Copy, PartialEq, Eq)]
 pub enum Part {
     // The relation is neither typed nor derived.
@@ -18,17 +19,6 @@ pub enum Part {
 
 impl Part {
     pub const MARKS: u32 = 2 * Declaration::LEADS;
-
-    // The part in the number of a name.
-    pub fn of(x: u32) -> Part
-        ensures { (part_number result ≡ act_part x) × PartFits result }
-    {
-        match x / Part::MARKS {
-            0 => Part::Neither,
-            1 => Part::Typed,
-            at => Part::Derived(at as usize),
-        }
-    }
 
     // As it is packed.
     pub fn number(self) -> u32
@@ -43,7 +33,20 @@ impl Part {
     }
 }
 
-// The number of a name; past the table it is 0.
+// The part in the number of a name.
+impl From<u32> for Part {
+    ghost from_gives = { λ x part. (part_number part ≡ act_part x) × PartFits part };
+
+    fn from(x: u32) -> Part {
+        match x / Part::MARKS {
+            0 => Part::Neither,
+            1 => Part::Typed,
+            at => Part::Derived(at as usize),
+        }
+    }
+}
+
+// The number of a name, as the table has it; past the table it is 0.
 pub fn act_of(acts: &[u32], name: usize) -> u32
     ensures { result ≡ get_or acts.now name 0 }
 {
@@ -54,5 +57,5 @@ pub fn act_of(acts: &[u32], name: usize) -> u32
 pub fn list(x: u32) -> u32
     ensures { (result ≡ act_list x) × (result < 131072) }
 {
-    Mark::of(x % Part::MARKS).answer()
+    Mark::from(x % Part::MARKS).answer()
 }

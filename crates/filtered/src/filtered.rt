@@ -25,7 +25,7 @@ fn inner_of(taken: Taken, mark: u32) -> Option<u32>
     ensures { or_none (option_in result) ≡ inner_of (number_of taken) mark }
 {
     taken.direct()?;
-    Mark::of(mark).answer().checked_sub(1)
+    Mark::from(mark).answer().checked_sub(1)
 }
 
 // What a table says of a name.
@@ -153,7 +153,7 @@ fn filtered_sized<const WORDS: usize, const NAMES: usize>(
     filtered_in(pack, filter, &mut dir, &mut marks, &mut taken, out)
 }
 
-// A table, one word for each name of the pack.
+// A table, one word for each name of the pack. A size is an argument that must be a constant, so each is written out.
 pub fn filtered(pack: &[u32], filter: Filter, out: &mut [u32]) -> Answer
     ensures { Answered (filter_answer filter) (filter_buffer filter) pack.now out.old result out.new }
 {

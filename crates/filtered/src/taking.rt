@@ -16,7 +16,7 @@ use chains::settle::settle_all;
 use pack::kinds::Pack;
 use records::directory::Layout;
 
-// What is known of an entity. A table packs it into one number.
+// What is known of an entity. A table packs it into one number: on the stack there is no room for a table of enums.
 #[derive(Clone, Copy, PartialEq, Eq)]
 pub enum Taken {
     // No derivation names it.
@@ -169,15 +169,14 @@ fn read_relation(pack: &[u32], dir: &[u32], acts: &mut [u32], taken: &mut [u32],
     requires { (name < length acts.old) × Reaches dir.now (name + 1) }
     ensures { RelationRead pack.now (starts_in dir.now) (slots_in dir.now) acts.old taken.old name acts.new taken.new }
 {
-    let at = slots(dir, name);
     let x = acts[name] % Part::MARKS;
-    if at == 0 {
+    let Some(at) = slots(dir, name) else {
         let place = RecordPlace {
             at: start(dir, name),
         };
         acts[name] = x + Part::MARKS * typed(pack, place).number();
         return;
-    }
+    };
     let kind = kind_at(pack, list(x), value_at(pack, at));
     take_at(taken, value_at(pack, at + 2), kind);
     acts[name] = x + Part::MARKS * Part::Derived(at).number();
@@ -194,7 +193,8 @@ fn read_relations(pack: &[u32], dir: &[u32], count: u32, acts: &mut [u32], taken
 }
 
 // The tables of a checked pack, which hold zeros before: the marks of the chain walk become what aggregates do. The answer is the
-// number of declarations read.
+// number of declarations read. The tables are lent one by one and no struct holds them with the directory, since who lends them reads
+// each afterwards, and would have to be promised that the struct held the same.
 pub fn read_tables(pack: &[u32], l: Layout, dir: &[u32], acts: &mut [u32], taken: &mut [u32]) -> u32
     requires { IsDirectory pack.now l dir.now × ClearTable l.names acts.old × Reaches dir.now (length acts.old) × ClearTable l.names taken.old }
     ensures { Filled pack.now (names_in dir.now l.relations) (starts_in dir.now) acts.new taken.new result }

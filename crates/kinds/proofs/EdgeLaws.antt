@@ -39,12 +39,12 @@ module _ (ws : List ℕ) (start : ℕ) where
   unfolding edges_in
   at_none z = rw (eq-eqb start 0 z) refl
 
-  module _ (y : start ≡ 0 → ⊥) {flag : ℕ} (f : flag ≡ flag_at ws start) where
-    pub underived : (flag ≡ 1 → ⊥) → edges_in ws start ≡ []
+  module _ (y : start ≡ 0 → ⊥) {has : Bool} (f : has ≡ eqb (flag_at ws start) 1) where
+    pub underived : has ≡ false → edges_in ws start ≡ []
     unfolding edges_in
-    underived z = rw (ne_eqb start 0 y, ← f, ne_eqb flag 1 z) refl
+    underived z = rw (ne_eqb start 0 y, ← f, z) refl
 
-    pub derived : flag ≡ 1 → {kinds : ℕ} → kinds ≡ kind_count ws start → edges_in ws start ≡ derived_edges ws (start + 4 + kinds)
+    pub derived : has ≡ true → {kinds : ℕ} → kinds ≡ kind_count ws start → edges_in ws start ≡ derived_edges ws (start + 4 + kinds)
     unfolding edges_in
     derived z k = rw (ne_eqb start 0 y, ← f, z, ← k) refl
 

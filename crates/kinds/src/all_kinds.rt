@@ -20,7 +20,7 @@ fn places(dir: &[u32], marks: &[u32], out: &mut [u32])
     ensures { out.new ≡ table_from (place_at marks.now dir.now) 0 (length out.old) }
 {
     for (j, place) in out.iter_mut().enumerate() {
-        *place = Mark::of(marks[name_at(dir, j)]).answer();
+        *place = Mark::from(marks[name_at(dir, j)]).answer();
     }
 }
 

@@ -12,7 +12,8 @@ use pack::kinds::Pack;
 use std::marker::Model;
 
 // Marks by name say which names are reached. The queue has them in the order in which they were, as many as `count`, and room for all
-// others; the first ones, as many as `entered`, are entered.
+// others; the first ones, as many as `entered`, are entered. Marks are numbers, as in every table of names, so that one set of laws of
+// tables serves.
 #[derive(Drop)]
 struct Search<'a> {
     marks: &'a mut [u8],
@@ -94,7 +95,7 @@ impl<'a> Search<'a> {
         if place.at == 0 {
             return;
         }
-        if place.flag_at(pack) != 1 {
+        if !place.has_derivation(pack) {
             return;
         }
         let at = place.at + 4 + place.kind_count(pack);

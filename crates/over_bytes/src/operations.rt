@@ -1,5 +1,5 @@
 // The operations over bytes: each loads the pack's words and answers by one number. Clearing large arrays would take longer
-// than the work on a small pack: it has small ones.
+// than the work on a small pack: it has small ones. A size is an argument that must be a constant, so each is written out.
 ghost use Rattle.std.specs.Prelude.{◌≡◌, ◌+◌, ◌≤◌, length};
 ghost use Rattle.definitions.specs.Bytes.{encode, over_bytes, Gives};
 ghost use Rattle.wire.specs.Loading.{Holds, Tried};
@@ -36,6 +36,7 @@ impl Short {
     pub const MOST_MADE: usize = Pack::MOST_WORDS + 1;
 }
 
+// A host names its question by an enum, and this is the one place that goes from it to the function.
 fn answer_to(q: Question, words: &[u32]) -> Answer
     ensures { result ≡ answer_to q words.now }
 {

@@ -16,7 +16,8 @@ pub struct Cursor {
     pub at: usize,
 }
 
-// What a reading step finds: a value and the place after it, or a refusal.
+// What a reading step finds: a value and the place after it, or a refusal. Where no value is wanted it is 0, and the type the same: so
+// one set of laws serves all readers.
 pub type Step = Result<(u32, Cursor), Refusal>;
 
 impl Pack {
@@ -28,6 +29,8 @@ impl Pack {
     }
 }
 
+// The words and N are given at each call, and no struct of both: the edition and N themselves are read before N is known, and the total is
+// held to the number of words in its place.
 impl Cursor {
     // The word at this place, whatever it is.
     pub fn word(self, s: &[u32]) -> Step
@@ -40,7 +43,8 @@ impl Cursor {
         }
     }
 
-    // A word of this kind, whose values the table allows by this rule: its value.
+    // A word of this kind, whose values the table allows by this rule: its value. The rule is a constant at each call, so that no table is
+    // looked up.
     pub fn field(self, s: &[u32], n: u32, kind: u32, rule: Values) -> Step
         requires { Ruled kind rule }
         ensures { result ≡ field_step n kind s.now self.at }

@@ -130,7 +130,8 @@ impl Pack {
     pub const ITEM_ENTITY: u32 = 33;
 }
 
-// The sorts of trees, as a body's word gives them; NO_TREE where no tree begins.
+// The sorts of trees, as a body's word gives them: numbers, as the format has them. NO_TREE, where no tree begins, is one too, so that one
+// comparison tests a head word's sort.
 impl Pack {
     pub const SCALAR: u32 = 0;
 

@@ -24,6 +24,7 @@ pub struct Words<'a> {
     pub ghost few: { length words.now ≤ 8192 },
 }
 
+// The place is no field: it is another at each call, and what is asked of it is that it lies in these words.
 impl<'a> Words<'a> {
     // The word that begins a tree of the sort, where so many levels are left: the place after it.
     pub(crate) fn head(self, at: usize, sort: u32, left: u32) -> Result<usize, Fault>

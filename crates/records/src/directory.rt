@@ -3,7 +3,7 @@ use definitions::answer::Refusal;
 use pack::kinds::Pack;
 
 // First the names of the relations in record order. Then a word for each name, 0 where no relation has it: the place of
-// its relation, and what is noted of the relation, times PLACES.
+// its relation, and what is noted of the relation, times PLACES. It stands on the stack, where there is no room for words of an enum.
 #[derive(Clone, Copy)]
 pub struct Directory {}
 

@@ -1,4 +1,5 @@
-// The records of a pack, each read after what stands before it.
+// The records of a pack, each read after what stands before it. Where trees stand in them, a reader takes `Words`; where none do, the words
+// and N, as a Cursor does.
 // A file for each sort of records (defaulted, relation with derivation, rule, block), their counts (count), all of them (all),
 // and what is written down on the way (directory).
 #![tactic(auto)]

@@ -10,7 +10,7 @@ use pack::refusal::refused;
 use stamping::lists::lists;
 
 // From the words of a pack whose trees are resolved, and the places of its pieces, with a cleared table for the lists that are
-// stamped on them.
+// stamped on them. Places and lists are two slices: the places were made before the trees were turned, the lists are made after.
 fn finish_in(
     checked: &Checked,
     asked: &[u8],

@@ -152,7 +152,8 @@ fn resolve_copied<const MOST: usize>(pack: &[u32], out: &mut [u32], room: usize)
 }
 
 // Resolve for an output of so many words, into a slice that holds notes before the result, and anything after a refusal. A
-// small pack has a small copy, since clearing a large one would take longer than the work.
+// small pack has a small copy, since clearing a large one would take longer than the work. Sizes are arguments that must be constants,
+// here, for its names and for its pieces; so each is written out.
 pub fn resolve_into(pack: &[u32], out: &mut [u32], room: usize) -> Answer
     requires { RoomFor pack.now out.old room }
     ensures { Into pack.now room result out.new }

@@ -50,7 +50,7 @@ impl Resolved<'_> {
     {
         let name = value_at(self.work, place.at) as usize;
         let x = act_of(self.acts, name);
-        let Part::Derived(slots) = Part::of(x) else {
+        let Part::Derived(slots) = Part::from(x) else {
             return None;
         };
         let list = list(x);
@@ -80,7 +80,8 @@ pub fn names_at(pack: &[u32], list: u32) -> u32
     list_at(pack, list).len() as u32
 }
 
-// The lists for relations that start at places, 0 for none. The answer is how many words more there are with them.
+// The lists for relations that start at places, 0 for none, since no list stands at the first word. The answer is how many words more there
+// are with them.
 pub fn lists(
     pack: &[u32],
     work: &[u32],

@@ -5,7 +5,8 @@ ghost use Rattle.turning.specs.Turns.{field_of, held, note_in};
 
 use pack::kinds::Pack;
 
-// Where its word stands; the number of the note inside which it stands, 0 for a rule or relation; and whether membership is lost there.
+// Where its word stands; the number of the note inside which it stands, 0 for a rule or relation, since no note has that number; and
+// whether membership is lost there.
 #[derive(Clone, Copy)]
 pub struct Note {
     pub place: usize,
@@ -26,7 +27,7 @@ impl Note {
         }
     }
 
-    // The number of the relation whose membership a note keeps; 0 where it is lost.
+    // The number of the relation whose membership a note keeps; 0 where it is lost, which is that of a relation without one.
     pub fn kept(self, own: u32) -> u32
         ensures { (ws : List ℕ) → member_in ws result ≡ held self.lost (member_in ws own) }
     {

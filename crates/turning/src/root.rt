@@ -5,8 +5,8 @@ use crate::known::Known;
 use filtered::act::act_of;
 use pack::kinds::Pack;
 
-// Its name, its origin, the entity of its trees, and what `acts` has for the relation in whose predicate they stand: 0, which is NEITHER
-// there, for a rule. By default it is none.
+// Its name, its origin, the entity of its trees, and what `acts` has for the relation in whose predicate they stand: for a rule 0, which is
+// the number of `Part::Neither`. By default it is none.
 #[derive(Clone, Copy, Default)]
 pub struct Root {
     pub name: u32,

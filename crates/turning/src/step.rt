@@ -13,7 +13,9 @@ use definitions::answer::{Number, Refusal};
 use definitions::direction::Direction;
 use pack::kinds::Pack;
 
-// Its slots and the entity of what stands inside it; its slots, where nothing stands inside it; or nothing, where it has no slots.
+// Its slots and the entity of what stands inside it; its slots, where nothing stands inside it; or nothing, where it has no slots. The
+// current and the related slot are two numbers here and in directions, as in 01 and so in each definition: a struct of them would be taken
+// apart again in every rule.
 #[derive(Clone, Copy)]
 pub enum Out {
     Opens(u32, u32, u32),

@@ -7,4 +7,4 @@ pub returns-in_err-direct : goal.returns-in_err-direct
 returns-in_err-direct c = rw c.from_residual.ensures (inner-none _ _ c.in_err-direct.ensures)
 
 pub returns : goal.returns
-returns c = inner_some _ _ c.in_ok-direct.ensures (omega (arith, c.of.ensures)) _ c.checked_sub.ensures
+returns c = inner_some _ _ c.in_ok-direct.ensures (omega (arith, c.from.ensures)) _ c.checked_sub.ensures

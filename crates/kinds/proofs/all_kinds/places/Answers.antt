@@ -11,4 +11,4 @@ bounds-marks-name_at c = named-low _ _ _ c.requires.2 _ (omega (arith, c.loop-j.
 
 pub loop-j-preserved : goal.loop-j-preserved
 unfolding place_at
-loop-j-preserved c = next _ _ c.loop-j.invariant (omega (arith, c.loop-j.invariant.long)) (rw (c.answer.ensures, c.of.ensures, c.name_at.ensures) refl)
+loop-j-preserved c = next _ _ c.loop-j.invariant (omega (arith, c.loop-j.invariant.long)) (rw (c.answer.ensures, c.from.ensures, c.name_at.ensures) refl)
