@@ -34,7 +34,7 @@ use Rattle.directions.proofs.TurnedPack.{front, front_long, front22, front22_lon
 use Rattle.turning.specs.Notes.{Note, notes_run, body_notes, rule_notes, relations_noted, rules_noted}
 use Rattle.turning.proofs.MarkedLaws.{AllInside, run_inside}
 use Rattle.definitions.specs.WrittenRecords.{joined, sums, lengths, beginnings, block_piece, other_pieces, pieces_of}
-use Rattle.resolve.specs.Finish.{NamesIn, order_in, roots_of, block_places}
+use Rattle.resolve.specs.Finish.{Named, order_in, roots_of, block_places}
 use Rattle.resolve.proofs.WrittenPack.{joined-map, blocks-joined}
 
 -- ---- relations of which no name comes twice
@@ -176,10 +176,9 @@ module _ {ws : List ℕ} (dir : List ℕ) {acts taken : List ℕ} {steps : ℕ} 
       ap (λ (x : ℕ). x ∷ map (λ (s : Relation). get_or (starts_in dir) s.name 0) l) (a_record p w (starts_in dir) (a.filled.noted.placed p h) r.name r f.0)
       ∙ ap (λ (x : List ℕ). begins r.name ∷ x) (each_start l f.1)
 
-  order_is : (count : ℕ) → names_in dir count ≡ declared p.relations → order_in dir count ≡ places_in p
-  unfolding order_in names_in
-  order_is count named =
-      table-mapped (λ m. get_or (starts_in dir) m 0) (λ j. get_or dir j 0) 0 count ∙ ap (map (λ m. get_or (starts_in dir) m 0)) named ∙ map-names (λ m. get_or (starts_in dir) m 0) p.relations
+  order_is : {names : List ℕ} → names ≡ declared p.relations → order_in dir names ≡ places_in p
+  order_is named =
+      ap (map (λ m. get_or (starts_in dir) m 0)) named ∙ map-names (λ m. get_or (starts_in dir) m 0) p.relations
       ∙ each_start p.relations (all_found p w) ∙ starts_run p.names begins [] p.relations (parts p w).relations-fine (first_relation p) (λ m e. refl)
 
   -- where the rules and the blocks start
@@ -229,16 +228,16 @@ module _ {ws : List ℕ} (dir : List ℕ) {acts taken : List ℕ} {steps : ℕ} 
         ∙ run_blocks ws n before p.blocks [] (sym (words-read ws p h).same ∙ S.same ∙ ap (λ (l : List ℕ). S.before ++ l) (sym (blocks-words n p.blocks) ∙ sym (blocks-joined n p.blocks)) ∙ sym (append_assoc S.before (word_of 28 (length p.blocks) ∷ []) P) ∙ ap (λ (l : List ℕ). before ++ l) (sym (append-nil P))) S.fits
         ∙ ap (λ (x : ℕ). beginnings x (map (block_piece n) p.blocks)) before-long
 
-    pub all_begin : (count : ℕ) → names_in dir count ≡ declared p.relations
-        → 0 ∷ (order_in dir count ++ (rules ∷ (roots_of (rules_noted p) ++ (blocks ∷ block_places ws (blocks + 1) (length p.blocks))))) ≡ beginnings 0 (pieces_of p)
-    all_begin count named =
-        ap (λ (l : List ℕ). 0 ∷ (order_in dir count ++ (rules ∷ (l ++ (blocks ∷ block_places ws (blocks + 1) (length p.blocks)))))) rules_begin
-        ∙ ap (λ (l : List ℕ). 0 ∷ (order_in dir count ++ (rules ∷ (beginnings (rules + 1) rules_pieces ++ (blocks ∷ l))))) blocks_begin
-        ∙ ap (λ (x : ℕ). 0 ∷ (order_in dir count ++ (rules ∷ (beginnings (rules + 1) rules_pieces ++ (x ∷ beginnings (x + 1) (map (block_piece n) p.blocks)))))) blocks_at
-        ∙ ap (λ (l : List ℕ). 0 ∷ (order_in dir count ++ l)) (sym (begin_others p rules)) ∙ ap (λ (l : List ℕ). 0 ∷ (l ++ beginnings rules (other_pieces p))) (order_is count named)
+    pub all_begin : {names : List ℕ} → names ≡ declared p.relations
+        → 0 ∷ (order_in dir names ++ (rules ∷ (roots_of (rules_noted p) ++ (blocks ∷ block_places ws (blocks + 1) (length p.blocks))))) ≡ beginnings 0 (pieces_of p)
+    all_begin {names} named =
+        ap (λ (l : List ℕ). 0 ∷ (order_in dir names ++ (rules ∷ (l ++ (blocks ∷ block_places ws (blocks + 1) (length p.blocks)))))) rules_begin
+        ∙ ap (λ (l : List ℕ). 0 ∷ (order_in dir names ++ (rules ∷ (beginnings (rules + 1) rules_pieces ++ (blocks ∷ l))))) blocks_begin
+        ∙ ap (λ (x : ℕ). 0 ∷ (order_in dir names ++ (rules ∷ (beginnings (rules + 1) rules_pieces ++ (x ∷ beginnings (x + 1) (map (block_piece n) p.blocks)))))) blocks_at
+        ∙ ap (λ (l : List ℕ). 0 ∷ (order_in dir names ++ l)) (sym (begin_others p rules)) ∙ ap (λ (l : List ℕ). 0 ∷ (l ++ beginnings rules (other_pieces p))) (order_is named)
         ∙ ap (λ (x : ℕ). 0 ∷ (places_in p ++ beginnings x (other_pieces p))) (ruled p h) ∙ sym (begin_pieces p)
 
 -- ---- for the code
 
-pub its-name : (dir : List ℕ) (count j : ℕ) → NamesIn dir count → j < count → {name : ℕ} → name ≡ get_or dir j 0 → Reaches dir (name + 1)
-its-name dir count j n h e = reaches_one n.reaches (name-low n.most dir count j n.low h e)
+pub its-name : {dir names : List ℕ} → Named dir names → (j : ℕ) → Reaches dir (get_or names j 0 + 1)
+its-name n j = reaches_one n.reaches (n.low j)

@@ -4,7 +4,7 @@ use native.Mathlib.Omega.{arith}
 use native.Mathlib.Numerals.{add-one}
 use mathlib.Core.Path.{◌≡◌, refl, ap, sym, ◌∙◌, subst}
 use mathlib.Core.List.{List, [], ◌∷◌, ◌++◌, map, append_assoc, append-nil}
-use lib.ListN.{length, get_or, replicate, length-append, length-map, length-replicate}
+use lib.ListN.{length, get_or, take, replicate, length-append, length-map, length-replicate}
 use borrow.Author.Tests.{ne_eqb}
 use borrow.Rule.Slice.PartMut.{mid_of, mid_len}
 use Rattle.std.specs.List.{between}
@@ -17,7 +17,9 @@ use Rattle.definitions.specs.Places.{relation_words}
 use Rattle.chains.specs.DirectoryWord.{starts_in, names_in}
 use Rattle.chains.specs.Record.{value_at}
 use Rattle.definitions.specs.Form.{repeats}
+use Rattle.chains.proofs.EntryLaws.{names-front}
 use Rattle.chains.proofs.FillLaws.{table-length}
+use Rattle.filtered.specs.Taking.{NamesLow}
 use Rattle.chains.proofs.PackParts.{parts}
 use Rattle.chains.proofs.RecordLaws.{value_there}
 use Rattle.filtered.proofs.TakenKnown.{names-low}
@@ -34,7 +36,7 @@ use Rattle.resolve.specs.declared.checked.Figures.{Figures}
 use Rattle.definitions.specs.WrittenRecords.{beginnings, other_pieces, pieces_of}
 use Rattle.resolve.specs.declared.writer.Writer.{Writer}
 use Rattle.resolve.specs.Writing.{HasRoom, Begins, Writes}
-use Rattle.resolve.specs.Finish.{NamesIn, order_in, roots_of, block_places, RulesAsked, RulesCame, ResolveAsked, OrderAsked}
+use Rattle.resolve.specs.Finish.{Named, order_in, roots_of, block_places, RulesAsked, RulesCame, ResolveAsked, OrderAsked}
 use Rattle.resolve.proofs.WriteLaws.{nothing_written, writes_then, all_written}
 use Rattle.resolve.proofs.OrderLaws.{others-many, others-few, roots_many, all_begin}
 
@@ -201,36 +203,36 @@ module _ {ws dir notes : List ℕ} {f : Figures} {room : ℕ} (o : OrderAsked ws
   w = (words-read ws p h).fine
 
   abbrev tabled : TablesFilled ws (starts_in dir) o.acts o.taken f.steps
-  tabled = record { checked = a.directory.checked; declares = names_in dir a.layout.relations; filled = a.filled }
+  tabled = record { checked = a.directory.checked; declares = names_in dir f.layout.relations; filled = a.filled }
 
   abbrev blocks : ℕ
-  blocks = a.layout.blocks
+  blocks = f.layout.blocks
 
   abbrev count : ℕ
-  count = f.notes.blocks.count
+  count = f.blocks.count
 
   i : ReadsInputs ws p blocks
   i = reads_inputs ws p h a.directory.blocked
 
-  many : f.relations ≡ length p.relations
-  many = a.counts ∙ a.directory.counted p h
+  many : f.layout.relations ≡ length p.relations
+  many = a.directory.counted p h
 
   blocks-many : count ≡ length p.blocks
   blocks-many = a.many ∙ i.counts
 
-  near : (f.rules + 1 ≡ length (front22 p)) × (length (front22 p) ≤ 8192)
+  near : (f.layout.rules + 1 ≡ length (front22 p)) × (length (front22 p) ≤ 8192)
   near =
       let m = w.most in
-      (omega (arith, a.ruled, a.directory.ruled p h, front22_long p), omega (arith, ap length (pack_words_22 p), length-append (front22 p) (rules_on p), words-length p))
+      (omega (arith, a.directory.ruled p h, front22_long p), omega (arith, ap length (pack_words_22 p), length-append (front22 p) (rules_on p), words-length p))
 
-  rules-many : value_at ws f.rules ≡ length p.rules
+  rules-many : value_at ws f.layout.rules ≡ length p.rules
   rules-many =
       let R : List ℕ = run_words (relation_words p.names) p.relations in
       let one : List ℕ = word_of 22 (length p.rules) ∷ [] in
-      value_there ws (front p ++ R) (rules_on p) 22 (length p.rules) f.rules (sym (words-read ws p h).same ∙ pack-words p ∙ sym (append_assoc (front p) R (word_of 22 (length p.rules) ∷ rules_on p)))
+      value_there ws (front p ++ R) (rules_on p) 22 (length p.rules) f.layout.rules (sym (words-read ws p h).same ∙ pack-words p ∙ sym (append_assoc (front p) R (word_of 22 (length p.rules) ∷ rules_on p)))
       (omega (arith, near.0, length-append (front p) R, length-append (front p) (R ++ one), length-append R one)) (parts p w).rule-count
 
-  pub numbers : (f.relations ≤ 512) × (count ≤ 64) × (f.rules < 8192) × (room ≡ f.relations + value_at ws f.rules + count + 3) × (room ≤ 1603)
+  pub numbers : (f.layout.relations ≤ 512) × (count ≤ 64) × (f.layout.rules < 8192) × (room ≡ f.layout.relations + value_at ws f.layout.rules + count + 3) × (room ≤ 1603)
   numbers =
       let W : List (List ℕ) = map (relation_words p.names) p.relations in (
         omega (arith, many, (parts p w).few-relations),
@@ -240,79 +242,86 @@ module _ {ws dir notes : List ℕ} {f : Figures} {room : ℕ} (o : OrderAsked ws
         omega (arith, o.size, length-append W (other_pieces p), length-map p.relations (relation_words p.names), others-few p w, many, (parts p w).few-relations),
       )
 
-  pub first-near : (1 ≤ f.notes.blocks.at) × (f.notes.blocks.at ≤ 65536)
+  pub first-near : (1 ≤ f.blocks.at) × (f.blocks.at ≤ 65536)
   first-near = (omega (arith, a.blocks), (let m = w.most in omega (arith, a.blocks, i.near, ap length (words-read ws p h).same, words-length p)))
 
   later_in : (l : List ℕ) (ns ms : List Note) → InWords l (ns ++ ms) → InWords l ms
   later_in l [] ms g = g
   later_in l (n ∷ ns) ms g = later_in l ns ms g.2
 
-  pub noted-near : f.notes.noted ≤ 8192
+  pub noted-near : f.layout.noted ≤ 8192
   noted-near = omega (arith, a.noted.first, notes-few p w, length-append (relations_noted p) (rules_noted p))
 
-  pub relations-asked : NamesIn dir f.relations
-  relations-asked = subst (NamesIn dir) (sym a.counts) (record { most = a.layout.names; low = names-low a.directory; reaches = a.directory.reaches })
+  -- the names of the relations stand at the front of the directory
+  abbrev names : List ℕ
+  names = take f.layout.relations dir
+
+  front-names : names_in dir f.layout.relations ≡ names
+  front-names = names-front dir f.layout.relations (omega (arith, numbers.0, a.directory.reaches.long))
+
+  pub names-within : f.layout.relations ≤ length dir
+  names-within = omega (arith, numbers.0, a.directory.reaches.long)
+
+  pub relations-asked : Named dir names
+  relations-asked = record { most = f.layout.names; low = subst (NamesLow f.layout.names) front-names (names-low a.directory); reaches = a.directory.reaches }
 
   -- the rules
   abbrev Q : List ℕ
   Q = roots_of (rules_noted p)
 
-  pub rules-long : length Q ≡ value_at ws f.rules
+  pub rules-long : length Q ≡ value_at ws f.layout.rules
   rules-long = omega (arith, roots_many p, rules-many)
 
-  pub rules-asked : (v : Writer) → HasRoom v Q → RulesAsked notes (f.notes.noted + 1) f.notes.all v
+  pub rules-asked : (v : Writer) → HasRoom v Q → RulesAsked notes (f.layout.noted + 1) f.layout.all v
   rules-asked v r =
       let n = a.noted in
       record {
         ws = words p;
         ns = rules_noted p;
-        are = (held-parts notes 1 (f.notes.noted + 1) (relations_noted p) (rules_noted p) (omega (arith, n.first)) n.held).1;
+        are = (held-parts notes 1 (f.layout.noted + 1) (relations_noted p) (rules_noted p) (omega (arith, n.first)) n.held).1;
         many = omega (arith, n.many, n.first, length-append (relations_noted p) (rules_noted p));
         within = n.room;
         there = later_in (words p) (relations_noted p) (rules_noted p) (notes-inside p w);
         room = r;
       }
 
-  pub rules-written : {v v' : Writer} → RulesCame notes (f.notes.noted + 1) f.notes.all v v' → HasRoom v Q → Writes v Q v'
+  pub rules-written : {v v' : Writer} → RulesCame notes (f.layout.noted + 1) f.layout.all v v' → HasRoom v Q → Writes v Q v'
   unfolding rules-asked
   rules-written t r = t (rules-asked _ r)
 
   -- all places, one after the other
   abbrev O : List ℕ
-  O = order_in dir f.relations
+  O = order_in dir names
 
-  pub order_long : length O ≡ f.relations
-  unfolding order_in
-  order_long = table-length (λ i. get_or (starts_in dir) (get_or dir i 0) 0) 0 f.relations
+  pub order_long : length O ≡ f.layout.relations
+  order_long = length-map names (λ name. get_or (starts_in dir) name 0) ∙ sym (ap length front-names) ∙ table-length (λ j. get_or dir j 0) 0 f.layout.relations
 
   abbrev B : List ℕ
-  B = block_places ws f.notes.blocks.at count
+  B = block_places ws f.blocks.at count
 
   pub B-long : length B ≡ count
-  B-long = blocks-long ws f.notes.blocks.at count
+  B-long = blocks-long ws f.blocks.at count
 
-  pub all_ordered : {w₀ w₁ w₂ w₃ w₄ w₅ w₆ : Writer} {places : List ℕ} {first : ℕ} → length places ≡ room → Begins w₀ places → Writes w₀ (0 ∷ []) w₁ → Writes w₁ O w₂ → Writes w₂ (f.rules ∷ []) w₃ → Writes w₃ Q w₄ → first ≡ f.notes.blocks.at - 1 → Writes w₄ (first ∷ []) w₅ → Writes w₅ B w₆
+  pub all_ordered : {w₀ w₁ w₂ w₃ w₄ w₅ w₆ : Writer} {places : List ℕ} {first : ℕ} → length places ≡ room → Begins w₀ places → Writes w₀ (0 ∷ []) w₁ → Writes w₁ O w₂ → Writes w₂ (f.layout.rules ∷ []) w₃ → Writes w₃ Q w₄ → first ≡ f.blocks.at - 1 → Writes w₄ (first ∷ []) w₅ → Writes w₅ B w₆
       → w₆.out.now ≡ beginnings 0 (pieces_of p)
   all_ordered {first = first} l b p₁ p₂ p₃ p₄ e p₅ p₆ =
       let v : first ≡ blocks = omega (arith, a.blocks) in
-      all_written b (writes_then (writes_then (writes_then (writes_then (writes_then p₁ p₂) p₃) p₄) p₅) p₆) (simp length-append (omega (arith, l, numbers.3, order_long, rules-long, blocks-long ws f.notes.blocks.at count)))
-      ∙ glue (0 ∷ []) O (f.rules ∷ []) Q (first ∷ []) B
-      ∙ ap (λ (x : ℕ). 0 ∷ (O ++ (f.rules ∷ (Q ++ (x ∷ B))))) v
-      ∙ ap (λ (x : ℕ). 0 ∷ (O ++ (f.rules ∷ (Q ++ (blocks ∷ block_places ws f.notes.blocks.at x))))) blocks-many
-      ∙ ap (λ (x : ℕ). 0 ∷ (O ++ (f.rules ∷ (Q ++ (blocks ∷ block_places ws x (length p.blocks)))))) a.blocks
-      ∙ ap (λ (x : ℕ). 0 ∷ (O ++ (x ∷ (Q ++ (blocks ∷ block_places ws (blocks + 1) (length p.blocks)))))) a.ruled
-      ∙ ap (λ (x : ℕ). 0 ∷ (order_in dir x ++ (a.layout.rules ∷ (Q ++ (blocks ∷ block_places ws (blocks + 1) (length p.blocks)))))) a.counts
-      ∙ all_begin dir tabled a.directory.ruled a.directory.blocked a.layout.relations (a.filled.noted.named p h)
+      all_written b (writes_then (writes_then (writes_then (writes_then (writes_then p₁ p₂) p₃) p₄) p₅) p₆) (simp length-append (omega (arith, l, numbers.3, order_long, rules-long, blocks-long ws f.blocks.at count)))
+      ∙ glue (0 ∷ []) O (f.layout.rules ∷ []) Q (first ∷ []) B
+      ∙ ap (λ (x : ℕ). 0 ∷ (O ++ (f.layout.rules ∷ (Q ++ (x ∷ B))))) v
+      ∙ ap (λ (x : ℕ). 0 ∷ (O ++ (f.layout.rules ∷ (Q ++ (blocks ∷ block_places ws f.blocks.at x))))) blocks-many
+      ∙ ap (λ (x : ℕ). 0 ∷ (O ++ (f.layout.rules ∷ (Q ++ (blocks ∷ block_places ws x (length p.blocks)))))) a.blocks
+      ∙ all_begin dir tabled a.directory.ruled a.directory.blocked (sym front-names ∙ a.filled.noted.named p h)
 
 -- room for the places of a pack
 abbrev pub order_of : {ws dir acts taken marks notes : List ℕ} {f : Figures} {work : List ℕ} (a : ResolveAsked ws dir acts taken marks notes f work) {room : ℕ} → room ≡ length (pieces_of a.directory.checked.pack) → OrderAsked ws dir notes f room
 order_of {acts = acts} {taken} {marks} {work = work} a e = record { acts = acts; taken = taken; marks = marks; work = work; asked = a; size = e }
 
 module _ {ws dir acts taken marks notes : List ℕ} {f : Figures} {work : List ℕ} (a : ResolveAsked ws dir acts taken marks notes f work) where
-  pub relations_few : f.relations ≤ 512
+  pub relations_few : f.layout.relations ≤ 512
   relations_few = (numbers (order_of a refl)).0
 
-  module _ {r : ℕ} (e : r ≡ f.relations + value_at ws f.rules + f.notes.blocks.count + 3) where
+  module _ {r : ℕ} (e : r ≡ f.layout.relations + value_at ws f.layout.rules + f.blocks.count + 3) where
     pub pieces_few : r ≤ 1603
     pieces_few = let n = numbers (order_of a refl) in omega (arith, n.3, n.4)
 

@@ -43,7 +43,6 @@ use Rattle.directions.specs.RecordRuns.{with_records, trees_resolved, TablesFill
 use Rattle.resolve.specs.declared.checked.Figures.{Figures}
 use Rattle.definitions.specs.WrittenRecords.{beginnings, pieces_of}
 use Rattle.resolve.specs.Finish.{stamp_all, resolved_trees, AskedOf, TreesAsked, TreesCame, FiguresSaid, ResolveAsked, PlacedAsked, TablesFor, CheckedAsked, RoomFor, front_of, Into, FinishAsked, FinishCame, given_out, written_out}
-use Rattle.turning.specs.declared.turns.Counts.{Counts}
 use Rattle.turning.specs.Notes.{notes_of_pack}
 use Rattle.turning.specs.TurnPromises.{known_in, TurnedAs, PackAsked, PackTurned}
 use Rattle.turning.specs.Asked.{mark_notes, InWords, MarksAsked, NotesMarked}
@@ -98,7 +97,7 @@ pub declared_of : (k : Option (List ℕ)) (o : Option Relation) → equal_kinds 
 declared_of k none e = let z : ◌≡◌ {A = ℕ} 0 1 = cc in absurd (omega arith)
 declared_of k (some r) e = (r, refl)
 
-module _ {ws dir acts taken work notes : List ℕ} {k : Counts} (a : TreesAsked ws dir acts taken work notes k) where
+module _ {ws dir acts taken work notes : List ℕ} {f : Figures} (a : TreesAsked ws dir acts taken work notes f) where
   abbrev starts : List ℕ
   starts = starts_in dir
 
@@ -248,10 +247,10 @@ module _ {ws dir acts taken asked₀ notes : List ℕ} {f : Figures} {work : Lis
   same-words = sym (words-read ws its checked).same
 
   abbrev all : ℕ
-  all = f.notes.all
+  all = f.layout.all
 
   abbrev its-tables : TablesFilled ws (starts_in dir) acts taken f.steps
-  its-tables = record { checked = a.directory.checked; declares = names_in dir a.layout.relations; filled = a.filled }
+  its-tables = record { checked = a.directory.checked; declares = names_in dir f.layout.relations; filled = a.filled }
 
   -- what stamping asks of the notes
   there : InWords ws (notes_of_pack its)
@@ -276,14 +275,14 @@ module _ {ws dir acts taken asked₀ notes : List ℕ} {f : Figures} {work : Lis
 
     -- the result
     module _ {o : Ended} {left : List ℕ} (t : TreesCame ws o left) (e : o ≡ Ok tt) where
-      pub finish_asked : {places : List ℕ} → places ≡ beginnings 0 (pieces_of its) → FinishAsked ws places acts asked left f.relations f.steps
+      pub finish_asked : {places : List ℕ} → places ≡ beginnings 0 (pieces_of its) → FinishAsked ws places acts asked left f.layout.relations f.steps
       finish_asked b =
           let d = whole-done a.directory.checked [] t e in
           record {
             taken = taken;
             tabled = its-tables;
             records = starts_in dir;
-            counts = a.counts ∙ a.directory.counted its checked;
+            counts = a.directory.counted its checked;
             begins = b;
             asks = asks;
             whole = d.whole;
@@ -295,7 +294,7 @@ module _ {ws dir acts taken asked₀ notes : List ℕ} {f : Figures} {work : Lis
       resolve-all {lent} g = resolve-done a.directory.checked lent (whole-done a.directory.checked lent t e) g
 
   -- the trees
-  pub trees_asked : {words : List ℕ} → words ≡ ws → TreesAsked ws dir acts taken words notes f.notes
+  pub trees_asked : {words : List ℕ} → words ≡ ws → TreesAsked ws dir acts taken words notes f
   trees_asked e =
       let i = reads_inputs ws its checked a.directory.blocked in
       let s = short-checked a.directory.checked in
@@ -321,7 +320,17 @@ blocks-near {ws} d =
 
 pub in_asked : {ws : List ℕ} {l : Layout} {dir acts₀ taken₀ asked out work : List ℕ} {room : ℕ} → CheckedAsked ws l dir acts₀ taken₀ asked out room work
     → {acts taken : List ℕ} {steps : ℕ} → Filled ws (names_in dir l.relations) (starts_in dir) acts taken steps → {g : Figures} → FiguresSaid ws l steps room g → ResolveAsked ws dir acts taken asked out g work
-in_asked {l = l} a f h = record { layout = l; directory = a.directory; filled = rw h.steps f; lent = a.asked-lent; counts = h.counts; ruled = h.ruled; blocks = h.blocks; many = h.many; noted = rw (h.noted, h.all) a.notes_in; room = a.same; fits = rw h.room a.fits }
+in_asked a f h =
+    record {
+      directory = rw h.laid a.directory;
+      filled = rw (h.laid, h.steps) f;
+      lent = rw h.laid a.asked-lent;
+      blocks = rw h.laid h.blocks;
+      many = rw h.laid h.many;
+      noted = rw h.laid a.notes_in;
+      room = a.same;
+      fits = rw h.room a.fits;
+    }
 
 -- a pack that was checked and noted where there is room for its notes
 module _ {ws d e d' e' : List ℕ} {r : Result Layout Refusal} {l : Layout} (clear : Clear (names_said ws) d) (c : CheckedNotes ws d e r d' e') (o : r ≡ Ok l) where
@@ -509,13 +518,13 @@ room_made ws many e =
 -- ---- with the places of its pieces
 
 module _ {ws acts taken asked places notes : List ℕ} {f : Figures} {work : List ℕ} (a : PlacedAsked ws acts taken asked places notes f work) where
-  pub turns-asked : {words : List ℕ} → words ≡ ws → PackAsked ws acts taken words notes f.notes.blocks.at f.notes.blocks.count f.notes.noted f.notes.all
+  pub turns-asked : {words : List ℕ} → words ≡ ws → PackAsked ws acts taken words notes f.blocks.at f.blocks.count f.layout.noted f.layout.all
   turns-asked e = (trees_asked a.resolves e).turns
 
   came : {o : Ended} {left : List ℕ} → PackTurned ws o left → TreesCame ws o left
   came t = trees_turned (trees_asked a.resolves refl) refl a.unequal t
 
-  pub placed_finish : {o : Ended} {left : List ℕ} → PackTurned ws o left → o ≡ Ok tt → FinishAsked ws places acts asked left f.relations f.steps
+  pub placed_finish : {o : Ended} {left : List ℕ} → PackTurned ws o left → o ≡ Ok tt → FinishAsked ws places acts asked left f.layout.relations f.steps
   placed_finish t e = finish_asked a.resolves a.marked (came t) e a.begins
 
   pub placed-all : {o : Ended} {left : List ℕ} → PackTurned ws o left → o ≡ Ok tt → {lent : List ℕ} {answer : Answer} {out : List ℕ} → FinishCame ws lent answer out → Answered resolve_answer resolve_buffer ws lent answer out

@@ -47,17 +47,8 @@ table_more : (f : ℕ → ℕ) (n j : ℕ) → table_from f n (suc j) ≡ table_
 table_more f n zero = let e : n + 0 ≡ n = omega arith in rw e refl
 table_more f n (suc j) = let e : suc n + j ≡ n + suc j = omega arith in rw (table_more f (suc n) j, e) refl
 
-module _ (f : ℕ → ℕ) {w w' : Writer} {j : ℕ} (p : Writes w (table_from f 0 j) w') where
-  pub table-room : (count : ℕ) → HasRoom w (table_from f 0 count) → j < count → w'.to + 1 ≤ length w'.out.now
-  table-room count r h = omega (arith, r, p.after, p.long, table-length f 0 j, table-length f 0 count)
-
-  pub table_next : {w'' : Writer} {x : ℕ} → Writes w' (x ∷ []) w'' → x ≡ f j → Writes w (table_from f 0 (j + 1)) w''
-  table_next {w''} {x} q e =
-      let one : table_from f 0 j ++ (x ∷ []) ≡ table_from f 0 (j + 1) = rw (e, add-one j, table_more f 0 j, zero-add j) refl in
-      subst (λ (l : List ℕ). Writes w l w'') one (writes_then p q)
-
-  pub table_end : {count : ℕ} → j ≡ count → Writes w (table_from f 0 count) w'
-  table_end e = rw (← e) p
+pub mapped_next : (f : ℕ → ℕ) {w w' w'' : Writer} (names : List ℕ) {i : ℕ} → i < length names → Writes w (map f (take i names)) w' → Writes w' (f (get_or names i 0) ∷ []) w'' → Writes w (map f (take (i + 1) names)) w''
+mapped_next f {w} {w'' = w''} names {i} h p q = subst (λ (l : List ℕ). Writes w l w'') (sym (map_more f names i 0 h)) (writes_then p q)
 
 -- words that fill a slice
 pub all_written : {w w' : Writer} {out more : List ℕ} → Begins w out → Writes w more w' → length more ≡ length out → w'.out.now ≡ more
@@ -70,9 +61,6 @@ all_written {w} {w'} {out} {more} b p l =
 -- the word for the name that a word holds
 abbrev pub name_word : ℕ → ℕ
 name_word w = word_of 10 (value_of w)
-
-pub names_next : {w w' w'' : Writer} (names : List ℕ) {i : ℕ} → i < length names → Writes w (map name_word (take i names)) w' → Writes w' (name_word (get_or names i 0) ∷ []) w'' → Writes w (map name_word (take (i + 1) names)) w''
-names_next {w} {w'' = w''} names {i} h p q = subst (λ (l : List ℕ). Writes w l w'') (sym (map_more name_word names i 0 h)) (writes_then p q)
 
 -- so the list is written
 pub list_put : {ws : List ℕ} {list : ℕ} (kind : ℕ) {names : List ℕ} → ListFound ws list names → list_words kind (names_or (names_at ws list)) ≡ word_of kind (length names) ∷ map name_word names

@@ -11,7 +11,7 @@ use Rattle.records.specs.declared.directory.Layout.{Layout}
 use Rattle.records.specs.Directory.{Clear}
 use Rattle.checking.specs.CheckPromises.{names_said}
 use Rattle.chains.specs.PackDirectory.{ClearTable, IsDirectory}
-use Rattle.definitions.specs.Answers.{Answer, table_from, Outcome, done, refused, map_done, given, written}
+use Rattle.definitions.specs.Answers.{Answer, Outcome, done, refused, map_done, given, written}
 use Rattle.chains.specs.Record.{value_at}
 use Rattle.chains.specs.DirectoryWord.{Reaches, starts_in, names_in}
 use Rattle.filtered.specs.Taking.{NamesLow, Filled}
@@ -21,7 +21,6 @@ use Rattle.definitions.specs.Operations.{whole_pack, resolve_answer, resolve_buf
 use Rattle.definitions.specs.WrittenRecords.{beginnings, pieces_of}
 use Rattle.resolve.specs.Pieces.{with_relations}
 use Rattle.directions.specs.RecordRuns.{trees_resolved, TablesFilled}
-use Rattle.turning.specs.declared.turns.Counts.{Counts}
 use Rattle.turning.specs.Notes.{Note, Held, NotesIn}
 use Rattle.turning.specs.Asked.{InWords}
 use Rattle.turning.specs.TurnPromises.{TurnedAs, PackAsked}
@@ -42,11 +41,11 @@ pub record TreesCame (ws : List ℕ) (o : Result (Unit {0}) Refusal) (left : Lis
   pub each : (p : Pack) → read ws ≡ yes p → TurnedAs (resolved_trees p) o left
 
 -- the tables of a checked pack, its notes, and a copy of its words
-pub record TreesAsked (ws dir acts taken work notes : List ℕ) (c : Counts) : Type 0 where
+pub record TreesAsked (ws dir acts taken work notes : List ℕ) (f : Figures) : Type 0 where
   pub steps : ℕ
   pub tabled : TablesFilled ws (starts_in dir) acts taken steps
   pub reaches : Reaches dir tabled.checked.pack.names
-  pub turns : PackAsked ws acts taken work notes c.blocks.at c.blocks.count c.noted c.all
+  pub turns : PackAsked ws acts taken work notes f.blocks.at f.blocks.count f.layout.noted f.layout.all
 
 -- ---- the result
 
@@ -54,9 +53,9 @@ pub record TreesAsked (ws dir acts taken work notes : List ℕ) (c : Counts) : T
 abbrev pub stamp_all : Pack → Pack → Pack
 stamp_all p q = with_relations q (map (stamp p) q.relations)
 
--- where relations start, in record order, as the directory says
-unfoldable pub order_in : List ℕ → ℕ → List ℕ
-order_in dir count = table_from (λ i. get_or (starts_in dir) (get_or dir i 0) 0) 0 count
+-- where the relations of these names start, as the directory says
+abbrev pub order_in : List ℕ → List ℕ → List ℕ
+order_in dir names = map (λ name. get_or (starts_in dir) name 0) names
 
 -- where rules start: the places of the notes that stand inside no other
 abbrev pub roots_of : List Note → List ℕ
@@ -85,10 +84,10 @@ block_places ws at (suc k) = at ∷ block_places ws (at + 2 + 3 * repeats (value
 pub record AskedOf (p : Pack) (asked : List ℕ) : Type 0 where
   pub says : (r : Relation) → find r.name p.relations ≡ some r → get_or asked r.name 0 ≡ pick (atom_names p r.name || in_derivation role_judgment r.derivation) 1 0
 
--- the names of so many relations have words in the directory
-pub record NamesIn (dir : List ℕ) (relations : ℕ) : Type 0 where
+-- names that have words in the directory
+pub record Named (dir names : List ℕ) : Type 0 where
   pub most : ℕ
-  pub low : NamesLow most (names_in dir relations)
+  pub low : NamesLow most names
   pub reaches : Reaches dir most
 
 -- the words of a pack whose trees are resolved, with the places of its pieces, its tables, and what its notes ask for
@@ -123,26 +122,20 @@ pub record FinishCame (ws lent : List ℕ) (answer : Answer) (left : List ℕ) :
 
 -- the figures of a pack with a layout
 pub record FiguresSaid (ws : List ℕ) (l : Layout) (declared room_told : ℕ) (f : Figures) : Type 0 where
-  pub counts : f.relations ≡ l.relations
-  pub ruled : f.rules ≡ l.rules
-  pub blocks : f.notes.blocks.at ≡ l.blocks + 1
-  pub many : f.notes.blocks.count ≡ value_at ws l.blocks
-  pub noted : f.notes.noted ≡ l.noted
-  pub all : f.notes.all ≡ l.all
+  pub laid : f.layout ≡ l
+  pub blocks : f.blocks.at ≡ l.blocks + 1
+  pub many : f.blocks.count ≡ value_at ws l.blocks
   pub steps : f.steps ≡ declared
   pub room : f.room ≡ room_told
 
 -- a checked pack with its directory, its tables and its notes, and a slice for as many words
 pub record ResolveAsked (ws dir acts taken asked notes : List ℕ) (f : Figures) (work : List ℕ) : Type 0 where
-  pub layout : Layout
-  pub directory : IsDirectory ws layout dir
-  pub filled : Filled ws (names_in dir layout.relations) (starts_in dir) acts taken f.steps
-  pub lent : ClearTable layout.names asked
-  pub counts : f.relations ≡ layout.relations
-  pub ruled : f.rules ≡ layout.rules
-  pub blocks : f.notes.blocks.at ≡ layout.blocks + 1
-  pub many : f.notes.blocks.count ≡ value_at ws layout.blocks
-  pub noted : NotesIn directory.checked.pack notes f.notes.noted f.notes.all
+  pub directory : IsDirectory ws f.layout dir
+  pub filled : Filled ws (names_in dir f.layout.relations) (starts_in dir) acts taken f.steps
+  pub lent : ClearTable f.layout.names asked
+  pub blocks : f.blocks.at ≡ f.layout.blocks + 1
+  pub many : f.blocks.count ≡ value_at ws f.layout.blocks
+  pub noted : NotesIn directory.checked.pack notes f.layout.noted f.layout.all
   pub room : length work ≡ length ws
   pub fits : f.room ≤ length notes
 
@@ -151,7 +144,7 @@ pub record PlacedAsked (ws acts taken asked places notes : List ℕ) (f : Figure
   pub dir : List ℕ
   pub before : List ℕ
   pub resolves : ResolveAsked ws dir acts taken before notes f work
-  pub marked : NotesMarked ws notes f.notes.all before asked
+  pub marked : NotesMarked ws notes f.layout.all before asked
   pub begins : places ≡ beginnings 0 (pieces_of resolves.directory.checked.pack)
   pub unequal : first_equal ws acts 3 (value_at ws 2) ≡ none
 
@@ -159,8 +152,8 @@ pub record PlacedAsked (ws acts taken asked places notes : List ℕ) (f : Figure
 pub record PiecesAsked (ws dir acts taken asked notes : List ℕ) (f : Figures) (work : List ℕ) (most : ℕ) : Type 0 where
   pub before : List ℕ
   pub resolves : ResolveAsked ws dir acts taken before notes f work
-  pub marked : NotesMarked ws notes f.notes.all before asked
-  pub few : f.relations + value_at ws f.rules + f.notes.blocks.count + 3 ≤ most
+  pub marked : NotesMarked ws notes f.layout.all before asked
+  pub few : f.layout.relations + value_at ws f.layout.rules + f.blocks.count + 3 ≤ most
   pub unequal : first_equal ws acts 3 (value_at ws 2) ≡ none
 
 -- room for the places of its pieces, and these places

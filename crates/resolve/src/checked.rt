@@ -8,7 +8,6 @@ use directions::tables::Tables;
 use inputs::inputs::Blocks;
 use pack::kinds::Pack;
 use records::directory::Layout;
-use turning::turns::Counts;
 
 // How many pieces are neither relations nor rules nor blocks, how many small packs have, and how many there are at most.
 #[derive(Clone, Copy)]
@@ -23,13 +22,12 @@ impl Places {
         + (Pack::MOST_RELATIONS + Pack::MOST_RULES + Pack::MOST_BLOCKS) as usize;
 }
 
-// Of a checked pack: its relations, the place of its count of rules, its notes, and the declarations that were read for its
-// kinds; and how many words there is room for.
+// Of a checked pack: where its records stand, its blocks, and how many declarations were read for its kinds; and how many words there
+// is room for.
 #[derive(Clone, Copy)]
 pub struct Figures {
-    pub relations: usize,
-    pub rules: usize,
-    pub notes: Counts,
+    pub layout: Layout,
+    pub blocks: Blocks,
     pub steps: u32,
     pub room: usize,
 }
@@ -52,15 +50,9 @@ impl Figures {
             at: layout.blocks + 1,
             count: value_at(pack, layout.blocks) as usize,
         };
-        let notes = Counts {
-            noted: layout.noted as usize,
-            all: layout.all as usize,
-            blocks,
-        };
         Figures {
-            relations: layout.relations as usize,
-            rules: layout.rules,
-            notes,
+            layout,
+            blocks,
             steps,
             room,
         }
@@ -70,13 +62,13 @@ impl Figures {
 impl Checked<'_> {
     // How many pieces the pack has.
     pub fn pieces(&self) -> usize
-        requires { self.now.figures.relations ≤ 512 }
-        ensures { result ≡ self.now.figures.relations + value_at self.now.tables.pack.now self.now.figures.rules + self.now.figures.notes.blocks.count + 3 }
+        requires { self.now.figures.layout.relations ≤ 512 }
+        ensures { result ≡ self.now.figures.layout.relations + value_at self.now.tables.pack.now self.now.figures.layout.rules + self.now.figures.blocks.count + 3 }
     {
-        let figures = self.figures;
-        figures.relations
-            + value_at(self.tables.pack, figures.rules) as usize
-            + figures.notes.blocks.count
+        let layout = self.figures.layout;
+        layout.relations as usize
+            + value_at(self.tables.pack, layout.rules) as usize
+            + self.figures.blocks.count
             + Places::OTHERS
     }
 }

@@ -19,11 +19,11 @@ fn finish_in(
     found: &mut [u32],
     out: &mut [u32],
 ) -> Answer
-    requires { FinishAsked checked.now.tables.pack.now places.now checked.now.tables.acts.now asked.now work.now checked.now.figures.relations checked.now.figures.steps × ClearFor places.now found.old }
+    requires { FinishAsked checked.now.tables.pack.now places.now checked.now.tables.acts.now asked.now work.now checked.now.figures.layout.relations checked.now.figures.steps × ClearFor places.now found.old }
     ensures { FinishCame checked.now.tables.pack.now out.old result out.new }
 {
     let pack = checked.tables.pack;
-    let after = checked.figures.relations + 1;
+    let after = checked.figures.layout.relations as usize + 1;
     let order = &places[1..after];
     let more = lists(
         pack,
@@ -56,7 +56,7 @@ pub fn finish<const MOST: usize>(
     work: &[u32],
     out: &mut [u32],
 ) -> Answer
-    requires { FinishAsked checked.now.tables.pack.now places.now checked.now.tables.acts.now asked.now work.now checked.now.figures.relations checked.now.figures.steps × (length places.now ≤ MOST) × (MOST ≤ 8192) }
+    requires { FinishAsked checked.now.tables.pack.now places.now checked.now.tables.acts.now asked.now work.now checked.now.figures.layout.relations checked.now.figures.steps × (length places.now ≤ MOST) × (MOST ≤ 8192) }
     ensures { FinishCame checked.now.tables.pack.now out.old result out.new }
 {
     let mut found = [0u32; MOST];

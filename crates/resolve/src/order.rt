@@ -1,23 +1,22 @@
 // Where the pieces of a pack begin, in word order: what stands before the relations, each relation, the count of rules, each
 // rule, the count of blocks, each block.
 ghost use Rattle.std.specs.Prelude.{◌≤◌, length};
-ghost use Rattle.resolve.specs.Finish.{NamesIn, order_in, RulesAsked, RulesCame, block_places, OrderAsked, OrderCame};
+ghost use Rattle.resolve.specs.Finish.{Named, order_in, RulesAsked, RulesCame, block_places, OrderAsked, OrderCame};
 ghost use Rattle.resolve.specs.Writing.{HasRoom, Writes};
 
 use crate::checked::Checked;
 use crate::writer::Writer;
-use chains::entry::{name_at, start};
+use chains::entry::start;
 use inputs::inputs::{Block, Blocks};
 use pack::kinds::Pack;
 
-// So many relations, as the directory says.
-fn order_relations(dir: &[u32], relations: usize, places: &mut Writer)
-    requires { (relations ≤ 512) × NamesIn dir.now relations × HasRoom places.old (order_in dir.now relations) }
-    ensures { Writes places.old (order_in dir.now relations) places.new }
+// The relations of these names, as the directory says.
+fn order_relations(dir: &[u32], names: &[u32], places: &mut Writer)
+    requires { Named dir.now names.now × HasRoom places.old (order_in dir.now names.now) }
+    ensures { Writes places.old (order_in dir.now names.now) places.new }
 {
-    for i in 0..relations {
-        let name = name_at(dir, i);
-        places.put_word(start(dir, name) as u32);
+    for &name in names {
+        places.put_word(start(dir, name as usize));
     }
 }
 
@@ -51,14 +50,22 @@ pub fn order(checked: &Checked, notes: &[u32], places: &mut [u32])
     requires { OrderAsked checked.now.tables.pack.now checked.now.dir.now notes.now checked.now.figures (length places.old) }
     ensures { OrderCame checked.now.tables.pack.now checked.now.dir.now notes.now checked.now.figures (length places.old) places.new }
 {
-    let figures = checked.figures;
-    let counts = figures.notes;
-    let blocks = counts.blocks;
+    let layout = checked.figures.layout;
+    let blocks = checked.figures.blocks;
     let mut places = Writer::new(places);
     places.put_word(0);
-    order_relations(checked.dir, figures.relations, &mut places);
-    places.put_word(figures.rules as u32);
-    order_rules(notes, counts.noted + 1, counts.all, &mut places);
+    order_relations(
+        checked.dir,
+        &checked.dir[..layout.relations as usize],
+        &mut places,
+    );
+    places.put_word(layout.rules as u32);
+    order_rules(
+        notes,
+        layout.noted as usize + 1,
+        layout.all as usize,
+        &mut places,
+    );
     places.put_word((blocks.at - 1) as u32);
     order_blocks(checked.tables.pack, blocks, &mut places);
 }

@@ -18,7 +18,7 @@ use filtered::taking::read_tables;
 use pack::kinds::Pack;
 use records::directory::Directory;
 use turning::asked::ask_notes;
-use turning::turns::turn_pack;
+use turning::known::Known;
 
 // The place of each piece of a pack is known, no more than MOST of them, and no defaulted name has equal kinds: all trees are
 // resolved in a copy of the words, and then the result takes the place of the notes, if there is room for it.
@@ -33,9 +33,13 @@ fn resolve_placed<const MOST: usize>(
     ensures { Into checked.now.tables.pack.now checked.now.figures.room result out.new }
 {
     work.copy_from_slice(checked.tables.pack);
-    let notes = checked.figures.notes;
-    turn_pack(checked.tables, work, out, notes)?;
-    let room = checked.figures.room;
+    let figures = checked.figures;
+    let known = Known {
+        tables: checked.tables,
+        blocks: figures.blocks,
+    };
+    known.turn_pack(figures.layout, work, out)?;
+    let room = figures.room;
     finish::<MOST>(checked, asked, places, work, &mut out[0..room])
 }
 
@@ -66,7 +70,12 @@ fn resolve_in(checked: &Checked, asked: &mut [u8], out: &mut [u32], work: &mut [
     if let Some(name) = checked.tables.first_equal() {
         return Err(equal_kinds(checked.dir, name));
     }
-    ask_notes(checked.tables.pack, out, checked.figures.notes.all, asked);
+    ask_notes(
+        checked.tables.pack,
+        out,
+        checked.figures.layout.all as usize,
+        asked,
+    );
     if checked.pieces() <= Places::FEW {
         return resolve_pieces::<{ Places::FEW }>(checked, asked, out, work);
     }

@@ -10,17 +10,8 @@ use crate::note::Note;
 use crate::root::Root;
 use crate::step::{Node, Out};
 use definitions::answer::Refusal;
-use directions::tables::Tables;
-use inputs::inputs::Blocks;
 use pack::kinds::Pack;
-
-// The notes of a pack with these blocks: so many of relations, which come first, and so many in all.
-#[derive(Clone, Copy)]
-pub struct Counts {
-    pub noted: usize,
-    pub all: usize,
-    pub blocks: Blocks,
-}
+use records::directory::Layout;
 
 // The slots of a node.
 fn set_slots(work: &mut [u32], at: usize, current: u32, related: u32)
@@ -83,7 +74,7 @@ impl Known<'_> {
     }
 
     // Notes in a row; where something stands inside one, its entity takes the place of the note.
-    pub fn turns(
+    fn turns(
         &self,
         work: &mut [u32],
         notes: &mut [u32],
@@ -99,21 +90,19 @@ impl Known<'_> {
         }
         Ok(())
     }
-}
 
-// All notes of a pack: those of its rules, then those of its relations.
-pub fn turn_pack(
-    tables: Tables,
-    work: &mut [u32],
-    notes: &mut [u32],
-    counts: Counts,
-) -> Result<(), Refusal>
-    requires { PackAsked tables.pack.now tables.acts.now tables.taken.now work.old notes.old counts.blocks.at counts.blocks.count counts.noted counts.all }
-    ensures { PackTurned tables.entry.pack.now result work.new }
-{
-    let blocks = counts.blocks;
-    let known = Known { tables, blocks };
-    let rules = counts.noted + 1;
-    known.turns(work, notes, rules, counts.all + 1)?;
-    known.turns(work, notes, 1, rules)
+    // All notes of a pack: those of its rules, then those of its relations.
+    pub fn turn_pack(
+        &self,
+        layout: Layout,
+        work: &mut [u32],
+        notes: &mut [u32],
+    ) -> Result<(), Refusal>
+        requires { PackAsked self.now.tables.pack.now self.now.tables.acts.now self.now.tables.taken.now work.old notes.old self.now.blocks.at self.now.blocks.count layout.noted layout.all }
+        ensures { PackTurned self.now.tables.pack.now result work.new }
+    {
+        let rules = layout.noted as usize + 1;
+        self.turns(work, notes, rules, layout.all as usize + 1)?;
+        self.turns(work, notes, 1, rules)
+    }
 }

@@ -1,13 +1,10 @@
--- `turning::turns::turn_pack` meets its contract.
+-- `turning::known::Known::turn_pack` meets its contract.
 use Rattle.std.proofs.lemmas.Result.{err_from_is_err_and}
-use Rattle.turning.specs.declared.known.Known.{Known}
 use Rattle.turning.proofs.PackLaws.{rules-asked, pack_stopped, relations-asked, pack-ended}
-use Rattle.turning.proofs.turns.turn_pack.Goals as goal
+use Rattle.turning.proofs.known.Known.turn_pack.Goals as goal
 
 pub turns-requires : goal.turns-requires
-turns-requires c =
-    let k : Known = record { tables = c.args.tables; blocks = c.args.counts.blocks } in
-    rules-asked k _ _ _ _ c.requires
+turns-requires c = rules-asked c.args.self.now _ _ _ _ c.requires
 
 pub returns-in_err-turns : goal.returns-in_err-turns
 returns-in_err-turns c =
