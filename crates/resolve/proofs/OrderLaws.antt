@@ -1,5 +1,5 @@
 -- Where the pieces of a pack begin, as its directory, its notes and its blocks say, is where they stand one after the other.
-use Prim.Native.Nat.{ℕ, suc, ◌+◌, ◌*◌, ◌<◌, ◌≤◌}
+use Prim.Native.Nat.{ℕ, suc, ◌+◌, ◌*◌, ◌≤◌}
 use native.Mathlib.Omega.{arith}
 use mathlib.Core.Path.{◌≡◌, refl, ap, sym, ◌∙◌}
 use mathlib.Core.List.{List, [], ◌∷◌, ◌++◌, map, append_assoc, append-nil}
@@ -16,17 +16,15 @@ use Rattle.pack.proofs.PackLaws.{words-read}
 use Rattle.definitions.specs.Kinds.{declared}
 use Rattle.definitions.specs.Places.{relation_words, start_of, first_relation, relations_end}
 use Rattle.chains.specs.PackDirectory.{RulesAt, BlocksAt}
-use Rattle.chains.specs.DirectoryWord.{Reaches, starts_in, names_in}
+use Rattle.chains.specs.DirectoryWord.{starts_in}
 use Rattle.chains.specs.Record.{value_at}
 use Rattle.chains.proofs.RelationForm.{RelationsFine, kept}
 use Rattle.chains.proofs.PackParts.{EachFound, all_found, parts}
 use Rattle.chains.proofs.RecordLaws.{value_there}
-use Rattle.chains.proofs.EntryLaws.{reaches_one}
-use Rattle.filtered.proofs.TakingLaws.{name-low}
 use Rattle.definitions.specs.Inputs.{sequence}
 use Rattle.inputs.proofs.InputRead.{items_words, blocks_words, BlockFits, BlocksFit, items_again, items-long}
 use Rattle.inputs.proofs.BlocksStand.{Stands, blocks_stand, block_words_lem, blocks-words}
-use Rattle.kinds.proofs.PartLaws.{map-names, table-mapped}
+use Rattle.kinds.proofs.PartLaws.{map-names}
 use Rattle.definitions.specs.Resolving.{rule_words, first_rule}
 use Rattle.directions.specs.RecordRuns.{places_from, places_in, run_words, body_words, TablesFilled}
 use Rattle.chains.proofs.DeclarationLaws.{a_record}
@@ -34,7 +32,7 @@ use Rattle.directions.proofs.TurnedPack.{front, front_long, front22, front22_lon
 use Rattle.turning.specs.Notes.{Note, notes_run, body_notes, rule_notes, relations_noted, rules_noted}
 use Rattle.turning.proofs.MarkedLaws.{AllInside, run_inside}
 use Rattle.definitions.specs.WrittenRecords.{joined, sums, lengths, beginnings, block_piece, other_pieces, pieces_of}
-use Rattle.resolve.specs.Finish.{Named, order_in, roots_of, block_places}
+use Rattle.resolve.specs.Finish.{order_in, roots_of, block_places}
 use Rattle.resolve.proofs.WrittenPack.{joined-map, blocks-joined}
 
 -- ---- relations of which no name comes twice
@@ -236,8 +234,3 @@ module _ {ws : List ℕ} (dir : List ℕ) {acts taken : List ℕ} {steps : ℕ} 
         ∙ ap (λ (x : ℕ). 0 ∷ (order_in dir names ++ (rules ∷ (beginnings (rules + 1) rules_pieces ++ (x ∷ beginnings (x + 1) (map (block_piece n) p.blocks)))))) blocks_at
         ∙ ap (λ (l : List ℕ). 0 ∷ (order_in dir names ++ l)) (sym (begin_others p rules)) ∙ ap (λ (l : List ℕ). 0 ∷ (l ++ beginnings rules (other_pieces p))) (order_is named)
         ∙ ap (λ (x : ℕ). 0 ∷ (places_in p ++ beginnings x (other_pieces p))) (ruled p h) ∙ sym (begin_pieces p)
-
--- ---- for the code
-
-pub its-name : {dir names : List ℕ} → Named dir names → (j : ℕ) → Reaches dir (get_or names j 0 + 1)
-its-name n j = reaches_one n.reaches (n.low j)

@@ -8,6 +8,7 @@ use lib.ListN.{length, get_or, take, replicate, length-append, length-map, lengt
 use borrow.Author.Tests.{ne_eqb}
 use borrow.Rule.Slice.PartMut.{mid_of, mid_len}
 use Rattle.std.specs.List.{between}
+use Rattle.std.proofs.Common.{get_or-take}
 use Rattle.std.proofs.lemmas.List.Edits.{length-between, get_or-between}
 use Rattle.definitions.specs.Records.{Pack}
 use Rattle.definitions.specs.Pack.{WellFormed, yes, read, words}
@@ -17,9 +18,9 @@ use Rattle.definitions.specs.Places.{relation_words}
 use Rattle.chains.specs.DirectoryWord.{starts_in, names_in}
 use Rattle.chains.specs.Record.{value_at}
 use Rattle.definitions.specs.Form.{repeats}
-use Rattle.chains.proofs.EntryLaws.{names-front}
+use Rattle.chains.proofs.EntryLaws.{names-front, reaches_one}
 use Rattle.chains.proofs.FillLaws.{table-length}
-use Rattle.filtered.specs.Taking.{NamesLow}
+use Rattle.filtered.proofs.TakingLaws.{name-low}
 use Rattle.chains.proofs.PackParts.{parts}
 use Rattle.chains.proofs.RecordLaws.{value_there}
 use Rattle.filtered.proofs.TakenKnown.{names-low}
@@ -259,11 +260,14 @@ module _ {ws dir notes : List ℕ} {f : Figures} {room : ℕ} (o : OrderAsked ws
   front-names : names_in dir f.layout.relations ≡ names
   front-names = names-front dir f.layout.relations (omega (arith, numbers.0, a.directory.reaches.long))
 
-  pub names-within : f.layout.relations ≤ length dir
-  names-within = omega (arith, numbers.0, a.directory.reaches.long)
+  pub names-many : f.layout.relations ≡ length names
+  unfolding names_in
+  names-many = sym (table-length (λ j. get_or dir j 0) 0 f.layout.relations) ∙ ap length front-names
 
   pub relations-asked : Named dir names
-  relations-asked = record { most = f.layout.names; low = subst (NamesLow f.layout.names) front-names (names-low a.directory); reaches = a.directory.reaches }
+  relations-asked j h =
+      let k : j < f.layout.relations = omega (arith, names-many) in
+      reaches_one a.directory.reaches (name-low f.layout.names dir f.layout.relations j (names-low a.directory) k (get_or-take f.layout.relations dir j 0 k))
 
   -- the rules
   abbrev Q : List ℕ
@@ -294,7 +298,7 @@ module _ {ws dir notes : List ℕ} {f : Figures} {room : ℕ} (o : OrderAsked ws
   O = order_in dir names
 
   pub order_long : length O ≡ f.layout.relations
-  order_long = length-map names (λ name. get_or (starts_in dir) name 0) ∙ sym (ap length front-names) ∙ table-length (λ j. get_or dir j 0) 0 f.layout.relations
+  order_long = length-map names (λ name. get_or (starts_in dir) name 0) ∙ sym names-many
 
   abbrev B : List ℕ
   B = block_places ws f.blocks.at count

@@ -320,17 +320,9 @@ blocks-near {ws} d =
 
 pub in_asked : {ws : List ℕ} {l : Layout} {dir acts₀ taken₀ asked out work : List ℕ} {room : ℕ} → CheckedAsked ws l dir acts₀ taken₀ asked out room work
     → {acts taken : List ℕ} {steps : ℕ} → Filled ws (names_in dir l.relations) (starts_in dir) acts taken steps → {g : Figures} → FiguresSaid ws l steps room g → ResolveAsked ws dir acts taken asked out g work
-in_asked a f h =
-    record {
-      directory = rw h.laid a.directory;
-      filled = rw (h.laid, h.steps) f;
-      lent = rw h.laid a.asked-lent;
-      blocks = rw h.laid h.blocks;
-      many = rw h.laid h.many;
-      noted = rw h.laid a.notes_in;
-      room = a.same;
-      fits = rw h.room a.fits;
-    }
+in_asked {ws} {l} {dir} {acts₀} {taken₀} {asked} {out} {work} {room} a f {g} h =
+    let b : CheckedAsked ws g.layout dir acts₀ taken₀ asked out room work = subst (λ (k : Layout). CheckedAsked ws k dir acts₀ taken₀ asked out room work) (sym h.laid) a in
+    record { directory = b.directory; filled = rw (h.laid, h.steps) f; lent = b.asked-lent; blocks = rw h.laid h.blocks; many = rw h.laid h.many; noted = b.notes_in; room = b.same; fits = rw h.room b.fits }
 
 -- a pack that was checked and noted where there is room for its notes
 module _ {ws d e d' e' : List ℕ} {r : Result Layout Refusal} {l : Layout} (clear : Clear (names_said ws) d) (c : CheckedNotes ws d e r d' e') (o : r ≡ Ok l) where

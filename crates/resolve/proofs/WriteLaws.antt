@@ -5,13 +5,10 @@ use mathlib.Core.Path.{◌≡◌, refl, ap, sym, ◌∙◌, subst}
 use mathlib.Core.List.{List, [], ◌∷◌, ◌++◌, map, append_assoc, append-nil}
 use lib.ListN.{length, get_or, take, drop, length-append, length-map, drop_of_length-le}
 use lib.Seq.{get_or-drop, drop-cons, drop-drop, drop_at, take_at, take_all}
-use native.Mathlib.Nat.{zero-add}
-use native.Mathlib.Numerals.{add-one}
 use borrow.Author.Tests.{ne_eqb}
 use Rattle.definitions.specs.Table.{value_of, word_of}
 use Rattle.definitions.specs.Places.{names_at}
 use Rattle.definitions.specs.Answers.{table_from}
-use Rattle.chains.proofs.FillLaws.{table-length}
 use Rattle.chains.specs.Record.{kind_count, slots_place}
 use Rattle.stamping.specs.Stamping.{names_or}
 use Rattle.filtered.specs.Taking.{ListFound}

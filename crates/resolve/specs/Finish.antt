@@ -14,7 +14,7 @@ use Rattle.chains.specs.PackDirectory.{ClearTable, IsDirectory}
 use Rattle.definitions.specs.Answers.{Answer, Outcome, done, refused, map_done, given, written}
 use Rattle.chains.specs.Record.{value_at}
 use Rattle.chains.specs.DirectoryWord.{Reaches, starts_in, names_in}
-use Rattle.filtered.specs.Taking.{NamesLow, Filled}
+use Rattle.filtered.specs.Taking.{Filled}
 use Rattle.definitions.specs.Tables.{tables}
 use Rattle.definitions.specs.Resolving.{defaulted_equal, equal_refusal, stamp, atom_names, in_derivation, role_judgment}
 use Rattle.definitions.specs.Operations.{whole_pack, resolve_answer, resolve_buffer}
@@ -85,10 +85,8 @@ pub record AskedOf (p : Pack) (asked : List ℕ) : Type 0 where
   pub says : (r : Relation) → find r.name p.relations ≡ some r → get_or asked r.name 0 ≡ pick (atom_names p r.name || in_derivation role_judgment r.derivation) 1 0
 
 -- names that have words in the directory
-pub record Named (dir names : List ℕ) : Type 0 where
-  pub most : ℕ
-  pub low : NamesLow most names
-  pub reaches : Reaches dir most
+abbrev pub Named : List ℕ → List ℕ → Type 0
+Named dir names = (j : ℕ) → j < length names → Reaches dir (get_or names j 0 + 1)
 
 -- the words of a pack whose trees are resolved, with the places of its pieces, its tables, and what its notes ask for
 pub record FinishAsked (ws places acts asked work : List ℕ) (relations steps : ℕ) : Type 0 where

@@ -16,7 +16,7 @@ fn order_relations(dir: &[u32], names: &[u32], places: &mut Writer)
     ensures { Writes places.old (order_in dir.now names.now) places.new }
 {
     for &name in names {
-        places.put_word(start(dir, name as usize));
+        places.put_word(start(dir, name as usize) as u32);
     }
 }
 
