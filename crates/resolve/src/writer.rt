@@ -14,6 +14,17 @@ pub struct Writer<'a> {
     ghost few: { length out.now ≤ 8192 },
 }
 
+// The words of a slice in another of the same length. No `copy_from_slice`: most records have few words, and with its call for each of
+// them Resolve took up to 1.2 times as long.
+fn copy(from: &[u32], to: &mut [u32])
+    requires { length to.old ≡ length from.now }
+    ensures { to.new ≡ from.now }
+{
+    for (i, &word) in from.iter().enumerate() {
+        to[i] = word;
+    }
+}
+
 // Words.
 impl<'a> Writer<'a> {
     ghost use Rattle.resolve.specs.Writing.{HasRoom, Begins, Writes};
@@ -39,7 +50,7 @@ impl<'a> Writer<'a> {
         ensures { Writes self.old words.now self.new }
     {
         let next = self.to + words.len();
-        self.out[self.to..next].copy_from_slice(words);
+        copy(words, &mut self.out[self.to..next]);
         self.to = next;
     }
 }
