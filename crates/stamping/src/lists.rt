@@ -5,7 +5,7 @@ ghost use Rattle.stamping.specs.Stamping.{unstamped, passed_in, unlike_in, list_
 
 use chains::record::{RecordPlace, value_at};
 use filtered::act::{Part, act_of, list};
-use filtered::taking::{kind_at, list_at};
+use filtered::taking::{kind_in, list_at};
 
 // The words of a pack and the same with trees resolved in place, what aggregates over its relations do, and 1 for each name that an
 // atom or Exists or a judgment of roles asks for.
@@ -32,8 +32,9 @@ impl Resolved<'_> {
         requires { slots < 32768 }
         ensures { result ≡ unlike_in self.now.pack.now self.now.work.now list slots }
     {
-        let current = kind_at(self.pack, list, value_at(self.work, slots));
-        let related = kind_at(self.pack, list, value_at(self.work, slots + 1));
+        let names = list_at(self.pack, list);
+        let current = kind_in(names, value_at(self.work, slots));
+        let related = kind_in(names, value_at(self.work, slots + 1));
         current.is_some() && current != related
     }
 
