@@ -7,14 +7,14 @@ use chains::record::{RecordPlace, value_at};
 use filtered::act::{Part, act_of, list};
 use filtered::taking::{kind_at, list_at};
 
-// The words of a pack and the same with trees resolved in place, what aggregates over its relations do, and 1 for each name that an
-// atom or Exists or a judgment of roles asks for.
+// The words of a pack and the same with trees resolved in place, what aggregates over its relations do, and by name whether an atom or
+// Exists or a judgment of roles asks for it.
 #[derive(Clone, Copy)]
 struct Resolved<'a> {
     pack: &'a [u32],
     work: &'a [u32],
     acts: &'a [u32],
-    asked: &'a [u8],
+    asked: &'a [bool],
 }
 
 #[tactic(auto, using(std::proofs::lemmas::Bool::Decides::nat_tests, std::proofs::lemmas::List::get_or_past), unfolding(crate::specs::Stamping::unstamped, crate::specs::Stamping::unlike_in, crate::specs::Stamping::passed_in, crate::specs::Stamping::list_for, crate::specs::Stamping::list_by, crate::specs::Stamping::added_for))]
@@ -41,7 +41,7 @@ impl Resolved<'_> {
     fn is_passed_over(&self, name: usize, place: RecordPlace) -> bool
         ensures { result ≡ passed_in self.now.work.now self.now.asked.now name place.at }
     {
-        place.kind_count(self.work) == 0 && name < self.asked.len() && self.asked[name] == 1
+        place.kind_count(self.work) == 0 && self.asked.get(name).copied().unwrap_or(false)
     }
 
     // The place of the list that is stamped on the relation whose record starts at a place.
@@ -86,7 +86,7 @@ pub fn lists(
     pack: &[u32],
     work: &[u32],
     acts: &[u32],
-    asked: &[u8],
+    asked: &[bool],
     order: &[u32],
     table: &mut [u32],
 ) -> usize
