@@ -7,8 +7,6 @@ use mathlib.Core.Bool.{Bool}
 use lib.ListN.{length, get_or, take, set, length-set}
 use lib.Seq.{take-suc, take-suc-set, length-take-le}
 use Rattle.stamping.specs.Stamping.{list_for, added_for, lists_for, added_by}
--- the names of a list as they stand in the words
-pub use Rattle.filtered.proofs.TakingLaws.{names-there}
 
 -- ---- all lists
 

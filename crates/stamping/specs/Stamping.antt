@@ -1,5 +1,5 @@
 -- Stamping, by the place of a list: what a relation comes out as when the list that stands at a place is stamped on it, 0 for none.
-use Rattle.std.specs.Prelude.{ℕ, suc, ◌+◌, ◌-◌, ◌*◌, ◌<◌, ◌≤◌, ◌≡◌, List, [], ◌∷◌, Bool, false, ◌&&◌, length, get_or, eqb, ltb}
+use Rattle.std.specs.Prelude.{ℕ, ◌+◌, ◌*◌, ◌<◌, ◌≤◌, ◌≡◌, List, [], ◌∷◌, Bool, false, ◌&&◌, length, get_or, eqb, ltb}
 use Rattle.std.proofs.Math.Option.{some}
 use Rattle.definitions.specs.Table.{pick}
 use Rattle.definitions.specs.Records.{Derivation, Relation}
@@ -41,12 +41,6 @@ list_by ws work asked name start x =
 -- the place of the list that settles its name, where the list is stamped, else 0
 unfoldable pub list_for : List ℕ → List ℕ → List ℕ → List Bool → ℕ → ℕ
 list_for ws work acts asked start = list_by ws work asked (value_at work start) start (get_or acts (value_at work start) 0)
-
--- how many names the list at a place has; they stand in the pack
-pub record Lists (ws : List ℕ) (list count : ℕ) : Type 0 where
-  pub counts : count ≡ length (names_or (names_at ws list))
-  pub few : count < 16777216
-  pub within : count ≤ length ws - suc list
 
 -- how many words more the relation has with the list stamped on it: "list 21 becomes the kinds, and so does list 9 if empty"
 unfoldable pub added_for : List ℕ → List ℕ → ℕ → ℕ → ℕ

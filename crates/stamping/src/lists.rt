@@ -1,7 +1,7 @@
 // Which list of kinds is stamped on each relation, by the place of the list.
 ghost use Rattle.std.specs.Prelude.{◌≡◌, ◌<◌, ◌≤◌, length, unwrap_or};
 ghost use Rattle.chains.specs.Record.{Recorded};
-ghost use Rattle.stamping.specs.Stamping.{unstamped, passed_in, unlike_in, list_for, Lists, added_for, Listed};
+ghost use Rattle.stamping.specs.Stamping.{unstamped, passed_in, unlike_in, list_for, added_for, Listed};
 
 use chains::record::{RecordPlace, value_at};
 use filtered::act::{Part, act_of, list};
@@ -64,20 +64,13 @@ impl Resolved<'_> {
     fn added(&self, list: u32, place: RecordPlace) -> usize
         ensures { (result ≡ added_for self.now.pack.now self.now.work.now list place.at) × (result < 33554432) }
     {
-        let names = names_at(self.pack, list) as usize;
+        let names = list_at(self.pack, list).len();
         if place.kind_count(self.work) == 0 {
             names * 2
         } else {
             names
         }
     }
-}
-
-// How many names the list at a place has within the pack; at place 0 there are none.
-pub fn names_at(pack: &[u32], list: u32) -> u32
-    ensures { Lists pack.now list result }
-{
-    list_at(pack, list).len() as u32
 }
 
 // The lists for relations that start at places, 0 for none, since no list stands at the first word. The answer is how many words more there
@@ -100,10 +93,9 @@ pub fn lists(
         asked,
     };
     let mut more: usize = 0;
-    for i in 0..order.len() {
-        let place = RecordPlace {
-            at: order[i] as usize,
-        };
+    // By index: of a table written through `table.iter_mut().zip(order)` a proof knows only the length.
+    for (i, &start) in order.iter().enumerate() {
+        let place = RecordPlace { at: start as usize };
         let list = resolved.list_for(place).unwrap_or(0);
         table[i] = list;
         more += resolved.added(list, place);
