@@ -3,7 +3,7 @@ use Rattle.std.specs.Prelude.{ℕ, ◌+◌, ◌-◌, ◌/◌, ◌%◌, ◌≤◌
 use Rattle.definitions.specs.Table.{pick}
 use Rattle.definitions.specs.Answers.{table_from}
 
--- a directory with a word for each of so many names
+-- a directory with a word for each of so many names: a clause and no field of a struct, as the names change from call to call
 pub record Reaches (dir : List ℕ) (names : ℕ) : Type 0 where
   pub most : names ≤ 4096
   pub long : 512 + names ≤ length dir

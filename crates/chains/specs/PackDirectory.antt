@@ -60,7 +60,7 @@ RulesAt ws at = OfPack ws (λ p. at ≡ relations_end p.names (first_relation p)
 abbrev pub BlocksAt : List ℕ → ℕ → Type 0
 BlocksAt ws at = OfPack ws (λ p. at ≡ blocks_at p.names 2 (to_row p).1)
 
--- a table with a word for each of so many names, all 0
+-- a table with a word for each of so many names, all 0: a clause, as the table is lent, filled, and read by the lender
 pub record ClearTable (names : ℕ) (t : List ℕ) : Type 0 where
   pub long : names ≤ length t
   pub short : length t ≤ 4096
@@ -72,13 +72,13 @@ pub record DirectoryRoom (ws dir t : List ℕ) : Type 0 where
   pub lent : ClearTable (names_said ws) t
   pub reaches : Reaches dir (length t)
 
--- so many words of a directory and so many names are as long as the words ask
+-- so many words of a directory and so many names are as long as the words ask: said of const parameters, for which there is no other place
 pub record Sized (ws : List ℕ) (words names : ℕ) : Type 0 where
   pub enough : names_said ws ≤ names
   pub most : names ≤ 4096
   pub both : words ≡ 512 + names
 
--- the layout and the directory of a pack: what they say of its records
+-- the layout and the directory of a pack: what they say of its records. A clause, as the directory is lent, filled, and read by the lender
 pub record IsDirectory (ws : List ℕ) (l : Layout) (dir : List ℕ) : Type 0 where
   pub checked : IsPack ws
   pub named : Named ws l.names

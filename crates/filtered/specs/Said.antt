@@ -57,7 +57,7 @@ plainly e = e
 unfoldable pub direct_in : List ℕ → ℕ → Option ℕ
 direct_in taken e = direct_by (get_or taken e 0)
 
--- what the walks along those of n names ask for: each is one of the names
+-- what the walks along those of n names ask for: each is one of the names. A clause, as the table is lent
 pub record InnerAsked (taken : List ℕ) (n : ℕ) : Type 0 where
   pub least : 1 ≤ n
   pub most : n ≤ 4096

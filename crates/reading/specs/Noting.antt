@@ -13,7 +13,8 @@ use Rattle.reading.specs.Notes.{look_by, noted, notes_of, note_code}
 -- ---- contexts
 
 -- A context is 16384 times the number of the note inside which a tree stands, 8192 where membership is lost, and the base: where in the
--- pack the words begin that are read. Added to the place after a word it is the word's note.
+-- pack the words begin that are read. Added to the place after a word it is the word's note. A clause, as words and context change from call
+-- to call.
 pub record Based (ws : List ℕ) (c : ℕ) : Type 0 where
   pub few : c < 134250496
   pub room : c % 8192 + length ws ≤ 8192

@@ -82,7 +82,7 @@ note_relation i at r d = set (set d i r.name) (512 + r.name) (entry at r)
 abbrev pub note_relations : ℕ → ℕ → List Relation → List ℕ → List ℕ
 note_relations n at l d = notes_all (relation_words n) note_relation 0 (at + 1) l d
 
--- room for so many names, of which none has a relation
+-- room for so many names, of which none has a relation: a clause, as the directory is lent, filled, and read by the lender
 pub record Clear (n : ℕ) (d : List ℕ) : Type 0 where
   pub long : 512 + n ≤ length d
   pub clear : (v : ℕ) → get_or d (512 + v) 0 ≡ 0

@@ -189,7 +189,7 @@ pub record CheckedAsked (ws : List ℕ) (l : Layout) (dir acts taken : List ℕ)
   pub same : length work ≡ length ws
   pub fits : room ≤ length out
 
--- a slice that has no notes yet, with room for those of a pack, and for a result of so many words
+-- a slice that has no notes yet, with room for those of a pack, and for a result of so many words: a clause, as the slice is lent
 pub record RoomFor (ws out : List ℕ) (room : ℕ) : Type 0 where
   pub first : 0 < length out
   pub blank : get_or out 0 0 ≡ 0

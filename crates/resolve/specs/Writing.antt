@@ -6,7 +6,7 @@ use Rattle.resolve.specs.declared.writer.Writer.{Writer}
 abbrev pub written : Writer → List ℕ
 written w = take w.to w.out.now
 
--- room for more of them
+-- room for more of them: a clause, as what is written next changes from call to call
 abbrev pub HasRoom : Writer → List ℕ → Type 0
 HasRoom w more = w.to + length more ≤ length w.out.now
 

@@ -32,7 +32,8 @@ fn order_rules(notes: &[u32], from: usize, all: usize, places: &mut Writer)
     }
 }
 
-// The blocks, one after the other.
+// The blocks, one after the other. That each tells where the next one begins is all that this loop shares with the one that looks for an
+// input, which ends early and has no place to write.
 fn order_blocks(pack: &[u32], blocks: Blocks, places: &mut Writer)
     requires { HasRoom places.old (block_places pack.now blocks.at blocks.count) }
     ensures { Writes places.old (block_places pack.now blocks.at blocks.count) places.new }

@@ -38,7 +38,7 @@ pub record NodeStands (ws : List ℕ) (at : ℕ) : Type 0 where
   pub slots : (look_of (kind_here ws at)).slots ≡ true → (kind_here ws (at + 1) ≡ 80) × (kind_here ws (at + 2) ≡ 81)
   pub short : length ws ≤ 8192
 
--- one that has slots
+-- one that has slots: a clause, as the place changes from call to call
 abbrev pub HasSlots : List ℕ → ℕ → Type 0
 HasSlots ws at = NodeStands ws at × ((look_of (kind_here ws at)).slots ≡ true)
 

@@ -13,7 +13,7 @@ pub record Loaded (bytes : List ℕ) (n : ℕ) (words : List ℕ) : Type 0 where
   pub front : take n words ≡ loaded_of bytes
   pub fits : n ≤ length words
 
--- a slice that has room for the words of so many bytes; more than 32,768 are none
+-- a slice that has room for the words of so many bytes; more than 32,768 are none. A clause, as both slices are lent
 abbrev pub Holds : ℕ → ℕ → Type 0
 Holds bytes words = min bytes 32768 ≤ 4 * words
 
