@@ -72,7 +72,7 @@ module _ (f : ℕ → ℕ) where
 
 -- ---- a table of what another holds
 
-pub table-mapped : (f g : ℕ → ℕ) (i k : ℕ) → table_from (λ j. f (g j)) i k ≡ map f (table_from g i k)
+table-mapped : (f g : ℕ → ℕ) (i k : ℕ) → table_from (λ j. f (g j)) i k ≡ map f (table_from g i k)
 table-mapped f g i zero = refl
 table-mapped f g i (suc k) = ap (λ (l : List ℕ). f (g i) ∷ l) (table-mapped f g (suc i) k)
 
