@@ -1,5 +1,5 @@
 -- What one declaration read says, as one number.
-use Rattle.std.specs.Prelude.{ℕ, ◌+◌, ◌<◌, ◌≡◌}
+use Rattle.std.specs.Prelude.{ℕ, ◌+◌, ◌<◌}
 use Rattle.std.proofs.Math.Option.{none, some}
 use Rattle.definitions.specs.Records.{Relation}
 use Rattle.definitions.specs.Chain.{Link, end, next, mapped}
@@ -7,8 +7,6 @@ use Rattle.definitions.specs.Kinds.{KindsFound, declares}
 use Rattle.definitions.specs.Places.{count_place}
 use Rattle.chains.specs.declared.entry.Declaration.{Declaration}
 use Rattle.chains.specs.declared.entry.Declaration.TheVariants.{NoKinds, At, Leads}
-use Rattle.chains.specs.declared.entry.Link as links
-use Rattle.chains.specs.declared.entry.Link.TheVariants as link
 
 -- a declaration as one number: the place where its list is counted, 0 for no kinds, or 65536 and the name that it leads on to
 abbrev pub coded_link : Link ℕ → ℕ
@@ -26,12 +24,6 @@ abbrev pub Ends : Declaration → Type 0
 Ends NoKinds = Unit {0}
 Ends (At place) = place < 65536
 Ends (Leads name) = Unit {0}
-
--- what the code reads of a derivation, where a number is noted of it
-abbrev pub Noted : links.Link → ℕ → Type 0
-Noted link.NoDerivation n = n ≡ 0
-Noted (link.Slots behind) n = (n ≡ behind) × (0 < behind) × (behind < 64)
-Noted (link.Leads name) n = (n ≡ 64 + name) × (name < 8192)
 
 -- the declaration of a relation whose record starts at a place, with its list as a place
 abbrev pub placed : ℕ → Relation → KindsFound → ℕ

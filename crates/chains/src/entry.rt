@@ -1,7 +1,7 @@
 // What the directory of a pack says of a name.
 ghost use Rattle.std.specs.Prelude.{◌≡◌, ◌+◌, ◌-◌, ◌/◌, ◌<◌, get_or, unwrap_or, IfSome};
 ghost use Rattle.chains.specs.DirectoryWord.{Reaches, starts_in, slots_in, declared_in};
-ghost use Rattle.chains.specs.Declaration.{Noted, Ends, number_of};
+ghost use Rattle.chains.specs.Declaration.{Ends, number_of};
 
 use records::directory::Directory;
 
@@ -31,15 +31,6 @@ impl Declaration {
     }
 }
 
-// What a word of the directory notes of a derivation: there is none, how far behind the place of the relation its slots stand,
-// or the name that it leads on to.
-#[derive(Clone, Copy, PartialEq, Eq)]
-enum Link {
-    NoDerivation,
-    Slots(u32),
-    Leads(u32),
-}
-
 // The place where the record of its relation starts. For a name that no relation has it is 0, and no Option, since tables of places
 // hold it so.
 #[tactic(auto, using(crate::proofs::ByName::starts_by), unfolding(crate::specs::DirectoryWord::start_in))]
@@ -50,17 +41,8 @@ pub fn start(dir: &[u32], name: usize) -> usize
     (dir[Directory::NAMES + name] % Directory::PLACES) as usize
 }
 
-fn link_of(word: u32) -> Link
-    ensures { Noted result (word / 8192 / 64) }
-{
-    match word / Directory::PLACES / Directory::OFFSETS {
-        0 => Link::NoDerivation,
-        link if link < Directory::OFFSETS => Link::Slots(link),
-        link => Link::Leads(link - Directory::OFFSETS),
-    }
-}
-
-// The place of its slots, if it has a derivation.
+// The place of its slots, if it has a derivation. Its link is matched as the number that it is, here and below: with an enum in between
+// Resolve of a chain took TODO longer.
 #[tactic(auto, using(crate::proofs::ByName::slots_by), unfolding(crate::specs::DirectoryWord::slot_in))]
 pub fn slots(dir: &[u32], name: usize) -> Option<usize>
     requires { Reaches dir.now (name + 1) }
@@ -68,10 +50,10 @@ pub fn slots(dir: &[u32], name: usize) -> Option<usize>
 {
     let word = dir[Directory::NAMES + name];
     let at = word % Directory::PLACES;
-    match link_of(word) {
-        Link::NoDerivation => None,
-        Link::Slots(behind) => Some((at + behind) as usize),
-        Link::Leads(_) => Some((at + Directory::LEADING_SLOTS) as usize),
+    match word / Directory::PLACES / Directory::OFFSETS {
+        0 => None,
+        behind if behind < Directory::OFFSETS => Some((at + behind) as usize),
+        _ => Some((at + Directory::LEADING_SLOTS) as usize),
     }
 }
 
@@ -87,9 +69,8 @@ pub fn declared(dir: &[u32], name: usize) -> Declaration
     if list != 0 {
         return Declaration::At(word % Directory::PLACES + list);
     }
-    match link_of(word) {
-        Link::NoDerivation => Declaration::NoKinds,
-        Link::Slots(_) => Declaration::NoKinds,
-        Link::Leads(name) => Declaration::Leads(name),
+    match word / Directory::PLACES / Directory::OFFSETS {
+        link if link < Directory::OFFSETS => Declaration::NoKinds,
+        link => Declaration::Leads(link - Directory::OFFSETS),
     }
 }

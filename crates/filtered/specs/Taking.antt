@@ -31,6 +31,11 @@ pub record ListFound (ws : List ℕ) (place : ℕ) (words : List ℕ) : Type 0 w
   pub few : length words < 16777216
   pub within : length words ≤ length ws - suc place
 
+-- the kind at a slot of a list of words
+pub record KindIn (words : List ℕ) (slot : ℕ) (kind : Option ℕ) : Type 0 where
+  pub is : option_in kind ≡ kind_at (some (map value_of words)) slot
+  pub small : IfSome kind (λ k. k < 16777216)
+
 -- the kind at a slot of the list whose count word stands at a place
 pub record KindFound (ws : List ℕ) (place slot : ℕ) (kind : Option ℕ) : Type 0 where
   pub is : option_in kind ≡ kind_at (names_at ws place) slot

@@ -7,7 +7,7 @@ ghost use Rattle.chains.specs.DirectoryWord.{Reaches, starts_in, slots_in, names
 ghost use Rattle.chains.specs.PackDirectory.{ClearTable, IsDirectory};
 ghost use Rattle.filtered.specs.Acts.{part_number};
 ghost use Rattle.filtered.specs.Said.{direct_by, alias_of, unresolved_of};
-ghost use Rattle.filtered.specs.Taking.{option_in, ListFound, KindFound, number_of, Plain, named_after, taken_after, take_at, RelationRead, RelationsRead, NamesLow, KnowsEntities, Filled};
+ghost use Rattle.filtered.specs.Taking.{option_in, ListFound, KindIn, KindFound, number_of, Plain, named_after, taken_after, take_at, RelationRead, RelationsRead, NamesLow, KnowsEntities, Filled};
 
 use crate::act::{Part, list};
 use chains::entry::{slots, start};
@@ -131,13 +131,18 @@ pub fn list_at(pack: &[u32], place: u32) -> &[u32]
     &words[..count.min(words.len())]
 }
 
-// The kind at a slot of that list.
+// The kind at a slot of a list of such words.
+pub fn kind_in(names: &[u32], slot: u32) -> Option<u32>
+    ensures { KindIn names.now slot result }
+{
+    names.get(slot as usize).map(|word| word % Pack::VALUES)
+}
+
+// The same of that list.
 pub fn kind_at(pack: &[u32], place: u32, slot: u32) -> Option<u32>
     ensures { KindFound pack.now place slot result }
 {
-    list_at(pack, place)
-        .get(slot as usize)
-        .map(|word| word % Pack::VALUES)
+    kind_in(list_at(pack, place), slot)
 }
 
 // An entity of a derivation and the kind that it takes there; one past the table is none and passed over. The index is tested by

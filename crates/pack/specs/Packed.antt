@@ -1,29 +1,9 @@
--- What the table says of rows of children and of words that begin trees.
+-- What the table says of words that begin trees.
 use Rattle.std.specs.Prelude.{ℕ, ◌+◌, ◌<◌, ◌≤◌, ◌≡◌, Bool, true, false, ◌&&◌, List, length, get_or, eqb, leb, ltb}
 use Rattle.definitions.specs.declared.table.Values.{Values}
 use Rattle.definitions.specs.declared.table.Values.TheVariants.{Unused, Any, AtMost, FromOne, AtMostOrNone, Total, Name, NameOrNone}
-use Rattle.definitions.specs.declared.table.Follows.{Follows}
-use Rattle.definitions.specs.declared.table.Follows.TheVariants.{Nothing, Counted, OneScalar, TwoScalars, Scalars, Patterns, Periods, OneJudgment, Judgments, Choice, Aggregate, OnlyRelated, Slots, Atom, Exists}
 use Rattle.definitions.specs.Table.{kind_of, value_of, word_of, entry_of}
 use Rattle.definitions.specs.Form.{allowed_here}
-
--- whether what follows is a row of children of one sort, of which there are one, two or as many as the value says
-abbrev pub in_row : Follows → Bool
-in_row Nothing = false
-in_row Counted = false
-in_row OneScalar = true
-in_row TwoScalars = true
-in_row Scalars = true
-in_row Patterns = false
-in_row Periods = false
-in_row OneJudgment = true
-in_row Judgments = true
-in_row Choice = false
-in_row Aggregate = false
-in_row OnlyRelated = false
-in_row Slots = false
-in_row Atom = false
-in_row Exists = false
 
 -- the rule by which the table allows a word of this kind its values
 abbrev pub Ruled : ℕ → Values → Type 0

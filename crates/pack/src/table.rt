@@ -1,7 +1,6 @@
 // The table: for each kind of word what its value may be, whether a tree begins with it, and what follows it.
-ghost use Rattle.std.specs.Prelude.{◌≡◌, true, ◌<◌};
+ghost use Rattle.std.specs.Prelude.{◌≡◌, ◌<◌};
 ghost use Rattle.definitions.specs.Table.{allowed, how_many, entry_of};
-ghost use Rattle.pack.specs.Packed.{in_row};
 
 use crate::kinds::Pack;
 use definitions::table::{Entry, Follows, Values};
@@ -569,12 +568,12 @@ pub fn allows(rule: Values, n: u32, v: u32) -> bool
     }
 }
 
-// How many follow a word of the value v, where they are of one sort.
-pub fn how_many(follows: Follows, v: u32) -> u32
-    requires { v < 16777216 }
-    ensures { result ≡ how_many follows v }
+// How many children follow a word of this kind and the value v, where they are of one sort.
+pub fn how_many(kind: u32, v: u32) -> u32
+    requires { (kind < 256) × (v < 16777216) }
+    ensures { result ≡ how_many (entry_of kind).follows v }
 {
-    match follows {
+    match entry_of(kind).follows {
         Follows::OneScalar => 1,
         Follows::TwoScalars => 2,
         Follows::Scalars => v,
@@ -583,18 +582,5 @@ pub fn how_many(follows: Follows, v: u32) -> u32
         Follows::OneJudgment => 1,
         Follows::Judgments => v,
         _ => 0,
-    }
-}
-
-// How many children follow a word of this kind and the value v, where they are one, two or as many as the value says.
-pub fn children(kind: u32, v: u32) -> u32
-    requires { (kind < 256) × (in_row (entry_of kind).follows ≡ true) }
-    ensures { result ≡ how_many (entry_of kind).follows v }
-{
-    match entry_of(kind).follows {
-        Follows::TwoScalars => 2,
-        Follows::OneScalar => 1,
-        Follows::OneJudgment => 1,
-        _ => v,
     }
 }

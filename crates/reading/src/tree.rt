@@ -13,7 +13,7 @@ use crate::fault::Fault;
 use crate::words::Words;
 use pack::cursor::{Cursor, Step};
 use pack::kinds::Pack;
-use pack::table::{children, entry_of, how_many};
+use pack::table::how_many;
 
 // How many notes there are.
 pub fn count(notes: &[u32]) -> u32
@@ -95,7 +95,7 @@ fn scalars(
         if Pack::ONE_CHILD <= kind {
             if k == 0 && kind <= Pack::MAX {
                 at = next;
-                k = children(kind, w % Pack::VALUES);
+                k = how_many(kind, w % Pack::VALUES);
                 left -= 1;
             } else {
                 at = after_scalar(part, at, left - 1, context, notes)?;
@@ -132,7 +132,7 @@ fn judgments(
         if kind <= Pack::SAME_ENTITY {
             if k == 0 && Pack::AND <= kind && kind <= Pack::NOT {
                 at = next;
-                k = children(kind, w % Pack::VALUES);
+                k = how_many(kind, w % Pack::VALUES);
                 left -= 1;
             } else {
                 at = after_judgment(part, at, left - 1, context, notes)?;
@@ -244,7 +244,7 @@ fn after_scalar(
     match kind {
         Pack::COUNT..=Pack::SINGLE => aggregate(part, at + 1, left, context, notes),
         Pack::ONE_CHILD..=Pack::MAX => {
-            let count = children(kind, v);
+            let count = how_many(kind, v);
             scalars(part, at + 1, count, left, context, notes)
         }
         _ => after_other(part, at, left, context, notes),
@@ -269,7 +269,7 @@ fn after_other(
     match kind {
         Pack::NO_MATCH => patterns(part, at + 1, v, left, context, notes),
         Pack::OVER_PERIODS => {
-            let count = how_many(entry_of(kind).follows, v);
+            let count = how_many(kind, v);
             scalars(part, at + 1, count, left, lost(context), notes)
         }
         Pack::IF => choice(part, at + 1, left, context, notes),
@@ -300,7 +300,7 @@ fn after_judgment(
         Pack::AND..=Pack::NOT => judgments(
             part,
             at + 1,
-            children(kind, w % Pack::VALUES),
+            how_many(kind, w % Pack::VALUES),
             left,
             context,
             notes,

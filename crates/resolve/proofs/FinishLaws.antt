@@ -122,7 +122,7 @@ module _ (p : Pack) (w : WellFormed p) (rels : List Relation) (rls : List Rule) 
   pieces_same =
       ap (sums 0) (rw (map-append (λ (w : List ℕ). length w), map-append (λ (w : List ℕ). length w), relations-same, others_same) (ap (λ (x : ℕ). x ∷ (lengths (map (relation_words n) rels) ++ lengths (other_pieces q))) (front_long p ∙ sym (front_long q))))
 
-  module _ {ws starts acts taken : List ℕ} {steps : ℕ} (a : TablesFilled ws starts acts taken steps) (h : read ws ≡ yes p) {asked work order lists : List ℕ} {added : ℕ} (asks : AskedOf p asked)
+  module _ {ws starts acts taken : List ℕ} {steps : ℕ} (a : TablesFilled ws starts acts taken steps) (h : read ws ≡ yes p) {asked : List Bool} {work order lists : List ℕ} {added : ℕ} (asks : AskedOf p asked)
       (stands : work ≡ words q) (places : order ≡ places_in p) (listed : Listed ws work acts asked order lists added) where
     stamps : Stamped ws lists rels (map (stamp p) rels)
     stamps =
@@ -191,7 +191,7 @@ in_zeros (suc m) after all more lists l e h =
     let b : all - 0 ≡ suc (k + more) = omega arith in
     rw (a, b) (ap (λ (x : List ℕ). 0 ∷ x) (ap (λ (x : List ℕ). take (k + more) (lists ++ x)) (zeros-after k m (omega arith)) ∙ take-append-add lists (replicate (m - k) 0) more ∙ ap (λ (x : List ℕ). lists ++ x) (zeros-up_to more (m - k) (omega arith))))
 
-module _ {ws places acts asked work : List ℕ} {relations steps : ℕ} (a : FinishAsked ws places acts asked work relations steps) where
+module _ {ws places acts : List ℕ} {asked : List Bool} {work : List ℕ} {relations steps : ℕ} (a : FinishAsked ws places acts asked work relations steps) where
   abbrev p : Pack
   p = a.tabled.checked.pack
 

@@ -4,6 +4,7 @@ use native.Mathlib.Omega.{arith}
 use native.Mathlib.Numerals.{add-one}
 use mathlib.Core.Path.{◌≡◌, refl, ap, sym, ◌∙◌, subst}
 use mathlib.Core.List.{List, [], ◌∷◌, ◌++◌, map, append_assoc, append-nil}
+use mathlib.Core.Bool.{Bool}
 use lib.ListN.{length, get_or, replicate, length-append, length-map, length-replicate}
 use borrow.Author.Tests.{ne_eqb}
 use borrow.Rule.Slice.PartMut.{mid_of, mid_len}
@@ -309,10 +310,10 @@ module _ {ws dir notes : List ℕ} {f : Figures} {room : ℕ} (o : OrderAsked ws
       ∙ all_begin dir tabled a.directory.ruled a.directory.blocked (a.filled.noted.named p h)
 
 -- room for the places of a pack
-abbrev pub order_of : {ws dir acts taken marks notes : List ℕ} {f : Figures} {work : List ℕ} (a : ResolveAsked ws dir acts taken marks notes f work) {room : ℕ} → room ≡ length (pieces_of a.directory.checked.pack) → OrderAsked ws dir notes f room
+abbrev pub order_of : {ws dir acts taken : List ℕ} {marks : List Bool} {notes : List ℕ} {f : Figures} {work : List ℕ} (a : ResolveAsked ws dir acts taken marks notes f work) {room : ℕ} → room ≡ length (pieces_of a.directory.checked.pack) → OrderAsked ws dir notes f room
 order_of {acts = acts} {taken} {marks} {work = work} a e = record { acts = acts; taken = taken; marks = marks; work = work; asked = a; size = e }
 
-module _ {ws dir acts taken marks notes : List ℕ} {f : Figures} {work : List ℕ} (a : ResolveAsked ws dir acts taken marks notes f work) where
+module _ {ws dir acts taken : List ℕ} {marks : List Bool} {notes : List ℕ} {f : Figures} {work : List ℕ} (a : ResolveAsked ws dir acts taken marks notes f work) where
   pub relations_few : f.layout.relations ≤ 512
   relations_few = (numbers (order_of a refl)).0
 

@@ -1,5 +1,5 @@
 -- What Resolve answers and leaves, from its steps.
-use Prim.Native.Nat.{ℕ, ◌+◌, ◌<◌, ◌≤◌, min}
+use Prim.Native.Nat.{ℕ, zero, suc, ◌+◌, ◌<◌, ◌≤◌, min}
 use native.Mathlib.Omega.{arith}
 use mathlib.Core.Path.{◌≡◌, refl, ap, sym, ◌∙◌, subst}
 use mathlib.Core.List.{List, [], ◌∷◌, ◌++◌, map}
@@ -42,7 +42,7 @@ use Rattle.chains.specs.Record.{value_at}
 use Rattle.directions.specs.RecordRuns.{with_records, trees_resolved, TablesFilled}
 use Rattle.resolve.specs.declared.checked.Figures.{Figures}
 use Rattle.definitions.specs.WrittenRecords.{beginnings, pieces_of}
-use Rattle.resolve.specs.Finish.{stamp_all, resolved_trees, AskedOf, TreesAsked, TreesCame, FiguresSaid, ResolveAsked, PlacedAsked, TablesFor, CheckedAsked, RoomFor, front_of, Into, FinishAsked, FinishCame, given_out, written_out}
+use Rattle.resolve.specs.Finish.{stamp_all, resolved_trees, AskedOf, NoneAsked, TreesAsked, TreesCame, FiguresSaid, ResolveAsked, PlacedAsked, TablesFor, CheckedAsked, RoomFor, front_of, Into, FinishAsked, FinishCame, given_out, written_out}
 use Rattle.turning.specs.Notes.{notes_of_pack}
 use Rattle.turning.specs.TurnPromises.{known_in, TurnedAs, PackAsked, PackTurned}
 use Rattle.turning.specs.Asked.{mark_notes, InWords, MarksAsked, NotesMarked}
@@ -233,7 +233,7 @@ resolve-refused ws lent e o =
 
 -- ---- for the code
 
-module _ {ws dir acts taken asked₀ notes : List ℕ} {f : Figures} {work : List ℕ} (a : ResolveAsked ws dir acts taken asked₀ notes f work) where
+module _ {ws dir acts taken : List ℕ} {asked₀ : List Bool} {notes : List ℕ} {f : Figures} {work : List ℕ} (a : ResolveAsked ws dir acts taken asked₀ notes f work) where
   abbrev its : Pack
   its = a.directory.checked.pack
 
@@ -259,7 +259,7 @@ module _ {ws dir acts taken asked₀ notes : List ℕ} {f : Figures} {work : Lis
   pub marks-asked : MarksAsked ws notes all
   marks-asked = record { ns = notes_of_pack its; are = a.noted.held; many = a.noted.many; room = a.noted.room; there = there }
 
-  module _ {asked : List ℕ} (m : NotesMarked ws notes all asked₀ asked) where
+  module _ {asked : List Bool} (m : NotesMarked ws notes all asked₀ asked) where
     its-low : (r : Relation) → find r.name its.relations ≡ some r → r.name < its.names
     its-low r e = (find_kept its.names r.name [] its.relations r (parts its fine).relations-fine e).1.below
 
@@ -269,7 +269,7 @@ module _ {ws dir acts taken asked₀ notes : List ℕ} {f : Figures} {work : Lis
           says = λ r e.
               let low = its-low r e in
               let long : r.name < length asked₀ = omega (arith, a.lent.long, a.directory.named its checked) in
-              ap (λ (t : List ℕ). get_or t r.name 0) (m (notes_of_pack its) a.noted.held a.noted.many there ∙ ap (λ (x : List ℕ). mark_notes x (notes_of_pack its) None asked₀) same-words)
+              ap (λ (t : List Bool). get_or t r.name false) (m (notes_of_pack its) a.noted.held a.noted.many there ∙ ap (λ (x : List ℕ). mark_notes x (notes_of_pack its) None asked₀) same-words)
               ∙ marks-are its fine r e (omega (arith, (parts its fine).most)) asked₀ long (a.lent.clear r.name);
         }
 
@@ -318,7 +318,7 @@ blocks-near {ws} d =
     let i = reads_inputs ws d.checked.pack d.checked.reads d.blocked in
     (omega (arith, i.near), omega (arith, i.counts, i.few))
 
-pub in_asked : {ws : List ℕ} {l : Layout} {dir acts₀ taken₀ asked out work : List ℕ} {room : ℕ} → CheckedAsked ws l dir acts₀ taken₀ asked out room work
+pub in_asked : {ws : List ℕ} {l : Layout} {dir acts₀ taken₀ : List ℕ} {asked : List Bool} {out work : List ℕ} {room : ℕ} → CheckedAsked ws l dir acts₀ taken₀ asked out room work
     → {acts taken : List ℕ} {steps : ℕ} → Filled ws (names_in dir l.relations) (starts_in dir) acts taken steps → {g : Figures} → FiguresSaid ws l steps room g → ResolveAsked ws dir acts taken asked out g work
 in_asked {ws} {l} {dir} {acts₀} {taken₀} {asked} {out} {work} {room} a f {g} h =
     let b : CheckedAsked ws g.layout dir acts₀ taken₀ asked out room work = subst (λ (k : Layout). CheckedAsked ws k dir acts₀ taken₀ asked out room work) (sym h.laid) a in
@@ -332,7 +332,7 @@ module _ {ws d e d' e' : List ℕ} {r : Result Layout Refusal} {l : Layout} (cle
   pub its-words : length ws ≤ 8192
   its-words = short-checked its-directory.checked
 
-  pub checked-asked : {acts taken asked work : List ℕ} {room : ℕ} → RoomFor ws e room → TablesFor ws d acts taken asked → length d' ≡ length d → length e' ≡ length e → length work ≡ length ws → CheckedAsked ws l d' acts taken asked e' room work
+  pub checked-asked : {acts taken : List ℕ} {asked : List Bool} {work : List ℕ} {room : ℕ} → RoomFor ws e room → TablesFor ws d acts taken asked → length d' ≡ length d → length e' ≡ length e → length work ≡ length ws → CheckedAsked ws l d' acts taken asked e' room work
   checked-asked {acts} {taken} {asked} to tables long kept same =
       let names : names_said ws ≡ l.names = said-names ws its-directory.checked ∙ sym (its-directory.named its-directory.checked.pack its-directory.checked.reads) in
       record {
@@ -340,7 +340,7 @@ module _ {ws d e d' e' : List ℕ} {r : Result Layout Refusal} {l : Layout} (cle
         reaches = record { most = tables.reaches.most; long = omega (arith, tables.reaches.long) };
         acts-lent = subst (λ (n : ℕ). ClearTable n acts) names tables.acts-lent;
         taken-lent = subst (λ (n : ℕ). ClearTable n taken) names tables.taken-lent;
-        asked-lent = subst (λ (n : ℕ). ClearTable n asked) names tables.asked-lent;
+        asked-lent = subst (λ (n : ℕ). NoneAsked n asked) names tables.asked-lent;
         notes_in = noted-there c o to.first to.blank (to.noted its-words) its-directory.checked.pack its-directory.checked.reads;
         same = same;
         fits = omega (arith, to.fits, kept);
@@ -509,7 +509,7 @@ room_made ws many e =
 
 -- ---- with the places of its pieces
 
-module _ {ws acts taken asked places notes : List ℕ} {f : Figures} {work : List ℕ} (a : PlacedAsked ws acts taken asked places notes f work) where
+module _ {ws acts taken : List ℕ} {asked : List Bool} {places notes : List ℕ} {f : Figures} {work : List ℕ} (a : PlacedAsked ws acts taken asked places notes f work) where
   pub turns-asked : {words : List ℕ} → words ≡ ws → PackAsked ws acts taken words notes f.blocks.at f.blocks.count f.layout.noted f.layout.all
   turns-asked e = (trees_asked a.resolves e).turns
 
@@ -526,15 +526,20 @@ module _ {ws acts taken asked places notes : List ℕ} {f : Figures} {work : Lis
   placed_stopped t e lent = (resolve_stopped a.resolves.directory.checked lent (came t) e).answers
 
 -- a defaulted name with equal kinds
-module _ {ws dir acts taken asked notes : List ℕ} {f : Figures} {work : List ℕ} (a : ResolveAsked ws dir acts taken asked notes f work) {found : Option ℕ} (first : found ≡ first_equal ws acts 3 (value_at ws 2)) where
+module _ {ws dir acts taken : List ℕ} {asked : List Bool} {notes : List ℕ} {f : Figures} {work : List ℕ} (a : ResolveAsked ws dir acts taken asked notes f work) {found : Option ℕ} (first : found ≡ first_equal ws acts 3 (value_at ws 2)) where
   pub equal_reached : {name : ℕ} → found ≡ some name → Reaches dir (name + 1)
   equal_reached z = default_name (trees_asked a refl) first z
 
   pub equal_refused : {name : ℕ} → found ≡ some name → (lent : List ℕ) → Err (record { number = 9; place = get_or (starts_in dir) name 0; name = name; other = 0 }) ≡ resolve_answer ws (length lent)
   equal_refused z lent = (resolve_stopped a.directory.checked lent (trees_equal (trees_asked a refl) first z []) refl).answers
 
+none_at : (k m : ℕ) → get_or (replicate k false) m false ≡ false
+none_at zero m = refl
+none_at (suc k) zero = refl
+none_at (suc k) (suc m) = none_at k m
+
 -- cleared tables for so many names
-pub tables_for : (ws : List ℕ) (most : ℕ) → most ≤ 4096 → names_said ws ≤ most → TablesFor ws (replicate (512 + most) 0) (replicate most 0) (replicate most 0) (replicate most 0)
+pub tables_for : (ws : List ℕ) (most : ℕ) → most ≤ 4096 → names_said ws ≤ most → TablesFor ws (replicate (512 + most) 0) (replicate most 0) (replicate most 0) (replicate most false)
 tables_for ws most few h =
     let r = room_for {ws = ws} {n = names_said ws} most refl h few in
-    record { clear = r.clear; reaches = r.reaches; acts-lent = r.lent; taken-lent = r.lent; asked-lent = r.lent }
+    record { clear = r.clear; reaches = r.reaches; acts-lent = r.lent; taken-lent = r.lent; asked-lent = record { long = omega (arith, h, length-replicate {A = Bool} most false); clear = none_at most } }

@@ -8,7 +8,6 @@ use mathlib.Core.Option.{some}
 use lib.ListN.{length, get_or, length-append}
 use lib.Dec.{eqb}
 use borrow.Author.Tests.{eq-eqb}
-use Rattle.definitions.specs.Table.{pick}
 use Rattle.definitions.specs.Form.{among, Fine}
 use Rattle.definitions.specs.Records.{Relation, Pack}
 use Rattle.definitions.specs.Pack.{WellFormed, yes, read, relation}
@@ -70,7 +69,7 @@ module _ (p : Pack) (w : WellFormed p) where
   all_starting = starting_from (first_relation p) [] p.relations (parts p w).relations-fine (λ m e. refl)
 
   -- and come out stamped
-  module _ (ws acts asked work : List ℕ) (h : read ws ≡ yes p) (most : n ≤ 4096) (says : ActsOf ws acts) (settled : KindsReady ws acts) (asks : AskedOf p asked) (rest : List ℕ) where
+  module _ (ws acts : List ℕ) (asked : List Bool) (work : List ℕ) (h : read ws ≡ yes p) (most : n ≤ 4096) (says : ActsOf ws acts) (settled : KindsReady ws acts) (asks : AskedOf p asked) (rest : List ℕ) where
     one_stamped : (at : ℕ) (r s : Relation) (before after : List ℕ) → length before ≡ at → RelationKeeps p r → find r.name p.relations ≡ some r → start_of n r.name (first_relation p) p.relations ≡ at → resolve_relation p at r ≡ done s → work ≡ before ++ (relation_words n s ++ after)
         → StampedBy ws (list_for ws work acts asked at) s (stamp p s)
     unfolding part_of
@@ -80,9 +79,9 @@ module _ (p : Pack) (w : WellFormed p) where
         let part : act_part (get_or acts s.name 0) ≡ part_at at (some s) =
         ap (λ (m : ℕ). act_part (get_or acts m 0)) t.0 ∙ says.parts p h r.name ∙ ap (part_at (start_of n r.name (first_relation p) p.relations)) found ∙ ap (λ (x : ℕ). part_at x (some r)) starts ∙ sym (part_kept p at at r s e) in
         let kinds : names_at ws (act_list (get_or acts s.name 0)) ≡ kinds_of p.relations s.name = settled p h s.name (ap (λ (v : ℕ). among v (declared p.relations)) t.0 ∙ keeps.known) in
-        let told : get_or asked s.name 0 ≡ pick (atom_names p s.name || in_derivation role_judgment s.derivation) 1 0 =
-        ap (λ (m : ℕ). get_or asked m 0) t.0 ∙ asks.says r found ∙ ap (λ (b : Bool). pick (atom_names p r.name || b) 1 0) (sym (relation-held role_judgment p at r s e))
-        ∙ ap (λ (m : ℕ). pick (atom_names p m || in_derivation role_judgment s.derivation) 1 0) (sym t.0) in
+        let told : get_or asked s.name false ≡ (atom_names p s.name || in_derivation role_judgment s.derivation) =
+        ap (λ (m : ℕ). get_or asked m false) t.0 ∙ asks.says r found ∙ ap (λ (b : Bool). atom_names p r.name || b) (sym (relation-held role_judgment p at r s e))
+        ∙ ap (λ (m : ℕ). atom_names p m || in_derivation role_judgment s.derivation) (sym t.0) in
         stamped-by ws work acts asked p at s (record { before = before; after = after; long = long; same-words = stands; used = keeps.used; fine = fine }) most part kinds told
 
     pub all-stamped : (at : ℕ) (l m : List Relation) (before : List ℕ) → length before ≡ at → EachKeeps (RelationKeeps p) l → EachFound p.relations l → Starting at l

@@ -60,8 +60,8 @@ abbrev pub name_word : ℕ → ℕ
 name_word w = word_of 10 (value_of w)
 
 -- so the list is written
-pub list_put : {ws : List ℕ} {list : ℕ} (kind : ℕ) {names : List ℕ} → ListFound ws list names → list_words kind (names_or (names_at ws list)) ≡ word_of kind (length names) ∷ map name_word names
-list_put kind {names} f = rw (← f.names, length-map names value_of, map-map (word_of 10) value_of names) refl
+pub list_put : (kind : ℕ) (names : List ℕ) → list_words kind (map value_of names) ≡ word_of kind (length names) ∷ map name_word names
+list_put kind names = rw (length-map names value_of, map-map (word_of 10) value_of names) refl
 
 -- ---- a record
 
@@ -79,6 +79,10 @@ piece_stays ws w z = rw z refl
 pub piece_stamped : (ws : List ℕ) {list : ℕ} (w : List ℕ) {place : ℕ} → (list ≡ 0 → ⊥) → place ≡ slots_place w 0 + 4 → piece_out ws list w ≡ put_for (names_or (names_at ws list)) w place ++ from_to (place + 1) (length w) w
 unfolding piece_out
 piece_stamped ws {list} w z e = rw (ne_eqb list 0 z, e) refl
+
+-- by the words of the list
+pub piece_found : {ws : List ℕ} {list : ℕ} (w : List ℕ) {place : ℕ} {names : List ℕ} → ListFound ws list names → (list ≡ 0 → ⊥) → place ≡ slots_place w 0 + 4 → piece_out ws list w ≡ put_for (map value_of names) w place ++ from_to (place + 1) (length w) w
+piece_found {ws} w f z e = rw f.names (piece_stamped ws w z e)
 
 pub list_inside : (list : ℕ) (w : List ℕ) {place : ℕ} → Stampable list w → (list ≡ 0 → ⊥) → place ≡ slots_place w 0 + 4 → place < length w
 unfolding Stampable

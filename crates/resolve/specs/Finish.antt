@@ -1,5 +1,5 @@
 -- What the parts of Resolve promise each other: the first three steps of Resolving, and the result.
-use Rattle.std.specs.Prelude.{ℕ, zero, suc, ◌+◌, ◌*◌, ◌<◌, ◌≤◌, ◌≡◌, List, [], ◌∷◌, map, ◌||◌, length, get_or, take, replicate, eqb, Result, Ok, Err}
+use Rattle.std.specs.Prelude.{ℕ, zero, suc, ◌+◌, ◌*◌, ◌<◌, ◌≤◌, ◌≡◌, List, [], ◌∷◌, map, Bool, false, ◌||◌, length, get_or, take, replicate, eqb, Result, Ok, Err}
 use Rattle.std.proofs.Math.Option.{none, some}
 use Rattle.definitions.specs.declared.answer.Refusal.{Refusal}
 use Rattle.definitions.specs.Table.{pick}
@@ -80,16 +80,21 @@ unfoldable pub block_places : List ℕ → ℕ → ℕ → List ℕ
 block_places ws at zero = []
 block_places ws at (suc k) = at ∷ block_places ws (at + 2 + 3 * repeats (value_at ws (at + 1))) k
 
--- by name: 1 for a relation "that some atom or Exists names, or whose predicate holds kinds 102 to 104", else 0
-pub record AskedOf (p : Pack) (asked : List ℕ) : Type 0 where
-  pub says : (r : Relation) → find r.name p.relations ≡ some r → get_or asked r.name 0 ≡ pick (atom_names p r.name || in_derivation role_judgment r.derivation) 1 0
+-- by name: whether it is a relation "that some atom or Exists names, or whose predicate holds kinds 102 to 104"
+pub record AskedOf (p : Pack) (asked : List Bool) : Type 0 where
+  pub says : (r : Relation) → find r.name p.relations ≡ some r → get_or asked r.name false ≡ (atom_names p r.name || in_derivation role_judgment r.derivation)
+
+-- a table for so many names, of which none is asked for yet
+pub record NoneAsked (names : ℕ) (t : List Bool) : Type 0 where
+  pub long : names ≤ length t
+  pub clear : (m : ℕ) → get_or t m false ≡ false
 
 -- names that have words in the directory
 abbrev pub Named : List ℕ → List ℕ → Type 0
 Named dir names = (j : ℕ) → j < length names → Reaches dir (get_or names j 0 + 1)
 
 -- the words of a pack whose trees are resolved, with the places of its pieces, its tables, and what its notes ask for
-pub record FinishAsked (ws places acts asked work : List ℕ) (relations steps : ℕ) : Type 0 where
+pub record FinishAsked (ws places acts : List ℕ) (asked : List Bool) (work : List ℕ) (relations steps : ℕ) : Type 0 where
   pub records : List ℕ
   pub taken : List ℕ
   pub tabled : TablesFilled ws records acts taken steps
@@ -127,10 +132,10 @@ pub record FiguresSaid (ws : List ℕ) (l : Layout) (declared room_told : ℕ) (
   pub room : f.room ≡ room_told
 
 -- a checked pack with its directory, its tables and its notes, and a slice for as many words
-pub record ResolveAsked (ws dir acts taken asked notes : List ℕ) (f : Figures) (work : List ℕ) : Type 0 where
+pub record ResolveAsked (ws dir acts taken : List ℕ) (asked : List Bool) (notes : List ℕ) (f : Figures) (work : List ℕ) : Type 0 where
   pub directory : IsDirectory ws f.layout dir
   pub filled : Filled ws (names_in dir f.layout.relations) (starts_in dir) acts taken f.steps
-  pub lent : ClearTable f.layout.names asked
+  pub lent : NoneAsked f.layout.names asked
   pub blocks : f.blocks.at ≡ f.layout.blocks + 1
   pub many : f.blocks.count ≡ value_at ws f.layout.blocks
   pub noted : NotesIn directory.checked.pack notes f.layout.noted f.layout.all
@@ -138,17 +143,17 @@ pub record ResolveAsked (ws dir acts taken asked notes : List ℕ) (f : Figures)
   pub fits : f.room ≤ length notes
 
 -- the same after what stamping asks of its notes was asked, with the places of its pieces, where no defaulted name has equal kinds
-pub record PlacedAsked (ws acts taken asked places notes : List ℕ) (f : Figures) (work : List ℕ) : Type 0 where
+pub record PlacedAsked (ws acts taken : List ℕ) (asked : List Bool) (places notes : List ℕ) (f : Figures) (work : List ℕ) : Type 0 where
   pub dir : List ℕ
-  pub before : List ℕ
+  pub before : List Bool
   pub resolves : ResolveAsked ws dir acts taken before notes f work
   pub marked : NotesMarked ws notes f.layout.all before asked
   pub begins : places ≡ beginnings 0 (pieces_of resolves.directory.checked.pack)
   pub unequal : first_equal ws acts 3 (value_at ws 2) ≡ none
 
 -- the same before the places are known, of which there are no more than so many
-pub record PiecesAsked (ws dir acts taken asked notes : List ℕ) (f : Figures) (work : List ℕ) (most : ℕ) : Type 0 where
-  pub before : List ℕ
+pub record PiecesAsked (ws dir acts taken : List ℕ) (asked : List Bool) (notes : List ℕ) (f : Figures) (work : List ℕ) (most : ℕ) : Type 0 where
+  pub before : List Bool
   pub resolves : ResolveAsked ws dir acts taken before notes f work
   pub marked : NotesMarked ws notes f.layout.all before asked
   pub few : f.layout.relations + value_at ws f.layout.rules + f.blocks.count + 3 ≤ most
@@ -158,7 +163,7 @@ pub record PiecesAsked (ws dir acts taken asked notes : List ℕ) (f : Figures) 
 pub record OrderAsked (ws dir notes : List ℕ) (f : Figures) (room : ℕ) : Type 0 where
   pub acts : List ℕ
   pub taken : List ℕ
-  pub marks : List ℕ
+  pub marks : List Bool
   pub work : List ℕ
   pub asked : ResolveAsked ws dir acts taken marks notes f work
   pub size : room ≡ length (pieces_of asked.directory.checked.pack)
@@ -166,20 +171,20 @@ pub record OrderAsked (ws dir notes : List ℕ) (f : Figures) (room : ℕ) : Typ
 abbrev pub OrderCame : List ℕ → List ℕ → List ℕ → Figures → ℕ → List ℕ → Type 0
 OrderCame ws dir notes f room left = (a : OrderAsked ws dir notes f room) → left ≡ beginnings 0 (pieces_of a.asked.directory.checked.pack)
 
--- tables with a word for each name that the words say, all 0, and a directory that has one for each of them
-pub record TablesFor (ws dir acts taken asked : List ℕ) : Type 0 where
+-- tables for each name that the words say, all 0 or false, and a directory that has a word for each of them
+pub record TablesFor (ws dir acts taken : List ℕ) (asked : List Bool) : Type 0 where
   pub clear : Clear (names_said ws) dir
   pub reaches : Reaches dir (length acts)
   pub acts-lent : ClearTable (names_said ws) acts
   pub taken-lent : ClearTable (names_said ws) taken
-  pub asked-lent : ClearTable (names_said ws) asked
+  pub asked-lent : NoneAsked (names_said ws) asked
 
-pub record CheckedAsked (ws : List ℕ) (l : Layout) (dir acts taken asked out : List ℕ) (room : ℕ) (work : List ℕ) : Type 0 where
+pub record CheckedAsked (ws : List ℕ) (l : Layout) (dir acts taken : List ℕ) (asked : List Bool) (out : List ℕ) (room : ℕ) (work : List ℕ) : Type 0 where
   pub directory : IsDirectory ws l dir
   pub reaches : Reaches dir (length acts)
   pub acts-lent : ClearTable l.names acts
   pub taken-lent : ClearTable l.names taken
-  pub asked-lent : ClearTable l.names asked
+  pub asked-lent : NoneAsked l.names asked
   pub notes_in : NotesIn directory.checked.pack out l.noted l.all
   pub same : length work ≡ length ws
   pub fits : room ≤ length out

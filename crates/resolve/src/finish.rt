@@ -13,7 +13,7 @@ use stamping::lists::lists;
 // stamped on them. Places and lists are two slices: the places were made before the trees were turned, the lists are made after.
 fn finish_in(
     checked: &Checked,
-    asked: &[u8],
+    asked: &[bool],
     places: &[u32],
     work: &[u32],
     found: &mut [u32],
@@ -51,7 +51,7 @@ fn finish_in(
 // With room for so many lists: a pack of few pieces has a small table.
 pub fn finish<const MOST: usize>(
     checked: &Checked,
-    asked: &[u8],
+    asked: &[bool],
     places: &[u32],
     work: &[u32],
     out: &mut [u32],

@@ -24,7 +24,7 @@ use turning::known::Known;
 // resolved in a copy of the words, and then the result takes the place of the notes, if there is room for it.
 fn resolve_placed<const MOST: usize>(
     checked: &Checked,
-    asked: &[u8],
+    asked: &[bool],
     places: &[u32],
     out: &mut [u32],
     work: &mut [u32],
@@ -46,7 +46,7 @@ fn resolve_placed<const MOST: usize>(
 // With room for the places of so many pieces: clearing a large table would take longer than the work on a small pack.
 fn resolve_pieces<const MOST: usize>(
     checked: &Checked,
-    asked: &[u8],
+    asked: &[bool],
     out: &mut [u32],
     work: &mut [u32],
 ) -> Answer
@@ -63,7 +63,7 @@ fn resolve_pieces<const MOST: usize>(
 
 // A checked pack with its notes, and a slice for its words. Defaulted names with equal kinds are refused. What stamping asks of
 // the notes, and where rules stand, is read before they are turned.
-fn resolve_in(checked: &Checked, asked: &mut [u8], out: &mut [u32], work: &mut [u32]) -> Answer
+fn resolve_in(checked: &Checked, asked: &mut [bool], out: &mut [u32], work: &mut [u32]) -> Answer
     requires { ResolveAsked checked.now.tables.pack.now checked.now.dir.now checked.now.tables.acts.now checked.now.tables.taken.now asked.old out.old checked.now.figures work.old }
     ensures { Into checked.now.tables.pack.now checked.now.figures.room result out.new }
 {
@@ -102,7 +102,7 @@ fn resolve_by(
     dir: &mut [u32],
     acts: &mut [u32],
     taken: &mut [u32],
-    asked: &mut [u8],
+    asked: &mut [bool],
     out: &mut [u32],
     room: usize,
     words: &mut [u32],
@@ -134,7 +134,7 @@ fn resolve_named<const NAMES: usize, const WORDS: usize>(
     let mut dir = [0u32; WORDS];
     let mut acts = [0u32; NAMES];
     let mut taken = [0u32; NAMES];
-    let mut asked = [0u8; NAMES];
+    let mut asked = [false; NAMES];
     resolve_by(
         pack, &mut dir, &mut acts, &mut taken, &mut asked, out, room, words,
     )

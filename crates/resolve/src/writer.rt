@@ -14,17 +14,6 @@ pub struct Writer<'a> {
     ghost few: { length out.now ≤ 8192 },
 }
 
-// The words of a slice in another of the same length. No `copy_from_slice`: most records have few words, and with its call for each of
-// them Resolve took up to 1.2 times as long.
-fn copy(from: &[u32], to: &mut [u32])
-    requires { length to.old ≡ length from.now }
-    ensures { to.new ≡ from.now }
-{
-    for (i, &word) in from.iter().enumerate() {
-        to[i] = word;
-    }
-}
-
 // Words.
 impl<'a> Writer<'a> {
     ghost use Rattle.resolve.specs.Writing.{HasRoom, Begins, Writes};
@@ -50,7 +39,7 @@ impl<'a> Writer<'a> {
         ensures { Writes self.old words.now self.new }
     {
         let next = self.to + words.len();
-        copy(words, &mut self.out[self.to..next]);
+        self.out[self.to..next].copy_from_slice(words);
         self.to = next;
     }
 }
@@ -74,30 +63,29 @@ impl Writer<'_> {
         }
     }
 
-    // The list, as one of a kind.
-    fn put_list(&mut self, pack: &[u32], list: u32, kind: u32)
-        requires { (kind ≤ 21) × HasRoom self.old (list_words kind (names_or (names_at pack.now list))) }
-        ensures { Writes self.old (list_words kind (names_or (names_at pack.now list))) self.new }
+    // A list of them, of a kind.
+    fn put_list(&mut self, names: &[u32], kind: u32)
+        requires { (kind ≤ 21) × (length names.now < 16777216) × HasRoom self.old (list_words kind (map value_of names.now)) }
+        ensures { Writes self.old (list_words kind (map value_of names.now)) self.new }
     {
-        let names = list_at(pack, list);
         self.put_word(kind * Pack::VALUES + names.len() as u32);
         self.put_names(names);
     }
 
-    // A relation's record up to the count of its list 21, which stands at a place, with the list stamped on it.
-    fn put_lists(&mut self, pack: &[u32], list: u32, words: &[u32], place: usize)
-        requires { (4 ≤ place) × (place ≤ length words.now) × HasRoom self.old (put_for (names_or (names_at pack.now list)) words.now place) }
-        ensures { Writes self.old (put_for (names_or (names_at pack.now list)) words.now place) self.new }
+    // A relation's record up to the count of its list 21, which stands at a place, with a list stamped on it.
+    fn put_lists(&mut self, names: &[u32], words: &[u32], place: usize)
+        requires { (length names.now < 16777216) × (4 ≤ place) × (place ≤ length words.now) × HasRoom self.old (put_for (map value_of names.now) words.now place) }
+        ensures { Writes self.old (put_for (map value_of names.now) words.now place) self.new }
     {
         let mut from = 0;
         let record = RecordPlace { at: 0 };
         if record.kind_count(words) == 0 {
             self.put_words(&words[..3]);
-            self.put_list(pack, list, Pack::SLOT_KINDS);
+            self.put_list(names, Pack::SLOT_KINDS);
             from = 4;
         }
         self.put_words(&words[from..place]);
-        self.put_list(pack, list, Pack::SLOT_ENTITIES);
+        self.put_list(names, Pack::SLOT_ENTITIES);
     }
 
     // A record, with the list stamped on it; at place 0 there is none.
@@ -112,7 +100,7 @@ impl Writer<'_> {
         }
         let record = RecordPlace { at: 0 };
         let place = record.slots_place(words) + 4;
-        self.put_lists(pack, list, words, place);
+        self.put_lists(list_at(pack, list), words, place);
         self.put_words(&words[place + 1..]);
     }
 }

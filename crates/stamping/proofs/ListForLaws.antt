@@ -3,15 +3,14 @@ use Prim.Native.Nat.{ℕ, suc, ◌+◌, ◌*◌, ◌<◌, ◌≤◌}
 use native.Mathlib.Omega.{arith}
 use mathlib.Core.Path.{◌≡◌, refl, ap, sym, ◌∙◌}
 use mathlib.Core.List.{List, [], ◌∷◌, ◌++◌}
+use mathlib.Core.Bool.{Bool}
 use lib.ListN.{length, get_or, take, set, length-set}
 use lib.Seq.{take-suc, take-suc-set, length-take-le}
 use Rattle.stamping.specs.Stamping.{list_for, added_for, lists_for, added_by}
--- the names of a list as they stand in the words
-pub use Rattle.filtered.proofs.TakingLaws.{names-there}
 
 -- ---- all lists
 
-module _ (ws work acts asked : List ℕ) where
+module _ (ws work acts : List ℕ) (asked : List Bool) where
   lists-more : (order : List ℕ) (start : ℕ) → lists_for ws work acts asked (order ++ (start ∷ [])) ≡ lists_for ws work acts asked order ++ (list_for ws work acts asked start ∷ [])
   unfolding lists_for
   lists-more [] start = refl

@@ -29,10 +29,6 @@ no_names : (l : List ℕ) → eqb (length l) 0 ≡ is_empty l
 no_names [] = refl
 no_names (k ∷ l) = ne_eqb (length (k ∷ l)) 0 (λ e. omega arith)
 
-one_if : (b : Bool) → eqb (pick b 1 0) 1 ≡ b
-one_if true = refl
-one_if false = refl
-
 is-empty : (l : List ℕ) → is_empty l ≡ true → l ≡ []
 is-empty [] e = refl
 is-empty (k ∷ l) e = let z : ◌≡◌ {A = ℕ} 0 1 = cc in absurd (omega arith)
@@ -78,8 +74,8 @@ module _ (ws : List ℕ) (list : ℕ) (r : Relation) (d : Derivation) (e : r.der
   decided false false spoken (some ks) q z = as_it_is refl
 
 -- a relation of the words in which trees may have been resolved comes out as stamping says, from the list that the code finds for it
-module _ (ws work acts asked : List ℕ) (p : Pack) (start : ℕ) (r : Relation) (i : InWords work start p.names r) (most : p.names ≤ 4096) (part : act_part (get_or acts r.name 0) ≡ part_at start (some r))
-    (kinds : names_at ws (act_list (get_or acts r.name 0)) ≡ kinds_of p.relations r.name) (named : get_or asked r.name 0 ≡ pick (atom_names p r.name || in_derivation role_judgment r.derivation) 1 0) where
+module _ (ws work acts : List ℕ) (asked : List Bool) (p : Pack) (start : ℕ) (r : Relation) (i : InWords work start p.names r) (most : p.names ≤ 4096) (part : act_part (get_or acts r.name 0) ≡ part_at start (some r))
+    (kinds : names_at ws (act_list (get_or acts r.name 0)) ≡ kinds_of p.relations r.name) (named : get_or asked r.name false ≡ (atom_names p r.name || in_derivation role_judgment r.derivation)) where
   abbrev x : ℕ
   x = get_or acts r.name 0
 
@@ -125,7 +121,7 @@ module _ (ws work acts asked : List ℕ) (p : Pack) (start : ℕ) (r : Relation)
         by_name
         ∙ rw (none_21, slots, counted work start p.names r i most)
         (rw (current-there work start p.names r i most d e, related-there work start p.names r i most d e, kinds, named, e)
-        (rw (one_if (atom_names p r.name || holds role_judgment d.predicate), no_names r.slot_kinds) refl))
+        (rw (no_names r.slot_kinds) refl))
 
   pub stamped-by : StampedBy ws (list_for ws work acts asked start) r (stamp p r)
   unfolding stamp

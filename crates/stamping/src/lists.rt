@@ -1,20 +1,20 @@
 // Which list of kinds is stamped on each relation, by the place of the list.
 ghost use Rattle.std.specs.Prelude.{◌≡◌, ◌<◌, ◌≤◌, length, unwrap_or};
 ghost use Rattle.chains.specs.Record.{Recorded};
-ghost use Rattle.stamping.specs.Stamping.{unstamped, passed_in, unlike_in, list_for, Lists, added_for, Listed};
+ghost use Rattle.stamping.specs.Stamping.{unstamped, passed_in, unlike_in, list_for, added_for, Listed};
 
 use chains::record::{RecordPlace, value_at};
 use filtered::act::{Part, act_of, list};
-use filtered::taking::{kind_at, list_at};
+use filtered::taking::{kind_in, list_at};
 
-// The words of a pack and the same with trees resolved in place, what aggregates over its relations do, and 1 for each name that an
-// atom or Exists or a judgment of roles asks for.
+// The words of a pack and the same with trees resolved in place, what aggregates over its relations do, and by name whether an atom or
+// Exists or a judgment of roles asks for it.
 #[derive(Clone, Copy)]
 struct Resolved<'a> {
     pack: &'a [u32],
     work: &'a [u32],
     acts: &'a [u32],
-    asked: &'a [u8],
+    asked: &'a [bool],
 }
 
 #[tactic(auto, using(std::proofs::lemmas::Bool::Decides::nat_tests, std::proofs::lemmas::List::get_or_past), unfolding(crate::specs::Stamping::unstamped, crate::specs::Stamping::unlike_in, crate::specs::Stamping::passed_in, crate::specs::Stamping::list_for, crate::specs::Stamping::list_by, crate::specs::Stamping::added_for))]
@@ -32,8 +32,9 @@ impl Resolved<'_> {
         requires { slots < 32768 }
         ensures { result ≡ unlike_in self.now.pack.now self.now.work.now list slots }
     {
-        let current = kind_at(self.pack, list, value_at(self.work, slots));
-        let related = kind_at(self.pack, list, value_at(self.work, slots + 1));
+        let names = list_at(self.pack, list);
+        let current = kind_in(names, value_at(self.work, slots));
+        let related = kind_in(names, value_at(self.work, slots + 1));
         current.is_some() && current != related
     }
 
@@ -41,7 +42,7 @@ impl Resolved<'_> {
     fn is_passed_over(&self, name: usize, place: RecordPlace) -> bool
         ensures { result ≡ passed_in self.now.work.now self.now.asked.now name place.at }
     {
-        place.kind_count(self.work) == 0 && name < self.asked.len() && self.asked[name] == 1
+        place.kind_count(self.work) == 0 && self.asked.get(name).copied().unwrap_or(false)
     }
 
     // The place of the list that is stamped on the relation whose record starts at a place.
@@ -64,7 +65,7 @@ impl Resolved<'_> {
     fn added(&self, list: u32, place: RecordPlace) -> usize
         ensures { (result ≡ added_for self.now.pack.now self.now.work.now list place.at) × (result < 33554432) }
     {
-        let names = names_at(self.pack, list) as usize;
+        let names = list_at(self.pack, list).len();
         if place.kind_count(self.work) == 0 {
             names * 2
         } else {
@@ -73,20 +74,13 @@ impl Resolved<'_> {
     }
 }
 
-// How many names the list at a place has within the pack; at place 0 there are none.
-pub fn names_at(pack: &[u32], list: u32) -> u32
-    ensures { Lists pack.now list result }
-{
-    list_at(pack, list).len() as u32
-}
-
 // The lists for relations that start at places, 0 for none, since no list stands at the first word. The answer is how many words more there
 // are with them.
 pub fn lists(
     pack: &[u32],
     work: &[u32],
     acts: &[u32],
-    asked: &[u8],
+    asked: &[bool],
     order: &[u32],
     table: &mut [u32],
 ) -> usize
@@ -100,10 +94,9 @@ pub fn lists(
         asked,
     };
     let mut more: usize = 0;
-    for i in 0..order.len() {
-        let place = RecordPlace {
-            at: order[i] as usize,
-        };
+    // By index: of a table written through `table.iter_mut().zip(order)` a proof knows only the length.
+    for (i, &start) in order.iter().enumerate() {
+        let place = RecordPlace { at: start as usize };
         let list = resolved.list_for(place).unwrap_or(0);
         table[i] = list;
         more += resolved.added(list, place);

@@ -35,11 +35,11 @@ module _ {ws : List ℕ} {code : ℕ} (a : MarkAsked ws code) where
   pub place_inside : {note : taken.Note} → note ≡ note_in code → note.place < length ws
   place_inside q = rw (read_is a.n a.is a.near q) a.there
 
-mark_long : (current : Option ℕ) (t : List ℕ) → length (mark_if current t) ≡ length t
+mark_long : (current : Option ℕ) (t : List Bool) → length (mark_if current t) ≡ length t
 mark_long None t = refl
-mark_long (Some name) t = length-set t name 1
+mark_long (Some name) t = length-set t name true
 
-module _ (ws : List ℕ) (code : ℕ) (current : Option ℕ) (t : List ℕ) {note : taken.Note} (q : note ≡ note_in code) where
+module _ (ws : List ℕ) (code : ℕ) (current : Option ℕ) (t : List Bool) {note : taken.Note} (q : note ≡ note_in code) where
   same : (n : Note) → code ≡ note_code n → n.place + 1 < 8192 → note ≡ as_read n
   same n is near = read_is n is near q
 
@@ -73,7 +73,7 @@ module _ (ws : List ℕ) (code : ℕ) (current : Option ℕ) (t : List ℕ) {not
     some_inside : (n : Note) → code ≡ note_code n → n.place + 1 < 8192 → eqb n.inside 0 ≡ false
     some_inside n is near = ne_eqb n.inside 0 (λ e. away (ap (λ (x : taken.Note). x.inside) (same n is near) ∙ e))
 
-    node-marked : {left : List ℕ} → length left ≡ length t → left ≡ role_marked (kind_here ws note.place) (value_in ws note.place) current (atom_marked (kind_here ws note.place) (value_in ws note.place) t) → NoteMarked ws code current t current left
+    node-marked : {left : List Bool} → length left ≡ length t → left ≡ role_marked (kind_here ws note.place) (value_in ws note.place) current (atom_marked (kind_here ws note.place) (value_in ws note.place) t) → NoteMarked ws code current t current left
     unfolding relation_after mark_note
     node-marked {left} l e =
         record {
@@ -89,12 +89,12 @@ module _ (ws : List ℕ) (code : ℕ) (current : Option ℕ) (t : List ℕ) {not
     pub high_marked : 104 < kind_here ws note.place → NoteMarked ws code current t current t
     high_marked h = node-marked refl (sym (rw (lt-leb (kind_here ws note.place) 104 h, and-false (leb 102 (kind_here ws note.place)), ne_eqb (kind_here ws note.place) 102 (λ e. omega arith), ne_eqb (kind_here ws note.place) 103 (λ e. omega arith)) refl))
 
-    pub same-marked : kind_here ws note.place ≡ 104 → {left : List ℕ} → left ≡ mark_if current t → NoteMarked ws code current t current left
+    pub same-marked : kind_here ws note.place ≡ 104 → {left : List Bool} → left ≡ mark_if current t → NoteMarked ws code current t current left
     same-marked k {left} e = node-marked (ap length e ∙ mark_long current t) (e ∙ sym (rw k refl))
 
-    pub atom-marked : 102 ≤ kind_here ws note.place → kind_here ws note.place < 104 → {middle left : List ℕ} → middle ≡ set t (value_in ws note.place) 1 → left ≡ mark_if current middle → NoteMarked ws code current t current left
+    pub atom-marked : 102 ≤ kind_here ws note.place → kind_here ws note.place < 104 → {middle left : List Bool} → middle ≡ set t (value_in ws note.place) true → left ≡ mark_if current middle → NoteMarked ws code current t current left
     atom-marked a b {middle} {left} d e =
-        node-marked (ap length e ∙ mark_long current middle ∙ ap length d ∙ length-set t (value_in ws note.place) 1)
+        node-marked (ap length e ∙ mark_long current middle ∙ ap length d ∙ length-set t (value_in ws note.place) true)
         (e ∙ ap (mark_if current) d ∙ sym (rw (le-leb 102 (kind_here ws note.place) a, le-leb (kind_here ws note.place) 104 (omega arith), atom_kind (kind_here ws note.place) a b) refl))
       where
         atom_kind : (k : ℕ) → 102 ≤ k → k < 104 → (eqb k 102 || eqb k 103) ≡ true
@@ -113,22 +113,22 @@ its-code notes all i h = get_or-take (all + 1 - 1) (drop 1 notes) i 0 (omega ari
 pub long_enough : (notes : List ℕ) (all : ℕ) → all < length notes → length (take (all + 1 - 1) (drop 1 notes)) ≡ all
 long_enough notes all h = simp (length-take, length-drop) (omega arith)
 
-module _ (ws notes : List ℕ) (all : ℕ) (t₀ : List ℕ) where
-  pub record MarksLeft (ns : List Note) (i : ℕ) (current : Option ℕ) (t : List ℕ) : Type 0 where
+module _ (ws notes : List ℕ) (all : ℕ) (t₀ : List Bool) where
+  pub record MarksLeft (ns : List Note) (i : ℕ) (current : Option ℕ) (t : List Bool) : Type 0 where
     pub rest : List Note
     pub are : Held notes i rest
     pub many : all + 1 ≡ i + length rest
     pub there : InWords ws rest
     pub left : mark_notes ws ns None t₀ ≡ mark_notes ws rest current t
 
-  pub record Marking (i : ℕ) (current : Option ℕ) (t : List ℕ) : Type 0 where
+  pub record Marking (i : ℕ) (current : Option ℕ) (t : List Bool) : Type 0 where
     pub each : (ns : List Note) → Held notes 1 ns → all ≡ length ns → InWords ws ns → MarksLeft ns i current t
     pub wide : length t ≡ length t₀
 
   pub marks_begin : Marking 1 None t₀
   marks_begin = record { each = λ ns are many there. record { rest = ns; are = are; many = omega arith; there = there; left = refl }; wide = refl }
 
-  module _ {i : ℕ} {current : Option ℕ} {t : List ℕ} (g : Marking i current t) where
+  module _ {i : ℕ} {current : Option ℕ} {t : List Bool} (g : Marking i current t) where
     pub record NextMark (ns : List Note) : Type 0 where
       pub n : Note
       pub rest : List Note
@@ -151,7 +151,7 @@ module _ (ws notes : List ℕ) (all : ℕ) (t₀ : List ℕ) where
       pub mark_asked : MarksAsked ws notes all → {code : ℕ} → code ≡ get_or notes i 0 → MarkAsked ws code
       mark_asked a q = let x = next_mark a.ns (g.each a.ns a.are a.many a.there) in record { n = x.n; is = q ∙ x.is; near = x.near; there = x.inside }
 
-      pub marks-next : {code : ℕ} → code ≡ get_or notes i 0 → {next : Option ℕ} {left : List ℕ} → NoteMarked ws code current t next left → Marking (i + 1) next left
+      pub marks-next : {code : ℕ} → code ≡ get_or notes i 0 → {next : Option ℕ} {left : List Bool} → NoteMarked ws code current t next left → Marking (i + 1) next left
       unfolding mark_notes
       marks-next q {next} {left} m =
           rw (add-one i)

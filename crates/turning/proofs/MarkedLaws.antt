@@ -56,38 +56,38 @@ after-all ws [] current = current
 after-all ws (n ∷ ns) current = after-all ws ns (relation_after ws n current)
 
 -- a mark that is set is read again
-set_mark : (t : List ℕ) (name m : ℕ) → m < length t → get_or (set t name 1) m 0 ≡ pick (eqb name m) 1 (get_or t m 0)
+set_mark : (t : List Bool) (name m : ℕ) → m < length t → get_or (set t name true) m false ≡ (eqb name m || get_or t m false)
 set_mark t name m h = go (eqb name m) refl
   where
-    go : (b : Bool) → eqb name m ≡ b → get_or (set t name 1) m 0 ≡ pick b 1 (get_or t m 0)
-    go true e = ap (λ (x : ℕ). get_or (set t x 1) m 0) (eqb-true name m e) ∙ get_or-set_same t m 1 0 h
-    go false e = get_or-set_other t name m 1 0 (λ q. eqb-false name m e (sym q))
+    go : (b : Bool) → eqb name m ≡ b → get_or (set t name true) m false ≡ (b || get_or t m false)
+    go true e = ap (λ (x : ℕ). get_or (set t x true) m false) (eqb-true name m e) ∙ get_or-set_same t m true false h
+    go false e = get_or-set_other t name m true false (λ q. eqb-false name m e (sym q))
 
-test_mark : (b : Bool) (t : List ℕ) (name m : ℕ) → m < length t → get_or (pick b (set t name 1) t) m 0 ≡ pick (b && eqb name m) 1 (get_or t m 0)
+test_mark : (b : Bool) (t : List Bool) (name m : ℕ) → m < length t → get_or (pick b (set t name true) t) m false ≡ ((b && eqb name m) || get_or t m false)
 test_mark true t name m h = set_mark t name m h
 test_mark false t name m h = refl
 
-test_long : (b : Bool) (t : List ℕ) (name : ℕ) → length (pick b (set t name 1) t) ≡ length t
-test_long true t name = length-set t name 1
+test_long : (b : Bool) (t : List Bool) (name : ℕ) → length (pick b (set t name true) t) ≡ length t
+test_long true t name = length-set t name true
 test_long false t name = refl
 
-own_mark : (b : Bool) (t : List ℕ) (current : own.Option ℕ) (m : ℕ) → m < length t → get_or (pick b (mark_if current t) t) m 0 ≡ pick (b && is_name current m) 1 (get_or t m 0)
+own_mark : (b : Bool) (t : List Bool) (current : own.Option ℕ) (m : ℕ) → m < length t → get_or (pick b (mark_if current t) t) m false ≡ ((b && is_name current m) || get_or t m false)
 own_mark b t (Some name) m h = test_mark b t name m h
 own_mark true t None m h = refl
 own_mark false t None m h = refl
 
-own_long : (b : Bool) (t : List ℕ) (current : own.Option ℕ) → length (pick b (mark_if current t) t) ≡ length t
+own_long : (b : Bool) (t : List Bool) (current : own.Option ℕ) → length (pick b (mark_if current t) t) ≡ length t
 own_long b t (Some name) = test_long b t name
 own_long true t None = refl
 own_long false t None = refl
 
-pick_or : (a b : Bool) (x : ℕ) → pick b 1 (pick a 1 x) ≡ pick (a || b) 1 x
-pick_or true true x = refl
-pick_or true false x = refl
-pick_or false b x = refl
+or_turned : (a b x : Bool) → (b || (a || x)) ≡ ((a || b) || x)
+or_turned true true x = refl
+or_turned true false x = refl
+or_turned false b x = refl
 
 module _ (ws : List ℕ) (m : ℕ) where
-  note_mark : (n : Note) (current : own.Option ℕ) (t : List ℕ) → m < length t → get_or (mark_note ws n current t) m 0 ≡ pick (hits ws n current m) 1 (get_or t m 0)
+  note_mark : (n : Note) (current : own.Option ℕ) (t : List Bool) → m < length t → get_or (mark_note ws n current t) m false ≡ (hits ws n current m || get_or t m false)
   unfolding mark_note
   note_mark n current t h = go (eqb n.inside 0)
     where
@@ -97,15 +97,15 @@ module _ (ws : List ℕ) (m : ℕ) where
       v : ℕ
       v = value_in ws n.place
 
-      go : (b : Bool) → get_or (pick b t (role_marked (kind_here ws n.place) (value_in ws n.place) current (atom_marked (kind_here ws n.place) (value_in ws n.place) t))) m 0
-          ≡ pick (pick b false (marks_as m current (kind_here ws n.place) (value_in ws n.place))) 1 (get_or t m 0)
+      go : (b : Bool) → get_or (pick b t (role_marked (kind_here ws n.place) (value_in ws n.place) current (atom_marked (kind_here ws n.place) (value_in ws n.place) t))) m false
+          ≡ (pick b false (marks_as m current (kind_here ws n.place) (value_in ws n.place)) || get_or t m false)
       go true = refl
       go false =
           own_mark (role_judgment k v) (atom_marked k v t) current m (let l = test_long (eqb k 102 || eqb k 103) t v in omega arith)
-          ∙ ap (λ (x : ℕ). pick (role_judgment k v && is_name current m) 1 x) (test_mark (eqb k 102 || eqb k 103) t v m h)
-          ∙ pick_or (atom_of m k v) (role_judgment k v && is_name current m) (get_or t m 0)
+          ∙ ap (λ (b : Bool). (role_judgment k v && is_name current m) || b) (test_mark (eqb k 102 || eqb k 103) t v m h)
+          ∙ or_turned (atom_of m k v) (role_judgment k v && is_name current m) (get_or t m false)
 
-  note-long : (n : Note) (current : own.Option ℕ) (t : List ℕ) → length (mark_note ws n current t) ≡ length t
+  note-long : (n : Note) (current : own.Option ℕ) (t : List Bool) → length (mark_note ws n current t) ≡ length t
   unfolding mark_note
   note-long n current t = go (eqb n.inside 0)
     where
@@ -115,13 +115,13 @@ module _ (ws : List ℕ) (m : ℕ) where
           own_long (role_judgment (kind_here ws n.place) (value_in ws n.place)) (atom_marked (kind_here ws n.place) (value_in ws n.place) t) current
           ∙ test_long (eqb (kind_here ws n.place) 102 || eqb (kind_here ws n.place) 103) t (value_in ws n.place)
 
-  marks-read : (ns : List Note) (current : own.Option ℕ) (t : List ℕ) → m < length t → get_or (mark_notes ws ns current t) m 0 ≡ pick (marked ws ns current m) 1 (get_or t m 0)
+  marks-read : (ns : List Note) (current : own.Option ℕ) (t : List Bool) → m < length t → get_or (mark_notes ws ns current t) m false ≡ (marked ws ns current m || get_or t m false)
   unfolding mark_notes marked
   marks-read [] current t h = refl
   marks-read (n ∷ ns) current t h =
       marks-read ns (relation_after ws n current) (mark_note ws n current t) (let l = note-long n current t in omega arith)
-      ∙ ap (λ (x : ℕ). pick (marked ws ns (relation_after ws n current) m) 1 x) (note_mark n current t h)
-      ∙ pick_or (hits ws n current m) (marked ws ns (relation_after ws n current) m) (get_or t m 0)
+      ∙ ap (λ (b : Bool). marked ws ns (relation_after ws n current) m || b) (note_mark n current t h)
+      ∙ or_turned (hits ws n current m) (marked ws ns (relation_after ws n current) m) (get_or t m false)
 
   marked_append : (ns ms : List Note) (current : own.Option ℕ) → marked ws (ns ++ ms) current m ≡ (marked ws ns current m || marked ws ms (after-all ws ns current) m)
   unfolding marked after-all
@@ -335,8 +335,8 @@ found_some m (s ∷ l) r e = go (eqb m s.name) refl e (found_some m l r)
     go false q e ih = rw (ih e) (or_true (eqb s.name m))
 
 -- THE LAW of marks: "that some atom or Exists names, or whose predicate holds kinds 102 to 104"
-pub marks-are : (p : Pack) (w : WellFormed p) (r : Relation) → find r.name p.relations ≡ some r → r.name < 4096 → (t : List ℕ) → r.name < length t → get_or t r.name 0 ≡ 0
-    → get_or (mark_notes (words p) (notes_of_pack p) None t) r.name 0 ≡ pick (atom_names p r.name || in_derivation role_judgment r.derivation) 1 0
+pub marks-are : (p : Pack) (w : WellFormed p) (r : Relation) → find r.name p.relations ≡ some r → r.name < 4096 → (t : List Bool) → r.name < length t → get_or t r.name false ≡ false
+    → get_or (mark_notes (words p) (notes_of_pack p) None t) r.name false ≡ (atom_names p r.name || in_derivation role_judgment r.derivation)
 unfolding atom_names
 marks-are p w r found low t wide clear =
     let A : Bool = any (λ (s : Relation). in_derivation (atom_of r.name) s.derivation) p.relations in
@@ -350,7 +350,7 @@ marks-are p w r found low t wide clear =
     let all : marked (words p) (notes_of_pack p) None r.name ≡ ((U || A) || R) =
     pack_told p w r.name ∙ ap (λ (b : Bool). b || any (in_rule (marks_as r.name None)) p.rules) relations ∙ ap (λ (b : Bool). (A || R) || b) (rules_atoms r.name p.rules)
     ∙ or_comm (A || R) U ∙ three U A R in
-    marks-read (words p) r.name (notes_of_pack p) None t (omega arith) ∙ ap (λ (b : Bool). pick b 1 (get_or t r.name 0)) all ∙ ap (λ (x : ℕ). pick ((U || A) || R) 1 x) clear
+    marks-read (words p) r.name (notes_of_pack p) None t (omega arith) ∙ ap (λ (b : Bool). b || get_or t r.name false) all ∙ ap (λ (b : Bool). ((U || A) || R) || b) clear ∙ or-false ((U || A) || R)
   where
     three : (a b c : Bool) → (a || (b || c)) ≡ ((a || b) || c)
     three true b c = refl

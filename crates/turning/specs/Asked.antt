@@ -1,5 +1,5 @@
 -- What stamping asks for, from the notes. 01, "Resolving", 4: "that some atom or Exists names, or whose predicate holds kinds 102 to 104".
-use Rattle.std.specs.Prelude.{ℕ, ◌+◌, ◌<◌, ◌≡◌, List, [], ◌∷◌, Bool, ◌||◌, length, set, eqb, Some, None}
+use Rattle.std.specs.Prelude.{ℕ, ◌+◌, ◌<◌, ◌≡◌, List, [], ◌∷◌, Bool, true, ◌||◌, length, set, eqb, Some, None}
 use Rattle.std.specs.declared.option.Option.{Option}
 use Rattle.definitions.specs.Table.{pick}
 use Rattle.definitions.specs.Lean.{any}
@@ -26,23 +26,23 @@ unfoldable pub relation_after : List ℕ → Note → Option ℕ → Option ℕ
 relation_after ws n current = pick (eqb n.inside 0) (pick (eqb (kind_here ws n.place) 6) (Some (value_in ws n.place)) None) current
 
 -- its mark
-abbrev pub mark_if : Option ℕ → List ℕ → List ℕ
-mark_if (Some name) t = set t name 1
+abbrev pub mark_if : Option ℕ → List Bool → List Bool
+mark_if (Some name) t = set t name true
 mark_if None t = t
 
 -- an atom or Exists marks the name that it names, and any of the kinds 102 to 104 the relation in whose predicate it stands
-abbrev pub atom_marked : ℕ → ℕ → List ℕ → List ℕ
-atom_marked k v t = pick (eqb k 102 || eqb k 103) (set t v 1) t
+abbrev pub atom_marked : ℕ → ℕ → List Bool → List Bool
+atom_marked k v t = pick (eqb k 102 || eqb k 103) (set t v true) t
 
-abbrev pub role_marked : ℕ → ℕ → Option ℕ → List ℕ → List ℕ
+abbrev pub role_marked : ℕ → ℕ → Option ℕ → List Bool → List Bool
 role_marked k v current t = pick (role_judgment k v) (mark_if current t) t
 
-unfoldable pub mark_note : List ℕ → Note → Option ℕ → List ℕ → List ℕ
+unfoldable pub mark_note : List ℕ → Note → Option ℕ → List Bool → List Bool
 mark_note ws n current t =
     pick (eqb n.inside 0) t
     (role_marked (kind_here ws n.place) (value_in ws n.place) current (atom_marked (kind_here ws n.place) (value_in ws n.place) t))
 
-unfoldable pub mark_notes : List ℕ → List Note → Option ℕ → List ℕ → List ℕ
+unfoldable pub mark_notes : List ℕ → List Note → Option ℕ → List Bool → List Bool
 mark_notes ws [] current t = t
 mark_notes ws (n ∷ ns) current t = mark_notes ws ns (relation_after ws n current) (mark_note ws n current t)
 
@@ -57,7 +57,7 @@ pub record MarkAsked (ws : List ℕ) (code : ℕ) : Type 0 where
   pub near : n.place + 1 < 8192
   pub there : n.place < length ws
 
-pub record NoteMarked (ws : List ℕ) (code : ℕ) (current : Option ℕ) (t : List ℕ) (next : Option ℕ) (left : List ℕ) : Type 0 where
+pub record NoteMarked (ws : List ℕ) (code : ℕ) (current : Option ℕ) (t : List Bool) (next : Option ℕ) (left : List Bool) : Type 0 where
   pub each : (n : Note) → code ≡ note_code n → n.place + 1 < 8192 → (next ≡ relation_after ws n current) × (left ≡ mark_note ws n current t)
   pub long : length left ≡ length t
 
@@ -68,5 +68,5 @@ pub record MarksAsked (ws notes : List ℕ) (all : ℕ) : Type 0 where
   pub room : all < length notes
   pub there : InWords ws ns
 
-abbrev pub NotesMarked : List ℕ → List ℕ → ℕ → List ℕ → List ℕ → Type 0
+abbrev pub NotesMarked : List ℕ → List ℕ → ℕ → List Bool → List Bool → Type 0
 NotesMarked ws notes all t left = (ns : List Note) → Held notes 1 ns → all ≡ length ns → InWords ws ns → left ≡ mark_notes ws ns None t

@@ -1,23 +1,23 @@
 // What stamping asks for, from the notes: which relations atoms and Exists name, and which predicates hold judgments of roles.
-ghost use Rattle.std.specs.Prelude.{◌≡◌, set};
+ghost use Rattle.std.specs.Prelude.{◌≡◌, set, true};
 ghost use Rattle.turning.specs.Asked.{mark_if, MarkAsked, NoteMarked, MarksAsked, NotesMarked};
 
 use crate::note::Note;
 use pack::kinds::Pack;
 
-// A name in a table that has 1 for each name that is asked for, else 0.
-fn mark(table: &mut [u8], name: u32)
-    ensures { table.new ≡ set table.old name 1 }
+// Marks a name in a table that says of each name whether it is asked for.
+fn mark(table: &mut [bool], name: u32)
+    ensures { table.new ≡ set table.old name true }
 {
     // No `get_mut`: its contract says nothing of the table once the name is marked.
     let i = name as usize;
     if i < table.len() {
-        table[i] = 1;
+        table[i] = true;
     }
 }
 
 // The relation in whose predicate a judgment of roles stands, if it stands in one.
-fn mark_own(table: &mut [u8], current: Option<u32>)
+fn mark_own(table: &mut [bool], current: Option<u32>)
     ensures { table.new ≡ mark_if current table.old }
 {
     if let Some(name) = current {
@@ -27,7 +27,7 @@ fn mark_own(table: &mut [u8], current: Option<u32>)
 
 // One note: an atom or Exists marks the relation that it names, and a judgment of roles the relation in whose predicate it
 // stands. The answer is the relation in whose predicate the notes after it stand.
-fn ask_note(pack: &[u32], code: u32, current: Option<u32>, table: &mut [u8]) -> Option<u32>
+fn ask_note(pack: &[u32], code: u32, current: Option<u32>, table: &mut [bool]) -> Option<u32>
     requires { MarkAsked pack.now code }
     ensures { NoteMarked pack.now code current table.old result table.new }
 {
@@ -53,7 +53,7 @@ fn ask_note(pack: &[u32], code: u32, current: Option<u32>, table: &mut [u8]) -> 
 }
 
 // All notes, so many of them.
-pub fn ask_notes(pack: &[u32], notes: &[u32], all: usize, table: &mut [u8])
+pub fn ask_notes(pack: &[u32], notes: &[u32], all: usize, table: &mut [bool])
     requires { MarksAsked pack.now notes.now all }
     ensures { NotesMarked pack.now notes.now all table.old table.new }
 {

@@ -84,9 +84,11 @@ impl Known<'_> {
         requires { TurnsAsked self.now.tables.pack.now work.old notes.old from to }
         ensures { NotesTurned self.now from to work.old notes.old result work.new notes.new }
     {
+        // A copy, so that what is known is not read anew after each word that is written.
+        let known = *self;
         let mut root = Root::default();
         for i in from..to {
-            root = self.turn_note(root, work, notes, i)?;
+            root = known.turn_note(root, work, notes, i)?;
         }
         Ok(())
     }

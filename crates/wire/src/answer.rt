@@ -111,6 +111,6 @@ pub fn put(a: Answer, words: &[u32], out: &mut [u8])
     ensures { out.new ≡ out_after a words.now out.old }
 {
     if let Ok(g) = a {
-        store(words, g.value as usize, out);
+        store(&words[..g.value as usize], out);
     }
 }

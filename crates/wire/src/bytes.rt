@@ -1,5 +1,6 @@
-// Words as bytes: four a word, low byte first.
-ghost use Rattle.std.specs.Prelude.{◌≡◌, ◌++◌, ◌*◌, ◌/◌, ◌≤◌, min, length, take, drop};
+// Words as bytes: four a word, low byte first. Both loops write by an index: nothing is known of a slice after a loop over a zip of its `iter_mut` or of
+// its chunks.
+ghost use Rattle.std.specs.Prelude.{◌≡◌, ◌++◌, ◌*◌, ◌/◌, ◌≤◌, min, length, drop};
 ghost use Rattle.definitions.specs.Bytes.{bytes_of, are_words};
 ghost use Rattle.wire.specs.Loading.{Holds, Loaded};
 
@@ -34,12 +35,12 @@ pub fn load(bytes: &[u8], words: &mut [u32]) -> usize
     fours.len()
 }
 
-// The bytes of the first n words; the bytes past them stay.
-pub fn store(words: &[u32], n: usize, out: &mut [u8])
-    requires { (n ≤ length words.now) × (4 * n ≤ length out.old) }
-    ensures { out.new ≡ bytes_of (take n words.now) ++ drop (4 * n) out.old }
+// The bytes of the words; the bytes past them stay.
+pub fn store(words: &[u32], out: &mut [u8])
+    requires { 4 * length words.now ≤ length out.old }
+    ensures { out.new ≡ bytes_of words.now ++ drop (4 * length words.now) out.old }
 {
-    for (i, word) in words[..n].iter().enumerate() {
+    for (i, word) in words.iter().enumerate() {
         out[4 * i..4 * i + 4].copy_from_slice(&word.to_le_bytes());
     }
 }

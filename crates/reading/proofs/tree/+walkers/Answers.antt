@@ -8,26 +8,17 @@ use mathlib.Core.Path.{◌≡◌, refl, ap, sym, ◌∙◌}
 use mathlib.Core.Bool.{true, false}
 use lib.ListN.{get_or}
 use borrow.Author.Rules.{part_to_end}
-use Rattle.definitions.specs.declared.table.Entry.{Entry}
 use Rattle.definitions.specs.declared.table.Follows.TheVariants.{Patterns, Periods, Choice, Aggregate, OnlyRelated, Slots, Atom, Exists}
 use Rattle.definitions.specs.Table.{kind_of, value_of, entry_of, table, fields_of, children_of, how_many, scalar as scalar-sort, judgment as judgment-sort}
 use Rattle.definitions.specs.Tree.{follow}
 use Rattle.reading.specs.Notes.{look_by, noted}
-use Rattle.reading.proofs.TreeLaws.{aggregate-kind, scalars_in_row, judgments_in_row, other_leaf, scalar_row, comparison_row, judgment_row, leaf_low, leaf_last, leaf_between, compared, scalar-kind, judgment-kind}
+use Rattle.reading.proofs.TreeLaws.{aggregate-kind, other_leaf, scalar_row, comparison_row, judgment_row, leaf_low, leaf_last, leaf_between, compared, scalar-kind, judgment-kind}
 use Rattle.reading.proofs.WalkLaws.{step_within, fielded, row_plain}
 use Rattle.reading.proofs.NotingLaws.{by_shape, after_row, after_bare, after_leaf, after-words, steady_scalar, steady_judgment, noted-aggregate, plain-low, plain-between, plain-last}
 use Rattle.reading.proofs.RowLaws.{handed_noted, noted_as, row_walked, head_refused, begun, past_leaf, past-last, node-refused, forward, past-node, first-refused, first_then, rows_as, fields-refused, where_rows, exists_rows, compared_rows}
 use Rattle.reading.proofs.PartLaws.{shifted, based_losing, based_inside, based_part, part_long, part_rows}
 use Rattle.reading.proofs.tree.+walkers.Goals as goal
 use Rattle.reading.proofs.tree.+walkers.Goals.{after_judgment-in_default-via-then-kind-lt96, after_judgment-in_default-via-else-kind-lt96+else-kind-lt101}
-
-pub after_judgment-children-requires : goal.after_judgment-children-requires
-after_judgment-children-requires t c =
-    let k : ℕ = kind_of (get_or c.args.part.words.now c.args.at 0) in (
-      omega arith,
-      judgments_in_row k
-          (omega arith) (omega arith),
-    )
 
 pub after_judgment-returns-in-96 : goal.after_judgment-returns-in-96
 after_judgment-returns-in-96 t c =
@@ -64,7 +55,7 @@ pub after_judgment-returns-in-97-to-100 : goal.after_judgment-returns-in-97-to-1
 after_judgment-returns-in-97-to-100 t c =
     let k : ℕ = kind_of (get_or c.args.part.words.now c.args.at 0) in let lo : 97 ≤ k = omega arith in after_row _ _ _ _ k
     (value_of (get_or c.args.part.words.now c.args.at 0)) _ judgment-sort
-    (judgment_row (value_of (get_or c.args.part.words.now c.args.at 0)) k lo (omega arith)) c.children.ensures
+    (judgment_row (value_of (get_or c.args.part.words.now c.args.at 0)) k lo (omega arith)) c.how_many.ensures
     (steady_judgment k (omega arith) (omega arith)) c.judgments.ensures
 
 pub after_judgment-returns-in_default : goal.after_judgment-returns-in_default
@@ -92,7 +83,7 @@ unfolding entry_of table fields_of children_of noted look_by
 after_other-returns-in-73 t c =
     after_bare _ _ _ _ (kind_of (get_or c.args.part.words.now c.args.at 0)) (value_of (get_or c.args.part.words.now c.args.at 0)) _ Periods
     (ap (λ (k : ℕ). (entry_of k).follows) c.in-73.is) (ap noted c.in-73.is) refl
-    (rows_as _ _ scalar-sort _ (c.how_many-count.ensures ∙ ap (λ (e : Entry). how_many e.follows (value_of (get_or c.args.part.words.now c.args.at 0))) c.entry_of.ensures ∙ ap (λ (k : ℕ). how_many (entry_of k).follows (value_of (get_or c.args.part.words.now c.args.at 0)))
+    (rows_as _ _ scalar-sort _ (c.how_many-count.ensures ∙ ap (λ (k : ℕ). how_many (entry_of k).follows (value_of (get_or c.args.part.words.now c.args.at 0)))
     c.in-73.is) c.lost.ensures c.scalars.ensures)
 
 pub after_other-returns-in-71 : goal.after_other-returns-in-71
@@ -114,16 +105,11 @@ after_other-returns-in_default t c =
     (λ lo. after_leaf _ _ _ _ k v _ (leaf_low v k lo) false (plain-low k lo) _ refl)
     (λ lo hi. after_leaf _ _ _ _ k v _ (leaf_between v k (omega (arith, lo)) (λ z. omega arith) hi) false (plain-between k lo hi) _ refl)
 
-pub after_scalar-children-count-requires : goal.after_scalar-children-count-requires
-after_scalar-children-count-requires t c =
-    let k : ℕ = kind_of (get_or c.args.part.words.now c.args.at 0) in
-    (omega arith, scalars_in_row k (omega arith) (omega arith))
-
 pub after_scalar-returns-in-66-to-70 : goal.after_scalar-returns-in-66-to-70
 after_scalar-returns-in-66-to-70 t c =
     let k : ℕ = kind_of (get_or c.args.part.words.now c.args.at 0) in let lo : 66 ≤ k = omega arith in let hi : k < 71 = omega arith in after_row _ _ _ _ k
     (value_of (get_or c.args.part.words.now c.args.at 0)) _ scalar-sort
-    (scalar_row (value_of (get_or c.args.part.words.now c.args.at 0)) k lo (omega (arith, hi)) (λ z. omega (arith, hi))) c.children-count.ensures
+    (scalar_row (value_of (get_or c.args.part.words.now c.args.at 0)) k lo (omega (arith, hi)) (λ z. omega (arith, hi))) c.how_many-count.ensures
     (steady_scalar k lo hi) c.scalars.ensures
 
 pub after_scalar-returns-in-74-to-77 : goal.after_scalar-returns-in-74-to-77
@@ -235,9 +221,6 @@ judgments-returns-in_err-next t c = handed_noted _ _ _ _ _ _ _ c.from_residual.e
 pub judgments-bounds-part-at : goal.judgments-bounds-part-at
 judgments-bounds-part-at t c = (begun c.loop-k.invariant.0 (omega arith) c.in_ok-next.ensures refl).inside
 
-pub judgments-children-k-requires : goal.judgments-children-k-requires
-judgments-children-k-requires t c = (omega arith, judgments_in_row (kind_of (get_or c.args.part.words.now c.loop-k.at 0)) (omega arith) (omega arith))
-
 pub judgments-overflow_sub-left : goal.judgments-overflow_sub-left
 judgments-overflow_sub-left t c = (begun c.loop-k.invariant.0 (omega arith) c.in_ok-next.ensures refl).level
 
@@ -249,7 +232,7 @@ pub judgments-loop-k-preserved-then-kind-le-NOT : goal.judgments-loop-k-preserve
 judgments-loop-k-preserved-then-kind-le-NOT t c = (
   let k : ℕ = kind_of (get_or c.args.part.words.now c.loop-k.at 0) in
       let one : c.loop-k.k ≡ 1 = omega arith in
-      past-last c.loop-k.invariant.0 (omega arith) c.in_ok-next.ensures refl one (judgment_row (value_of (get_or c.args.part.words.now c.loop-k.at 0)) k (omega arith) (omega arith)) c.children-k.ensures (steady_judgment k (omega arith) (omega arith)),
+      past-last c.loop-k.invariant.0 (omega arith) c.in_ok-next.ensures refl one (judgment_row (value_of (get_or c.args.part.words.now c.loop-k.at 0)) k (omega arith) (omega arith)) c.how_many-k.ensures (steady_judgment k (omega arith) (omega arith)),
   omega (arith, c.loop-k.invariant.1),
 )
 
@@ -308,9 +291,6 @@ scalars-returns-in_err-next t c = handed_noted _ _ _ _ _ _ _ c.from_residual.ens
 pub scalars-bounds-part-at : goal.scalars-bounds-part-at
 scalars-bounds-part-at t c = (begun c.loop-k.invariant.0 (omega arith) c.in_ok-next.ensures refl).inside
 
-pub scalars-children-k-requires : goal.scalars-children-k-requires
-scalars-children-k-requires t c = (omega arith, scalars_in_row (kind_of (get_or c.args.part.words.now c.loop-k.at 0)) (omega arith) (omega arith))
-
 pub scalars-overflow_sub-left : goal.scalars-overflow_sub-left
 scalars-overflow_sub-left t c = (begun c.loop-k.invariant.0 (omega arith) c.in_ok-next.ensures refl).level
 
@@ -322,7 +302,7 @@ pub scalars-loop-k-preserved-then-kind-le-MAX : goal.scalars-loop-k-preserved-th
 scalars-loop-k-preserved-then-kind-le-MAX t c = (
   let k : ℕ = kind_of (get_or c.args.part.words.now c.loop-k.at 0) in
       let one : c.loop-k.k ≡ 1 = omega arith in
-      past-last c.loop-k.invariant.0 (omega arith) c.in_ok-next.ensures refl one (scalar_row (value_of (get_or c.args.part.words.now c.loop-k.at 0)) k (omega arith) (omega arith) (λ z. omega arith)) c.children-k.ensures (steady_scalar k (omega arith) (omega arith)),
+      past-last c.loop-k.invariant.0 (omega arith) c.in_ok-next.ensures refl one (scalar_row (value_of (get_or c.args.part.words.now c.loop-k.at 0)) k (omega arith) (omega arith) (λ z. omega arith)) c.how_many-k.ensures (steady_scalar k (omega arith) (omega arith)),
   omega (arith, c.loop-k.invariant.1),
 )
 

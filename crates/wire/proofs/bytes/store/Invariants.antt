@@ -7,4 +7,4 @@ use Rattle.definitions.specs.Bytes.{bytes_of}
 use Rattle.wire.proofs.bytes.store.Given as goal
 
 abbrev pub invariant-loop-i : goal.invariant-loop-i
-invariant-loop-i l = l.out ≡ bytes_of (take l.i l.word-items) ++ drop (4 * l.i) l.initial.out
+invariant-loop-i l = l.out ≡ bytes_of (take l.i l.words) ++ drop (4 * l.i) l.initial.out

@@ -3,4 +3,4 @@ use Rattle.resolve.proofs.WriteLaws.{list_put, writes_then}
 use Rattle.resolve.proofs.writer.Writer.put_list.Goals as goal
 
 pub returns : goal.returns
-returns c = rw (list_put c.args.kind c.list_at-names.ensures) (writes_then c.put_word.ensures c.put_names.ensures)
+returns c = rw (list_put c.args.kind c.args.names.now) (writes_then c.put_word.ensures c.put_names.ensures)
