@@ -129,16 +129,26 @@ module _ {ws : List ℕ} {l : Layout} {dir : List ℕ} (d : IsDirectory ws l dir
   its-most : {t : List ℕ} → ClearTable l.names t → ClearTable p.names t
   its-most {t} lent = subst (λ (n : ℕ). ClearTable n t) (d.named p d.checked.reads) lent
 
-  pub settleable : {marks : List ℕ} → ClearTable l.names marks → Settleable table marks names 0 (l.relations + 1)
-  settleable lent = rw (its_fuel, its-names) (settleable-pack p fine table its_index (its-most lent))
+  -- as many names stand in the directory
+  pub names-many : length names ≡ l.relations
+  names-many = ap length its-names ∙ length-map rs (λ (r : Relation). r.name) ∙ sym its-count
+
+  pub few-names : length names ≤ 512
+  few-names = omega (arith, names-many, few-relations)
+
+  names-fuel : length names + 1 ≡ suc (length (declared rs))
+  names-fuel = ap (λ (k : ℕ). k + 1) names-many ∙ its_fuel
+
+  pub settleable : {marks : List ℕ} → ClearTable l.names marks → Settleable table marks names 0 (length names + 1)
+  settleable lent = rw (names-fuel, its-names) (settleable-pack p fine table its_index (its-most lent))
 
   -- the names of the relations are among N
   pub its-low : (j : ℕ) → get_or names j 0 < l.names
   its-low j = rw its-names (omega (arith, d.named p d.checked.reads, names-below p.names (parts p fine).least [] rs (parts p fine).relations-fine j))
 
-  pub kinds-marked : {marks₀ : List ℕ} → ClearTable l.names marks₀ → {marks : List ℕ} {steps : ℕ} → SettledAll table marks₀ names 0 (l.relations + 1) marks steps → KindsMarked ws steps names marks
+  pub kinds-marked : {marks₀ : List ℕ} → ClearTable l.names marks₀ → {marks : List ℕ} {steps : ℕ} → SettledAll table marks₀ names 0 (length names + 1) marks steps → KindsMarked ws steps names marks
   kinds-marked lent {marks} {steps} s =
-      let found : KindsFound p marks steps = kinds-found p table its_index lent.clear marks steps (rw (its_fuel, its-names) at s) in
+      let found : KindsFound p marks steps = kinds-found p table its_index lent.clear marks steps (rw (names-fuel, its-names) at s) in
       let it : (q : Pack) → read ws ≡ yes q → p ≡ q = λ q h. same-pack ws d.checked.reads h in
       record {
         counts = λ q h. found.counts ∙ ap (λ (p : Pack). (all_kinds p.relations).steps) (it q h);

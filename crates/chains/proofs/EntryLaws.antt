@@ -8,7 +8,7 @@ use mathlib.Core.List.{List, [], ◌∷◌, ◌++◌, append_assoc, append-nil}
 use mathlib.Core.Bool.{Bool, true, false}
 use mathlib.Core.Option.{Option, none, some}
 use lib.ListN.{length, get_or, set, take, replicate, length-replicate, length-set, length-append}
-use lib.Seq.{get_or-set_same, get_or-set_other, take-set-le, take-suc-set, length-take-le, get_or-take, ext_get_or}
+use lib.Seq.{get_or-set_same, get_or-set_other, take-set-le, take-suc-set}
 use lib.Dec.{eqb, ltb}
 use borrow.Author.Tests.{eq-eqb, ne_eqb, eqb-true, eqb-false, lt-ltb, le-ltb, ltb-true, ltb-false}
 use Rattle.definitions.specs.Table.{pick}
@@ -30,7 +30,7 @@ use Rattle.chains.specs.DirectoryWord.{Reaches, word_in, start_by, slots_by, dec
 use Rattle.chains.specs.PackDirectory.{place_in, record_of, slots_for, slots_of, IsPack, ClearTable, DirectoryRoom, IsDirectory, Sized}
 use Rattle.pack.proofs.PackLaws.{words-read}
 use Rattle.checking.proofs.CheckLaws.{clear-zeros, said-most}
-use Rattle.chains.proofs.FillLaws.{whole_at, whole-past, table-length}
+use Rattle.chains.proofs.FillLaws.{whole_at, whole-past}
 use Rattle.chains.proofs.RelationForm.{RelationsFine, relations_words, kept}
 use Rattle.chains.proofs.PackParts.{zero_at, parts, opening_length, mapped_alike, find-name, find_kept, not_again, start_within, relations-room}
 use Rattle.chains.proofs.PlaceBounds.{found-small}
@@ -101,23 +101,6 @@ module _ (n : ℕ) where
   unfolding notes_all
   long-all i at [] d w = w
   long-all i at (r ∷ rs) d w = long-all (i + 1) (at + length (relation_words n r)) rs (note_relation i at r d) (long_after i at r d w)
-
--- the first words of a list, one for each number
-pub names-long : (dir : List ℕ) (count : ℕ) → length (names_in dir count) ≡ count
-unfolding names_in
-names-long dir count = table-length (λ j. get_or dir j 0) 0 count
-
-pub name-here : (dir : List ℕ) (count j : ℕ) → j < count → get_or (names_in dir count) j 0 ≡ get_or dir j 0
-unfolding names_in
-name-here dir count j h = whole_at (λ j. get_or dir j 0) count j h
-
-pub names-front : (dir : List ℕ) (count : ℕ) → count ≤ length dir → names_in dir count ≡ take count dir
-names-front dir many h =
-    let l = length-take-le many dir h in
-    ext_get_or 0 (names_in dir many) (take many dir) (names-long dir many ∙ sym l) (λ j k. name-here dir many j (omega (arith, names-long dir many)) ∙ sym (get_or-take many dir j 0 (omega (arith, names-long dir many))))
-
-pub front-long : (dir : List ℕ) (count : ℕ) → count ≤ length dir → length (take count dir) ≡ length (names_in dir count)
-front-long dir count h = ap length (sym (names-front dir count h))
 
 -- ---- what a word says
 
@@ -279,8 +262,7 @@ module _ (p : Pack) (w : WellFormed p) (d : List ℕ) (clear : Clear p.names d) 
   unfolding directory_of
   names-there =
       let z : 0 + length rs ≡ length rs = omega arith in
-      names-front the_directory (length rs) (omega (arith, long-all n 0 (relations_at n 2 (to_row p).1 + 1) rs d clear.long, (parts p w).few-relations))
-      ∙ ap (λ (k : ℕ). take k the_directory) (sym z)
+      ap (λ (k : ℕ). take k the_directory) (sym z)
       ∙ order_of n 0 (relations_at n 2 (to_row p).1 + 1) rs d (omega (arith, (parts p w).few-relations)) (omega (arith, clear.long))
 
   start_low : (m : ℕ) → starts_at m < 8192

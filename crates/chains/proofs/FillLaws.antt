@@ -4,9 +4,9 @@ use native.Mathlib.Omega.{arith}
 use native.Mathlib.Nat.{zero-add, add-zero}
 use native.Mathlib.Numerals.{add-one}
 use mathlib.Core.Path.{◌≡◌, refl, ap, sym, ◌∙◌}
-use mathlib.Core.List.{List, [], ◌∷◌, ◌++◌, append-nil, append_assoc}
+use mathlib.Core.List.{List, [], ◌∷◌, ◌++◌, map, append-nil, append_assoc}
 use lib.ListN.{length, get_or, drop, set, length-set, drop_of_length-le}
-use lib.Seq.{drop-cons, get_or-drop, set_at}
+use lib.Seq.{drop-cons, get_or-drop, set_at, ext_get_or}
 use Rattle.definitions.specs.Answers.{table_from}
 
 module _ (f : ℕ → ℕ) where
@@ -69,3 +69,19 @@ module _ (f : ℕ → ℕ) where
       done h =
           let e : j ≡ length out₀ = omega (arith, s.within) in
           s.holds ∙ rw (drop_of_length-le out₀ h) (append-nil (table_from f 0 j) ∙ rw e refl)
+
+-- ---- a table of what another holds
+
+table-mapped : (f g : ℕ → ℕ) (i k : ℕ) → table_from (λ j. f (g j)) i k ≡ map f (table_from g i k)
+table-mapped f g i zero = refl
+table-mapped f g i (suc k) = ap (λ (l : List ℕ). f (g i) ∷ l) (table-mapped f g (suc i) k)
+
+module _ (xs : List ℕ) where
+  abbrev held : ℕ → ℕ
+  held j = get_or xs j 0
+
+  many : length (table_from held 0 (length xs)) ≡ length xs
+  many = table-length held 0 (length xs)
+
+  pub held-mapped : (f : ℕ → ℕ) → table_from (λ j. f (held j)) 0 (length xs) ≡ map f xs
+  held-mapped f = table-mapped f held 0 (length xs) ∙ ap (map f) (ext_get_or 0 (table_from held 0 (length xs)) xs many (λ j h. whole_at held (length xs) j (omega (arith, many))))

@@ -1,5 +1,5 @@
 -- What the directory says of a name: its word is 0, or the place of its relation and what is noted of it (records, `Directory`).
-use Rattle.std.specs.Prelude.{ℕ, ◌+◌, ◌-◌, ◌/◌, ◌%◌, ◌≤◌, List, length, get_or, eqb, ltb}
+use Rattle.std.specs.Prelude.{ℕ, ◌+◌, ◌-◌, ◌/◌, ◌%◌, ◌≤◌, List, length, get_or, take, eqb, ltb}
 use Rattle.definitions.specs.Table.{pick}
 use Rattle.definitions.specs.Answers.{table_from}
 
@@ -43,5 +43,5 @@ unfoldable pub declarations_in : List ℕ → List ℕ
 declarations_in dir = table_from (declared_in dir) 0 4096
 
 -- the names of so many relations in record order
-unfoldable pub names_in : List ℕ → ℕ → List ℕ
-names_in dir count = table_from (λ j. get_or dir j 0) 0 count
+abbrev pub names_in : List ℕ → ℕ → List ℕ
+names_in dir count = take count dir

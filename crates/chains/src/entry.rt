@@ -1,5 +1,5 @@
-// What the directory of a pack says of a name, and its relations in record order.
-ghost use Rattle.std.specs.Prelude.{◌≡◌, ◌+◌, ◌-◌, ◌/◌, ◌<◌, length, get_or, unwrap_or, IfSome};
+// What the directory of a pack says of a name.
+ghost use Rattle.std.specs.Prelude.{◌≡◌, ◌+◌, ◌-◌, ◌/◌, ◌<◌, get_or, unwrap_or, IfSome};
 ghost use Rattle.chains.specs.DirectoryWord.{Reaches, starts_in, slots_in, declared_in};
 ghost use Rattle.chains.specs.Declaration.{Ends, number_of};
 
@@ -73,12 +73,4 @@ pub fn declared(dir: &[u32], name: usize) -> Declaration
         link if link < Directory::OFFSETS => Declaration::NoKinds,
         link => Declaration::Leads(link - Directory::OFFSETS),
     }
-}
-
-// The name of the relation with a number.
-pub fn name_at(dir: &[u32], i: usize) -> usize
-    requires { i < length dir.now }
-    ensures { result ≡ get_or dir.now i 0 }
-{
-    dir[i] as usize
 }

@@ -1,6 +1,6 @@
 // The chain walk over the declarations of the directory: each name's answer is the place of the list that settles it, 0 for no kinds.
 ghost use Rattle.std.specs.Prelude.{◌≡◌, ◌+◌, ◌-◌, ◌<◌, ◌≤◌, length};
-ghost use Rattle.chains.specs.DirectoryWord.{Reaches, declarations_in, names_in};
+ghost use Rattle.chains.specs.DirectoryWord.{Reaches, declarations_in};
 ghost use Rattle.chains.specs.Mark.{number_of_mark};
 ghost use Rattle.chains.specs.Settle.{Walkable, WalkedHere, Settleable, SettledAll};
 
@@ -136,14 +136,15 @@ pub fn walk(dir: &[u32], marks: &mut [u32], steps: &mut u32, n: usize, fuel: u32
     answer
 }
 
-// The walks from so many relations in record order: the number of declarations read.
-pub fn settle_all(dir: &[u32], marks: &mut [u32], count: u32) -> u32
-    requires { (count ≤ 512) × Settleable (declarations_in dir.now) marks.old (names_in dir.now count) 0 (count + 1) × Reaches dir.now (length marks.old) }
-    ensures { SettledAll (declarations_in dir.now) marks.old (names_in dir.now count) 0 (count + 1) marks.new result }
+// The walks from the names of relations in record order: the number of declarations read.
+pub fn settle_all(dir: &[u32], names: &[u32], marks: &mut [u32]) -> u32
+    requires { (length names.now ≤ 512) × Settleable (declarations_in dir.now) marks.old names.now 0 (length names.now + 1) × Reaches dir.now (length marks.old) }
+    ensures { SettledAll (declarations_in dir.now) marks.old names.now 0 (length names.now + 1) marks.new result }
 {
+    let fuel = names.len() as u32 + 1;
     let mut steps: u32 = 0;
-    for name in &dir[..count as usize] {
-        walk(dir, marks, &mut steps, *name as usize, count + 1);
+    for &name in names {
+        walk(dir, marks, &mut steps, name as usize, fuel);
     }
     steps
 }

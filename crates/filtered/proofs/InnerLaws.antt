@@ -3,12 +3,13 @@ use Prim.Native.Nat.{ℕ, zero, suc, ◌+◌, ◌-◌, ◌<◌, ◌≤◌}
 use native.Mathlib.Omega.{arith}
 use native.Mathlib.Numerals.{add-one}
 use mathlib.Core.Path.{◌≡◌, refl, ap, sym, ◌∙◌, subst}
-use mathlib.Core.List.{List}
+use mathlib.Core.List.{List, ◌++◌}
 use mathlib.Core.Bool.{Bool, true, false}
 use mathlib.Core.Option.{Option, none, some, map}
-use lib.ListN.{length, get_or, set, replicate, length-replicate, get_or-eq_default}
+use lib.ListN.{length, get_or, take, set, replicate, length-replicate, get_or-eq_default, get_or-append}
 use Rattle.std.proofs.lemmas.List.{get_or-replicate}
-use lib.Seq.{get_or-set_same, get_or-set_other}
+use lib.Seq.{get_or-set_same, get_or-set_other, get_or-drop, drop_at, length-take-le}
+use borrow.Rule.Slice.PartMut.{mid_of, post_of, put_mid, mid_len, same_len_mid}
 use lib.Dec.{eqb, ltb}
 use borrow.Author.Tests.{eq-eqb, eqb-true, eqb-false, lt-ltb, le-ltb, ltb-true, ltb-false}
 use Rattle.definitions.specs.Table.{pick}
@@ -42,16 +43,42 @@ among-counted n (suc k) (suc i) h =
 
 -- ---- the words, one after another
 
-pub words-next : {taken dir : List ℕ} {j : ℕ} → InnerWords taken j dir → 512 + j < length dir → (v : ℕ) → declared_by v ≡ inner_entry (get_or taken j 0) j → InnerWords taken (j + 1) (set dir (512 + j) v)
-words-next {taken} {dir} {j} s h v e = record { says = λ m l. go m l (eqb m j) refl }
+pub words-next : {taken words : List ℕ} {j : ℕ} → InnerWords taken j words → j < length words → (v : ℕ) → declared_by v ≡ inner_entry (get_or taken j 0) j → InnerWords taken (j + 1) (set words j v)
+words-next {taken} {words} {j} s h v e = record { says = λ m l. go m l (eqb m j) refl }
   where
-    go : (m : ℕ) → m < j + 1 → (b : Bool) → eqb m j ≡ b → declared_by (word_in (set dir (512 + j) v) m) ≡ inner_entry (get_or taken m 0) m
-    go m l true q = let z : m ≡ j = eqb-true m j q in rw z (ap declared_by (get_or-set_same dir (512 + j) v 0 h) ∙ e)
-    go m l false q = let o = eqb-false m j q in ap declared_by (get_or-set_other dir (512 + j) (512 + m) v 0 (λ z. o (omega arith))) ∙ s.says m (omega arith)
+    go : (m : ℕ) → m < j + 1 → (b : Bool) → eqb m j ≡ b → declared_by (get_or (set words j v) m 0) ≡ inner_entry (get_or taken m 0) m
+    go m l true q = let z : m ≡ j = eqb-true m j q in rw z (ap declared_by (get_or-set_same words j v 0 h) ∙ e)
+    go m l false q = let o = eqb-false m j q in ap declared_by (get_or-set_other words j m v 0 o) ∙ s.says m (omega arith)
+
+-- the words of n names in a directory say them
+pub record InDirectory (taken : List ℕ) (n : ℕ) (dir : List ℕ) : Type 0 where
+  pub long : length dir ≡ 512 + n
+  pub says : (m : ℕ) → m < n → declared_by (word_in dir m) ≡ inner_entry (get_or taken m 0) m
+
+module _ (dir : List ℕ) (n : ℕ) (long : length dir ≡ 512 + n) where
+  abbrev room : ℕ
+  room = length (mid_of 512 (length dir - 512) dir)
+
+  pub as-many-words : room ≡ n
+  as-many-words = mid_len 512 (length dir) dir (omega arith) ∙ omega arith
+
+  pub words_there : {taken words : List ℕ} → length words ≡ room → InnerWords taken room words → InDirectory taken n (put_mid 512 (length dir - 512) dir words)
+  words_there {taken} {words} l w =
+      record {
+        long = same_len_mid 512 (length dir - 512) dir words l ∙ long;
+        says = λ m h. ap declared_by (here m (omega (arith, as-many-words))) ∙ w.says m (omega (arith, as-many-words));
+      }
+    where
+      here : (m : ℕ) → m < length words → word_in (put_mid 512 (length dir - 512) dir words) m ≡ get_or words m 0
+      here m h =
+          let past : List ℕ = post_of 512 (length dir - 512) dir in
+          sym (get_or-drop 512 (put_mid 512 (length dir - 512) dir words) m 0)
+          ∙ ap (λ (l : List ℕ). get_or l m 0) (drop_at (take 512 dir) (words ++ past) 512 (length-take-le 512 dir (omega arith)))
+          ∙ get_or-append words past 0 m h
 
 -- ---- the walks along them
 
-module _ (taken : List ℕ) (n : ℕ) (asked : InnerAsked taken n) (dir : List ℕ) (long : length dir ≡ 512 + n) (words : InnerWords taken n dir) where
+module _ (taken : List ℕ) (n : ℕ) (asked : InnerAsked taken n) (dir : List ℕ) (words : InDirectory taken n dir) where
   abbrev names : List ℕ
   names = table_from plainly 0 n
 
@@ -67,7 +94,7 @@ module _ (taken : List ℕ) (n : ℕ) (asked : InnerAsked taken n) (dir : List �
   past-names m h = go (ltb m 4096) refl
     where
       go : (c : Bool) → ltb m 4096 ≡ c → get_or (table_from (declared_in dir) 0 4096) m 0 ≡ 0
-      go true e = whole_at (declared_in dir) 4096 m (ltb-true m 4096 e) ∙ ap declared_by (get_or-eq_default dir 0 (omega arith))
+      go true e = whole_at (declared_in dir) 4096 m (ltb-true m 4096 e) ∙ ap declared_by (get_or-eq_default dir 0 (omega (arith, words.long)))
       go false e = whole-past (declared_in dir) 4096 m (ltb-false m 4096 e)
 
   -- what a name's entry says
@@ -150,7 +177,7 @@ module _ (taken : List ℕ) (n : ℕ) (asked : InnerAsked taken n) (dir : List �
     pub walks_asked : InnerSettleable dir marks
     walks_asked =
         record {
-          reaches = record { most = omega (arith, as_many, asked.most); long = omega (arith, as_many, long) };
+          reaches = record { most = omega (arith, as_many, asked.most); long = omega (arith, as_many, words.long) };
           settleable = rw (as_many, cleared)
               (settleable-clear index names (n + 1) lent-unseen name_below leading (omega (arith, table-length plainly 0 n, asked.most)) (omega (arith, asked.most)));
         }

@@ -260,11 +260,6 @@ module _ {ws names records : List ℕ} (slots : List ℕ) {marks : List ℕ} {st
             get_or-eq_default t 0 (omega (arith, ap length is-after, all-long kind p.relations t₀))
             ∙ sym (rw (nobody_names p fine e beyond, takes-nothing p fine e beyond) refl)
 
--- the relations of a directory have names below N
-pub names-low : {ws : List ℕ} {l : Layout} {dir : List ℕ} → IsDirectory ws l dir → NamesLow l.names (names_in dir l.relations)
-unfolding NamesLow
-names-low d j = its-low d j
-
 module _ {ws : List ℕ} {l : Layout} {dir marks : List ℕ} {steps : ℕ} (d : IsDirectory ws l dir) (m : KindsMarked ws steps (names_in dir l.relations) marks) (low : Marked marks) where
   pub takeable : {most : ℕ} → l.names ≤ most → NamesLow most (names_in dir l.relations)
   unfolding NamesLow

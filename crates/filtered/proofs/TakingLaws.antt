@@ -18,10 +18,8 @@ use Rattle.definitions.specs.Table.{pick, value_of}
 use Rattle.definitions.specs.Filtered.{kind_at}
 use Rattle.definitions.specs.Places.{names_at}
 use Rattle.chains.specs.Record.{value_at, kind_count}
-use Rattle.chains.specs.DirectoryWord.{names_in}
-use Rattle.chains.proofs.EntryLaws.{name-here}
 use Rattle.filtered.specs.Acts.{act_list, part_for, act_for, acts_from}
-use Rattle.filtered.specs.Taking.{ListFound, KindFound, names_or, option_in, names_or, named_after, taken_after, take_at, taken_by, kind_marked, taken_in, RelationRead, RelationsRead, NamesLow}
+use Rattle.filtered.specs.Taking.{ListFound, KindFound, names_or, option_in, names_or, named_after, taken_after, take_at, taken_by, kind_marked, taken_in, RelationRead, RelationsRead}
 
 -- ---- the list at a place
 
@@ -154,8 +152,3 @@ module _ (ws starts slots names acts₀ t₀ : List ℕ) where
           lists = λ m. ap (λ (l : List ℕ). act_list (get_or l m 0)) r.tells ∙ list_kept n y same m ∙ s.lists m;
           long = ap length r.tells ∙ length-set acts n y ∙ s.long;
         }
-
--- the name of the j-th relation
-pub name-low : (most : ℕ) (dir : List ℕ) (count j : ℕ) {n : ℕ} → NamesLow most (names_in dir count) → j < count → n ≡ get_or dir j 0 → n < most
-unfolding NamesLow
-name-low most dir count j h i e = omega (arith, h j, name-here dir count j i)

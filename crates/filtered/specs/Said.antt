@@ -10,7 +10,7 @@ use Rattle.definitions.specs.declared.operation.Filter.TheVariants.{Direct, Inne
 use Rattle.definitions.specs.Chain.{own, same}
 use Rattle.definitions.specs.Filtered.{up_to, inner_step, filter_words}
 use Rattle.definitions.specs.Answers.{table_from}
-use Rattle.chains.specs.DirectoryWord.{Reaches, word_in, declared_by, declarations_in}
+use Rattle.chains.specs.DirectoryWord.{Reaches, declared_by, declarations_in}
 use Rattle.chains.specs.Settle.{Settleable, SettledAll}
 use Rattle.filtered.specs.Taking.{several}
 
@@ -64,9 +64,9 @@ pub record InnerAsked (taken : List ℕ) (n : ℕ) : Type 0 where
   pub long : n ≤ length taken
   pub leads : (e : ℕ) → e < n → (direct_of (get_or taken e 0) ≡ table.none → ⊥) → direct_of (get_or taken e 0) < n
 
--- the words of n names in a directory say them
-pub record InnerWords (taken : List ℕ) (n : ℕ) (dir : List ℕ) : Type 0 where
-  pub says : (m : ℕ) → m < n → declared_by (word_in dir m) ≡ inner_entry (get_or taken m 0) m
+-- the words of n names say them
+pub record InnerWords (taken : List ℕ) (n : ℕ) (words : List ℕ) : Type 0 where
+  pub says : (m : ℕ) → m < n → declared_by (get_or words m 0) ≡ inner_entry (get_or taken m 0) m
 
 -- what the walks from all names that have a mark ask for, and what they leave
 pub record InnerSettleable (dir marks : List ℕ) : Type 0 where

@@ -42,7 +42,8 @@ fn say(filter: Filter, x: u32, mark: u32, e: u32) -> u32
     }
 }
 
-// What a table says of each name, in the place of the mark of its walk.
+// What a table says of each name, in the place of the mark of its walk. What is known of a name is looked up by index: of what is
+// written through a zip a proof knows nothing.
 fn say_all(taken: &[u32], filter: Filter, out: &mut [u32])
     requires { (length out.old ≤ length taken.now) × (length out.old ≤ 4096) }
     ensures { out.new ≡ table_from (said_in filter taken.now out.old) 0 (length out.old) }
@@ -63,13 +64,13 @@ fn inner_word(x: u32, e: u32) -> u32
     }
 }
 
-// The direct kinds of so many names as words of a directory.
-fn inner_words(taken: &[u32], dir: &mut [u32], count: usize)
-    requires { InnerAsked taken.now count × (length dir.old ≡ 512 + count) }
-    ensures { InnerWords taken.now count dir.new }
+// The direct kinds of names as words of a directory, one for each; by index, as in `say_all`.
+fn inner_words(taken: &[u32], words: &mut [u32])
+    requires { InnerAsked taken.now (length words.old) }
+    ensures { InnerWords taken.now (length words.old) words.new }
 {
-    for j in 0..count {
-        dir[Directory::NAMES + j] = inner_word(taken[j], j as u32);
+    for (j, word) in words.iter_mut().enumerate() {
+        *word = inner_word(taken[j], j as u32);
     }
 }
 
@@ -78,7 +79,7 @@ fn walk_inner(taken: &[u32], dir: &mut [u32], marks: &mut [u32])
     requires { InnerAsked taken.now (length marks.old) × (length dir.old ≡ 512 + length marks.old) }
     ensures { InnerMarked taken.now (length marks.old) marks.new }
 {
-    inner_words(taken, dir, marks.len());
+    inner_words(taken, &mut dir[Directory::NAMES..]);
     marks.fill(Mark::UNSEEN);
     settle_all(dir, marks);
 }

@@ -3,16 +3,16 @@ ghost use Rattle.filtered.specs.Said.{InnerSettleable, InnerSettled};
 
 use chains::settle::walk;
 
-// The walks from all names in order: the number of words read. The chain walk's `settle_all` starts from the names of relations, which
-// it reads in the directory; that both call `walk` in a loop is all that they share.
+// The walks from all names in order: the number of words read. The names are all numbers below the number of marks, so no slice holds
+// them, as one does for the chain walk's `settle_all`; that both call `walk` in a loop is all that they share.
 pub fn settle_all(dir: &[u32], marks: &mut [u32]) -> u32
     requires { InnerSettleable dir.now marks.old }
     ensures { InnerSettled dir.now marks.old marks.new result }
 {
     let mut steps: u32 = 0;
     let fuel = marks.len() as u32 + 1;
-    for j in 0..marks.len() {
-        walk(dir, marks, &mut steps, j, fuel);
+    for name in 0..marks.len() {
+        walk(dir, marks, &mut steps, name, fuel);
     }
     steps
 }

@@ -10,7 +10,7 @@ ghost use Rattle.filtered.specs.Said.{direct_by, alias_of, unresolved_of};
 ghost use Rattle.filtered.specs.Taking.{option_in, ListFound, KindIn, KindFound, number_of, Plain, named_after, taken_after, take_at, RelationRead, RelationsRead, NamesLow, KnowsEntities, Filled};
 
 use crate::act::{Part, list};
-use chains::entry::{name_at, slots, start};
+use chains::entry::{slots, start};
 use chains::record::{RecordPlace, value_at};
 use chains::settle::settle_all;
 use pack::kinds::Pack;
@@ -187,13 +187,13 @@ fn read_relation(pack: &[u32], dir: &[u32], acts: &mut [u32], taken: &mut [u32],
     acts[name] = x + Part::MARKS * Part::Derived(at).number();
 }
 
-// So many relations in record order.
-fn read_relations(pack: &[u32], dir: &[u32], count: u32, acts: &mut [u32], taken: &mut [u32])
-    requires { (count ≤ 512) × NamesLow (length acts.old) (names_in dir.now count) × Reaches dir.now (length acts.old) }
-    ensures { RelationsRead pack.now (starts_in dir.now) (slots_in dir.now) (names_in dir.now count) acts.old taken.old acts.new taken.new }
+// The relations of these names, one after the other.
+fn read_relations(pack: &[u32], dir: &[u32], names: &[u32], acts: &mut [u32], taken: &mut [u32])
+    requires { NamesLow (length acts.old) names.now × Reaches dir.now (length acts.old) }
+    ensures { RelationsRead pack.now (starts_in dir.now) (slots_in dir.now) names.now acts.old taken.old acts.new taken.new }
 {
-    for j in 0..count as usize {
-        read_relation(pack, dir, acts, taken, name_at(dir, j));
+    for &name in names {
+        read_relation(pack, dir, acts, taken, name as usize);
     }
 }
 
@@ -204,9 +204,9 @@ pub fn read_tables(pack: &[u32], l: Layout, dir: &[u32], acts: &mut [u32], taken
     requires { IsDirectory pack.now l dir.now × ClearTable l.names acts.old × Reaches dir.now (length acts.old) × ClearTable l.names taken.old }
     ensures { Filled pack.now (names_in dir.now l.relations) (starts_in dir.now) acts.new taken.new result }
 {
-    let count = l.relations;
-    let steps = settle_all(dir, acts, count);
-    read_relations(pack, dir, count, acts, taken);
+    let names = &dir[..l.relations as usize];
+    let steps = settle_all(dir, names, acts);
+    read_relations(pack, dir, names, acts, taken);
     steps
 }
 

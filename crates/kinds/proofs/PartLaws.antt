@@ -1,21 +1,19 @@
 -- The parts of the operations, of words that Check accepts.
-use Prim.Native.Nat.{ℕ, zero, suc, ◌+◌, ◌-◌, ◌<◌, ◌≤◌}
+use Prim.Native.Nat.{ℕ, ◌+◌, ◌-◌, ◌<◌}
 use native.Mathlib.Omega.{arith}
 use mathlib.Core.Path.{◌≡◌, refl, ap, sym, ◌∙◌}
 use mathlib.Core.List.{List, [], ◌∷◌, map}
-use lib.ListN.{length, get_or}
+use lib.ListN.{get_or}
 use Rattle.definitions.specs.Records.{Relation, Pack}
 use Rattle.definitions.specs.Pack.{yes, read}
 use Rattle.definitions.specs.Kinds.{declared, own_answer}
 use Rattle.definitions.specs.Places.{place_of, all_kinds_words}
 use Rattle.records.specs.declared.directory.Layout.{Layout}
-use Rattle.definitions.specs.Answers.{table_from}
-use Rattle.chains.specs.DirectoryWord.{declarations_in, names_in}
-use Rattle.chains.specs.Settle.{Walkable, WalkedHere, Placeable}
+use Rattle.chains.specs.DirectoryWord.{declarations_in}
+use Rattle.chains.specs.Settle.{Walkable, WalkedHere}
 use Rattle.chains.specs.PackDirectory.{IsDirectory, KindsMarked, ClearTable}
-use Rattle.kinds.specs.KindsPromises.{place_at, OwnPlace, KindsLeft}
+use Rattle.kinds.specs.KindsPromises.{place_by, OwnPlace, KindsLeft}
 use Rattle.chains.proofs.KindLaws.{in_row, words-own}
-use Rattle.chains.proofs.EntryLaws.{name-here, names-long}
 use Rattle.chains.proofs.AllKindsLaws.{own-found}
 use Rattle.chains.proofs.CheckedLaws.{settleable, same-pack, its_index, its_fuel, few-relations}
 
@@ -45,28 +43,15 @@ pub map-names : {B : Type 0} (f : ℕ → B) (rs : List Relation) → map f (dec
 map-names f [] = refl
 map-names f (r ∷ rs) = ap (λ (l : List _). f r.name ∷ l) (map-names f rs)
 
-pub table-mapped : (f g : ℕ → ℕ) (i k : ℕ) → table_from (λ j. f (g j)) i k ≡ map f (table_from g i k)
-table-mapped f g i zero = refl
-table-mapped f g i (suc k) = ap (λ (l : List ℕ). f (g i) ∷ l) (table-mapped f g (suc i) k)
-
-module _ {ws marks : List ℕ} (dir : List ℕ) {steps : ℕ} (many : ℕ) (m : KindsMarked ws steps (names_in dir many) marks) where
-  places_are : (p : Pack) → read ws ≡ yes p → table_from (place_at marks dir) 0 many ≡ all_kinds_words p
-  unfolding place_at names_in
+module _ {ws names marks : List ℕ} {steps : ℕ} (m : KindsMarked ws steps names marks) where
+  places_are : (p : Pack) → read ws ≡ yes p → map (place_by marks) names ≡ all_kinds_words p
+  unfolding place_by
   places_are p h =
       let rs : List Relation = p.relations in
-      table-mapped (λ n. get_or marks n 0 - 2) (λ j. get_or dir j 0) 0 many
-      ∙ ap (map (λ n. get_or marks n 0 - 2)) (m.named p h)
+      ap (map (λ n. get_or marks n 0 - 2)) (m.named p h)
       ∙ map-names (λ n. get_or marks n 0 - 2) rs
       ∙ in_row (λ n. get_or marks n 0 - 2) (λ n. place_of p (own_answer rs n)) rs (λ n i. (let e = m.marked p h n i in omega arith))
       ∙ sym (words-own p)
 
-  pub kinds_left : {out : List ℕ} {count : ℕ} → count ≡ many → out ≡ table_from (place_at marks dir) 0 count → KindsLeft ws steps out
-  kinds_left c e = record { counts = m.counts; holds = λ p h. e ∙ ap (table_from (place_at marks dir) 0) c ∙ places_are p h }
-
--- each name of the directory has a settled mark
-module _ (marks dir : List ℕ) (many : ℕ) (asked : Placeable marks (names_in dir many)) (j : ℕ) (h : j < many) {name : ℕ} (e : name ≡ get_or dir j 0) where
-  pub named-low : name < length marks
-  named-low = omega (arith, asked.names-below j, name-here dir many j h)
-
-  pub named-settled : 2 ≤ get_or marks name 0
-  named-settled = rw (e ∙ sym (name-here dir many j h)) (asked.settled j (omega (arith, names-long dir many)))
+  pub kinds_left : {out : List ℕ} → out ≡ map (place_by marks) names → KindsLeft ws steps out
+  kinds_left e = record { counts = m.counts; holds = λ p h. e ∙ places_are p h }

@@ -7,9 +7,9 @@ use Rattle.definitions.specs.Lean.{leans}
 use Rattle.definitions.specs.Places.{place_of, all_kinds_words}
 use Rattle.chains.specs.PackDirectory.{OfPack}
 
--- the settled place of the relation with a number
-unfoldable pub place_at : List ℕ → List ℕ → ℕ → ℕ
-place_at marks dir j = get_or marks (get_or dir j 0) 0 - 2
+-- the settled place of a name
+unfoldable pub place_by : List ℕ → ℕ → ℕ
+place_by marks name = get_or marks name 0 - 2
 
 -- the places, and the number of declarations read
 pub record KindsLeft (ws : List ℕ) (steps : ℕ) (out : List ℕ) : Type 0 where

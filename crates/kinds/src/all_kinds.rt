@@ -1,26 +1,25 @@
 // All kinds: the effective kinds of every relation, as places, and how many declarations were read for them.
-ghost use Rattle.std.specs.Prelude.{◌≡◌, ◌≤◌, length};
-ghost use Rattle.definitions.specs.Answers.{table_from, Answered};
-ghost use Rattle.chains.specs.DirectoryWord.{names_in};
+ghost use Rattle.std.specs.Prelude.{◌≡◌, length, map};
+ghost use Rattle.definitions.specs.Answers.{Answered};
 ghost use Rattle.chains.specs.Settle.{Placeable};
 ghost use Rattle.chains.specs.PackDirectory.{Sized};
-ghost use Rattle.kinds.specs.KindsPromises.{place_at};
+ghost use Rattle.kinds.specs.KindsPromises.{place_by};
 ghost use Rattle.definitions.specs.Operations.{all_kinds_answer, all_kinds_buffer};
 
-use chains::entry::name_at;
 use chains::settle::{Mark, settle_all};
 use checking::check::{check_directory, names_said};
 use definitions::answer::{Answer, Given, Number};
 use pack::refusal::refused;
 use records::directory::Directory;
 
-// The place of each relation's list in record order, for as many as there is room.
-fn places(dir: &[u32], marks: &[u32], out: &mut [u32])
-    requires { (length out.old ≤ 512) × (512 ≤ length dir.now) × Placeable marks.now (names_in dir.now (length out.old)) }
-    ensures { out.new ≡ table_from (place_at marks.now dir.now) 0 (length out.old) }
+// The place of each relation's list, by the relations' names. These are looked up by index: of what is written through a zip a proof
+// knows nothing.
+fn places(names: &[u32], marks: &[u32], out: &mut [u32])
+    requires { (length out.old ≡ length names.now) × Placeable marks.now names.now }
+    ensures { out.new ≡ map (place_by marks.now) names.now }
 {
     for (j, place) in out.iter_mut().enumerate() {
-        *place = Mark::from(marks[name_at(dir, j)]).answer();
+        *place = Mark::from(marks[names[j] as usize]).answer();
     }
 }
 
@@ -35,9 +34,11 @@ fn kinds_sized<const WORDS: usize, const NAMES: usize>(pack: &[u32], out: &mut [
     if out.len() < count {
         return Err(refused(Number::NoRoom, 0));
     }
+    let dir = &dir[..];
+    let names = &dir[..count];
     let mut marks = [0u32; NAMES];
-    let steps = settle_all(&dir, &mut marks, l.relations);
-    places(&dir, &marks, &mut out[0..count]);
+    let steps = settle_all(dir, names, &mut marks);
+    places(names, &marks, &mut out[0..count]);
     Ok(Given {
         value: l.relations,
         steps,

@@ -5,11 +5,10 @@ use native.Mathlib.Numerals.{add-one}
 use mathlib.Core.Path.{◌≡◌, refl, ap, sym, ◌∙◌, subst}
 use mathlib.Core.List.{List, [], ◌∷◌, ◌++◌, map, append_assoc, append-nil}
 use mathlib.Core.Bool.{Bool}
-use lib.ListN.{length, get_or, take, replicate, length-append, length-map, length-replicate}
+use lib.ListN.{length, get_or, replicate, length-append, length-map, length-replicate}
 use borrow.Author.Tests.{ne_eqb}
 use borrow.Rule.Slice.PartMut.{mid_of, mid_len}
 use Rattle.std.specs.List.{between}
-use Rattle.std.proofs.Common.{get_or-take}
 use Rattle.std.proofs.lemmas.List.Edits.{length-between, get_or-between}
 use Rattle.definitions.specs.Records.{Pack}
 use Rattle.definitions.specs.Pack.{WellFormed, yes, read, words}
@@ -19,12 +18,10 @@ use Rattle.definitions.specs.Places.{relation_words}
 use Rattle.chains.specs.DirectoryWord.{starts_in, names_in}
 use Rattle.chains.specs.Record.{value_at}
 use Rattle.definitions.specs.Form.{repeats}
-use Rattle.chains.proofs.EntryLaws.{names-front, reaches_one}
-use Rattle.chains.proofs.FillLaws.{table-length}
-use Rattle.filtered.proofs.TakingLaws.{name-low}
+use Rattle.chains.proofs.EntryLaws.{reaches_one}
+use Rattle.chains.proofs.CheckedLaws.{names-many, its-low}
 use Rattle.chains.proofs.PackParts.{parts}
 use Rattle.chains.proofs.RecordLaws.{value_there}
-use Rattle.filtered.proofs.TakenKnown.{names-low}
 use Rattle.inputs.specs.Blocks.{AfterBlock}
 use Rattle.inputs.proofs.BlocksStand.{ReadsInputs, reads_inputs}
 use Rattle.directions.specs.RecordRuns.{run_words, TablesFilled}
@@ -256,19 +253,13 @@ module _ {ws dir notes : List ℕ} {f : Figures} {room : ℕ} (o : OrderAsked ws
 
   -- the names of the relations stand at the front of the directory
   abbrev names : List ℕ
-  names = take f.layout.relations dir
+  names = names_in dir f.layout.relations
 
-  front-names : names_in dir f.layout.relations ≡ names
-  front-names = names-front dir f.layout.relations (omega (arith, numbers.0, a.directory.reaches.long))
-
-  pub names-many : f.layout.relations ≡ length names
-  unfolding names_in
-  names-many = sym (table-length (λ j. get_or dir j 0) 0 f.layout.relations) ∙ ap length front-names
+  pub as-many-names : f.layout.relations ≡ length names
+  as-many-names = sym (names-many a.directory)
 
   pub relations-asked : Named dir names
-  relations-asked j h =
-      let k : j < f.layout.relations = omega (arith, names-many) in
-      reaches_one a.directory.reaches (name-low f.layout.names dir f.layout.relations j (names-low a.directory) k (get_or-take f.layout.relations dir j 0 k))
+  relations-asked j h = reaches_one a.directory.reaches (its-low a.directory j)
 
   -- the rules
   abbrev Q : List ℕ
@@ -299,7 +290,7 @@ module _ {ws dir notes : List ℕ} {f : Figures} {room : ℕ} (o : OrderAsked ws
   O = order_in dir names
 
   pub order_long : length O ≡ f.layout.relations
-  order_long = length-map names (λ name. get_or (starts_in dir) name 0) ∙ sym names-many
+  order_long = length-map names (λ name. get_or (starts_in dir) name 0) ∙ sym as-many-names
 
   abbrev B : List ℕ
   B = block_places ws f.blocks.at count
@@ -316,7 +307,7 @@ module _ {ws dir notes : List ℕ} {f : Figures} {room : ℕ} (o : OrderAsked ws
       ∙ ap (λ (x : ℕ). 0 ∷ (O ++ (f.layout.rules ∷ (Q ++ (x ∷ B))))) v
       ∙ ap (λ (x : ℕ). 0 ∷ (O ++ (f.layout.rules ∷ (Q ++ (blocks ∷ block_places ws f.blocks.at x))))) blocks-many
       ∙ ap (λ (x : ℕ). 0 ∷ (O ++ (f.layout.rules ∷ (Q ++ (blocks ∷ block_places ws x (length p.blocks)))))) a.blocks
-      ∙ all_begin dir tabled a.directory.ruled a.directory.blocked (sym front-names ∙ a.filled.noted.named p h)
+      ∙ all_begin dir tabled a.directory.ruled a.directory.blocked (a.filled.noted.named p h)
 
 -- room for the places of a pack
 abbrev pub order_of : {ws dir acts taken : List ℕ} {marks : List Bool} {notes : List ℕ} {f : Figures} {work : List ℕ} (a : ResolveAsked ws dir acts taken marks notes f work) {room : ℕ} → room ≡ length (pieces_of a.directory.checked.pack) → OrderAsked ws dir notes f room

@@ -7,9 +7,9 @@ use Rattle.chains.proofs.SettleLaws.{all_settled}
 use Rattle.filtered.proofs.InnerLaws.{name-walked}
 use Rattle.filtered.proofs.inner.settle_all.Goals as goal
 
-pub loop-j-preserved : goal.loop-j-preserved
-loop-j-preserved c =
-    name-walked c.requires c.loop-j.invariant (omega arith) c.walk.ensures
+pub loop-name-preserved : goal.loop-name-preserved
+loop-name-preserved c =
+    name-walked c.requires c.loop-name.invariant (omega arith) c.walk.ensures
 
 pub returns : goal.returns
-returns c = all_settled _ _ _ _ _ c.requires.settleable c.loop-j.invariant (omega (arith, table-length plainly 0 (length c.args.marks.now)))
+returns c = all_settled _ _ _ _ _ c.requires.settleable c.loop-name.invariant (omega (arith, table-length plainly 0 (length c.args.marks.now)))

@@ -2,18 +2,21 @@
 use native.Mathlib.Omega.{arith}
 use mathlib.Core.Path.{sym, subst}
 use Rattle.chains.specs.DirectoryWord.{Reaches}
-use Rattle.chains.proofs.CheckedLaws.{few-relations, settleable, kinds-marked}
+use Rattle.chains.proofs.CheckedLaws.{few-names, names-many, settleable, kinds-marked}
 use Rattle.filtered.proofs.TakenKnown.{takeable, filled}
 use Rattle.filtered.proofs.taking.read_tables.Goals as goal
 
+pub slice_bounds-names-end : goal.slice_bounds-names-end
+slice_bounds-names-end c = sym (names-many c.requires.0)
+
 pub settle_all-steps-requires : goal.settle_all-steps-requires
-settle_all-steps-requires c = let d = c.requires.0 in (few-relations d, settleable d c.requires.1, c.requires.2)
+settle_all-steps-requires c = let d = c.requires.0 in (few-names d, settleable d c.requires.1, c.requires.2)
 
 pub read_relations-requires : goal.read_relations-requires
 read_relations-requires c =
     let d = c.requires.0 in
     let s = c.settle_all-steps.ensures in
-    (few-relations d, takeable d (kinds-marked d c.requires.1 s) s.marked (omega (arith, c.requires.1.long, s.long)), subst (Reaches c.args.dir.now) (sym s.long) c.requires.2)
+    (takeable d (kinds-marked d c.requires.1 s) s.marked (omega (arith, c.requires.1.long, s.long)), subst (Reaches c.args.dir.now) (sym s.long) c.requires.2)
 
 pub returns : goal.returns
 returns c =

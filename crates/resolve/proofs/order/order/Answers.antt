@@ -2,7 +2,7 @@
 use native.Mathlib.Omega.{arith}
 use mathlib.Core.Path.{refl, ◌∙◌}
 use borrow.Author.Rules.{rules}
-use Rattle.resolve.proofs.PlacesLaws.{numbers, first-near, names-many, relations-asked, order_long, rules-long, rules-asked, rules-written, B-long, all_ordered}
+use Rattle.resolve.proofs.PlacesLaws.{numbers, first-near, as-many-names, relations-asked, order_long, rules-long, rules-asked, rules-written, B-long, all_ordered}
 use Rattle.resolve.proofs.order.order.Goals as goal
 
 pub new-places-requires : goal.new-places-requires
@@ -12,7 +12,7 @@ pub order_relations-requires : goal.order_relations-requires
 order_relations-requires c = (relations-asked c.requires, omega (arith, numbers c.requires, order_long c.requires))
 
 pub slice_bounds-order_relations-end : goal.slice_bounds-order_relations-end
-slice_bounds-order_relations-end c = names-many c.requires
+slice_bounds-order_relations-end c = as-many-names c.requires
 
 pub overflow_cast-layout-2 : goal.overflow_cast-layout-2
 overflow_cast-layout-2 c = omega (arith, (numbers c.requires).2)
