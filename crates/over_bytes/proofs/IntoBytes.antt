@@ -3,8 +3,7 @@ use Prim.Native.Nat.{ℕ, ◌+◌, ◌*◌, ◌/◌, ◌≤◌, min}
 use native.Mathlib.Omega.{arith}
 use mathlib.Core.Path.{◌≡◌, refl, ap, sym, ◌∙◌}
 use mathlib.Core.List.{List, ◌++◌}
-use lib.ListN.{length, take, drop, replicate, length-replicate, get_or-replicate}
-use lib.Seq.{length-take-le}
+use lib.ListN.{length, drop, replicate, length-replicate, get_or-replicate}
 use Rattle.std.specs.Prelude.{Ok, Err}
 use Rattle.definitions.specs.Answers.{Answer}
 use Rattle.definitions.specs.Operations.{resolve_answer, resolve_buffer}
@@ -22,11 +21,10 @@ unfolding out_after
 after_front (Ok g) x y out e = ap (λ (l : List ℕ). bytes_of l ++ drop (4 * g.value) out) e
 after_front (Err r) x y out e = refl
 
-module _ {bytes words : List ℕ} {n : ℕ} (l : Loaded bytes n words) {made : List ℕ} {most : ℕ} (r : RoomIn (length words) made most) (out : List ℕ) {m : ℕ} (e : m ≡ min (length out / 4) most) where
-  pub room_into : RoomFor (take n words) made m
+module _ {bytes words : List ℕ} {room : ℕ} (l : Loaded bytes room words) {made : List ℕ} {most : ℕ} (r : RoomIn room made most) (out : List ℕ) {m : ℕ} (e : m ≡ min (length out / 4) most) where
+  pub room_into : RoomFor words made m
   room_into =
-      let s = length-take-le n words l.fits in
-      record { first = omega (arith, r.fits); blank = r.blank; noted = λ h. omega (arith, s, l.fits, r.noted, r.fits); fits = omega (arith, r.fits) }
+      record { first = omega (arith, r.fits); blank = r.blank; noted = λ h. omega (arith, l.fits, r.noted, r.fits); fits = omega (arith, r.fits) }
 
   abbrev own : List ℕ
   own = replicate m 0
@@ -34,8 +32,8 @@ module _ {bytes words : List ℕ} {n : ℕ} (l : Loaded bytes n words) {made : L
   own-long : length own ≡ m
   own-long = length-replicate {A = ℕ} m 0
 
-  module _ {a : Answer} {left : List ℕ} (t : Into (take n words) m a left) where
-    here : a ≡ resolve_answer (take n words) (length own)
+  module _ {a : Answer} {left : List ℕ} (t : Into words m a left) where
+    here : a ≡ resolve_answer words (length own)
     here = (t.each own own-long).0
 
     pub fits_into : length left ≡ length made → FitsOutput a (length left) (length out)
@@ -43,22 +41,22 @@ module _ {bytes words : List ℕ} {n : ℕ} (l : Loaded bytes n words) {made : L
       where
         go : (b : Answer) → a ≡ b → FitsOutput b (length left) (length out)
         go (Ok g) f =
-            let w = answer-within (take n words) (length own) (sym here ∙ f) in
+            let w = answer-within words (length own) (sym here ∙ f) in
             (omega (arith, w, own-long, e, r.fits, k), omega (arith, w, own-long, e))
         go (Err x) f = tt
 
     pub tried_into : {after : List ℕ} → after ≡ out_after a left out → Tried resolve_answer resolve_buffer bytes most out a after
     tried_into h =
         let ws = loaded_of bytes in
-        let at : a ≡ resolve_answer ws (length own) = here ∙ ap (λ (x : List ℕ). resolve_answer x (length own)) l.front in
+        let at : a ≡ resolve_answer ws (length own) = here ∙ ap (λ (x : List ℕ). resolve_answer x (length own)) l.are in
         let m₂ : length own ≡ min (length out / 4) most = own-long ∙ e in
-        let room : length own ≤ length (words_of out) = omega (arith, words-length out, m₂) in
+        let wide : length own ≤ length (words_of out) = omega (arith, words-length out, m₂) in
         record {
           answers = at ∙ ap (resolve_answer ws) m₂;
           leaves = h
-              ∙ after_front a left (resolve_buffer (take n words) own) out (t.each own own-long).1
-              ∙ (λ i. out_after (at i) (resolve_buffer (l.front i) own) out)
-              ∙ (writes Resolve).own ws own (words_of out) out room
+              ∙ after_front a left (resolve_buffer words own) out (t.each own own-long).1
+              ∙ (λ i. out_after (at i) (resolve_buffer (l.are i) own) out)
+              ∙ (writes Resolve).own ws own (words_of out) out wide
               ∙ ap (λ (x : Answer). out_after x (resolve_buffer ws (words_of out)) out) (sym at);
         }
 

@@ -53,9 +53,8 @@ fn ask_in<const WORDS: usize>(q: Question, pack: &[u8]) -> u64
     ensures { result ≡ encode (over_bytes (answer_to q) pack.now) }
 {
     let mut words = [0u32; WORDS];
-    let words = &mut words[..];
-    let n = load(pack, words);
-    encode(answer_to(q, &words[..n]))
+    let words = load(pack, &mut words);
+    encode(answer_to(q, words))
 }
 
 pub fn ask(q: Question, pack: &[u8]) -> u64
@@ -77,12 +76,11 @@ fn write_in<F: Fn(&[u32], &mut [u32]) -> Answer, const WORDS: usize, const ROOM:
     ensures { (w : Writing) → Runs (F.post run.now) w → Tried (answer_of w) (buffer_of w) pack.now ROOM out.old result out.new }
 {
     let mut words = [0u32; WORDS];
-    let words = &mut words[..];
+    let words = load(pack, &mut words);
     let mut written = [0u32; ROOM];
     let written = &mut written[..];
-    let n = load(pack, words);
     let m = room(out.len(), written.len());
-    let a = run(&words[..n], &mut written[..m]);
+    let a = run(words, &mut written[..m]);
     put(a, written, out);
     a
 }
@@ -113,12 +111,11 @@ fn resolve_in<const WORDS: usize, const ROOM: usize, const MADE: usize>(
     ensures { Tried resolve_answer resolve_buffer pack.now ROOM out.old result out.new }
 {
     let mut words = [0u32; WORDS];
-    let words = &mut words[..];
+    let words = load(pack, &mut words);
     let mut made = [0u32; MADE];
     let made = &mut made[..];
-    let n = load(pack, words);
     let m = room(out.len(), ROOM);
-    let a = resolve_into(&words[..n], made, m);
+    let a = resolve_into(words, made, m);
     put(a, made, out);
     a
 }

@@ -32,13 +32,13 @@ pub few : (count : ℕ) {t : Bool} → t ≡ are_words count → not t ≡ false
 few count e f = leb-true count 32768 (and_right (eqb (count % 4) 0) (leb count 32768) (yes-words count e f))
 
 -- what is loaded of bytes that are no words, and of bytes that are
-pub none_loaded : (bytes words : List ℕ) {t : Bool} → t ≡ are_words (length bytes) → not t ≡ true → Loaded bytes 0 words
+pub none_loaded : (bytes : List ℕ) (room : ℕ) {t : Bool} → t ≡ are_words (length bytes) → not t ≡ true → Loaded bytes room []
 unfolding loaded_of
-none_loaded bytes words e f = record { front = rw (no_words (length bytes) e f); fits = omega arith }
+none_loaded bytes room e f = record { are = rw (no_words (length bytes) e f); fits = omega arith }
 
-pub all_loaded : (bytes words : List ℕ) {t : Bool} {n : ℕ} → t ≡ are_words (length bytes) → not t ≡ false → n ≡ length bytes / 4 → Holds (length bytes) (length words) → take n words ≡ words_of bytes → Loaded bytes n words
+pub all_loaded : (bytes words : List ℕ) {room : ℕ} {t : Bool} → t ≡ are_words (length bytes) → not t ≡ false → length words ≡ length bytes / 4 → Holds (length bytes) room → words ≡ words_of bytes → Loaded bytes room words
 unfolding loaded_of
-all_loaded bytes words e f l r h = record { front = rw (yes-words (length bytes) e f) h; fits = omega (arith, few (length bytes) e f) }
+all_loaded bytes words e f l r h = record { are = rw (yes-words (length bytes) e f) h; fits = omega (arith, few (length bytes) e f) }
 
 -- an operation that refuses no words as the host does bytes that are none
 overs : (answer : List ℕ → Answer) → answer [] ≡ not_words → (bytes : List ℕ) → answer (loaded_of bytes) ≡ over_bytes answer bytes
@@ -49,9 +49,9 @@ overs answer none bytes = go (are_words (length bytes))
     go true = refl
     go false = none
 
-pub answered : (answer : List ℕ → Answer) → answer [] ≡ not_words → {bytes words : List ℕ} {n : ℕ} {a : Answer} {r : ℕ}
-    → Loaded bytes n words → a ≡ answer (take n words) → r ≡ encode a → r ≡ encode (over_bytes answer bytes)
-answered answer none {bytes} l e h = h ∙ ap encode (e ∙ ap answer l.front ∙ overs answer none bytes)
+pub answered : (answer : List ℕ → Answer) → answer [] ≡ not_words → {bytes words : List ℕ} {room : ℕ} {a : Answer} {r : ℕ}
+    → Loaded bytes room words → a ≡ answer words → r ≡ encode a → r ≡ encode (over_bytes answer bytes)
+answered answer none {bytes} l e h = h ∙ ap encode (e ∙ ap answer l.are ∙ overs answer none bytes)
 
 -- an answer that says no more words than a part has, for which an output has room: they fit it, and what stands past the part is not given
 fits : (a : Answer) (part rest : List ℕ) (b : ℕ) → Within a (length part) → length part ≤ b / 4 → FitsOutput a (length (part ++ rest)) b
@@ -82,20 +82,20 @@ module _ {answer : List ℕ → ℕ → Answer} {buffer : List ℕ → List ℕ 
       fits a part (drop m blank) b (rw (e, ← s) (W.fits ws (length part))) (omega arith)
 
   -- and the output is given as many words as it answers
-  pub tried : (out blank : List ℕ) {bytes words part after : List ℕ} {n m : ℕ} {a : Answer}
-      → Loaded bytes n words → m ≡ min (length out / 4) (length blank)
-      → a ≡ answer (take n words) (length (take m blank)) → part ≡ buffer (take n words) (take m blank) → length part ≡ length (take m blank)
+  pub tried : (out blank : List ℕ) {bytes words part after : List ℕ} {room m : ℕ} {a : Answer}
+      → Loaded bytes room words → m ≡ min (length out / 4) (length blank)
+      → a ≡ answer words (length (take m blank)) → part ≡ buffer words (take m blank) → length part ≡ length (take m blank)
       → after ≡ out_after a (part ++ drop m blank) out
       → Tried answer buffer bytes (length blank) out a after
-  tried out blank {bytes} {words} {part} {after} {n} {m} {a} l e f g s h =
+  tried out blank {bytes} {words} {part} {after} {m = m} {a} l e f g s h =
       let ws = loaded_of bytes in
       let t : length (take m blank) ≡ min (length out / 4) (length blank) = length-take-le m blank (omega arith) ∙ e in
-      let here : a ≡ answer ws (length (take m blank)) = rw (← l.front) f in
-      let its_part : part ≡ buffer ws (take m blank) = rw (← l.front) g in
-      let room : length (take m blank) ≤ length (words_of out) = omega (arith, words-length out) in
+      let here : a ≡ answer ws (length (take m blank)) = rw (← l.are) f in
+      let its_part : part ≡ buffer ws (take m blank) = rw (← l.are) g in
+      let wide : length (take m blank) ≤ length (words_of out) = omega (arith, words-length out) in
       record {
         answers = here ∙ ap (answer ws) t;
-        leaves = h ∙ of_part a part (drop m blank) out (rw (here, s) (W.fits ws (length (take m blank)))) ∙ rw (here, its_part) (W.own ws (take m blank) (words_of out) out room);
+        leaves = h ∙ of_part a part (drop m blank) out (rw (here, s) (W.fits ws (length (take m blank)))) ∙ rw (here, its_part) (W.own ws (take m blank) (words_of out) out wide);
       }
 
   outs : (bytes out : List ℕ) → out_after (answer (loaded_of bytes) (length out / 4)) (buffer (loaded_of bytes) (words_of out)) out ≡ out_bytes answer buffer bytes out

@@ -20,19 +20,19 @@ pub fn room(count: usize, most: usize) -> usize
     (count / 4).min(most)
 }
 
-// The words of the bytes, at the front of the slice, and how many there are. Bytes that are no words give none, which every operation refuses by 1.
-pub fn load(bytes: &[u8], words: &mut [u32]) -> usize
+// The words of the bytes, in a slice that is lent for them. Bytes that are no words give none, which every operation refuses by 1.
+pub fn load<'a>(bytes: &[u8], words: &'a mut [u32]) -> &'a [u32]
     requires { Holds (length bytes.now) (length words.old) }
-    ensures { Loaded bytes.now result words.new }
+    ensures { Loaded bytes.now (length words.old) result.now }
 {
     if !are_words(bytes.len()) {
-        return 0;
+        return &[];
     }
     let (fours, _) = bytes.as_chunks::<4>();
     for (i, four) in fours.iter().enumerate() {
         words[i] = u32::from_le_bytes(*four);
     }
-    fours.len()
+    &words[..fours.len()]
 }
 
 // The bytes of the words; the bytes past them stay.

@@ -1,22 +1,22 @@
 -- `over_bytes::operations::resolve_in` meets its contract.
 use Prim.Native.Nat.{ℕ}
 use native.Mathlib.Omega.{arith}
-use lib.ListN.{length, length-replicate}
+use lib.ListN.{length, replicate, length-replicate}
 use borrow.Author.Rules.{rules}
 use Rattle.over_bytes.proofs.IntoBytes.{made_room, room_into, fits_into, tried_into}
 use Rattle.over_bytes.proofs.operations.resolve_in.Goals as goal
 
 pub resolve_into-a-requires : goal.resolve_into-a-requires
 resolve_into-a-requires g c =
-    let made = made_room (length c.load-n.new.words) g.row.ROOM c.requires.3 (omega (arith, c.load-n.auto.words, length-replicate {A = ℕ} g.row.WORDS 0, c.requires.1)) in
-    room_into c.load-n.ensures made c.args.out.now c.room-m.ensures
+    let made = made_room (length (replicate {A = ℕ} g.row.WORDS 0)) g.row.ROOM c.requires.3 (omega (arith, length-replicate {A = ℕ} g.row.WORDS 0, c.requires.1)) in
+    room_into c.load-words.ensures made c.args.out.now c.room-m.ensures
 
 pub put-requires : goal.put-requires
 put-requires g c =
-    let made = made_room (length c.load-n.new.words) g.row.ROOM c.requires.3 (omega (arith, c.load-n.auto.words, length-replicate {A = ℕ} g.row.WORDS 0, c.requires.1)) in
-    fits_into c.load-n.ensures made c.args.out.now c.room-m.ensures c.resolve_into-a.ensures (search rules)
+    let made = made_room (length (replicate {A = ℕ} g.row.WORDS 0)) g.row.ROOM c.requires.3 (omega (arith, length-replicate {A = ℕ} g.row.WORDS 0, c.requires.1)) in
+    fits_into c.load-words.ensures made c.args.out.now c.room-m.ensures c.resolve_into-a.ensures (search rules)
 
 pub returns : goal.returns
 returns g c =
-    let made = made_room (length c.load-n.new.words) g.row.ROOM c.requires.3 (omega (arith, c.load-n.auto.words, length-replicate {A = ℕ} g.row.WORDS 0, c.requires.1)) in
-    tried_into c.load-n.ensures made c.args.out.now c.room-m.ensures c.resolve_into-a.ensures c.put.ensures
+    let made = made_room (length (replicate {A = ℕ} g.row.WORDS 0)) g.row.ROOM c.requires.3 (omega (arith, length-replicate {A = ℕ} g.row.WORDS 0, c.requires.1)) in
+    tried_into c.load-words.ensures made c.args.out.now c.room-m.ensures c.resolve_into-a.ensures c.put.ensures
