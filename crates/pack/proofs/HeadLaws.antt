@@ -29,11 +29,6 @@ of_its_sort k h s =
     let e : pick (ltb (entry_of k).sort 2) (eqb (k / 32) (2 + (entry_of k).sort)) true ≡ true = in_range (λ (k : ℕ). pick (ltb (entry_of k).sort 2) (eqb (k / 32) (2 + (entry_of k).sort)) true) true 0 256 refl k (omega arith) h in
     eqb-true (k / 32) (2 + (entry_of k).sort) (rw (lt-ltb (entry_of k).sort 2 s) at e)
 
--- and below 128
-pub high_none : (k : ℕ) → 128 ≤ k → k < 256 → (entry_of k).sort ≡ 2
-unfolding entry_of table
-high_none k l h = in_range (λ (k : ℕ). (entry_of k).sort) 2 128 128 refl k l h
-
 -- a sort is scalar, judgment or none
 pub sorted : (k : ℕ) → k < 256 → (entry_of k).sort ≤ 2
 unfolding entry_of table
