@@ -4,18 +4,17 @@ use native.Mathlib.Omega.{arith}
 use mathlib.Core.Path.{◌≡◌, refl, ap, sym, ◌∙◌}
 use mathlib.Core.List.{List, [], ◌∷◌, ◌++◌, map, map-append}
 use mathlib.Core.Bool.{Bool, true, false, ◌||◌}
-use lib.ListN.{length, drop, get_or, set, length-append, length-map, length-set}
+use lib.ListN.{length, get_or, set, length-append, length-map, length-set}
 use lib.Seq.{sets, get_or-set_same, set-set, set_comm}
 use lib.Dec.{eqb}
 use Rattle.definitions.specs.declared.table.Follows.{Follows}
 use Rattle.definitions.specs.Table.{pick, entry_of, fields_of, children_of}
 use Rattle.definitions.specs.Form.{word, only, FineEach, Fine}
-use Rattle.pack.proofs.FormLaws.{lawful}
 use Rattle.pack.proofs.EachFollows.{where_true}
 use Rattle.definitions.specs.Tree.{Tree, Forest, node, more, of_forest, heads, last_field, fields, follow, tree, size, sizes}
 use Rattle.definitions.specs.Tree as trees
 use Rattle.reading.specs.Notes.{look_by, look_of, noted, Note, within, context_of, note_code, notes_of, notes_in}
-use Rattle.reading.specs.Noting.{State, losing, push, next_note, in_next, past, child_in, note_tree, note_forest, Came, push_all, NotesLeft}
+use Rattle.reading.specs.Noting.{losing, push, next_note, in_next, past, child_in, note_tree, note_forest, push_all}
 
 -- ---- numbers noted one after the other
 
@@ -240,33 +239,3 @@ mutual
   shapes trees.none n d (s ∷ sorts) h = absurd h
   shapes (more t f) n d [] h = absurd h
   shapes (more t f) n d (s ∷ sorts) h = (shaped t n d s h.0, shapes f n d sorts h.1)
-
--- ---- what a reader of a tree leaves
-
-mutual
-  unfolding note_tree size Shaped past
-
-  place-tree : (t : Tree) → Shaped t → (c at : ℕ) (d : List ℕ) → (note_tree c t (at, d)).0 ≡ at + size t
-  place-tree (node k v fs f) s c at d =
-      let w = (entry_of k).follows in
-      place_forest f s.1 (child_in w (look_by w).first c d) (child_in w (look_by w).rest c d) (at + 1 + length (fields_of w)) (pick (noted k) (push (at + 1 + c) d) d) ∙ omega (arith, s.0)
-
-  place_forest : (f : Forest) → Shapes f → (a b at : ℕ) (d : List ℕ) → (note_forest a b f (at, d)).0 ≡ at + sizes f
-  place_forest trees.none s a b at d = omega arith
-  place_forest (more t f) s a b at d =
-      let q = note_tree a t (at, d) in
-      place_forest f s.1 b b q.0 q.1 ∙ omega (arith, place-tree t s.0 a at d)
-
-pub came_left : (n left sort : ℕ) (ws : List ℕ) (at : ℕ) (d : List ℕ) (r : ℕ) (e : List ℕ) (inside : ℕ) (lost : Bool) → r ≤ 8192 → 0 < length d → get_or d 0 0 ≤ at
-    → (c : Came (tree n left sort) (λ t. note_tree (context_of inside lost) t) ws at d r e) → NotesLeft inside lost c.value at d r e
-came_left n left sort ws at d r e inside lost most l few c =
-    let t = c.value in
-    let s = shaped t n left sort ((lawful (tree n left sort)).back at (drop at ws) t r (drop r ws) c.found).fine in
-    let mine = notes_of (get_or d 0 0 + 1) inside lost at t in
-    let ends : r ≡ at + size t = sym (ap (λ (x : State). x.0) c.noted) ∙ place-tree t s (context_of inside lost) at d in
-    let w = few-tree t (get_or d 0 0 + 1) inside lost at in
-    let room : get_or d 0 0 + length mine ≤ 8192 = omega (arith, ends, w, most, few) in
-    let is : e ≡ push_all (map note_code mine) d = sym (ap (λ (x : State). x.1) c.noted) ∙ ap (λ (x : State). x.1) (noted-tree t s (get_or d 0 0 + 1) inside lost at d l refl room) in
-    let m = length-map mine note_code in
-    let g : get_or e 0 0 ≡ get_or d 0 0 + length mine = ap (λ (x : List ℕ). get_or x 0 0) is ∙ all-count (map note_code mine) d l (omega (arith, room, m)) ∙ omega (arith, m) in
-    record { ends = ends; notes = is; counts = g; few = omega (arith, g, ends, w, few); long = ap (λ (x : List ℕ). length x) is ∙ all-long (map note_code mine) d }
