@@ -45,9 +45,6 @@ module _ (table : List ℕ) (v : ℕ) where
       pub low : n < length marks
       pub long : length marks ≡ length marks₀
 
-    pub path_begin : start < length marks₀ → MarkingPath start count marks₀
-    path_begin h = record { todo = refl; low = h; long = refl }
-
     module _ {n left : ℕ} {marks : List ℕ} (s : MarkingPath n left marks) where
       pub path-next : Leading (length marks₀) table → {left' : ℕ} → left ≡ suc left' → {x m : ℕ} → x ≡ get_or table n 0 → m ≡ x - 65536 → MarkingPath m left' (set marks n v)
       unfolding marked_path Leading

@@ -10,10 +10,10 @@ use lib.ListN.{length, length-append}
 use Rattle.definitions.specs.Table.{pick}
 use Rattle.definitions.specs.Form.{among}
 use Rattle.definitions.specs.Dealt.{InAnyOrder}
-use Rattle.definitions.specs.Chain.{Link, end, next, ChainAnswer, nothing, own, AllWalked, walk_all, Distinct, OnlyDeclaredLead, outside}
+use Rattle.definitions.specs.Chain.{Link, end, ChainAnswer, nothing, own, AllWalked, walk_all, Distinct, OnlyDeclaredLead, outside}
 use Rattle.chains.proofs.Names.{shuffled_among, apart, or_cases, or_left, both_ways, false_of, among-append, distinct_append, same_number}
 use Rattle.chains.proofs.Outside.{Outside, outside-is}
-use Rattle.chains.proofs.Walks.{answer-end, answer_back, answer_alike, Entry, Kept, Read, reads, own-answer}
+use Rattle.chains.proofs.Walks.{answer-end, answer_alike, Entry, Kept, Read, reads, own-answer}
 
 -- each start is settled with its own walk's answer, and so is whatever else is settled
 pub record SettledOwn {R : Type 0} (stuck : R) (along : R → R) (step : ℕ → Link R) (declared starts : List ℕ) : Type 0 where
@@ -27,9 +27,6 @@ module _ {R : Type 0} (stuck : R) (along : R → R) (back : along stuck ≡ stuc
   -- a name's own walk answers what its step says: the end, or what comes back from the next name
   pub own-end : (n : ℕ) (r : R) → step n ≡ end r → own_of n ≡ r
   own-end n r e = answer_alike along step (own-answer stuck along step back declared leads n) (answer-end along step stuck e)
-
-  pub own-next : (n m : ℕ) → step n ≡ next m → own_of n ≡ along (own_of m)
-  own-next n m e = answer_alike along step (own-answer stuck along step back declared leads n) (answer_back along step stuck back e (own-answer stuck along step back declared leads m))
 
   -- the walk, which computes with fuel, answers what the chain says without, and nothing else
   pub own-means : (n : ℕ) (r : R) → own_of n ≡ r → ChainAnswer along step stuck n r

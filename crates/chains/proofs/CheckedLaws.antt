@@ -61,9 +61,6 @@ module _ {ws : List ℕ} (c : IsPack ws) where
   pub short-checked : length ws ≤ 8192
   short-checked = let l : length (words the_pack) ≡ length ws = ap length its-words in omega (arith, words-length the_pack, is-fine.most)
 
-  pub below-most : {n : ℕ} → Named ws n → n ≤ 4096
-  below-most k = omega (arith, k the_pack c.reads, (parts the_pack is-fine).most)
-
 -- ---- the kinds
 
 pub names-below : (n : ℕ) → 1 ≤ n → (used : List ℕ) (rs : List Relation) → RelationsFine n used rs → (j : ℕ) → get_or (declared rs) j 0 < n

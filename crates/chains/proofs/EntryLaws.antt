@@ -400,9 +400,6 @@ room_for {ws} k e h m =
       reaches = record { most = omega (arith, length-replicate {A = ℕ} k 0); long = omega (arith, length-replicate {A = ℕ} k 0, length-replicate {A = ℕ} (512 + k) 0) };
     }
 
-pub room-all : (ws : List ℕ) → DirectoryRoom ws (replicate 4608 0) (replicate 4096 0)
-room-all ws = room_for {n = names_said ws} 4096 refl (said-most ws) (omega arith)
-
 pub room_sized : {ws : List ℕ} {words names : ℕ} → Sized ws words names → DirectoryRoom ws (replicate words 0) (replicate names 0)
 room_sized {ws} {names = k} s = rw s.both (room_for {n = names_said ws} k refl s.enough s.most)
 

@@ -1,5 +1,5 @@
 -- The laws of the chain walk, cited for the kinds of relations.
-use Prim.Native.Nat.{ℕ, ◌+◌, ◌≤◌}
+use Prim.Native.Nat.{ℕ, ◌+◌}
 use native.Mathlib.Omega.{arith}
 use mathlib.Core.Path.{◌≡◌, refl, sym, ap, ◌∙◌, subst}
 use mathlib.Core.List.{List, [], ◌∷◌, map}
@@ -17,7 +17,6 @@ use Rattle.definitions.specs.Chain.{next, Distinct, OnlyDeclaredLead, same}
 use Rattle.definitions.specs.Kinds.{find, read_at, kind_step, declared, KindsFound, all_kinds, own_answer, undeclared_sources, list_in, names_of, kinds_of}
 use Rattle.chains.proofs.Names.{apart, or_left, or_right, shuffled_map, shuffled_distinct}
 use Rattle.definitions.specs.Places.{place_of, settled_of, all_kinds_words}
-use Rattle.chains.proofs.Outside.{outside-is}
 use Rattle.chains.proofs.ChainLaws.{settled-own, steps-sum, walks_shuffled}
 
 -- only relations lead on
@@ -65,9 +64,6 @@ pub kinds-steps : (rs : List Relation) → Distinct (declared rs) → (all_kinds
 kinds-steps rs d =
     steps-sum none same refl (kind_step rs) (declared rs) (kind-leads rs) d
     ∙ ap (λ k. k + length (undeclared_sources rs)) (length-map rs (λ (r : Relation). r.name))
-
-pub sources_short : (rs : List Relation) → length (undeclared_sources rs) ≤ length rs
-sources_short rs = let e : length (declared rs) ≡ length rs = length-map rs (λ (r : Relation). r.name) in omega (arith, (outside-is (kind_step rs) (declared rs) (declared rs)).short)
 
 -- relations in any other order
 pub record KindsAlike (rs rs' : List Relation) : Type 0 where

@@ -16,7 +16,7 @@ use Rattle.definitions.specs.Tree.{root}
 use Rattle.definitions.specs.Chain.{Link, end, next, nothing, walk, own, same}
 use Rattle.definitions.specs.Kinds.{Which, list9, list21, count_kind, SettledBy, KindsFound, find, read_at, kind_step, declared, own_answer, list_of, names_of, kinds_of}
 use Rattle.definitions.specs.Places.{relation_words, start_of, first_relation, hops, count_place, place_of, names_at, OwnersList, all_kinds_words, SettledAt, AllSettledAt}
-use Rattle.chains.proofs.KindLaws.{in_row, words-own}
+use Rattle.chains.proofs.KindLaws.{words-own}
 use Rattle.chains.proofs.RelationForm.{relations_words, RelationsFine}
 use Rattle.chains.proofs.PackParts.{parts, split, opening, opening_length, relations_part, find-name, each_way_listed}
 
@@ -56,10 +56,6 @@ Short (k ∷ ks) = (k < 16777216) × Short ks
 values_back : (ks : List ℕ) (more : List ℕ) → Short ks → map value_of (take (length ks) (name_words ks ++ more)) ≡ ks
 values_back [] more h = refl
 values_back (k ∷ ks) more h = let v : value_of (word_of 10 k) ≡ k = omega (arith, h.0) in rw (v, values_back ks more h.1) refl
-
-drop-over : (pre ws : List ℕ) → drop (length pre) (pre ++ ws) ≡ ws
-drop-over [] ws = refl
-drop-over (x ∷ pre) ws = drop-over pre ws
 
 get_over : (pre : List ℕ) (w : ℕ) (ws : List ℕ) → get_or (pre ++ (w ∷ ws)) (length pre) 0 ≡ w
 get_over [] w ws = refl
@@ -241,10 +237,6 @@ owners-list rs s r {ws} {start} {n} found i j h full =
 
 -- ---- the theorem
 
-map-map : {A B C : Type 0} (f : B → C) (g : A → B) (l : List A) → map f (map g l) ≡ map (λ a. f (g a)) l
-map-map f g [] = refl
-map-map f g (a ∷ l) = ap (λ (m : List _). f (g a) ∷ m) (map-map f g l)
-
 module _ (p : Pack) (w : WellFormed p) where
   abbrev rs : List Relation
   rs = p.relations
@@ -324,10 +316,3 @@ module _ (p : Pack) (w : WellFormed p) where
       go : (a : KindsFound) → Holds a → names_at (words p) (place_of p a) ≡ names_of rs a
       go none h = none-there
       go (some s) h = h.names ∙ rw h.found refl
-
-  -- in record order: at each place that All kinds writes stand the names of the relation's kinds
-  pub names_in_order : map (names_at (words p)) (all_kinds_words p) ≡ map (λ (r : Relation). kinds_of rs r.name) rs
-  names_in_order =
-      ap (map (names_at (words p))) (words-own p)
-      ∙ map-map (names_at (words p)) (λ (r : Relation). place_of p (own_answer rs r.name)) rs
-      ∙ in_row (λ n. names_at (words p) (place_of p (own_answer rs n))) (kinds_of rs) rs (λ n i. place-holds n)

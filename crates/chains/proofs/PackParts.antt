@@ -89,9 +89,6 @@ parts p w =
       rule-count = f.1.1.1.0.0.0;
     }
 
-abbrev pub zeros : List ℕ
-zeros = replicate 4096 0
-
 pub zero_at : (m v : ℕ) → ◌≡◌ {A = ℕ} (get_or (replicate m 0) v 0) 0
 zero_at zero v = refl
 zero_at (suc m) zero = refl
