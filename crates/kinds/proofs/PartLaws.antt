@@ -1,5 +1,5 @@
 -- The parts of the operations, of words that Check accepts.
-use Prim.Native.Nat.{ℕ, zero, suc, ◌+◌, ◌-◌, ◌<◌, ◌≤◌}
+use Prim.Native.Nat.{ℕ, zero, suc, ◌+◌, ◌-◌, ◌<◌}
 use native.Mathlib.Omega.{arith}
 use mathlib.Core.Path.{◌≡◌, refl, ap, sym, ◌∙◌}
 use mathlib.Core.List.{List, [], ◌∷◌, map}
@@ -15,7 +15,7 @@ use Rattle.chains.specs.Settle.{Walkable, WalkedHere, Placeable}
 use Rattle.chains.specs.PackDirectory.{IsDirectory, KindsMarked, ClearTable}
 use Rattle.kinds.specs.KindsPromises.{place_at, OwnPlace, KindsLeft}
 use Rattle.chains.proofs.KindLaws.{in_row, words-own}
-use Rattle.chains.proofs.EntryLaws.{name-here, names-long}
+use Rattle.chains.proofs.EntryLaws.{name-here}
 use Rattle.chains.proofs.AllKindsLaws.{own-found}
 use Rattle.chains.proofs.CheckedLaws.{settleable, same-pack, its_index, its_fuel, few-relations}
 
@@ -67,6 +67,3 @@ module _ {ws marks : List ℕ} (dir : List ℕ) {steps : ℕ} (many : ℕ) (m : 
 module _ (marks dir : List ℕ) (many : ℕ) (asked : Placeable marks (names_in dir many)) (j : ℕ) (h : j < many) {name : ℕ} (e : name ≡ get_or dir j 0) where
   pub named-low : name < length marks
   named-low = omega (arith, asked.names-below j, name-here dir many j h)
-
-  pub named-settled : 2 ≤ get_or marks name 0
-  named-settled = rw (e ∙ sym (name-here dir many j h)) (asked.settled j (omega (arith, names-long dir many)))

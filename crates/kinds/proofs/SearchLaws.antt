@@ -173,9 +173,6 @@ module _ {source : ℕ} (s : Search) where
     named : source_name source ≡ source ∷ []
     named = rw (ne_eqb source 16777215 u) refl
 
-    pub source-asked : Reachable (source_name source) s → Reachable (source ∷ []) s
-    source-asked r = subst (λ (ns : List ℕ). Reachable ns s) named r
-
     pub a_source : {t : Search} → t ≡ reached source s → t ≡ reached_all (source_name source) s
     unfolding reached_all
     a_source e = e ∙ ap (λ (ns : List ℕ). reached_all ns s) (sym named)
