@@ -6,11 +6,12 @@ use Prim.Native.Nat.{ℕ, suc, ◌+◌, ◌-◌, ◌≤◌, ◌<◌}
 use native.Mathlib.Omega.{arith}
 use mathlib.Core.Path.{◌≡◌, refl, ap, sym, ◌∙◌}
 use mathlib.Core.List.{List, [], ◌∷◌}
-use mathlib.Core.Bool.{Bool, true, false, ◌&&◌}
+use mathlib.Core.Bool.{Bool, true, false}
 use lib.ListN.{length, drop, get_or, drop_of_length-le, replicate}
 use lib.Seq.{drop-cons, drop-drop, drop-append_seam}
 use lib.Dec.{leb}
 use borrow.Author.Tests.{ne_eqb, leb-true}
+use Rattle.std.proofs.lemmas.Bool.{and_parts}
 use Rattle.definitions.specs.declared.answer.Refusal.{Refusal}
 use Rattle.pack.specs.declared.cursor.Cursor.{Cursor}
 use Rattle.pack.specs.Readers.{Step}
@@ -229,7 +230,7 @@ module _ {X A : Type 0} (F : X → Form A) (ws : List ℕ) (at : ℕ) where
       go (got a at' ws') = rw (q a) refl
       go (refused r) = refl
 
-pred_of : (m : ℕ) → 0 < m → m ≡ suc (m - 1)
+pub pred_of : (m : ℕ) → 0 < m → m ≡ suc (m - 1)
 pred_of m h = omega arith
 
 -- as many of one entry
@@ -281,13 +282,9 @@ pub at_most : (n kind m : ℕ) → (entry_of kind).values ≡ AtMost m → (v : 
 unfolding allowed_here
 at_most n kind m r v e = leb-true v m (rw r at e)
 
-both : (a b : Bool) → (a && b) ≡ true → (a ≡ true) × (b ≡ true)
-both true b e = (refl, e)
-both false b e = (e, cc)
-
 pub from_one : (n kind m : ℕ) → (entry_of kind).values ≡ FromOne m → (v : ℕ) → allowed_here n kind v ≡ true → (1 ≤ v) × (v ≤ m)
 unfolding allowed_here
-from_one n kind m r v e = let b = both (leb 1 v) (leb v m) (rw r at e) in (leb-true 1 v b.0, leb-true v m b.1)
+from_one n kind m r v e = let b = and_parts (leb 1 v) (leb v m) (rw r at e) in (leb-true 1 v b.0, leb-true v m b.1)
 
 -- a count, one, and more
 module _ {A B : Type 0} (n kind most : ℕ) (rule : (entry_of kind).values ≡ FromOne most) (F : Form A) (G : Form B) (ws : List ℕ) (at : ℕ) {y : Step} (e : y ≡ field_step n kind ws at) where
