@@ -3,10 +3,12 @@ use Prim.Native.Nat.{ℕ, zero, suc, ◌+◌, ◌%◌, ◌≤◌, ◌<◌}
 use native.Mathlib.Omega.{arith}
 use mathlib.Core.Path.{◌≡◌, refl, ap, sym, ◌∙◌}
 use mathlib.Core.List.{List, [], ◌∷◌, ◌++◌, map, map-append}
-use mathlib.Core.Bool.{Bool, true, false, ◌||◌}
+use mathlib.Core.Bool.{Bool, true, false, ◌||◌, or-true}
 use lib.ListN.{length, get_or, set, length-append, length-map, length-set}
 use lib.Seq.{sets, get_or-set_same, set-set, set_comm}
 use lib.Dec.{eqb}
+use Rattle.std.proofs.lemmas.Bool.{true≢false}
+use Rattle.std.proofs.lemmas.List.{set-get_or}
 use Rattle.definitions.specs.declared.table.Follows.{Follows}
 use Rattle.definitions.specs.Table.{pick, entry_of, fields_of, children_of}
 use Rattle.definitions.specs.Form.{word, only, FineEach, Fine}
@@ -45,10 +47,6 @@ all_append [] ys d = refl
 all_append (x ∷ xs) ys d = all_append xs ys (push x d)
 
 -- in one run of stores, and the count
-set_own : (d : List ℕ) → set d 0 (get_or d 0 0) ≡ d
-set_own [] = refl
-set_own (x ∷ d) = refl
-
 sets_first : (xs d : List ℕ) (j a b : ℕ) → 0 < j → set (sets (set d 0 a) j xs) 0 b ≡ set (sets d j xs) 0 b
 sets_first [] d j a b h = set-set d 0 a b
 sets_first (x ∷ xs) d j a b h =
@@ -56,7 +54,7 @@ sets_first (x ∷ xs) d j a b h =
 
 pub all_sets : (xs d : List ℕ) → 0 < length d → get_or d 0 0 + length xs ≤ 8192 → push_all xs d ≡ set (sets d (get_or d 0 0 + 1) xs) 0 (get_or d 0 0 + length xs)
 unfolding push
-all_sets [] d l h = let z : get_or d 0 0 + 0 ≡ get_or d 0 0 = omega arith in sym (rw z (set_own d))
+all_sets [] d l h = let z : get_or d 0 0 + 0 ≡ get_or d 0 0 = omega arith in sym (rw z (set-get_or d 0 0))
 all_sets (x ∷ xs) d l h =
     let g = push-count x d l (omega arith) in
     let i : next_note d ≡ get_or d 0 0 + 1 = omega arith in
@@ -76,13 +74,6 @@ loses inside true true = omega arith
 loses inside true false = refl
 loses inside false true = omega arith
 loses inside false false = refl
-
-or_true : (b : Bool) → b || true ≡ true
-or_true true = refl
-or_true false = refl
-
-no : {A : Type 0} → true ≡ false → A
-no e = let z : ◌≡◌ {A = ℕ} 0 1 = cc in absurd (omega arith)
 
 -- a node inside which its children stand is noted, and they lose the membership
 pub record Opens (w : Follows) : Type 0 where
@@ -105,7 +96,7 @@ unfolding child_in
 child-in w by b i inside lost d n = go (look_by w).opens refl
   where
     go : (o : Bool) → (look_by w).opens ≡ o → pick (look_by w).opens (in_next d + context_of inside lost % 8192) (pick by (losing (context_of inside lost)) (context_of inside lost)) ≡ context_of (pick (look_by w).opens i inside) (lost || by)
-    go true e = rw (e, b e, or_true lost, n e, no_base inside lost) (omega arith)
+    go true e = rw (e, b e, or-true lost, n e, no_base inside lost) (omega arith)
     go false e = rw e (loses inside lost by)
 
 -- ---- trees
@@ -135,7 +126,7 @@ shut : (k : ℕ) → noted k ≡ false → (look_by (entry_of k).follows).opens 
 shut k q = go (look_by (entry_of k).follows).opens refl
   where
     go : (o : Bool) → (look_by (entry_of k).follows).opens ≡ o → o ≡ false
-    go true e = no (sym (or_noted k (opens (entry_of k).follows e).noted) ∙ q)
+    go true e = absurd (true≢false (sym (or_noted k (opens (entry_of k).follows e).noted) ∙ q))
     go false e = refl
 
 noted-node : (b : Bool) (k v : ℕ) → noted k ≡ b → (fs : List (ℕ × ℕ)) (f : Forest) → length fs ≡ length (fields_of (entry_of k).follows) → Noteds f → (i inside : ℕ) (lost : Bool) (at : ℕ) (d : List ℕ)
@@ -163,8 +154,8 @@ noted-node false k v q fs f s deep i inside lost at d l e room =
     let p : at + 1 + length (fields_of w) ≡ at + 1 + length fs = omega (arith, s) in
     let z : at + 1 + length fs + sizes f ≡ at + (1 + length fs + sizes f) = omega arith in
     let o = shut k q in
-    let a : child_in w (look_by w).first (context_of inside lost) d ≡ context_of inside first = child-in w (look_by w).first (λ h. no (sym h ∙ o)) i inside lost d (λ h. no (sym h ∙ o)) ∙ rw o refl in
-    let b : child_in w (look_by w).rest (context_of inside lost) d ≡ context_of inside rest = child-in w (look_by w).rest (λ h. no (sym h ∙ o)) i inside lost d (λ h. no (sym h ∙ o)) ∙ rw o refl in
+    let a : child_in w (look_by w).first (context_of inside lost) d ≡ context_of inside first = child-in w (look_by w).first (λ h. absurd (true≢false (sym h ∙ o))) i inside lost d (λ h. absurd (true≢false (sym h ∙ o))) ∙ rw o refl in
+    let b : child_in w (look_by w).rest (context_of inside lost) d ≡ context_of inside rest = child-in w (look_by w).rest (λ h. absurd (true≢false (sym h ∙ o))) i inside lost d (λ h. absurd (true≢false (sym h ∙ o))) ∙ rw o refl in
     rw (q, p, a, b) (deep i inside first rest (at + 1 + length fs) d l e (rw q at room) ∙ (λ y. (z y, push_all (codes (notes_in i inside first rest (at + 1 + length fs) f)) d)))
 
 mutual
