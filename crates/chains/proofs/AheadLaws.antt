@@ -2,19 +2,18 @@
 use Prim.Native.Nat.{ℕ, zero, suc, ◌+◌, ◌-◌, ◌<◌, ◌≤◌}
 use native.Mathlib.Omega.{arith}
 use mathlib.Core.Path.{◌≡◌, refl, ap, sym, ◌∙◌, subst}
-use mathlib.Core.List.{List, [], ◌∷◌}
+use mathlib.Core.Logic.{inl, inr}
+use mathlib.Core.List.{List}
 use lib.ListN.{length, get_or, set, length-set}
+use Rattle.std.proofs.lemmas.Bool.{cases_eq}
+use Rattle.std.proofs.lemmas.List.{set_comm}
 use Rattle.chains.specs.Settle.{Leading, ReadOne, next_in, marked_path, Walkable, WentAhead, WalkedHere}
 use Rattle.chains.proofs.SettleLaws.{out_of_fuel, at_settled, at_ring, at_end, at_next, walkable_next}
 
 -- ---- marks along a chain
 
 set_same : (l : List ℕ) (a b v : ℕ) → set (set l a v) b v ≡ set (set l b v) a v
-set_same [] a b v = refl
-set_same (x ∷ l) zero zero v = refl
-set_same (x ∷ l) zero (suc b) v = refl
-set_same (x ∷ l) (suc a) zero v = refl
-set_same (x ∷ l) (suc a) (suc b) v = ap (λ (m : List ℕ). x ∷ m) (set_same l a b v)
+set_same l a b v = elim (cases_eq a b) [ inl e ↦ rw e refl | inr n ↦ set_comm l a b v v n ]
 
 module _ (table : List ℕ) (v : ℕ) where
   -- the name so far along
