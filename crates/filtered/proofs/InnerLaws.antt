@@ -11,6 +11,7 @@ use Rattle.std.proofs.lemmas.List.{get_or-replicate}
 use lib.Seq.{get_or-set_same, get_or-set_other}
 use lib.Dec.{eqb, ltb}
 use borrow.Author.Tests.{eq-eqb, eqb-true, eqb-false, lt-ltb, le-ltb, ltb-true, ltb-false}
+use Rattle.std.proofs.lemmas.Bool.{or_left, or_right}
 use Rattle.definitions.specs.Table.{pick}
 use Rattle.definitions.specs.Table as table
 use Rattle.definitions.specs.Form.{among}
@@ -21,7 +22,6 @@ use Rattle.chains.specs.DirectoryWord.{word_in, declared_by, declared_in, declar
 use Rattle.chains.specs.Settle.{link_at, Leading, settled_in, walks_in, WalkedHere, SettledAll}
 use Rattle.chains.specs.PackDirectory.{ClearTable}
 use Rattle.filtered.specs.Said.{direct_of, direct_by, inner_entry, plainly, direct_in, InnerAsked, InnerWords, InnerSettleable, InnerSettled, answered, InnerMarked}
-use Rattle.chains.proofs.Names.{or_left, or_right}
 use Rattle.chains.proofs.MappedLaws.{AnswersMapped, answers-mapped}
 use Rattle.filtered.proofs.FilteredLaws.{inner-own}
 use Rattle.chains.proofs.AllKindsLaws.{clear-nothing, settled_mark}
@@ -35,10 +35,10 @@ up_to-length (suc n) = ap suc (up_to-length n)
 
 among-counted : (n k i : ℕ) → i < k → among (n + i) (table_from plainly n k) ≡ true
 among-counted n zero i h = absurd (omega arith)
-among-counted n (suc k) zero h = or_left (among (n + 0) (table_from plainly (suc n) k)) (eq-eqb (n + 0) n (omega arith))
+among-counted n (suc k) zero h = or_left _ (among (n + 0) (table_from plainly (suc n) k)) (eq-eqb (n + 0) n (omega arith))
 among-counted n (suc k) (suc i) h =
     let e : suc n + i ≡ n + suc i = omega arith in
-    or_right (eqb (n + suc i) n) (ap (λ (m : ℕ). among m (table_from plainly (suc n) k)) (sym e) ∙ among-counted (suc n) k i (omega arith))
+    or_right (eqb (n + suc i) n) _ (ap (λ (m : ℕ). among m (table_from plainly (suc n) k)) (sym e) ∙ among-counted (suc n) k i (omega arith))
 
 -- ---- the words, one after another
 

@@ -9,13 +9,14 @@ use mathlib.Core.Option.{some}
 use lib.ListN.{length, length-map}
 use lib.Dec.{eqb}
 use borrow.Author.Tests.{eqb-true, eq-eqb}
+use Rattle.std.proofs.lemmas.Bool.{or_cases, or_left, or_right}
 use Rattle.definitions.specs.Table.{pick}
 use Rattle.definitions.specs.Form.{among}
 use Rattle.definitions.specs.Records.{Relation}
 use Rattle.definitions.specs.Chain.{Distinct}
 use Rattle.definitions.specs.Kinds.{find, declared}
 use Rattle.definitions.specs.Lean.{Leads, straight, onward, leads_within, edges_at, edges, leans}
-use Rattle.chains.proofs.Names.{apart, or_cases, or_left, or_right, any_of, of_any, no_more}
+use Rattle.chains.proofs.Names.{apart, any_of, of_any, no_more}
 use Rattle.kinds.specs.Search.{Computes}
 
 module _ (edges : ℕ → List ℕ) where
@@ -65,9 +66,9 @@ module _ (edges : ℕ → List ℕ) where
   route_within : {b a : ℕ} {ns : List ℕ} → Route b a ns → (k : ℕ) → length ns ≤ k → leads_within edges k a b ≡ true
   unfolding leads_within
   route_within (last e) zero h = absurd (omega arith)
-  route_within {b} {a} (last e) (suc k) h = any_of (passes k b) b (edges a) e (or_left (leads_within edges k b b) (eq-eqb b b refl))
+  route_within {b} {a} (last e) (suc k) h = any_of (passes k b) b (edges a) e (or_left _ (leads_within edges k b b) (eq-eqb b b refl))
   route_within (then e r) zero h = absurd (omega arith)
-  route_within {b} {a} (then {m = m} e r) (suc k) h = any_of (passes k b) m (edges a) e (or_right (eqb m b) (route_within r k (omega arith)))
+  route_within {b} {a} (then {m = m} e r) (suc k) h = any_of (passes k b) m (edges a) e (or_right (eqb m b) _ (route_within r k (omega arith)))
 
   module _ (ds : List ℕ) (only : (a m : ℕ) → among m (edges a) ≡ true → among a ds ≡ true) where
     route_in : {b a : ℕ} {ns : List ℕ} → Route b a ns → (n : ℕ) → among n ns ≡ true → among n ds ≡ true
