@@ -29,10 +29,10 @@ use Rattle.definitions.specs.Answers.{table_from}
 use Rattle.chains.specs.DirectoryWord.{Reaches, word_in, start_by, slots_by, declared_by, start_in, slot_in, declared_in, starts_in, slots_in, declarations_in, names_in}
 use Rattle.chains.specs.PackDirectory.{place_in, record_of, slots_for, slots_of, IsPack, ClearTable, DirectoryRoom, IsDirectory, Sized}
 use Rattle.pack.proofs.PackLaws.{words-read}
-use Rattle.checking.proofs.CheckLaws.{clear-zeros, said-most}
+use Rattle.checking.proofs.CheckLaws.{clear-zeros, said-most, zero_at}
 use Rattle.chains.proofs.FillLaws.{whole_at, whole-past, table-length}
 use Rattle.chains.proofs.RelationForm.{RelationsFine, relations_words, kept}
-use Rattle.chains.proofs.PackParts.{zero_at, parts, opening_length, mapped_alike, find-name, find_kept, not_again, start_within, relations-room}
+use Rattle.chains.proofs.PackParts.{parts, opening_length, mapped_alike, find-name, find_kept, not_again, start_within, relations-room}
 use Rattle.chains.proofs.PlaceBounds.{found-small}
 use Rattle.chains.proofs.CheckedLaws.{same-pack, said-names}
 use Rattle.chains.proofs.AnswerLaws.{checked}

@@ -1,11 +1,11 @@
 -- A checked pack's parts, and its relations by name.
-use Prim.Native.Nat.{ℕ, zero, suc, ◌+◌, ◌<◌, ◌≤◌}
+use Prim.Native.Nat.{ℕ, suc, ◌+◌, ◌<◌, ◌≤◌}
 use native.Mathlib.Omega.{arith}
 use mathlib.Core.Path.{◌≡◌, refl, ap, ◌∙◌}
 use mathlib.Core.List.{List, [], ◌∷◌, ◌++◌}
 use mathlib.Core.Bool.{Bool, true, false, ◌||◌}
 use mathlib.Core.Option.{Option, none, some}
-use lib.ListN.{length, get_or, length-append, replicate}
+use lib.ListN.{length, length-append}
 use lib.Dec.{eqb, leb}
 use borrow.Author.Tests.{eq-eqb, eqb-true, leb-true}
 use Rattle.std.proofs.lemmas.Bool.{or_parts, or_right, and_parts}
@@ -84,11 +84,6 @@ parts p w =
       relations-fine = f.1.1.0.2;
       rule-count = f.1.1.1.0.0.0;
     }
-
-pub zero_at : (m v : ℕ) → ◌≡◌ {A = ℕ} (get_or (replicate m 0) v 0) 0
-zero_at zero v = refl
-zero_at (suc m) zero = refl
-zero_at (suc m) (suc v) = zero_at m v
 
 pub opening_length : (p : Pack) → length (opening p) ≡ 3 + length p.defaulted
 opening_length p = let e = defaulted-length p.names p.defaulted 0 in omega arith

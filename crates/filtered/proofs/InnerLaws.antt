@@ -7,11 +7,11 @@ use mathlib.Core.List.{List}
 use mathlib.Core.Bool.{Bool, true, false}
 use mathlib.Core.Option.{Option, none, some, map}
 use lib.ListN.{length, get_or, set, replicate, length-replicate, get_or-eq_default}
-use Rattle.std.proofs.lemmas.List.{get_or-replicate}
 use lib.Seq.{get_or-set_same, get_or-set_other}
 use lib.Dec.{eqb, ltb}
 use borrow.Author.Tests.{eq-eqb, eqb-true, eqb-false, lt-ltb, le-ltb, ltb-true, ltb-false}
 use Rattle.std.proofs.lemmas.Bool.{or_left, or_right}
+use Rattle.checking.proofs.CheckLaws.{zero_at}
 use Rattle.definitions.specs.Table.{pick}
 use Rattle.definitions.specs.Table as table
 use Rattle.definitions.specs.Form.{among}
@@ -123,11 +123,7 @@ module _ (taken : List ℕ) (n : ℕ) (asked : InnerAsked taken n) (dir : List �
       go false e = omega (arith, whole-past plainly n j (ltb-false j n e), asked.least)
 
   lent-unseen : ClearTable n (replicate n 0)
-  lent-unseen = record { long = omega (arith, length-replicate {A = ℕ} n 0); short = omega (arith, length-replicate {A = ℕ} n 0, asked.most); clear = λ m. go m (ltb m n) refl }
-    where
-      go : (m : ℕ) (c : Bool) → ltb m n ≡ c → get_or (replicate {A = ℕ} n 0) m 0 ≡ 0
-      go m true e = get_or-replicate n m 0 0 (ltb-true m n e)
-      go m false e = get_or-eq_default (replicate {A = ℕ} n 0) 0 (omega (arith, length-replicate {A = ℕ} n 0, ltb-false m n e))
+  lent-unseen = record { long = omega (arith, length-replicate {A = ℕ} n 0); short = omega (arith, length-replicate {A = ℕ} n 0, asked.most); clear = zero_at n }
 
   over_index : AnswersMapped answered none same (inner_step n (direct_in taken)) 0 same (link_at index) (up_to n) names
   over_index = answers-mapped answered none 0 refl same same (λ r. refl) (inner_step n (direct_in taken)) (link_at index) steps-are (up_to n) names

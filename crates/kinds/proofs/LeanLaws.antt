@@ -1,10 +1,10 @@
 -- Lean is found by computation: more edges than names that have any lead to no further name.
 use Prim.Native.Nat.{ℕ, zero, suc, ◌≤◌}
 use native.Mathlib.Omega.{arith}
-use mathlib.Core.Path.{◌≡◌, refl, sym, subst}
+use mathlib.Core.Path.{◌≡◌, refl, sym, subst, ◌∙◌}
 use mathlib.Core.Logic.{◌⊎◌, inl, inr}
 use mathlib.Core.List.{List, [], ◌∷◌}
-use mathlib.Core.Bool.{Bool, true, false, ◌||◌}
+use mathlib.Core.Bool.{Bool, true, false, ◌||◌, or-false}
 use mathlib.Core.Option.{some}
 use lib.ListN.{length, length-map}
 use lib.Dec.{eqb}
@@ -43,11 +43,7 @@ module _ (edges : ℕ → List ℕ) where
 
   -- a route from the place on where it meets a name
   cut : {b m : ℕ} {ns : List ℕ} (a : ℕ) → Route b m ns → Distinct ns → among a ns ≡ true → Straightest b a
-  cut {b} {m} a (last e) d i = (m ∷ [], subst (λ x. Route b x (m ∷ [])) (sym (eqb-true a m (go (eqb a m) i))) (last e), d)
-    where
-      go : (t : Bool) → (t || false) ≡ true → t ≡ true
-      go true h = h
-      go false h = h
+  cut {b} {m} a (last e) d i = (m ∷ [], subst (λ x. Route b x (m ∷ [])) (sym (eqb-true a m (sym (or-false (eqb a m)) ∙ i))) (last e), d)
   cut {b} {m} a (then {ns = ns} e r) d i = go (eqb a m) refl i (cut a r d.1)
     where
       go : (t : Bool) → eqb a m ≡ t → (t || among a ns) ≡ true → (among a ns ≡ true → Straightest b a) → Straightest b a
@@ -72,11 +68,7 @@ module _ (edges : ℕ → List ℕ) where
 
   module _ (ds : List ℕ) (only : (a m : ℕ) → among m (edges a) ≡ true → among a ds ≡ true) where
     route_in : {b a : ℕ} {ns : List ℕ} → Route b a ns → (n : ℕ) → among n ns ≡ true → among n ds ≡ true
-    route_in {b} {a} (last e) n i = go (eqb n a) refl i
-      where
-        go : (t : Bool) → eqb n a ≡ t → (t || false) ≡ true → among n ds ≡ true
-        go true q j = subst (λ x. among x ds ≡ true) (sym (eqb-true n a q)) (only a b e)
-        go false q j = apart j refl
+    route_in {b} {a} (last e) n i = subst (λ x. among x ds ≡ true) (sym (eqb-true n a (sym (or-false (eqb n a)) ∙ i))) (only a b e)
     route_in {a = a} (then {m = m} {ns = ns} e r) n i = go (eqb n a) refl i (route_in r n)
       where
         go : (t : Bool) → eqb n a ≡ t → (t || among n ns) ≡ true → (among n ns ≡ true → among n ds ≡ true) → among n ds ≡ true
