@@ -2,19 +2,18 @@
 use Prim.Native.Nat.{ℕ, zero, suc, ◌+◌, ◌-◌, ◌<◌, ◌≤◌}
 use native.Mathlib.Omega.{arith}
 use mathlib.Core.Path.{◌≡◌, refl, ap, sym, ◌∙◌, subst}
-use mathlib.Core.List.{List, [], ◌∷◌}
+use mathlib.Core.Logic.{inl, inr}
+use mathlib.Core.List.{List}
 use lib.ListN.{length, get_or, set, length-set}
+use Rattle.std.proofs.lemmas.Bool.{cases_eq}
+use Rattle.std.proofs.lemmas.List.{set_comm}
 use Rattle.chains.specs.Settle.{Leading, ReadOne, next_in, marked_path, Walkable, WentAhead, WalkedHere}
 use Rattle.chains.proofs.SettleLaws.{out_of_fuel, at_settled, at_ring, at_end, at_next, walkable_next}
 
 -- ---- marks along a chain
 
 set_same : (l : List ℕ) (a b v : ℕ) → set (set l a v) b v ≡ set (set l b v) a v
-set_same [] a b v = refl
-set_same (x ∷ l) zero zero v = refl
-set_same (x ∷ l) zero (suc b) v = refl
-set_same (x ∷ l) (suc a) zero v = refl
-set_same (x ∷ l) (suc a) (suc b) v = ap (λ (m : List ℕ). x ∷ m) (set_same l a b v)
+set_same l a b v = elim (cases_eq a b) [ inl e ↦ rw e refl | inr n ↦ set_comm l a b v v n ]
 
 module _ (table : List ℕ) (v : ℕ) where
   -- the name so far along
@@ -44,9 +43,6 @@ module _ (table : List ℕ) (v : ℕ) where
       pub todo : marked_path table v left n marks ≡ marked_path table v count start marks₀
       pub low : n < length marks
       pub long : length marks ≡ length marks₀
-
-    pub path_begin : start < length marks₀ → MarkingPath start count marks₀
-    path_begin h = record { todo = refl; low = h; long = refl }
 
     module _ {n left : ℕ} {marks : List ℕ} (s : MarkingPath n left marks) where
       pub path-next : Leading (length marks₀) table → {left' : ℕ} → left ≡ suc left' → {x m : ℕ} → x ≡ get_or table n 0 → m ≡ x - 65536 → MarkingPath m left' (set marks n v)

@@ -7,13 +7,14 @@ use mathlib.Core.List.{List, [], ◌++◌}
 use mathlib.Core.Bool.{Bool, true, false, ◌||◌, or-false}
 use mathlib.Core.Option.{Option, none, some}
 use lib.ListN.{length, length-append}
+use Rattle.std.proofs.lemmas.Bool.{false_from_ne_true, or_cases, or_left}
 use Rattle.definitions.specs.Table.{pick}
 use Rattle.definitions.specs.Form.{among}
 use Rattle.definitions.specs.Dealt.{InAnyOrder}
-use Rattle.definitions.specs.Chain.{Link, end, next, ChainAnswer, nothing, own, AllWalked, walk_all, Distinct, OnlyDeclaredLead, outside}
-use Rattle.chains.proofs.Names.{shuffled_among, apart, or_cases, or_left, both_ways, false_of, among-append, distinct_append, same_number}
+use Rattle.definitions.specs.Chain.{Link, end, ChainAnswer, nothing, own, AllWalked, walk_all, Distinct, OnlyDeclaredLead, outside}
+use Rattle.chains.proofs.Names.{shuffled_among, apart, both_ways, among-append, distinct_append, same_number}
 use Rattle.chains.proofs.Outside.{Outside, outside-is}
-use Rattle.chains.proofs.Walks.{answer-end, answer_back, answer_alike, Entry, Kept, Read, reads, own-answer}
+use Rattle.chains.proofs.Walks.{answer-end, answer_alike, Entry, Kept, Read, reads, own-answer}
 
 -- each start is settled with its own walk's answer, and so is whatever else is settled
 pub record SettledOwn {R : Type 0} (stuck : R) (along : R → R) (step : ℕ → Link R) (declared starts : List ℕ) : Type 0 where
@@ -27,9 +28,6 @@ module _ {R : Type 0} (stuck : R) (along : R → R) (back : along stuck ≡ stuc
   -- a name's own walk answers what its step says: the end, or what comes back from the next name
   pub own-end : (n : ℕ) (r : R) → step n ≡ end r → own_of n ≡ r
   own-end n r e = answer_alike along step (own-answer stuck along step back declared leads n) (answer-end along step stuck e)
-
-  pub own-next : (n m : ℕ) → step n ≡ next m → own_of n ≡ along (own_of m)
-  own-next n m e = answer_alike along step (own-answer stuck along step back declared leads n) (answer_back along step stuck back e (own-answer stuck along step back declared leads m))
 
   -- the walk, which computes with fuel, answers what the chain says without, and nothing else
   pub own-means : (n : ℕ) (r : R) → own_of n ≡ r → ChainAnswer along step stuck n r
@@ -58,7 +56,7 @@ module _ {R : Type 0} (stuck : R) (along : R → R) (back : along stuck ≡ stuc
   pub settled-own : (starts : List ℕ) → SettledOwn stuck along step declared starts
   settled-own starts =
       record {
-        each = λ s i. settled-entry starts s ∙ ap (entry s) ((read starts).begun s (or_left false i));
+        each = λ s i. settled-entry starts s ∙ ap (entry s) ((read starts).begun s (or_left _ false i));
         whatever = λ n r e. go n r (among n (read starts).names) (sym (settled-entry starts n) ∙ e);
       }
     where
@@ -77,8 +75,8 @@ module _ {R : Type 0} (stuck : R) (along : R → R) (back : along stuck ≡ stuc
   -- "relations + distinct undeclared sources that inheriting relations name": each declared name is read once, and each undeclared one they lead to
   pub steps-sum : Distinct declared → (all declared).steps ≡ length declared + length (outside step declared declared)
   steps-sum d =
-      steps_of declared (declared ++ outs) (distinct_append declared outs d o.distinct (λ n i. false_of (among n outs) (λ j. apart i (o.led n j).3))) kept
-      (λ n i. among-append n declared outs ∙ or_left (among n outs) i) (λ n i. found n (or_cases (among n declared) (among n outs) (sym (among-append n declared outs) ∙ i)))
+      steps_of declared (declared ++ outs) (distinct_append declared outs d o.distinct (λ n i. false_from_ne_true (among n outs) (λ j. apart i (o.led n j).3))) kept
+      (λ n i. among-append n declared outs ∙ or_left _ (among n outs) i) (λ n i. found n (or_cases (among n declared) (among n outs) (sym (among-append n declared outs) ∙ i)))
       ∙ length-append declared outs
     where
       outs : List ℕ
@@ -95,8 +93,8 @@ module _ {R : Type 0} (stuck : R) (along : R → R) (back : along stuck ≡ stuc
           go false f = o.has n m (leads n m e) e f
 
       found : (n : ℕ) → (among n declared ≡ true) ⊎ (among n outs ≡ true) → among n (read declared).names ≡ true
-      found n (inl i) = (read declared).begun n (or_left false i)
-      found n (inr i) = let l = o.led n i in (read declared).closed l.0 n l.2 ((read declared).begun l.0 (or_left false l.1))
+      found n (inl i) = (read declared).begun n (or_left _ false i)
+      found n (inr i) = let l = o.led n i in (read declared).closed l.0 n l.2 ((read declared).begun l.0 (or_left _ false l.1))
 
 -- what two walks have in common
 pub record WalksAlike {R : Type 0} (stuck : R) (along : R → R) (step step' : ℕ → Link R) (declared declared' starts starts' : List ℕ) : Type 0 where

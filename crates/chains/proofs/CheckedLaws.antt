@@ -9,6 +9,7 @@ use mathlib.Core.Bool.{true}
 use lib.ListN.{length, get_or, length-map}
 use lib.Dec.{eqb}
 use borrow.Author.Tests.{eq-eqb, le-leb}
+use Rattle.std.proofs.lemmas.Bool.{or_left, or_right}
 use Rattle.definitions.specs.Table.{word_of}
 use Rattle.definitions.specs.Form.{among}
 use Rattle.definitions.specs.Records.{Relation, Pack}
@@ -23,7 +24,6 @@ use Rattle.checking.specs.CheckPromises.{names_said}
 use Rattle.chains.specs.PackDirectory.{IsPack, Named, IsDirectory, KindsMarked, ClearTable}
 use Rattle.chains.proofs.RelationForm.{RelationsFine, kept}
 use Rattle.chains.proofs.PackParts.{parts, split, opening, relations_part}
-use Rattle.chains.proofs.Names.{or_left, or_right}
 use Rattle.chains.proofs.PlaceBounds.{Indexes, indexes}
 use Rattle.chains.proofs.AllKindsLaws.{KindsFound, kinds-found}
 
@@ -60,9 +60,6 @@ module _ {ws : List ℕ} (c : IsPack ws) where
 
   pub short-checked : length ws ≤ 8192
   short-checked = let l : length (words the_pack) ≡ length ws = ap length its-words in omega (arith, words-length the_pack, is-fine.most)
-
-  pub below-most : {n : ℕ} → Named ws n → n ≤ 4096
-  below-most k = omega (arith, k the_pack c.reads, (parts the_pack is-fine).most)
 
 -- ---- the kinds
 
@@ -161,8 +158,8 @@ module _ {ws : List ℕ} {l : Layout} {dir : List ℕ} (d : IsDirectory ws l dir
 -- names of a list are among it
 among_at : (l : List ℕ) (j : ℕ) → j < length l → among (get_or l j 0) l ≡ true
 among_at [] j h = absurd (omega arith)
-among_at (n ∷ l) zero h = or_left (among n l) (eq-eqb n n refl)
-among_at (n ∷ l) (suc j) h = or_right (eqb (get_or l j 0) n) (among_at l j (omega arith))
+among_at (n ∷ l) zero h = or_left _ (among n l) (eq-eqb n n refl)
+among_at (n ∷ l) (suc j) h = or_right (eqb (get_or l j 0) n) _ (among_at l j (omega arith))
 
 module _ {ws names marks : List ℕ} {steps : ℕ} (c : IsPack ws) (m : KindsMarked ws steps names marks) {most : ℕ} (named : Named ws most) (long : most ≤ length marks) where
   pub placeable : Placeable marks names

@@ -29,10 +29,10 @@ use Rattle.definitions.specs.Answers.{table_from}
 use Rattle.chains.specs.DirectoryWord.{Reaches, word_in, start_by, slots_by, declared_by, start_in, slot_in, declared_in, starts_in, slots_in, declarations_in, names_in}
 use Rattle.chains.specs.PackDirectory.{place_in, record_of, slots_for, slots_of, IsPack, ClearTable, DirectoryRoom, IsDirectory, Sized}
 use Rattle.pack.proofs.PackLaws.{words-read}
-use Rattle.checking.proofs.CheckLaws.{clear-zeros, said-most}
+use Rattle.checking.proofs.CheckLaws.{clear-zeros, said-most, zero_at}
 use Rattle.chains.proofs.FillLaws.{whole_at, whole-past}
 use Rattle.chains.proofs.RelationForm.{RelationsFine, relations_words, kept}
-use Rattle.chains.proofs.PackParts.{zero_at, parts, opening_length, mapped_alike, find-name, find_kept, not_again, start_within, relations-room}
+use Rattle.chains.proofs.PackParts.{parts, opening_length, mapped_alike, find-name, find_kept, not_again, start_within, relations-room}
 use Rattle.chains.proofs.PlaceBounds.{found-small}
 use Rattle.chains.proofs.CheckedLaws.{same-pack, said-names}
 use Rattle.chains.proofs.AnswerLaws.{checked}
@@ -381,9 +381,6 @@ room_for {ws} k e h m =
       lent = record { long = omega (arith, length-replicate {A = ℕ} k 0); short = omega (arith, length-replicate {A = ℕ} k 0); clear = zero_at k };
       reaches = record { most = omega (arith, length-replicate {A = ℕ} k 0); long = omega (arith, length-replicate {A = ℕ} k 0, length-replicate {A = ℕ} (512 + k) 0) };
     }
-
-pub room-all : (ws : List ℕ) → DirectoryRoom ws (replicate 4608 0) (replicate 4096 0)
-room-all ws = room_for {n = names_said ws} 4096 refl (said-most ws) (omega arith)
 
 pub room_sized : {ws : List ℕ} {words names : ℕ} → Sized ws words names → DirectoryRoom ws (replicate words 0) (replicate names 0)
 room_sized {ws} {names = k} s = rw s.both (room_for {n = names_said ws} k refl s.enough s.most)

@@ -42,9 +42,6 @@ module _ (f : ℕ → ℕ) where
       pub holds : out ≡ table_from f 0 j ++ drop j out₀
       pub long : length out ≡ length out₀
 
-    pub begin : Filling out₀ 0
-    begin = record { within = omega arith; holds = refl; long = refl }
-
     module _ {out : List ℕ} {j : ℕ} (s : Filling out j) where
       pub next : j < length out₀ → {v : ℕ} → v ≡ f j → Filling (set out j v) (j + 1)
       next h {v} e =
@@ -65,10 +62,6 @@ module _ (f : ℕ → ℕ) where
           let z : j - j ≡ 0 = omega arith in
           ap (λ (l : List ℕ). get_or l j 0) s.holds ∙ table-past 0 j j (drop j out₀) (omega arith) ∙ ap (λ (i : ℕ). get_or (drop j out₀) i 0) z ∙ get_or-drop j out₀ 0 0 ∙ ap (λ (i : ℕ). get_or out₀ i 0) (add-zero j)
 
-      pub done : length out₀ ≤ j → out ≡ table_from f 0 (length out₀)
-      done h =
-          let e : j ≡ length out₀ = omega (arith, s.within) in
-          s.holds ∙ rw (drop_of_length-le out₀ h) (append-nil (table_from f 0 j) ∙ rw e refl)
 
 -- ---- a table of what another holds
 

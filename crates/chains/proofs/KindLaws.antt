@@ -1,5 +1,5 @@
 -- The laws of the chain walk, cited for the kinds of relations.
-use Prim.Native.Nat.{ℕ, ◌+◌, ◌≤◌}
+use Prim.Native.Nat.{ℕ, ◌+◌}
 use native.Mathlib.Omega.{arith}
 use mathlib.Core.Path.{◌≡◌, refl, sym, ap, ◌∙◌, subst}
 use mathlib.Core.List.{List, [], ◌∷◌, map}
@@ -8,6 +8,7 @@ use mathlib.Core.Option.{none, some}
 use lib.ListN.{length, length-map}
 use lib.Dec.{eqb}
 use borrow.Author.Tests.{eqb-true, eq-eqb, not-true}
+use Rattle.std.proofs.lemmas.Bool.{or_left, or_right}
 use Rattle.definitions.specs.Table.{pick}
 use Rattle.definitions.specs.Form.{among, items, Fine, FineAll}
 use Rattle.definitions.specs.Records.{Relation, Pack}
@@ -15,9 +16,8 @@ use Rattle.definitions.specs.Pack.{WellFormed, new_name, relation, next_used, re
 use Rattle.definitions.specs.Dealt.{nil, cons, swap, trans, InAnyOrder}
 use Rattle.definitions.specs.Chain.{next, Distinct, OnlyDeclaredLead, same}
 use Rattle.definitions.specs.Kinds.{find, read_at, kind_step, declared, KindsFound, all_kinds, own_answer, undeclared_sources, list_in, names_of, kinds_of}
-use Rattle.chains.proofs.Names.{apart, or_left, or_right, shuffled_map, shuffled_distinct}
+use Rattle.chains.proofs.Names.{apart, shuffled_map, shuffled_distinct}
 use Rattle.definitions.specs.Places.{place_of, settled_of, all_kinds_words}
-use Rattle.chains.proofs.Outside.{outside-is}
 use Rattle.chains.proofs.ChainLaws.{settled-own, steps-sum, walks_shuffled}
 
 -- only relations lead on
@@ -41,7 +41,7 @@ pub in_row : {B : Type 0} (f g : ℕ → B) (rs : List Relation) → ((n : ℕ) 
     → map (λ (r : Relation). f r.name) rs ≡ map (λ (r : Relation). g r.name) rs
 in_row f g [] h = refl
 in_row f g (r ∷ rs) h =
-    cc (h r.name (or_left (among r.name (declared rs)) (eq-eqb r.name r.name refl)), in_row f g rs (λ n i. h n (or_right (eqb n r.name) i)))
+    cc (h r.name (or_left _ (among r.name (declared rs)) (eq-eqb r.name r.name refl)), in_row f g rs (λ n i. h n (or_right (eqb n r.name) _ i)))
 
 pub kinds-own : (rs : List Relation) → KindsOwn rs
 kinds-own rs =
@@ -66,9 +66,6 @@ kinds-steps rs d =
     steps-sum none same refl (kind_step rs) (declared rs) (kind-leads rs) d
     ∙ ap (λ k. k + length (undeclared_sources rs)) (length-map rs (λ (r : Relation). r.name))
 
-pub sources_short : (rs : List Relation) → length (undeclared_sources rs) ≤ length rs
-sources_short rs = let e : length (declared rs) ≡ length rs = length-map rs (λ (r : Relation). r.name) in omega (arith, (outside-is (kind_step rs) (declared rs) (declared rs)).short)
-
 -- relations in any other order
 pub record KindsAlike (rs rs' : List Relation) : Type 0 where
   pub finds : (n : ℕ) → find n rs ≡ find n rs'
@@ -85,7 +82,7 @@ find_dealt (cons {a = a} {b = b} {l = l} {m = m} e p) d n = cc (find_dealt p d.1
 find_dealt (swap {a = a} {b = b} {l = l}) d n = go (eqb n a.name) (eqb n b.name) refl refl
   where
     go : (s t : Bool) → eqb n a.name ≡ s → eqb n b.name ≡ t → pick s (some a) (pick t (some b) (find n l)) ≡ pick t (some b) (pick s (some a) (find n l))
-    go true true e f = apart (or_left (among a.name (declared l)) (eq-eqb a.name b.name (sym (eqb-true n a.name e) ∙ eqb-true n b.name f))) d.0
+    go true true e f = apart (or_left _ (among a.name (declared l)) (eq-eqb a.name b.name (sym (eqb-true n a.name e) ∙ eqb-true n b.name f))) d.0
     go true false e f = refl
     go false true e f = refl
     go false false e f = refl
@@ -118,7 +115,7 @@ module _ (n : ℕ) where
   used-before : (rs : List Relation) (used : List ℕ) → FineFrom used rs → (v : ℕ) → among v used ≡ true → among v (declared rs) ≡ false
   unfolding relation new_name Fine
   used-before [] used h v i = refl
-  used-before (r ∷ rs) used h v i = go (eqb v r.name) refl (used-before rs (next_used used r) h.1 v (or_right (eqb v r.name) i))
+  used-before (r ∷ rs) used h v i = go (eqb v r.name) refl (used-before rs (next_used used r) h.1 v (or_right (eqb v r.name) _ i))
     where
       go : (b : Bool) → eqb v r.name ≡ b → among v (declared rs) ≡ false → (b || among v (declared rs)) ≡ false
       go true e o = apart (subst (λ x. among x used ≡ true) (eqb-true v r.name e) i) (not-true (among r.name used) h.0.0.1)
@@ -127,7 +124,7 @@ module _ (n : ℕ) where
   fine_distinct : (rs : List Relation) (used : List ℕ) → FineFrom used rs → Distinct (declared rs)
   fine_distinct [] used h = tt
   fine_distinct (r ∷ rs) used h =
-      (used-before rs (next_used used r) h.1 r.name (or_left (among r.name used) (eq-eqb r.name r.name refl)), fine_distinct rs (next_used used r) h.1)
+      (used-before rs (next_used used r) h.1 r.name (or_left _ (among r.name used) (eq-eqb r.name r.name refl)), fine_distinct rs (next_used used r) h.1)
 
 -- in a checked pack no two relations have one name
 pub distinct_names : (p : Pack) → WellFormed p → Distinct (declared p.relations)

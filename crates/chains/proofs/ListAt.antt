@@ -5,18 +5,20 @@ use mathlib.Core.Path.{◌≡◌, refl, ap, sym, ◌∙◌, subst}
 use mathlib.Core.List.{List, [], ◌∷◌, ◌++◌, map, append_assoc}
 use mathlib.Core.Bool.{Bool, true, false}
 use mathlib.Core.Option.{Option, none, some}
-use lib.ListN.{length, get_or, take, drop, length-append, length-map}
+use lib.ListN.{length, take, drop, length-append, length-map}
 use lib.Dec.{eqb}
 use borrow.Author.Tests.{ne_eqb}
+use Rattle.std.proofs.lemmas.List.{get_or_at}
+use Rattle.records.proofs.DirectoryLaws.{path-words}
 use Rattle.definitions.specs.Table.{pick, word_of, value_of, judgment}
 use Rattle.definitions.specs.Form.{among, words_all, FineAll, Fits, words_by, Fine, count, items}
-use Rattle.definitions.specs.Records.{Hop, Derivation, Relation, Pack}
-use Rattle.definitions.specs.Pack.{WellFormed, new_name, name_list, hop, path, chain, member, derivation, optional_derivation, relation_tail, relation, words}
+use Rattle.definitions.specs.Records.{Derivation, Relation, Pack}
+use Rattle.definitions.specs.Pack.{WellFormed, new_name, name_list, path, chain, member, derivation, optional_derivation, relation_tail, relation, words}
 use Rattle.definitions.specs.Tree.{root}
 use Rattle.definitions.specs.Chain.{Link, end, next, nothing, walk, own, same}
 use Rattle.definitions.specs.Kinds.{Which, list9, list21, count_kind, SettledBy, KindsFound, find, read_at, kind_step, declared, own_answer, list_of, names_of, kinds_of}
 use Rattle.definitions.specs.Places.{relation_words, start_of, first_relation, hops, count_place, place_of, names_at, OwnersList, all_kinds_words, SettledAt, AllSettledAt}
-use Rattle.chains.proofs.KindLaws.{in_row, words-own}
+use Rattle.chains.proofs.KindLaws.{words-own}
 use Rattle.chains.proofs.RelationForm.{relations_words, RelationsFine}
 use Rattle.chains.proofs.PackParts.{parts, split, opening, opening_length, relations_part, find-name, each_way_listed}
 
@@ -57,14 +59,6 @@ values_back : (ks : List ℕ) (more : List ℕ) → Short ks → map value_of (t
 values_back [] more h = refl
 values_back (k ∷ ks) more h = let v : value_of (word_of 10 k) ≡ k = omega (arith, h.0) in rw (v, values_back ks more h.1) refl
 
-drop-over : (pre ws : List ℕ) → drop (length pre) (pre ++ ws) ≡ ws
-drop-over [] ws = refl
-drop-over (x ∷ pre) ws = drop-over pre ws
-
-get_over : (pre : List ℕ) (w : ℕ) (ws : List ℕ) → get_or (pre ++ (w ∷ ws)) (length pre) 0 ≡ w
-get_over [] w ws = refl
-get_over (x ∷ pre) w ws = get_over pre w ws
-
 -- a list counted by a word of any kind, after a first word at least
 listed_at : (pre : List ℕ) (kind : ℕ) (ks more : List ℕ) → 0 < length pre → length ks < 16777216 → Short ks
     → names_at (pre ++ (word_of kind (length ks) ∷ (name_words ks ++ more))) (length pre) ≡ some ks
@@ -74,7 +68,7 @@ listed_at pre kind ks more h l s =
     let v : value_of w ≡ length ks = omega (arith, l) in
     let z : eqb (length pre) 0 ≡ false = ne_eqb (length pre) 0 (λ e. absurd (omega arith)) in
     let d : drop (suc (length pre)) (pre ++ (w ∷ (name_words ks ++ more))) ≡ name_words ks ++ more = drop-next pre w (name_words ks ++ more) in
-    rw (z, get_over pre w (name_words ks ++ more), v, d, values_back ks more s) refl
+    rw (z, get_or_at pre w (name_words ks ++ more) 0 (length pre) refl, v, d, values_back ks more s) refl
   where
     drop-next : (pre : List ℕ) (w : ℕ) (ws : List ℕ) → drop (suc (length pre)) (pre ++ (w ∷ ws)) ≡ ws
     drop-next [] w ws = refl
@@ -85,11 +79,6 @@ listed_at pre kind ks more h l s =
 pub list-words : (n : ℕ) (ks : List ℕ) → words_all {S = Unit {0}} (λ s a. s) (λ s a. word_of 10 a ∷ []) tt ks ≡ name_words ks
 list-words n [] = refl
 list-words n (k ∷ ks) = ap (λ (l : List ℕ). word_of 10 k ∷ l) (list-words n ks)
-
-hop-words : (n : ℕ) (l : List Hop) → length (words_all {S = Unit {0}} (λ s a. s) (λ s a. words_by (hop n) a) tt l) ≡ 3 * length l
-unfolding hop words_by
-hop-words n [] = refl
-hop-words n (h ∷ l) = let e = hop-words n l in omega arith
 
 short-names : (n : ℕ) (ks : List ℕ) → FineAll {S = Unit {0}} (λ s a. s) (λ s a. Fits n 10 a) tt ks → Short ks
 short-names n [] f = tt
@@ -116,14 +105,8 @@ nine_in n used r f =
       short = short-names n r.slot_kinds f.1.1.1.0.2;
     }
 
-pub path-words : (n : ℕ) (p : Option (List Hop)) → length (words_by (path n) p) ≡ 1 + 3 * hops p
-unfolding path words_by count items
-path-words n none = refl
-path-words n (some l) = let e = hop-words n l in omega arith
-
 glue : (A E T : List ℕ) (a b c d w : ℕ) → ((A ++ (a ∷ b ∷ [])) ++ (c ∷ d ∷ w ∷ (E ++ T))) ++ [] ≡ (A ++ (a ∷ b ∷ c ∷ d ∷ [])) ++ (w ∷ (E ++ (T ++ [])))
-glue [] E T a b c d w = ap (λ (l : List ℕ). a ∷ b ∷ c ∷ d ∷ w ∷ l) (append_assoc E T [])
-glue (x ∷ A) E T a b c d w = ap (λ (l : List ℕ). x ∷ l) (glue A E T a b c d w)
+glue A E T a b c d w = simp append_assoc
 
 -- the words of a derivation, taken apart at list 21
 module _ (n : ℕ) (d : Derivation) where
@@ -234,16 +217,12 @@ owners-list rs s r {ws} {start} {n} found i j h full =
       owner = r;
       found = found;
       inside = rw (e, ← l) (omega (arith, length-append front (w ∷ more)));
-      count_word = rw (e, ← l) (get_over front w more);
+      count_word = rw (e, ← l) (get_or_at front w more 0 (length front) refl);
       names = rw (e, ← l) (listed_at front kind ks (j.after ++ i.after) (omega (arith, l)) j.few j.short);
       not_empty = full;
     }
 
 -- ---- the theorem
-
-map-map : {A B C : Type 0} (f : B → C) (g : A → B) (l : List A) → map f (map g l) ≡ map (λ a. f (g a)) l
-map-map f g [] = refl
-map-map f g (a ∷ l) = ap (λ (m : List _). f (g a) ∷ m) (map-map f g l)
 
 module _ (p : Pack) (w : WellFormed p) where
   abbrev rs : List Relation
@@ -324,10 +303,3 @@ module _ (p : Pack) (w : WellFormed p) where
       go : (a : KindsFound) → Holds a → names_at (words p) (place_of p a) ≡ names_of rs a
       go none h = none-there
       go (some s) h = h.names ∙ rw h.found refl
-
-  -- in record order: at each place that All kinds writes stand the names of the relation's kinds
-  pub names_in_order : map (names_at (words p)) (all_kinds_words p) ≡ map (λ (r : Relation). kinds_of rs r.name) rs
-  names_in_order =
-      ap (map (names_at (words p))) (words-own p)
-      ∙ map-map (names_at (words p)) (λ (r : Relation). place_of p (own_answer rs r.name)) rs
-      ∙ in_row (λ n. names_at (words p) (place_of p (own_answer rs n))) (kinds_of rs) rs (λ n i. place-holds n)

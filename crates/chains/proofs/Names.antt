@@ -8,6 +8,7 @@ use mathlib.Core.Bool.{Bool, true, false, ◌||◌, or_assoc}
 use lib.ListN.{length}
 use lib.Dec.{eqb}
 use borrow.Author.Tests.{eqb-true, eq-eqb, ne_eqb}
+use Rattle.std.proofs.lemmas.Bool.{false_from_ne_true, or_cases, or_left, or_parts, or_right}
 use Rattle.definitions.specs.Table.{pick}
 use Rattle.definitions.specs.Form.{among}
 use Rattle.definitions.specs.Dealt.{nil, cons, swap, trans, InAnyOrder}
@@ -18,48 +19,14 @@ use Rattle.definitions.specs.Lean.{any}
 pub apart : {A : Type 0} {b : Bool} → b ≡ true → b ≡ false → A
 apart e f = let z : ◌≡◌ {A = ℕ} 0 1 = cc in absurd (omega arith)
 
-pub or_cases : (a b : Bool) → (a || b) ≡ true → (a ≡ true) ⊎ (b ≡ true)
-or_cases true b e = inl refl
-or_cases false b e = inr e
-
-pub or_left : {a : Bool} (b : Bool) → a ≡ true → (a || b) ≡ true
-or_left b e = rw e
-
-pub or_right : (a : Bool) {b : Bool} → b ≡ true → (a || b) ≡ true
-or_right true e = refl
-or_right false e = e
-
-pub nor_left : (a b : Bool) → (a || b) ≡ false → a ≡ false
-nor_left true b e = e
-nor_left false b e = refl
-
-pub nor_right : (a b : Bool) → (a || b) ≡ false → b ≡ false
-nor_right true b e = apart refl e
-nor_right false b e = e
-
-pub neither : (a b : Bool) → (a || b) ≡ false → (a ≡ false) × (b ≡ false)
-neither a b e = (nor_left a b e, nor_right a b e)
-
-pub or_false : (b : Bool) → (b || false) ≡ b
-or_false true = refl
-or_false false = refl
-
-pub or_true : (b : Bool) → (b || true) ≡ true
-or_true true = refl
-or_true false = refl
-
 pub or_swap : (a b c : Bool) → (a || (b || c)) ≡ (b || (a || c))
 or_swap true true c = refl
 or_swap true false c = refl
 or_swap false b c = refl
 
-pub false_of : (b : Bool) → (b ≡ true → ⊥) → b ≡ false
-false_of true h = absurd (h refl)
-false_of false h = refl
-
 pub both_ways : (a b : Bool) → (a ≡ true → b ≡ true) → (b ≡ true → a ≡ true) → a ≡ b
 both_ways true b f g = sym (f refl)
-both_ways false b f g = sym (false_of b (λ e. apart (g e) refl))
+both_ways false b f g = sym (false_from_ne_true b (λ e. apart (g e) refl))
 
 -- what stands in a list
 pub among-append : (n : ℕ) (ns ms : List ℕ) → among n (ns ++ ms) ≡ (among n ns || among n ms)
@@ -69,8 +36,8 @@ among-append n (x ∷ ns) ms = ap (λ b. eqb n x || b) (among-append n ns ms) �
 pub distinct_append : (ns ms : List ℕ) → Distinct ns → Distinct ms → ((n : ℕ) → among n ns ≡ true → among n ms ≡ false) → Distinct (ns ++ ms)
 distinct_append [] ms d e h = e
 distinct_append (n ∷ ns) ms d e h = (
-  among-append n ns ms ∙ ap (λ b. b || among n ms) d.0 ∙ h n (or_left (among n ns) (eq-eqb n n refl)),
-  distinct_append ns ms d.1 e (λ m i. h m (or_right (eqb m n) i)),
+  among-append n ns ms ∙ ap (λ b. b || among n ms) d.0 ∙ h n (or_left _ (among n ns) (eq-eqb n n refl)),
+  distinct_append ns ms d.1 e (λ m i. h m (or_right (eqb m n) _ i)),
 )
 
 -- some name of a list passes a test
@@ -79,16 +46,16 @@ any_of f n [] i h = i
 any_of f n (x ∷ ns) i h = go (or_cases (eqb n x) (among n ns) i) (any_of f n ns)
   where
     go : (eqb n x ≡ true) ⊎ (among n ns ≡ true) → (among n ns ≡ true → f n ≡ true → any f ns ≡ true) → (f x || any f ns) ≡ true
-    go (inl e) rest = or_left (any f ns) (subst (λ y. f y ≡ true) (eqb-true n x e) h)
-    go (inr j) rest = or_right (f x) (rest j h)
+    go (inl e) rest = or_left _ (any f ns) (subst (λ y. f y ≡ true) (eqb-true n x e) h)
+    go (inr j) rest = or_right (f x) _ (rest j h)
 
 pub of_any : (f : ℕ → Bool) (ns : List ℕ) → any f ns ≡ true → (n : ℕ) × (among n ns ≡ true) × (f n ≡ true)
 of_any f [] h = apart h refl
 of_any f (x ∷ ns) h = go (or_cases (f x) (any f ns) h) (of_any f ns)
   where
     go : (f x ≡ true) ⊎ (any f ns ≡ true) → (any f ns ≡ true → (n : ℕ) × (among n ns ≡ true) × (f n ≡ true)) → (n : ℕ) × (among n (x ∷ ns) ≡ true) × (f n ≡ true)
-    go (inl e) rest = (x, or_left (among x ns) (eq-eqb x x refl), e)
-    go (inr e) rest = let r = rest e in (r.0, or_right (eqb r.0 x) r.1, r.2)
+    go (inl e) rest = (x, or_left _ (among x ns) (eq-eqb x x refl), e)
+    go (inr e) rest = let r = rest e in (r.0, or_right (eqb r.0 x) _ r.1, r.2)
 
 -- a list without the first of a name
 without : ℕ → List ℕ → List ℕ
@@ -112,15 +79,15 @@ without_keeps n k (m ∷ ms) u i = go (eqb n m) refl (or_cases (eqb k m) (among 
     go : (b : Bool) → eqb n m ≡ b → (eqb k m ≡ true) ⊎ (among k ms ≡ true) → (among k ms ≡ true → among k (without n ms) ≡ true) → among k (pick b ms (m ∷ without n ms)) ≡ true
     go true e (inl h) rest = apart (eq-eqb k n (eqb-true k m h ∙ sym (eqb-true n m e))) u
     go true e (inr h) rest = h
-    go false e (inl h) rest = or_left (among k (without n ms)) h
-    go false e (inr h) rest = or_right (eqb k m) (rest h)
+    go false e (inl h) rest = or_left _ (among k (without n ms)) h
+    go false e (inr h) rest = or_right (eqb k m) _ (rest h)
 
 -- distinct names that all stand in a list are no more than it has
 pub no_more : (ns ms : List ℕ) → Distinct ns → ((n : ℕ) → among n ns ≡ true → among n ms ≡ true) → length ns ≤ length ms
 no_more [] ms d h = omega arith
 no_more (n ∷ ns) ms d h =
-    let i : among n ms ≡ true = h n (or_left (among n ns) (eq-eqb n n refl)) in
-    omega (arith, without_length n ms i, no_more ns (without n ms) d.1 (λ k j. without_keeps n k ms (other k j) (h k (or_right (eqb k n) j))))
+    let i : among n ms ≡ true = h n (or_left _ (among n ns) (eq-eqb n n refl)) in
+    omega (arith, without_length n ms i, no_more ns (without n ms) d.1 (λ k j. without_keeps n k ms (other k j) (h k (or_right (eqb k n) _ j))))
   where
     other : (k : ℕ) → among k ns ≡ true → eqb k n ≡ false
     other k j = ne_eqb k n (λ e. apart (subst (λ x. among x ns ≡ true) e j) d.0)
@@ -167,9 +134,9 @@ shuffled_map f (trans p q) = trans (shuffled_map f p) (shuffled_map f q)
 pub shuffled_distinct : {ns ms : List ℕ} → InAnyOrder ns ms → Distinct ns → Distinct ms
 shuffled_distinct nil d = tt
 shuffled_distinct (cons {a = a} {b = b} {l = l} e p) d = (sym (shuffled_among p b) ∙ ap (λ x. among x l) (sym e) ∙ d.0, shuffled_distinct p d.1)
-shuffled_distinct (swap {a = a} {b = b} {l = l}) d = (unlike (eqb b a) refl, (nor_right (eqb a b) (among a l) d.0, d.1.1))
+shuffled_distinct (swap {a = a} {b = b} {l = l}) d = (unlike (eqb b a) refl, ((or_parts (eqb a b) (among a l) d.0).1, d.1.1))
   where
     unlike : (t : Bool) → eqb b a ≡ t → (eqb b a || among b l) ≡ false
-    unlike true e = apart (eq-eqb a b (sym (eqb-true b a e))) (nor_left (eqb a b) (among a l) d.0)
+    unlike true e = apart (eq-eqb a b (sym (eqb-true b a e))) (or_parts (eqb a b) (among a l) d.0).0
     unlike false e = rw e d.1.0
 shuffled_distinct (trans p q) d = shuffled_distinct q (shuffled_distinct p d)

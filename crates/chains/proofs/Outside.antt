@@ -7,11 +7,12 @@ use mathlib.Core.Bool.{Bool, true, false, ◌||◌, ◌&&◌, not}
 use lib.ListN.{length}
 use lib.Dec.{eqb}
 use borrow.Author.Tests.{eqb-true, eq-eqb}
+use Rattle.std.proofs.lemmas.Bool.{or_parts}
 use Rattle.definitions.specs.Table.{pick}
 use Rattle.definitions.specs.Form.{among}
 use Rattle.definitions.specs.Chain.{Link, end, next, Distinct, with_next, outside}
 use Rattle.definitions.specs.Lean.{any}
-use Rattle.chains.proofs.Names.{apart, nor_right, any_of, of_any}
+use Rattle.chains.proofs.Names.{apart, any_of, of_any}
 
 module _ {R : Type 0} (step : ℕ → Link R) (declared : List ℕ) where
   abbrev leads_out : ℕ → Link R → Bool
@@ -37,7 +38,7 @@ module _ {R : Type 0} (step : ℕ → Link R) (declared : List ℕ) where
     where
       go : (b : Bool) → (among m declared || among m ms) ≡ b → Distinct (pick b ms (m ∷ ms))
       go true e = d
-      go false e = (nor_right (among m declared) (among m ms) e, d)
+      go false e = ((or_parts (among m declared) (among m ms) e).1, d)
 
   with_among : (m : ℕ) (s : Link R) (ms : List ℕ) → among m (with_next declared s ms) ≡ (leads_out m s || among m ms)
   with_among m (end r) ms = refl

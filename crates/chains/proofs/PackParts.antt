@@ -1,13 +1,14 @@
 -- A checked pack's parts, and its relations by name.
-use Prim.Native.Nat.{ℕ, zero, suc, ◌+◌, ◌<◌, ◌≤◌}
+use Prim.Native.Nat.{ℕ, suc, ◌+◌, ◌<◌, ◌≤◌}
 use native.Mathlib.Omega.{arith}
 use mathlib.Core.Path.{◌≡◌, refl, ap, ◌∙◌}
 use mathlib.Core.List.{List, [], ◌∷◌, ◌++◌}
-use mathlib.Core.Bool.{Bool, true, false, ◌&&◌, ◌||◌}
+use mathlib.Core.Bool.{Bool, true, false, ◌||◌}
 use mathlib.Core.Option.{Option, none, some}
-use lib.ListN.{length, get_or, length-append, replicate}
+use lib.ListN.{length, length-append}
 use lib.Dec.{eqb, leb}
 use borrow.Author.Tests.{eq-eqb, eqb-true, leb-true}
+use Rattle.std.proofs.lemmas.Bool.{or_parts, or_right, and_parts}
 use Rattle.definitions.specs.Table.{pick, word_of, entry_of, table}
 use Rattle.definitions.specs.Table as table
 use Rattle.definitions.specs.Form.{among, allowed_here, words_all, FineAll, count, items, words_by, Fine}
@@ -17,7 +18,6 @@ use Rattle.definitions.specs.Chain.{Link, end, next, mapped}
 use Rattle.definitions.specs.Kinds.{Which, list9, list21, KindsFound, from, inherits, derived, declares, find}
 use Rattle.definitions.specs.Places.{relation_words, start_of, first_relation}
 use Rattle.pack.proofs.PackLaws.{words-length}
-use Rattle.chains.proofs.Names.{neither, or_right}
 use Rattle.chains.proofs.RelationForm.{RelationsFine, relations_words, Kept, kept}
 
 -- ---- the words before the relations
@@ -27,13 +27,9 @@ unfolding defaulted_name words_by
 defaulted-length n [] low = refl
 defaulted-length n (d ∷ ds) low = ap suc (defaulted-length n ds (above low d))
 
-both : (a b : Bool) → (a && b) ≡ true → (a ≡ true) × (b ≡ true)
-both true b e = (refl, e)
-both false b e = let z : ◌≡◌ {A = ℕ} 0 1 = cc in absurd (omega arith)
-
 names_bounds : (v : ℕ) → allowed_here 0 2 v ≡ true → (1 ≤ v) × (v ≤ 4096)
 unfolding allowed_here entry_of table
-names_bounds v e = let h = both (leb 1 v) (leb v 4096) e in (leb-true 1 v h.0, leb-true v 4096 h.1)
+names_bounds v e = let h = and_parts (leb 1 v) (leb v 4096) e in (leb-true 1 v h.0, leb-true v 4096 h.1)
 
 relations-most : (n v : ℕ) → allowed_here n 5 v ≡ true → v ≤ 512
 unfolding allowed_here entry_of table
@@ -88,14 +84,6 @@ parts p w =
       relations-fine = f.1.1.0.2;
       rule-count = f.1.1.1.0.0.0;
     }
-
-abbrev pub zeros : List ℕ
-zeros = replicate 4096 0
-
-pub zero_at : (m v : ℕ) → ◌≡◌ {A = ℕ} (get_or (replicate m 0) v 0) 0
-zero_at zero v = refl
-zero_at (suc m) zero = refl
-zero_at (suc m) (suc v) = zero_at m v
 
 pub opening_length : (p : Pack) → length (opening p) ≡ 3 + length p.defaulted
 opening_length p = let e = defaulted-length p.names p.defaulted 0 in omega arith
@@ -201,7 +189,7 @@ each-found n all used (r ∷ rs) f h = (here, each-found n all (r.name ∷ used)
     here = h r.name (kept n (λ v. among v used) r f.0).fresh ∙ rw (eq-eqb r.name r.name refl) refl
 
     later : (m : ℕ) → (eqb m r.name || among m used) ≡ false → find m all ≡ find m rs
-    later m e = let o = neither (eqb m r.name) (among m used) e in h m o.1 ∙ rw o.0 refl
+    later m e = let o = or_parts (eqb m r.name) (among m used) e in h m o.1 ∙ rw o.0 refl
 
 pub all_found : (p : Pack) → WellFormed p → EachFound p.relations p.relations
 all_found p w = each-found p.names p.relations [] p.relations (parts p w).relations-fine (λ m e. refl)
@@ -210,7 +198,7 @@ all_found p w = each-found p.names p.relations [] p.relations (parts p w).relati
 pub not_again : (n m : ℕ) (used : List ℕ) (rs : List Relation) → RelationsFine n used rs → among m used ≡ true → find m rs ≡ none
 unfolding find
 not_again n m used [] f e = refl
-not_again n m used (r ∷ rs) f e = go (eqb m r.name) refl (not_again n m (r.name ∷ used) rs f.1 (or_right (eqb m r.name) e))
+not_again n m used (r ∷ rs) f e = go (eqb m r.name) refl (not_again n m (r.name ∷ used) rs f.1 (or_right (eqb m r.name) _ e))
   where
     go : (b : Bool) → eqb m r.name ≡ b → find m rs ≡ none → pick b (some r) (find m rs) ≡ none
     go true h ih =

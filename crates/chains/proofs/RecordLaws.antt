@@ -9,6 +9,8 @@ use lib.ListN.{length, get_or, length-append, length-map}
 use lib.Seq.{get_or_at}
 use lib.Dec.{eqb}
 use borrow.Author.Tests.{eq-eqb, ne_eqb}
+use Rattle.std.proofs.lemmas.Bool.{or_left, or_right}
+use Rattle.records.proofs.DirectoryLaws.{path-words}
 use Rattle.definitions.specs.Table.{word_of, value_of}
 use Rattle.definitions.specs.Form.{among, list_or_none, count, items, repeats, words_all, words_by}
 use Rattle.definitions.specs.Records.{Hop, Derivation, Relation}
@@ -16,9 +18,8 @@ use Rattle.definitions.specs.Pack.{relation, new_name, relation_tail, name_list,
 use Rattle.definitions.specs.Places.{hops}
 use Rattle.definitions.specs.Lean.{step_names}
 use Rattle.chains.specs.Record.{value_at, kind_count, flag_at, slots_place, steps_in, path_in, entity_count}
-use Rattle.chains.proofs.Names.{or_left, or_right}
 use Rattle.chains.proofs.RelationForm.{Fitting, Kept, kept}
-use Rattle.chains.proofs.ListAt.{name_words, list-words, path-words, early, late, option-words, InWords}
+use Rattle.chains.proofs.ListAt.{name_words, list-words, early, late, option-words, InWords}
 
 -- ---- a relation that stands there
 
@@ -48,9 +49,9 @@ unfolding steps_in hop words_by
 steps-read n ws pre [] rest at e long low = refl
 steps-read n ws pre (h ∷ l) rest at e long low =
     let three : List ℕ = word_of 14 h.relation ∷ word_of 15 h.current ∷ word_of 16 h.related ∷ [] in
-    let here : value_at ws at ≡ h.relation = value_there ws pre (word_of 15 h.current ∷ word_of 16 h.related ∷ (hop_words n l ++ rest)) 14 h.relation at e long (low h.relation (or_left (among h.relation (map (λ (h : Hop). h.relation) l)) (eq-eqb h.relation h.relation refl))) in
+    let here : value_at ws at ≡ h.relation = value_there ws pre (word_of 15 h.current ∷ word_of 16 h.related ∷ (hop_words n l ++ rest)) 14 h.relation at e long (low h.relation (or_left _ (among h.relation (map (λ (h : Hop). h.relation) l)) (eq-eqb h.relation h.relation refl))) in
     let more : steps_in ws (at + 3) (length l) ≡ map (λ (h : Hop). h.relation) l =
-    steps-read n ws (pre ++ three) l rest (at + 3) (e ∙ sym (append_assoc pre three (hop_words n l ++ rest))) (length-append pre three ∙ omega arith) (λ m i. low m (or_right (eqb m h.relation) i)) in
+    steps-read n ws (pre ++ three) l rest (at + 3) (e ∙ sym (append_assoc pre three (hop_words n l ++ rest))) (length-append pre three ∙ omega arith) (λ m i. low m (or_right (eqb m h.relation) _ i)) in
     rw (here, more) refl
 
 module _ (ws : List ℕ) (start n : ℕ) (r : Relation) (i : InWords ws start n r) (most : n ≤ 4096) where

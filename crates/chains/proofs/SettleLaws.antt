@@ -195,9 +195,6 @@ module _ (table marks₀ starts : List ℕ) (steps₀ fuel : ℕ) where
     pub todo : goal ≡ walks_in table fuel (drop j starts) (settled_in marks) steps
 
   module _ (asked : Settleable table marks₀ starts steps₀ fuel) where
-    pub begin : Settling marks₀ steps₀ 0
-    begin = record { within = omega arith; marked = asked.marked; long = refl; idle = asked.idle; bound = omega arith; todo = refl }
-
     module _ {marks : List ℕ} {steps j : ℕ} (s : Settling marks steps j) where
       name-here : get_or starts j 0 < length marks
       name-here = omega (arith, asked.names j, s.long)

@@ -9,10 +9,11 @@ use mathlib.Core.Option.{Option, none, some}
 use lib.ListN.{length, length-append}
 use lib.Dec.{eqb}
 use borrow.Author.Tests.{eqb-true, eqb-false, eq-eqb, ne_eqb}
+use Rattle.std.proofs.lemmas.Bool.{false_from_ne_true, or_cases, or_left, or_parts, or_right}
 use Rattle.definitions.specs.Table.{pick}
 use Rattle.definitions.specs.Form.{among}
 use Rattle.definitions.specs.Chain.{Link, end, next, Ends, here, further, ChainAnswer, ended, endless, Settled, nothing, put, Walked, walk, own, AllWalked, walk_all, Distinct, OnlyDeclaredLead, walks_from}
-use Rattle.chains.proofs.Names.{apart, or_cases, or_left, or_right, nor_right, or_swap, false_of, among-append}
+use Rattle.chains.proofs.Names.{apart, or_swap, among-append}
 
 -- how many names of a list are not on a path: with more fuel than that a walk goes on
 unseen : List ℕ → List ℕ → ℕ
@@ -60,8 +61,8 @@ module _ {R : Type 0} (along : R → R) (step : ℕ → Link R) where
     where
       go : (t : Bool) → eqb x k ≡ t → (t || among x p) ≡ true → (among x p ≡ true → (m : ℕ) × (step x ≡ next m) × (among m (k ∷ p) ≡ true))
           → (m : ℕ) × (step x ≡ next m) × (among m (n ∷ k ∷ p) ≡ true)
-      go true e j rest = (n, subst (λ y. step y ≡ next n) (sym (eqb-true x k e)) b.0, or_left (among n (k ∷ p)) (eq-eqb n n refl))
-      go false e j rest = let f = rest j in (f.0, f.1, or_right (eqb f.0 n) f.2)
+      go true e j rest = (n, subst (λ y. step y ≡ next n) (sym (eqb-true x k e)) b.0, or_left _ (among n (k ∷ p)) (eq-eqb n n refl))
+      go false e j rest = let f = rest j in (f.0, f.1, or_right (eqb f.0 n) _ f.2)
 
   -- a name on its own path never ends
   ring-endless : {n : ℕ} {r : R} → Ends along step n r → (p : List ℕ) → Behind p n → among n p ≡ true → ⊥
@@ -126,19 +127,19 @@ module _ {R : Type 0} (stuck : R) (along : R → R) (step : ℕ → Link R) wher
       → ((m : ℕ) → step n ≡ next m → (among m read || (among m (n ∷ p) || among m ns)) ≡ true) → Trail ns (n ∷ p) n read → Trail ns p n (n ∷ read)
   longer {ns} {p} {n} {read} o u leads t =
       record {
-        distinct = (among-append n read ns ∙ false_of _ (λ i. fresh (or_cases (among n read) (among n ns) i)), t.distinct);
+        distinct = (among-append n read ns ∙ false_from_ne_true _ (λ i. fresh (or_cases (among n read) (among n ns) i)), t.distinct);
         off = λ x i. at_off x (eqb x n) refl i;
         closed = λ x m i e. at_closed x m (eqb x n) refl i e;
         least = λ P k h x i. at_least P k h x (eqb x n) refl i;
       }
     where
       fresh : (among n read ≡ true) ⊎ (among n ns ≡ true) → ⊥
-      fresh (inl i) = apart (or_left (among n p) (eq-eqb n n refl)) (t.off n i)
+      fresh (inl i) = apart (or_left _ (among n p) (eq-eqb n n refl)) (t.off n i)
       fresh (inr i) = apart i u
 
       at_off : (x : ℕ) (b : Bool) → eqb x n ≡ b → (b || among x read) ≡ true → among x p ≡ false
       at_off x true e i = subst (λ y. among y p ≡ false) (sym (eqb-true x n e)) o
-      at_off x false e i = nor_right (eqb x n) (among x p) (t.off x i)
+      at_off x false e i = (or_parts (eqb x n) (among x p) (t.off x i)).1
 
       moved : (m : ℕ) → (among m read || (among m (n ∷ p) || among m ns)) ≡ true → (among m (n ∷ read) || (among m p || among m ns)) ≡ true
       moved m i = or_assoc (eqb m n) (among m read) (among m p || among m ns) ∙ or_swap (eqb m n) (among m read) (among m p || among m ns)
@@ -188,7 +189,7 @@ module _ {R : Type 0} (stuck : R) (along : R → R) (step : ℕ → Link R) wher
               counts = refl;
               answers = ended (here f);
               holds = holds-put n r ns t (ended (here f)) held;
-              found = or_left _ (or_left false (eq-eqb n n refl));
+              found = or_left _ _ (or_left _ false (eq-eqb n n refl));
             })
         at_step e u o (next m) f rest =
             let w = rest m o f in
@@ -201,17 +202,17 @@ module _ {R : Type 0} (stuck : R) (along : R → R) (step : ℕ → Link R) wher
               counts = ap suc w.counts;
               answers = a;
               holds = holds-put n (along (walk stuck along step fuel t (n ∷ p) m).answer) (w.read ++ ns) (walk stuck along step fuel t (n ∷ p) m).settled a w.holds;
-              found = or_left _ (or_left (among n w.read) (eq-eqb n n refl));
+              found = or_left _ _ (or_left _ (among n w.read) (eq-eqb n n refl));
             })
 
         at_path : t n ≡ none → among n ns ≡ false → (o : Bool) → among n p ≡ o → Rest → Goal
-        at_path e u true o rest = rw (e, o, walk) (stays stuck (endless (λ s d. ring-endless along step d p b o) refl) (or_left (among n ns) o))
+        at_path e u true o rest = rw (e, o, walk) (stays stuck (endless (λ s d. ring-endless along step d p b o) refl) (or_left _ (among n ns) o))
         at_path e u false o rest = at_step e u o (step n) refl rest
 
         -- what is settled was read before
         at_names : (o : Option R) → t n ≡ o → (i : Bool) → among n ns ≡ i → Entry n i (t n) → Rest → Goal
         at_names (some r) e true i h rest =
-            let f = h.1 in let g : h.0 ≡ r = cc in rw (e, walk) (stays r (subst (λ s. ChainAnswer along step stuck n s) g h.2) (or_right (among n p) i))
+            let f = h.1 in let g : h.0 ≡ r = cc in rw (e, walk) (stays r (subst (λ s. ChainAnswer along step stuck n s) g h.2) (or_right (among n p) _ i))
         at_names (some r) e false i h rest = let z : ◌≡◌ {A = ℕ} 0 1 = cc in absurd (omega arith)
         at_names none e true i h rest = let f = h.1 in let z : ◌≡◌ {A = ℕ} 0 1 = cc in absurd (omega arith)
         at_names none e false i h rest = at_path e i (among n p) refl rest
@@ -261,17 +262,17 @@ module _ {R : Type 0} (stuck : R) (along : R → R) (step : ℕ → Link R) wher
           where
             go : (among n read ≡ true) ⊎ (among n ns ≡ true) → (among m read || among m ns) ≡ true
             go (inl j) = closed n m j e
-            go (inr j) = or_right (among m read) (kept n m e j)
+            go (inr j) = or_right (among m read) _ (kept n m e j)
 
         also : (n : ℕ) (read : List ℕ) → (among s read || among s ns) ≡ true → (among n (s ∷ starts) || among n ns) ≡ true → (among n starts || among n (read ++ ns)) ≡ true
         also n read found i = go (eqb n s) refl i
           where
             later : (among n starts ≡ true) ⊎ (among n ns ≡ true) → (among n starts || among n (read ++ ns)) ≡ true
-            later (inl j) = or_left (among n (read ++ ns)) j
-            later (inr j) = or_right (among n starts) (among-append n read ns ∙ or_right (among n read) j)
+            later (inl j) = or_left _ (among n (read ++ ns)) j
+            later (inr j) = or_right (among n starts) _ (among-append n read ns ∙ or_right (among n read) _ j)
 
             go : (b : Bool) → eqb n s ≡ b → ((b || among n starts) || among n ns) ≡ true → (among n starts || among n (read ++ ns)) ≡ true
-            go true e j = or_right (among n starts) (subst (λ y. among y (read ++ ns) ≡ true) (sym (eqb-true n s e)) (among-append s read ns ∙ found))
+            go true e j = or_right (among n starts) _ (subst (λ y. among y (read ++ ns) ≡ true) (sym (eqb-true n s e)) (among-append s read ns ∙ found))
             go false e j = later (or_cases (among n starts) (among n ns) j)
 
         only : (P : ℕ → Bool) → Kept step P → ((n : ℕ) → (among n (s ∷ starts) || among n ns) ≡ true → P n ≡ true) → (read : List ℕ)
@@ -280,11 +281,11 @@ module _ {R : Type 0} (stuck : R) (along : R → R) (step : ℕ → Link R) wher
         only P c h read least n i = go (or_cases (among n starts) (among n (read ++ ns)) i)
           where
             earlier : (among n read ≡ true) ⊎ (among n ns ≡ true) → P n ≡ true
-            earlier (inl j) = least P c (h s (or_left (among s ns) (or_left (among s starts) (eq-eqb s s refl)))) n j
-            earlier (inr j) = h n (or_right (among n (s ∷ starts)) j)
+            earlier (inl j) = least P c (h s (or_left _ (among s ns) (or_left _ (among s starts) (eq-eqb s s refl)))) n j
+            earlier (inr j) = h n (or_right (among n (s ∷ starts)) _ j)
 
             go : (among n starts ≡ true) ⊎ (among n (read ++ ns) ≡ true) → P n ≡ true
-            go (inl j) = h n (or_left (among n ns) (or_right (eqb n s) j))
+            go (inl j) = h n (or_left _ (among n ns) (or_right (eqb n s) _ j))
             go (inr j) = earlier (or_cases (among n read) (among n ns) (sym (among-append n read ns) ∙ j))
 
     -- with nothing settled before

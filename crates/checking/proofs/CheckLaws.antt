@@ -1,14 +1,14 @@
 -- Laws of Check: what its tests and its reading come to.
 use Rattle.std.specs.Prelude.{Ok, Err}
-use Prim.Native.Nat.{ℕ, ◌+◌, ◌≤◌, ◌<◌}
+use Prim.Native.Nat.{ℕ, ◌+◌, ◌≤◌, ◌<◌, zero, suc}
 use mathlib.Core.Path.{◌≡◌, refl, ap, sym, ◌∙◌, subst}
 use mathlib.Core.List.{List}
 use native.Mathlib.Omega.{arith}
 use mathlib.Core.Bool.{Bool, true, false}
-use lib.ListN.{length, drop, get_or, drop_of_length-le, replicate, length-replicate, get_or-replicate, get_or-eq_default}
+use lib.ListN.{length, drop, get_or, drop_of_length-le, replicate, length-replicate}
 use lib.Seq.{drop-cons, get_or-drop}
-use lib.Dec.{leb, ltb}
-use borrow.Author.Tests.{le-leb, lt-leb, leb-true, ltb-true, ltb-false}
+use lib.Dec.{leb}
+use borrow.Author.Tests.{le-leb, lt-leb, leb-true}
 use Rattle.definitions.specs.declared.answer.Refusal.{Refusal}
 use Rattle.definitions.specs.Answers.{gives}
 use Rattle.pack.specs.declared.cursor.Cursor.{Cursor}
@@ -75,13 +75,14 @@ whole_long : (len : ℕ) (a : ℕ × (ℕ × RecordsRow)) → 0 < length (words_
 unfolding layout words_by
 whole_long len a = omega arith
 
+pub zero_at : (m v : ℕ) → ◌≡◌ {A = ℕ} (get_or (replicate m 0) v 0) 0
+zero_at zero v = refl
+zero_at (suc m) zero = refl
+zero_at (suc m) (suc v) = zero_at m v
+
 -- a cleared array of 512 words and one for each name
 pub clear-zeros : (n k : ℕ) → 512 + n ≤ k → Clear n (replicate k 0)
-clear-zeros n k h = record { long = omega (arith, length-replicate {A = ℕ} k 0); clear = λ v. go v (ltb (512 + v) k) refl }
-  where
-    go : (v : ℕ) (b : Bool) → ltb (512 + v) k ≡ b → get_or {A = ℕ} (replicate k 0) (512 + v) 0 ≡ 0
-    go v true e = get_or-replicate {A = ℕ} k (512 + v) 0 0 (ltb-true (512 + v) k e)
-    go v false e = get_or-eq_default (replicate k 0) 0 (omega (arith, length-replicate {A = ℕ} k 0, ltb-false (512 + v) k e))
+clear-zeros n k h = record { long = omega (arith, length-replicate {A = ℕ} k 0); clear = λ v. zero_at k (512 + v) }
 
 pub said-most : (ws : List ℕ) → names_said ws ≤ 4096
 unfolding names_said

@@ -1,5 +1,5 @@
 -- The first defaulted name with equal kinds is that of a checked pack.
-use Prim.Native.Nat.{ℕ, suc, ◌+◌, ◌<◌, ◌≤◌}
+use Prim.Native.Nat.{ℕ, ◌+◌, ◌<◌, ◌≤◌}
 use native.Mathlib.Omega.{arith}
 use mathlib.Core.Path.{◌≡◌, refl, ap, sym, ◌∙◌}
 use mathlib.Core.List.{List, [], ◌∷◌, ◌++◌, append_assoc}
@@ -15,7 +15,6 @@ use Rattle.definitions.specs.Tables.{Tables}
 use Rattle.definitions.specs.Resolving.{equal_kinds, defaulted_equal}
 use Rattle.directions.specs.Words.{derived_in, equal_in, first_equal}
 use Rattle.chains.specs.Record.{value_at}
-use Rattle.definitions.specs.Answers.{table_from}
 
 module _ (ws : List ℕ) (n : ℕ) (most : n ≤ 4096) where
   abbrev NamesFine : ℕ → List ℕ → Type 0
@@ -33,15 +32,6 @@ module _ (ws : List ℕ) (n : ℕ) (most : n ≤ 4096) where
 
   front_length : (front : List ℕ) (w at : ℕ) → at ≡ length front → at + 1 ≡ length (front ++ (w ∷ []))
   front_length front w at e = let l = length-append front (w ∷ []) in omega arith
-
-  names-are : (ns : List ℕ) (low : ℕ) (front rest : List ℕ) (at : ℕ) → at ≡ length front → NamesFine low ns → ws ≡ front ++ (name_words low ns ++ rest)
-      → table_from (value_at ws) at (length ns) ≡ ns
-  unfolding defaulted_name Fine words_by
-  names-are [] low front rest at e f s = refl
-  names-are (v ∷ ns) low front rest at e f s =
-      let q = name_at front (name_words (above low v) ns ++ rest) v at f.0.0.0 e s in
-      let r = names-are ns (above low v) (front ++ (word_of 4 v ∷ [])) rest (suc at) (omega (arith, front_length front (word_of 4 v) at e)) f.1 (after front (name_words (above low v) ns ++ rest) (word_of 4 v) s) in
-      rw (q, r) refl
 
   module _ (acts : List ℕ) (T : Tables) (same : (m : ℕ) → derived_in ws (get_or acts m 0) ≡ T.derived m) where
     equal_is : (m : ℕ) → equal_in ws acts m ≡ equal_kinds (T.derived m)
@@ -75,10 +65,6 @@ module _ (ws : List ℕ) (p : Pack) (h : read ws ≡ yes p) where
   count-is : value_at ws 2 ≡ length p.defaulted
   unfolding value_at
   count-is = ap (λ (l : List ℕ). value_of (get_or l 2 0)) stands ∙ omega (arith, its.defaulted-count)
-
-  -- the names as they stand in the words
-  pub defaulted-are : table_from (value_at ws) 3 (value_at ws 2) ≡ p.defaulted
-  defaulted-are = ap (table_from (value_at ws) 3) count-is ∙ names-are ws p.names its.most p.defaulted 0 front rest 3 refl its.defaulted-fine stands
 
   pub first_equal-is : (acts : List ℕ) (T : Tables) → ((m : ℕ) → derived_in ws (get_or acts m 0) ≡ T.derived m)
       → first_equal ws acts 3 (value_at ws 2) ≡ defaulted_equal T p.defaulted

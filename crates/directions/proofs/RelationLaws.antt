@@ -2,16 +2,17 @@
 use Prim.Native.Nat.{ℕ, suc, ◌+◌, ◌<◌}
 use native.Mathlib.Omega.{arith}
 use mathlib.Core.Path.{◌≡◌, refl, ap, sym, ◌∙◌}
-use mathlib.Core.List.{List, [], ◌∷◌, ◌++◌, append-nil}
+use mathlib.Core.List.{List, [], ◌∷◌, ◌++◌, append-nil, append_assoc}
 use mathlib.Core.Option.{Option, none, some}
 use lib.ListN.{length, length-append, length-map}
+use Rattle.records.proofs.DirectoryLaws.{path-words}
 use Rattle.definitions.specs.Table.{word_of, judgment}
 use Rattle.definitions.specs.Form.{count, items, words_by, Fine}
 use Rattle.definitions.specs.Tree.{Tree, root, tree, tree_words, size}
 use Rattle.definitions.specs.Records.{Derivation, Relation, Pack}
 use Rattle.definitions.specs.Pack.{WellFormed, new_name, name_list, optional_derivation, relation_tail, relation, path, derivation, member}
 use Rattle.definitions.specs.Places.{relation_words}
-use Rattle.chains.proofs.ListAt.{name_words, list-words, path-words, early, late, derived-fine, option-words}
+use Rattle.chains.proofs.ListAt.{name_words, list-words, early, late, derived-fine, option-words}
 use Rattle.definitions.specs.Direction.{membership, or_else}
 use Rattle.definitions.specs.Answers.{Outcome, done, refused, map_done}
 use Rattle.definitions.specs.ResolvingTrees.{Citing, resolve_tree}
@@ -31,9 +32,7 @@ lead n r d =
     ∷ (name_words r.slot_kinds ++ (word_of 11 1 ∷ (early n d ++ (word_of 21 (length d.slot_entities) ∷ name_words d.slot_entities))))
 
 gather : (A B C T : List ℕ) (w : ℕ) → A ++ (B ++ (w ∷ (C ++ T))) ≡ (A ++ (B ++ (w ∷ C))) ++ T
-gather [] [] C T w = refl
-gather [] (b ∷ B) C T w = ap (λ (l : List ℕ). b ∷ l) (gather [] B C T w)
-gather (a ∷ A) B C T w = ap (λ (l : List ℕ). a ∷ l) (gather A B C T w)
+gather A B C T w = simp append_assoc
 
 late_words : (n : ℕ) (d : Derivation) → Fine (tree n 32 judgment) d.predicate → late n d ≡ tree_words d.predicate
 unfolding root

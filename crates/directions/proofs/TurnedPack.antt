@@ -3,10 +3,11 @@ use Prim.Native.Nat.{ℕ, suc, ◌+◌}
 use native.Mathlib.Omega.{arith}
 use mathlib.Core.Path.{◌≡◌, refl, ap, sym, ◌∙◌, fun_ext}
 use mathlib.Core.List.{List, [], ◌∷◌, ◌++◌, append_assoc}
-use mathlib.Core.Bool.{Bool, true, false, ◌||◌}
+use mathlib.Core.Bool.{true}
 use lib.ListN.{length, length-append}
 use lib.Dec.{eqb}
 use borrow.Author.Tests.{eq-eqb}
+use Rattle.std.proofs.lemmas.Bool.{or_right}
 use Rattle.definitions.specs.Table.{word_of}
 use Rattle.definitions.specs.Form.{among, words_all, FineAll, count, items, words_by, Fine}
 use Rattle.definitions.specs.Records.{Relation, Rule, Pack}
@@ -121,11 +122,7 @@ here : (v : ℕ) (us : List ℕ) → among v (v ∷ us) ≡ true
 here v us = rw (eq-eqb v v refl) refl
 
 later : (v u : ℕ) (us : List ℕ) → among v us ≡ true → among v (u ∷ us) ≡ true
-later v u us e = rw e (go (eqb v u))
-  where
-    go : (b : Bool) → (b || true) ≡ true
-    go true = refl
-    go false = refl
+later v u us e = or_right (eqb v u) _ e
 
 keep_from : (p : Pack) (used : List ℕ) (l : List Relation) → RelationsFine p.names used l → ((r : Relation) → among r.name (declared l) ≡ true → among r.name (declared p.relations) ≡ true) → EachKeeps (RelationKeeps p) l
 keep_from p used [] h k = tt

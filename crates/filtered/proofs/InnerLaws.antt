@@ -12,6 +12,8 @@ use lib.Seq.{get_or-set_same, get_or-set_other, get_or-drop, drop_at, length-tak
 use borrow.Rule.Slice.PartMut.{mid_of, post_of, put_mid, mid_len, same_len_mid}
 use lib.Dec.{eqb, ltb}
 use borrow.Author.Tests.{eq-eqb, eqb-true, eqb-false, lt-ltb, le-ltb, ltb-true, ltb-false}
+use Rattle.std.proofs.lemmas.Bool.{or_left, or_right}
+use Rattle.checking.proofs.CheckLaws.{zero_at}
 use Rattle.definitions.specs.Table.{pick}
 use Rattle.definitions.specs.Table as table
 use Rattle.definitions.specs.Form.{among}
@@ -22,7 +24,6 @@ use Rattle.chains.specs.DirectoryWord.{word_in, declared_by, declared_in, declar
 use Rattle.chains.specs.Settle.{link_at, Leading, settled_in, walks_in, WalkedHere, SettledAll}
 use Rattle.chains.specs.PackDirectory.{ClearTable}
 use Rattle.filtered.specs.Said.{direct_of, direct_by, inner_entry, plainly, direct_in, InnerAsked, InnerWords, InnerSettleable, InnerSettled, answered, InnerMarked}
-use Rattle.chains.proofs.Names.{or_left, or_right}
 use Rattle.chains.proofs.MappedLaws.{AnswersMapped, answers-mapped}
 use Rattle.filtered.proofs.FilteredLaws.{inner-own}
 use Rattle.chains.proofs.AllKindsLaws.{clear-nothing, settled_mark}
@@ -36,10 +37,10 @@ up_to-length (suc n) = ap suc (up_to-length n)
 
 among-counted : (n k i : ℕ) → i < k → among (n + i) (table_from plainly n k) ≡ true
 among-counted n zero i h = absurd (omega arith)
-among-counted n (suc k) zero h = or_left (among (n + 0) (table_from plainly (suc n) k)) (eq-eqb (n + 0) n (omega arith))
+among-counted n (suc k) zero h = or_left _ (among (n + 0) (table_from plainly (suc n) k)) (eq-eqb (n + 0) n (omega arith))
 among-counted n (suc k) (suc i) h =
     let e : suc n + i ≡ n + suc i = omega arith in
-    or_right (eqb (n + suc i) n) (ap (λ (m : ℕ). among m (table_from plainly (suc n) k)) (sym e) ∙ among-counted (suc n) k i (omega arith))
+    or_right (eqb (n + suc i) n) _ (ap (λ (m : ℕ). among m (table_from plainly (suc n) k)) (sym e) ∙ among-counted (suc n) k i (omega arith))
 
 -- ---- the words, one after another
 
@@ -150,11 +151,7 @@ module _ (taken : List ℕ) (n : ℕ) (asked : InnerAsked taken n) (dir : List �
       go false e = omega (arith, whole-past plainly n j (ltb-false j n e), asked.least)
 
   lent-unseen : ClearTable n (replicate n 0)
-  lent-unseen = record { long = omega (arith, length-replicate {A = ℕ} n 0); short = omega (arith, length-replicate {A = ℕ} n 0, asked.most); clear = λ m. go m (ltb m n) refl }
-    where
-      go : (m : ℕ) (c : Bool) → ltb m n ≡ c → get_or (replicate {A = ℕ} n 0) m 0 ≡ 0
-      go m true e = get_or-replicate n m 0 0 (ltb-true m n e)
-      go m false e = get_or-eq_default (replicate {A = ℕ} n 0) 0 (omega (arith, length-replicate {A = ℕ} n 0, ltb-false m n e))
+  lent-unseen = record { long = omega (arith, length-replicate {A = ℕ} n 0); short = omega (arith, length-replicate {A = ℕ} n 0, asked.most); clear = zero_at n }
 
   over_index : AnswersMapped answered none same (inner_step n (direct_in taken)) 0 same (link_at index) (up_to n) names
   over_index = answers-mapped answered none 0 refl same same (λ r. refl) (inner_step n (direct_in taken)) (link_at index) steps-are (up_to n) names

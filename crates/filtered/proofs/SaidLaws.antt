@@ -2,7 +2,7 @@
 use Prim.Native.Nat.{ℕ, ◌+◌, ◌-◌, ◌*◌, ◌/◌, ◌%◌, ◌<◌, ◌≤◌}
 use mathlib.Core.Path.{◌≡◌, refl, sym, ◌∙◌}
 use mathlib.Core.Bool.{Bool, true, false}
-use mathlib.Core.Option.{none, some}
+use mathlib.Core.Option.{none, some, none-ne-some}
 use native.Mathlib.Omega.{arith}
 use lib.Dec.{eqb}
 use borrow.Author.Tests.{eq-eqb, ne_eqb, eqb-true, eqb-false, le-ltb, le-leb, lt-leb}
@@ -14,9 +14,6 @@ use Rattle.definitions.specs.Filtered.{or_none}
 use Rattle.chains.specs.DirectoryWord.{declared_by}
 use Rattle.filtered.specs.Taking.{option_in}
 use Rattle.filtered.specs.Said.{direct_of, direct_by, inner_entry, inner_of, KnownName}
-
-none-some : {a : ℕ} → none ≡ some a → ⊥
-none-some q = let z : ◌≡◌ {A = ℕ} 0 1 = cc in omega arith
 
 -- a word of the directory that has a name for its place and a list 1 behind it
 ends_at : (e : ℕ) → e < 4096 → declared_by (e + 8192) ≡ e + 1
@@ -38,14 +35,14 @@ module _ (x : ℕ) where
     where
       go : (b : Bool) → eqb (direct_of x) 16777215 ≡ b → none ≡ pick b none (some (direct_of x)) → direct_of x ≡ 16777215
       go true e q = eqb-true (direct_of x) 16777215 e
-      go false e q = absurd (none-some q)
+      go false e q = absurd (none-ne-some _ q)
 
   pub is-direct : {d : ℕ} → some d ≡ direct_by x → (d ≡ direct_of x) × (d ≡ 16777215 → ⊥)
   unfolding direct_by
   is-direct {d = d} q = go (eqb (direct_of x) 16777215) refl q
     where
       go : (b : Bool) → eqb (direct_of x) 16777215 ≡ b → some d ≡ pick b none (some (direct_of x)) → (d ≡ direct_of x) × (d ≡ 16777215 → ⊥)
-      go true e q = absurd (none-some (sym q))
+      go true e q = absurd (none-ne-some _ (sym q))
       go false e q = let s : d ≡ direct_of x = cc in (s, λ z. eqb-false (direct_of x) 16777215 e (sym s ∙ z))
 
   pub said-direct : (o : code.Option ℕ) → option_in o ≡ direct_by x → unwrap_or o 16777215 ≡ direct_of x

@@ -3,7 +3,7 @@ use Prim.Native.Nat.{ℕ, zero, suc, ◌+◌, ◌-◌, ◌<◌, ◌≤◌}
 use native.Mathlib.Omega.{arith}
 use mathlib.Core.Path.{◌≡◌, refl, ap, sym, ◌∙◌, subst, fun_ext}
 use mathlib.Core.List.{List, [], ◌∷◌}
-use mathlib.Core.Bool.{Bool, true, false, ◌||◌, ◌&&◌, not}
+use mathlib.Core.Bool.{Bool, true, false, ◌||◌, ◌&&◌, not, and-false}
 use mathlib.Core.Option.{Option, none, some}
 use lib.ListN.{length, get_or}
 use lib.Dec.{eqb, ltb, leb}
@@ -53,12 +53,8 @@ module _ (b : Bool) where
       go : (c : Bool) → pick (eqb (pick c 1 0) 1) 1 0 ≡ yes_no (c && true)
       go true = refl
       go false = refl
-  unresolved-known (k ∷ ks) = go (any (λ x. not (eqb x k)) ks) ∙ ap yes_no (sym (never b))
+  unresolved-known (k ∷ ks) = go (any (λ x. not (eqb x k)) ks) ∙ ap yes_no (sym (and-false b))
     where
-      never : (c : Bool) → (c && false) ≡ false
-      never true = refl
-      never false = refl
-
       go : (c : Bool) → ◌≡◌ {A = ℕ} (pick (eqb (pick c several (2 + k)) 1) 1 0) 0
       go true = refl
       go false = rw (ne_eqb (2 + k) 1 (λ e. omega arith)) refl

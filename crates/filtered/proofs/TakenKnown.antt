@@ -3,12 +3,13 @@ use Prim.Native.Nat.{ℕ, suc, ◌+◌, ◌*◌, ◌<◌, ◌≤◌}
 use native.Mathlib.Omega.{arith}
 use mathlib.Core.Path.{◌≡◌, refl, ap, sym, ◌∙◌, subst}
 use mathlib.Core.List.{List, [], ◌∷◌, ◌++◌, map, append-nil, append_assoc}
-use mathlib.Core.Bool.{Bool, true, false, ◌||◌, not, or_assoc}
+use mathlib.Core.Bool.{Bool, true, false, ◌||◌, not, or_assoc, or-false, or-true}
 use mathlib.Core.Option.{Option, none, some}
 use lib.ListN.{length, get_or, take, drop, set, length-set, get_or-map, get_or-eq_default}
 use lib.Seq.{get_or-set_same, get_or-set_other}
 use lib.Dec.{eqb, ltb}
 use borrow.Author.Tests.{eq-eqb, ne_eqb, eqb-true, eqb-false, lt-ltb, le-ltb, ltb-true, ltb-false}
+use Rattle.std.proofs.lemmas.Bool.{or_left, or_right}
 use Rattle.definitions.specs.Table.{pick, value_of}
 use Rattle.definitions.specs.Table as table
 use Rattle.definitions.specs.Form.{among}
@@ -28,7 +29,6 @@ use Rattle.filtered.specs.Acts.{act_part, act_list, acts_from}
 use Rattle.filtered.specs.Taking.{several, known, named_after, taken_after, take_at, taken_by, kind_marked, taken_in, RelationsRead, NamesLow, Filled}
 use Rattle.filtered.proofs.ActLaws.{part_is, list-is}
 use Rattle.pack.proofs.PackLaws.{words-read}
-use Rattle.chains.proofs.Names.{or_left, or_right, or_false, or_true}
 use Rattle.chains.proofs.PackParts.{parts, EachFound, all_found}
 use Rattle.chains.proofs.ListAt.{InWords, place-holds}
 use Rattle.chains.proofs.RecordLaws.{slots_at, current-there, entity-there}
@@ -49,7 +49,7 @@ named-known b (k ∷ ks) = go (any (λ x. not (eqb x k)) ks)
     go false = rw (ne_eqb (2 + k) 0 (λ e. omega arith)) refl
 
 any_last : (f : ℕ → Bool) (ks : List ℕ) (k : ℕ) → any f (ks ++ (k ∷ [])) ≡ (any f ks || f k)
-any_last f [] k = or_false (f k)
+any_last f [] k = or-false (f k)
 any_last f (j ∷ ks) k = ap (λ (b : Bool). f j || b) (any_last f ks k) ∙ sym (or_assoc (f j) (any f ks) (f k))
 
 kind-known : (ks : List ℕ) (k : ℕ) → k < 16777216 → taken_after (known true ks) (some k) ≡ known true (ks ++ (k ∷ []))
@@ -135,7 +135,7 @@ module _ (kind : ℕ → ℕ → Option ℕ) where
     take-known : (t : List ℕ) (n : ℕ) (o : Option Derivation) (b : Bool) (ks : List ℕ) → e < length t → get_or t e 0 ≡ known b ks
         → get_or (table_after n o t) e 0 ≡ known (b || names_entity e o) (ks ++ takes_by e n o)
     unfolding take_at
-    take-known t n none b ks l h = h ∙ rw (append-nil ks, or_false b) refl
+    take-known t n none b ks l h = h ∙ rw (append-nil ks, or-false b) refl
     take-known t n (some d) b ks l h = go (entity_is d.entity e) refl
       where
         k : Option ℕ
@@ -149,14 +149,14 @@ module _ (kind : ℕ → ℕ → Option ℕ) where
             → get_or (pick (ltb d.entity (length t)) (set t d.entity (taken_after (named_after (get_or t d.entity 0)) k)) t) e 0 ≡ known (b || c) (ks ++ pick c (listed k) [])
         go true q =
             let m : d.entity ≡ e = entity-is d.entity e q in
-            rw (m, lt-ltb e (length t) l, or_true b)
+            rw (m, lt-ltb e (length t) l, or-true b)
             (get_or-set_same t e (taken_after (named_after (get_or t e 0)) k) 0 l ∙ ap (λ (x : ℕ). taken_after (named_after x) k) h ∙ more-known b ks k (fits n d.current))
         go false q =
-            kept_or (ltb d.entity (length t)) refl (entity_not d.entity e small q) ∙ h ∙ rw (or_false b, append-nil ks) refl
+            kept_or (ltb d.entity (length t)) refl (entity_not d.entity e small q) ∙ h ∙ rw (or-false b, append-nil ks) refl
 
     relations-known : (l : List Relation) (t : List ℕ) (b : Bool) (ks : List ℕ) → e < length t → get_or t e 0 ≡ known b ks
         → get_or (after_all l t) e 0 ≡ known (b || any (λ (r : Relation). names_entity e r.derivation) l) (ks ++ taken_of e l)
-    relations-known [] t b ks l h = h ∙ rw (append-nil ks, or_false b) refl
+    relations-known [] t b ks l h = h ∙ rw (append-nil ks, or-false b) refl
     relations-known (r ∷ rs) t b ks l h =
         let c : Bool = names_entity e r.derivation in
         let js : List ℕ = takes_by e r.name r.derivation in
@@ -169,11 +169,11 @@ taken_alike : (kind : ℕ → ℕ → Option ℕ) (all : List Relation) (e : ℕ
     → taken_of kind e l ≡ taken_from all e l
 taken_alike kind all e [] h = refl
 taken_alike kind all e (r ∷ l) h =
-    rw (go r.derivation, taken_alike kind all e l (λ n i slot. h n (or_right (eqb n r.name) i) slot)) refl
+    rw (go r.derivation, taken_alike kind all e l (λ n i slot. h n (or_right (eqb n r.name) _ i) slot)) refl
   where
     go : (o : Option Derivation) → takes_by kind e r.name o ≡ filtered.takes all e r.name o
     go none = refl
-    go (some d) = ap (λ (k : Option ℕ). pick (entity_is d.entity e) (listed k) []) (h r.name (or_left (among r.name (declared l)) (eq-eqb r.name r.name refl)) d.current)
+    go (some d) = ap (λ (k : Option ℕ). pick (entity_is d.entity e) (listed k) []) (h r.name (or_left _ (among r.name (declared l)) (eq-eqb r.name r.name refl)) d.current)
 
 value-fits : (l : List ℕ) (slot : ℕ) → get_or (map value_of l) slot 0 < 16777216
 value-fits l slot = rw (get_or-map value_of l slot 0) (omega arith)

@@ -111,9 +111,6 @@ module _ (ws starts slots names acts₀ t₀ : List ℕ) where
     pub lists : (m : ℕ) → act_list (get_or acts m 0) ≡ act_list (get_or acts₀ m 0)
     pub long : length acts ≡ length acts₀
 
-  pub begin : Reading acts₀ t₀ 0
-  begin = record { acting = refl; taking = refl; lists = λ m. refl; long = refl }
-
   module _ {acts t : List ℕ} {j : ℕ} (s : Reading acts t j) where
     pub read_all : length names ≤ j → RelationsRead ws starts slots names acts₀ t₀ acts t
     unfolding taken_in acts_from

@@ -4,11 +4,12 @@ use native.Mathlib.Omega.{arith}
 use mathlib.Core.Path.{◌≡◌, refl, ap, sym, ◌∙◌, fun_ext, subst}
 use mathlib.Core.Logic.{inl, inr}
 use mathlib.Core.List.{List, [], ◌∷◌, ◌++◌}
-use mathlib.Core.Bool.{Bool, true, false}
+use mathlib.Core.Bool.{Bool, true, false, or-false}
 use mathlib.Core.Option.{Option, none, some}
 use lib.ListN.{length, get_or}
 use lib.Dec.{eqb}
 use borrow.Author.Tests.{eq-eqb, ne_eqb, eqb-true}
+use Rattle.std.proofs.lemmas.Bool.{or_cases}
 use Rattle.definitions.specs.Table.{pick}
 use Rattle.definitions.specs.Table as table
 use Rattle.definitions.specs.Form.{among}
@@ -20,7 +21,7 @@ use Rattle.records.specs.declared.directory.Layout.{Layout}
 use Rattle.chains.specs.Record.{value_at, kind_count, flag_at, path_in}
 use Rattle.chains.specs.DirectoryWord.{Reaches, starts_in}
 use Rattle.chains.specs.PackDirectory.{ClearTable, IsDirectory, record_of}
-use Rattle.chains.proofs.Names.{apart, among-append, or_cases, or_false, both_ways}
+use Rattle.chains.proofs.Names.{apart, among-append, both_ways}
 use Rattle.chains.proofs.PackParts.{parts, find_kept}
 use Rattle.chains.proofs.ListAt.{InWords}
 use Rattle.chains.proofs.RecordLaws.{no_flag, a_flag, source-there, steps-there}
@@ -78,7 +79,7 @@ source-low n source m low i = go (eqb source table.none) refl i
   where
     go : (b : Bool) → eqb source table.none ≡ b → among m (pick b [] (source ∷ [])) ≡ true → m < n
     go true e j = apart j refl
-    go false e j = subst (λ (v : ℕ). v < n) (sym (eqb-true m source (sym (or_false (eqb m source)) ∙ j))) (low e)
+    go false e j = subst (λ (v : ℕ). v < n) (sym (eqb-true m source (sym (or-false (eqb m source)) ∙ j))) (low e)
 
 edges-low : (p : Pack) → WellFormed p → (n m : ℕ) → among m (edges p.relations n) ≡ true → m < p.names
 unfolding edges

@@ -1,21 +1,22 @@
 -- Lean is found by computation: more edges than names that have any lead to no further name.
 use Prim.Native.Nat.{ℕ, zero, suc, ◌≤◌}
 use native.Mathlib.Omega.{arith}
-use mathlib.Core.Path.{◌≡◌, refl, sym, subst}
+use mathlib.Core.Path.{◌≡◌, refl, sym, subst, ◌∙◌}
 use mathlib.Core.Logic.{◌⊎◌, inl, inr}
 use mathlib.Core.List.{List, [], ◌∷◌}
-use mathlib.Core.Bool.{Bool, true, false, ◌||◌}
+use mathlib.Core.Bool.{Bool, true, false, ◌||◌, or-false}
 use mathlib.Core.Option.{some}
 use lib.ListN.{length, length-map}
 use lib.Dec.{eqb}
 use borrow.Author.Tests.{eqb-true, eq-eqb}
+use Rattle.std.proofs.lemmas.Bool.{or_cases, or_left, or_right}
 use Rattle.definitions.specs.Table.{pick}
 use Rattle.definitions.specs.Form.{among}
 use Rattle.definitions.specs.Records.{Relation}
 use Rattle.definitions.specs.Chain.{Distinct}
 use Rattle.definitions.specs.Kinds.{find, declared}
 use Rattle.definitions.specs.Lean.{Leads, straight, onward, leads_within, edges_at, edges, leans}
-use Rattle.chains.proofs.Names.{apart, or_cases, or_left, or_right, any_of, of_any, no_more}
+use Rattle.chains.proofs.Names.{apart, any_of, of_any, no_more}
 use Rattle.kinds.specs.Search.{Computes}
 
 module _ (edges : ℕ → List ℕ) where
@@ -42,11 +43,7 @@ module _ (edges : ℕ → List ℕ) where
 
   -- a route from the place on where it meets a name
   cut : {b m : ℕ} {ns : List ℕ} (a : ℕ) → Route b m ns → Distinct ns → among a ns ≡ true → Straightest b a
-  cut {b} {m} a (last e) d i = (m ∷ [], subst (λ x. Route b x (m ∷ [])) (sym (eqb-true a m (go (eqb a m) i))) (last e), d)
-    where
-      go : (t : Bool) → (t || false) ≡ true → t ≡ true
-      go true h = h
-      go false h = h
+  cut {b} {m} a (last e) d i = (m ∷ [], subst (λ x. Route b x (m ∷ [])) (sym (eqb-true a m (sym (or-false (eqb a m)) ∙ i))) (last e), d)
   cut {b} {m} a (then {ns = ns} e r) d i = go (eqb a m) refl i (cut a r d.1)
     where
       go : (t : Bool) → eqb a m ≡ t → (t || among a ns) ≡ true → (among a ns ≡ true → Straightest b a) → Straightest b a
@@ -65,17 +62,13 @@ module _ (edges : ℕ → List ℕ) where
   route_within : {b a : ℕ} {ns : List ℕ} → Route b a ns → (k : ℕ) → length ns ≤ k → leads_within edges k a b ≡ true
   unfolding leads_within
   route_within (last e) zero h = absurd (omega arith)
-  route_within {b} {a} (last e) (suc k) h = any_of (passes k b) b (edges a) e (or_left (leads_within edges k b b) (eq-eqb b b refl))
+  route_within {b} {a} (last e) (suc k) h = any_of (passes k b) b (edges a) e (or_left _ (leads_within edges k b b) (eq-eqb b b refl))
   route_within (then e r) zero h = absurd (omega arith)
-  route_within {b} {a} (then {m = m} e r) (suc k) h = any_of (passes k b) m (edges a) e (or_right (eqb m b) (route_within r k (omega arith)))
+  route_within {b} {a} (then {m = m} e r) (suc k) h = any_of (passes k b) m (edges a) e (or_right (eqb m b) _ (route_within r k (omega arith)))
 
   module _ (ds : List ℕ) (only : (a m : ℕ) → among m (edges a) ≡ true → among a ds ≡ true) where
     route_in : {b a : ℕ} {ns : List ℕ} → Route b a ns → (n : ℕ) → among n ns ≡ true → among n ds ≡ true
-    route_in {b} {a} (last e) n i = go (eqb n a) refl i
-      where
-        go : (t : Bool) → eqb n a ≡ t → (t || false) ≡ true → among n ds ≡ true
-        go true q j = subst (λ x. among x ds ≡ true) (sym (eqb-true n a q)) (only a b e)
-        go false q j = apart j refl
+    route_in {b} {a} (last e) n i = subst (λ x. among x ds ≡ true) (sym (eqb-true n a (sym (or-false (eqb n a)) ∙ i))) (only a b e)
     route_in {a = a} (then {m = m} {ns = ns} e r) n i = go (eqb n a) refl i (route_in r n)
       where
         go : (t : Bool) → eqb n a ≡ t → (t || among n ns) ≡ true → (among n ns ≡ true → among n ds ≡ true) → among n ds ≡ true

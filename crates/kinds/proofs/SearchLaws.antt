@@ -4,16 +4,17 @@ use native.Mathlib.Omega.{arith}
 use mathlib.Core.Path.{◌≡◌, refl, ap, sym, ◌∙◌, subst}
 use mathlib.Core.Logic.{◌⊎◌, inl, inr}
 use mathlib.Core.List.{List, [], ◌∷◌, ◌++◌}
-use mathlib.Core.Bool.{Bool, true, false, ◌||◌}
+use mathlib.Core.Bool.{Bool, true, false, ◌||◌, or-false}
 use lib.ListN.{length, get_or, set, length-set}
 use lib.Seq.{get_or-set_same, get_or-set_other}
 use lib.Dec.{eqb}
 use borrow.Author.Tests.{eq-eqb, ne_eqb, eqb-true, eqb-false}
+use Rattle.std.proofs.lemmas.Bool.{or_left, or_right}
 use Rattle.definitions.specs.Table.{pick}
 use Rattle.definitions.specs.Form.{among, repeats}
 use Rattle.definitions.specs.Lean.{Leads, straight, onward, source_name}
 use Rattle.chains.specs.Record.{value_at, steps_in, path_in}
-use Rattle.chains.proofs.Names.{apart, among-append, or_left, or_right, or_false}
+use Rattle.chains.proofs.Names.{apart, among-append}
 use Rattle.chains.specs.DirectoryWord.{Reaches, starts_in}
 use Rattle.kinds.specs.Edges.{derived_edges, edges_in, edges_by}
 use Rattle.kinds.proofs.EdgeLaws.{at_none}
@@ -107,7 +108,7 @@ module _ (l : List ℕ) (n : ℕ) (inside : n < length l) where
 -- what is asked for one name
 module _ (n : ℕ) (s : Search) (asked : Reachable (n ∷ []) s) where
   pub inside : n < length s.marks
-  inside = asked.below n (or_left false (eq-eqb n n refl))
+  inside = asked.below n (or_left _ false (eq-eqb n n refl))
 
   pub fits : HasRoom s → get_or s.marks n 0 ≡ 0 → s.count < length s.queue
   fits r z = omega (arith, r, unmarked-set s.marks n inside z)
@@ -140,13 +141,13 @@ module _ (n : ℕ) (s : Search) (asked : Reachable (n ∷ []) s) where
 
 -- of a row of names the first, and the others once it is reached
 pub first-asked : {n : ℕ} {ns : List ℕ} {s : Search} → Reachable (n ∷ ns) s → Reachable (n ∷ []) s
-first-asked {n} {ns} r = record { below = λ m i. r.below m (or_left (among m ns) (sym (or_false (eqb m n)) ∙ i)) }
+first-asked {n} {ns} r = record { below = λ m i. r.below m (or_left _ (among m ns) (sym (or-false (eqb m n)) ∙ i)) }
 
 pub others-asked : {ns ms : List ℕ} {s t : Search} → Reachable ns s → Onward s t → ((m : ℕ) → among m ms ≡ true → among m ns ≡ true) → Reachable ms t
 others-asked r o h = record { below = λ m i. omega (arith, r.below m (h m i), o.marks) }
 
 pub rest-asked : {n : ℕ} {ns : List ℕ} {s : Search} → Reachable (n ∷ ns) s → Reachable ns (reached n s)
-rest-asked {n} {s = s} r = others-asked r (reach_onward n s (first-asked r)) (λ m i. or_right (eqb m n) i)
+rest-asked {n} {s = s} r = others-asked r (reach_onward n s (first-asked r)) (λ m i. or_right (eqb m n) _ i)
 
 pub all-onward : (ns : List ℕ) (s : Search) → Reachable ns s → Onward s (reached_all ns s)
 unfolding reached_all
@@ -172,9 +173,6 @@ module _ {source : ℕ} (s : Search) where
   module _ (u : source ≡ 16777215 → ⊥) where
     named : source_name source ≡ source ∷ []
     named = rw (ne_eqb source 16777215 u) refl
-
-    pub source-asked : Reachable (source_name source) s → Reachable (source ∷ []) s
-    source-asked r = subst (λ (ns : List ℕ). Reachable ns s) named r
 
     pub a_source : {t : Search} → t ≡ reached source s → t ≡ reached_all (source_name source) s
     unfolding reached_all
@@ -241,12 +239,12 @@ module _ (ws : List ℕ) (at : ℕ) {ns : List ℕ} {source : ℕ} (s : Search) 
     joined = subst (λ (l : List ℕ). Reachable l s) apart_there r
 
     pub source_first : Reachable (source_name source) s
-    source_first = others-asked joined (stays s) (λ m i. among-append m (source_name source) (path_in ws (at + 2)) ∙ or_left (among m (path_in ws (at + 2))) i)
+    source_first = others-asked joined (stays s) (λ m i. among-append m (source_name source) (path_in ws (at + 2)) ∙ or_left _ (among m (path_in ws (at + 2))) i)
 
     pub path_then : {t : Search} → t ≡ reached_all (source_name source) s → Reachable (path_in ws (at + 2)) t
     path_then {t} d =
         subst (Reachable (path_in ws (at + 2))) (sym d)
-        (others-asked joined (all-onward (source_name source) s source_first) (λ m i. among-append m (source_name source) (path_in ws (at + 2)) ∙ or_right (among m (source_name source)) i))
+        (others-asked joined (all-onward (source_name source) s source_first) (λ m i. among-append m (source_name source) (path_in ws (at + 2)) ∙ or_right (among m (source_name source)) _ i))
 
     pub both_entered : {t u : Search} → t ≡ reached_all (source_name source) s → u ≡ reached_all (path_in ws (at + 2)) t → u ≡ reached_all ns s
     both_entered {t} {u} d f =
@@ -294,8 +292,8 @@ module _ (edges : ℕ → List ℕ) (a : ℕ) where
   unfolding reached_all
   all_sound [] s room r l w = w
   all_sound (n ∷ ns) s room r l w =
-      all_sound ns (reached n s) (room_kept room (reach_onward n s (first-asked r))) (rest-asked r) (λ m i. l m (or_right (eqb m n) i))
-      (reach_sound n s room (first-asked r) (l n (or_left (among n ns) (eq-eqb n n refl))) w)
+      all_sound ns (reached n s) (room_kept room (reach_onward n s (first-asked r))) (rest-asked r) (λ m i. l m (or_right (eqb m n) _ i))
+      (reach_sound n s room (first-asked r) (l n (or_left _ (among n ns) (eq-eqb n n refl))) w)
 
 -- one edge more
 leads_on : {edges : ℕ → List ℕ} {a n m : ℕ} → Leads edges a n → among m (edges n) ≡ true → Leads edges a m

@@ -9,6 +9,7 @@ use mathlib.Core.Option.{none, some}
 use lib.ListN.{length, length-append}
 use lib.Dec.{leb, eqb}
 use borrow.Author.Tests.{eq-eqb, ne_eqb, eqb-true, leb-true}
+use Rattle.std.proofs.lemmas.List.{nil_from_length}
 use Rattle.definitions.specs.declared.answer.Refusal.{Refusal}
 use Rattle.definitions.specs.declared.table.Values.{Values}
 use Rattle.definitions.specs.declared.table.Values.TheVariants.{FromOne}
@@ -256,10 +257,6 @@ module _ {S A : Type 0} (step : S → A → S) (W : S → A → List ℕ) (P : S
           back = λ at ws l at' rest e. back-all n s at ws l at' rest e;
         }
 
-nil_of : {A : Type 0} (l : List A) → length l ≡ 0 → [] ≡ l
-nil_of [] h = refl
-nil_of (a ∷ l) h = absurd (omega arith)
-
 -- a holder's whole has the count and the elements that it was made of, and is made of its count and elements
 whole_of : {A C : Type 0} (H : Holder A C) (c : C) → says H (count H c) ≡ length (items H c) → whole H (count H c) (items H c) ≡ c
 unfolding count items says whole
@@ -280,7 +277,7 @@ parts_of list r n v l s a h = (h, refl)
 parts_of {A} list_or_none r n v l s a h = go (eqb v 16777215) refl h
   where
     go : (b : Bool) → eqb v 16777215 ≡ b → length l ≡ pick b 0 v → (count list_or_none (pick b none (some l)) ≡ v) × (items list_or_none (pick b none (some l)) ≡ l)
-    go true e h = (sym (eqb-true v 16777215 e), nil_of l h)
+    go true e h = (sym (eqb-true v 16777215 e), sym (nil_from_length l h))
     go false e h = (h, refl)
 parts_of {A} option r n v l s a h = go l h
   where

@@ -8,6 +8,7 @@ use lib.ListN.{get_or}
 use mathlib.Core.Bool.{Bool, true, false, ◌&&◌}
 use lib.Dec.{ltb, leb, eqb}
 use borrow.Author.Tests.{lt-ltb, le-ltb, eq-eqb, ne_eqb, ltb-true, ltb-false, leb-true, leb-false, eqb-true}
+use Rattle.std.proofs.lemmas.Bool.{false≢true}
 use Rattle.definitions.specs.declared.table.Values.{Values}
 use Rattle.definitions.specs.declared.table.Values.TheVariants.{Unused, Any, AtMost, FromOne, AtMostOrNone, Total, Name, NameOrNone}
 use Rattle.definitions.specs.Table.{pick, kind_of, value_of, word_of, entry_of, table}
@@ -28,11 +29,6 @@ unfolding entry_of table
 of_its_sort k h s =
     let e : pick (ltb (entry_of k).sort 2) (eqb (k / 32) (2 + (entry_of k).sort)) true ≡ true = in_range (λ (k : ℕ). pick (ltb (entry_of k).sort 2) (eqb (k / 32) (2 + (entry_of k).sort)) true) true 0 256 refl k (omega arith) h in
     eqb-true (k / 32) (2 + (entry_of k).sort) (rw (lt-ltb (entry_of k).sort 2 s) at e)
-
--- and below 128
-pub high_none : (k : ℕ) → 128 ≤ k → k < 256 → (entry_of k).sort ≡ 2
-unfolding entry_of table
-high_none k l h = in_range (λ (k : ℕ). (entry_of k).sort) 2 128 128 refl k l h
 
 -- a sort is scalar, judgment or none
 pub sorted : (k : ℕ) → k < 256 → (entry_of k).sort ≤ 2
@@ -58,9 +54,6 @@ most_small k h {m} q =
     let e : leb (most_in (entry_of k).values) 1024 ≡ true = in_range (λ (k : ℕ). leb (most_in (entry_of k).values) 1024) true 0 256 refl k (omega arith) h in
     let s : most_in (entry_of k).values ≤ 1024 = leb-true (most_in (entry_of k).values) 1024 e in
     rw q at s
-
-no : {A : Type 0} → false ≡ true → A
-no e = let z : ◌≡◌ {A = ℕ} 0 1 = cc in absurd (omega arith)
 
 -- ---- words below an end
 
@@ -103,14 +96,14 @@ module _ (n kind : ℕ) where
     ends-name k x y v h = rw (lt-ltb (entry_of kind).sort 2 s) (rw named (below-name kind n v))
       where
         go : (r : Values) → (entry_of kind).values ≡ r → head_rule r ≡ true → r ≡ Name
-        go Unused e t = no t
+        go Unused e t = absurd (false≢true t)
         go Any e t = absurd (x e)
         go (AtMost m) e t = absurd (y m e)
-        go (FromOne m) e t = no t
-        go (AtMostOrNone m) e t = no t
-        go Total e t = no t
+        go (FromOne m) e t = absurd (false≢true t)
+        go (AtMostOrNone m) e t = absurd (false≢true t)
+        go Total e t = absurd (false≢true t)
         go Name e t = refl
-        go NameOrNone e t = no t
+        go NameOrNone e t = absurd (false≢true t)
 
         named : (entry_of kind).values ≡ Name
         named = go (entry_of kind).values refl (head_rules kind k s)
@@ -163,7 +156,7 @@ module _ (n sort w : ℕ) where
     where
       go : (b : Bool) → eqb (entry_of (kind_of w)).sort sort ≡ b → (entry_of (kind_of w)).sort ≡ sort
       go true q = eqb-true (entry_of (kind_of w)).sort sort q
-      go false q = no (sym (rw q at e))
+      go false q = absurd (false≢true (sym (rw q at e)))
 
   pub begun_value : true ≡ may_begin n sort w → allowed_here n (kind_of w) (value_of w) ≡ true
   unfolding may_begin

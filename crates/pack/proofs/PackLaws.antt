@@ -7,6 +7,7 @@ use mathlib.Core.Bool.{Bool, true, false, ◌&&◌}
 use lib.ListN.{length}
 use lib.Dec.{leb, eqb}
 use borrow.Author.Tests.{eq-eqb, eqb-true, le-leb, leb-true}
+use Rattle.std.proofs.lemmas.Bool.{and_parts}
 use Rattle.definitions.specs.declared.answer.Refusal.{Refusal}
 use Rattle.definitions.specs.Table.{pick, word_of, table, entry_of}
 use Rattle.definitions.specs.Form.{Read, got, refused, allowed_here, read_by, words_by, Fine}
@@ -50,10 +51,6 @@ pick_yes : (b : Bool) (x : Reading) (r : Refusal) {p : Pack} → pick b x (refus
 pick_yes true x r e = (refl, e)
 pick_yes false x r e = absurd (no_pack e)
 
-and_true : (a b : Bool) → (a && b) ≡ true → (a ≡ true) × (b ≡ true)
-and_true true b e = (refl, e)
-and_true false b e = (e, cc)
-
 -- a pack that was read: its edition, the first word's value and the place behind it
 record Whole (e : Edition) (m : Read (ℕ × (ℕ × RecordsRow))) (p : Pack) : Type 0 where
   first : ℕ
@@ -89,7 +86,7 @@ pub words-read : (ws : List ℕ) (p : Pack) → read ws ≡ yes p → Rewrites w
 unfolding read
 words-read ws p h =
     let a = pick_yes (leb 6 (length ws) && leb (length ws) 8192) _ _ h in
-    let b = and_true (leb 6 (length ws)) (leb (length ws) 8192) a.0 in
+    let b = and_parts (leb 6 (length ws)) (leb (length ws) 8192) a.0 in
     let w = whole (edition_of ws) (read_by (layout (edition_of ws) (length ws)) 0 ws) p a.1 in
     let r : read_by (layout p.edition (length ws)) 0 ws ≡ got (w.first, to_row p) w.end [] = ap (λ (e : Edition). read_by (layout e (length ws)) 0 ws) (sym w.edition) ∙ w.row in
     taken ws p w.first w.end (leb-true _ _ b.0) (leb-true _ _ b.1) ((lawful (layout p.edition (length ws))).back 0 ws _ _ [] r)

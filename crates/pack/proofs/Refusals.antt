@@ -9,6 +9,7 @@ use lib.ListN.{length, length-append}
 use mathlib.Core.Logic.{◌⊎◌, inl, inr}
 use lib.Dec.{leb, eqb}
 use borrow.Author.Tests.{eqb-false, leb-true}
+use Rattle.std.proofs.lemmas.Bool.{and_parts}
 use Rattle.definitions.specs.declared.answer.Refusal.{Refusal}
 use Rattle.definitions.specs.Answers.{gives}
 use Rattle.definitions.specs.Table.{pick, kind_of, value_of, entry_of, judgment}
@@ -244,9 +245,6 @@ unfolding layout inner
 layout_fit e len = fields_fit len _ _ (then_fit _ _ (field_fit 0 2) (λ n. records_fit n e))
 
 -- whole slices
-both : (a b : Bool) → (a && b) ≡ true → b ≡ true
-both true b e = e
-both false b e = let z : ◌≡◌ {A = ℕ} 0 1 = cc in absurd (omega arith)
 
 -- One of Check's refusals of a slice: its place is within the slice, or the slice's length for 3. A slice of over 8,192 words is refused by 1, at 0.
 pub record CheckRefuses (ws : List ℕ) (r : Refusal) : Type 0 where
@@ -273,7 +271,7 @@ read_numbers ws r e = size (leb 6 (length ws) && leb (length ws) 8192) refl e
 
     size : (b : Bool) → (leb 6 (length ws) && leb (length ws) 8192) ≡ b
         → pick b (complete (edition_of ws) (read_by (layout (edition_of ws) (length ws)) 0 ws)) (refuse (record { number = 1; place = 0; name = 0; other = 0 })) ≡ refuse r → CheckRefuses ws r
-    size true h e = placed (leb-true _ _ (both (leb 6 (length ws)) _ h)) (found (read_by (layout (edition_of ws) (length ws)) 0 ws) refl e)
+    size true h e = placed (leb-true _ _ (and_parts (leb 6 (length ws)) _ h).1) (found (read_by (layout (edition_of ws) (length ws)) 0 ws) refl e)
     size false h e =
         let s : record { number = 1; place = 0; name = 0; other = 0 } ≡ r = cc in
         let one : Within (length ws) (record { number = 1; place = 0; name = 0; other = 0 }) =

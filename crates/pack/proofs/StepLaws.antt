@@ -6,19 +6,19 @@ use Prim.Native.Nat.{ℕ, suc, ◌+◌, ◌-◌, ◌≤◌, ◌<◌}
 use native.Mathlib.Omega.{arith}
 use mathlib.Core.Path.{◌≡◌, refl, ap, sym, ◌∙◌}
 use mathlib.Core.List.{List, [], ◌∷◌}
-use mathlib.Core.Bool.{Bool, true, false, ◌&&◌}
-use mathlib.Core.Option.{Option}
+use mathlib.Core.Bool.{Bool, true, false}
 use lib.ListN.{length, drop, get_or, drop_of_length-le, replicate}
 use lib.Seq.{drop-cons, drop-drop, drop-append_seam}
 use lib.Dec.{leb}
 use borrow.Author.Tests.{ne_eqb, leb-true}
+use Rattle.std.proofs.lemmas.Bool.{and_parts}
 use Rattle.definitions.specs.declared.answer.Refusal.{Refusal}
 use Rattle.pack.specs.declared.cursor.Cursor.{Cursor}
 use Rattle.pack.specs.Readers.{Step}
 use Rattle.pack.specs.Readers.{on}
 use Rattle.definitions.specs.declared.table.Values.TheVariants.{AtMost, FromOne}
 use Rattle.definitions.specs.Table.{kind_of, value_of, entry_of}
-use Rattle.definitions.specs.Form.{Read, got, refused, bind, map_read, allowed_here, read_word, only, read_field, read_all, read_each, Holder, option, says, whole, Suits, Form, field, word, each, guarded, ◌▹◌, counted_from, one_and_more, via, words_by, Fine, read_by}
+use Rattle.definitions.specs.Form.{Read, got, refused, bind, map_read, allowed_here, read_word, only, read_field, read_all, read_each, Holder, says, whole, Suits, Form, field, word, each, guarded, ◌▹◌, counted_from, one_and_more, via, words_by, Fine, read_by}
 use Rattle.pack.specs.Readers.{step_by, step_of, skip_over, itself, field_step, next_word, word_step, skip_all}
 use Rattle.pack.proofs.FormLaws.{lawful}
 
@@ -122,12 +122,6 @@ module _ (rejects : ℕ → ℕ) (n : ℕ) (f : ℕ × ℕ → ℕ) (ws : List �
 pub field-word : (n kind : ℕ) (f : ℕ → ℕ) (ws : List ℕ) (at : ℕ) → step_of (λ t. f t.1) (word (only (kind ∷ [])) n) ws at ≡ step_of f (field n kind) ws at
 unfolding step_of read_by
 field-word n kind f ws at = sym (step_map f (λ t. t.1) (read_word (only (kind ∷ [])) n at (drop at ws)))
-
-pub as_word : (n kind : ℕ) (ws : List ℕ) (at : ℕ) {y : Step} → y ≡ field_step n kind ws at → y ≡ step_of (λ t. t.1) (word (only (kind ∷ [])) n) ws at
-as_word n kind ws at e = e ∙ sym (field-word n kind itself ws at)
-
-pub as_walk : (n kind : ℕ) (ws : List ℕ) (at : ℕ) {y : Step} → y ≡ skip_over (field n kind) ws at → y ≡ skip_over (word (only (kind ∷ [])) n) ws at
-as_walk n kind ws at e = e ∙ sym (field-word n kind (λ v. 0) ws at)
 
 -- what is left after a form is the list from the place after it
 rest-drop : {A : Type 0} (F : Form A) (ws : List ℕ) (at : ℕ) {a : A} {at' : ℕ} {rest : List ℕ} → read_by F at (drop at ws) ≡ got a at' rest → rest ≡ drop at' ws
@@ -236,11 +230,7 @@ module _ {X A : Type 0} (F : X → Form A) (ws : List ℕ) (at : ℕ) where
       go (got a at' ws') = rw (q a) refl
       go (refused r) = refl
 
--- a loop's invariant: what answers what is left answers what was to do
-pub by_inv : {x a b : Step} → a ≡ b → x ≡ b → x ≡ a
-by_inv e h = h ∙ sym e
-
-pred_of : (m : ℕ) → 0 < m → m ≡ suc (m - 1)
+pub pred_of : (m : ℕ) → 0 < m → m ≡ suc (m - 1)
 pred_of m h = omega arith
 
 -- as many of one entry
@@ -261,18 +251,7 @@ module _ {S A : Type 0} (step : S → A → S) (F : S → Form A) (s : S) (ws : 
   unfolding skip_all
   all_done h = let z : m ≡ 0 = omega arith in rw z refl
 
-  all_past : (n : ℕ) (a : A) (at' : ℕ) → read_by (F s) at (drop at ws) ≡ got a at' (drop at' ws) → skip_all step F (suc n) s ws at ≡ skip_all step F n (step s a) ws at'
-  unfolding skip_all
-  all_past n a at' h = rw h (step_map (λ l. 0) (λ l. a ∷ l) (read_all step (λ u b vs. read_by (F u) b vs) n (step s a) at' (drop at' ws)))
-
   module _ (h : 0 < m) (f : A → ℕ) {y : Step} (e : y ≡ step_of f (F s) ws at) where
-    -- the next state is a function of the number that is kept
-    pub all-next : (g : ℕ → S) → ((a : A) → step s a ≡ g (f a)) → {v : ℕ} {k : Cursor} → y ≡ on v k → skip_all step F m s ws at ≡ skip_all step F (m - 1) (g v) ws k.at
-    all-next g q {v} {k} o =
-        let t = went f (F s) ws at e o in
-        ap (λ (n : ℕ). skip_all step F n s ws at) (pred_of m h) ∙ all_past (m - 1) t.value k.at t.found
-        ∙ ap (λ (u : S). skip_all step F (m - 1) u ws k.at) (q t.value ∙ ap g t.kept)
-
     pub all-stop : {r : Refusal} → y ≡ Err r → y ≡ skip_all step F m s ws at
     unfolding skip_all step_of
     all-stop {r} o = o ∙ sym (ap (λ (n : ℕ). skip_all step F n s ws at) (pred_of m h) ∙ rw (step_no f (read_by (F s) at (drop at ws)) (sym e ∙ o)))
@@ -303,33 +282,9 @@ pub at_most : (n kind m : ℕ) → (entry_of kind).values ≡ AtMost m → (v : 
 unfolding allowed_here
 at_most n kind m r v e = leb-true v m (rw r at e)
 
-both : (a b : Bool) → (a && b) ≡ true → (a ≡ true) × (b ≡ true)
-both true b e = (refl, e)
-both false b e = (e, cc)
-
 pub from_one : (n kind m : ℕ) → (entry_of kind).values ≡ FromOne m → (v : ℕ) → allowed_here n kind v ≡ true → (1 ≤ v) × (v ≤ m)
 unfolding allowed_here
-from_one n kind m r v e = let b = both (leb 1 v) (leb v m) (rw r at e) in (leb-true 1 v b.0, leb-true v m b.1)
-
--- a flag and what it says
-module _ {A : Type 0} (n kind : ℕ) (flag : (entry_of kind).values ≡ AtMost 1) (F : Form A) (ws : List ℕ) (at : ℕ) {y : Step} (e : y ≡ field_step n kind ws at) where
-  abbrev optional : Form (Option A)
-  optional = counted_from {S = Unit {0}} option n kind flag (λ u a. u) (λ u. F) tt
-
-  pub optional_none : {v : ℕ} {k : Cursor} → y ≡ on v k → v ≡ 0 → on 0 k ≡ skip_over optional ws at
-  unfolding says
-  optional_none {v} {k} o z = by-counted option n kind flag _ _ _ ws at e o (all_done _ _ _ ws k.at v (omega arith))
-
-  pub optional_some : {v : ℕ} {k : Cursor} {x : Step} → y ≡ on v k → (v ≡ 0 → ⊥) → x ≡ skip_over F ws k.at → x ≡ skip_over optional ws at
-  unfolding says skip_all step_of
-  optional_some {v} {k} {x} o z h =
-      let l : v ≤ 1 = at_most n kind 1 flag v (field-fine n kind ws at e o).1 in
-      let one : v ≡ 1 = omega arith in
-      by-counted option n kind flag _ _ _ ws at e o (rw one (go (read_by F k.at (drop k.at ws)) h))
-    where
-      go : (m : Read A) → x ≡ step_by (λ a. 0) m → x ≡ step_by (λ l. 0) (bind m (λ a at' ws'. map_read (λ l. a ∷ l) (got [] at' ws')))
-      go (got a at' ws') h = h
-      go (refused r) h = h
+from_one n kind m r v e = let b = and_parts (leb 1 v) (leb v m) (rw r at e) in (leb-true 1 v b.0, leb-true v m b.1)
 
 -- a count, one, and more
 module _ {A B : Type 0} (n kind most : ℕ) (rule : (entry_of kind).values ≡ FromOne most) (F : Form A) (G : Form B) (ws : List ℕ) (at : ℕ) {y : Step} (e : y ≡ field_step n kind ws at) where

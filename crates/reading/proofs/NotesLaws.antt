@@ -3,19 +3,20 @@ use Prim.Native.Nat.{ℕ, zero, suc, ◌+◌, ◌%◌, ◌≤◌, ◌<◌}
 use native.Mathlib.Omega.{arith}
 use mathlib.Core.Path.{◌≡◌, refl, ap, sym, ◌∙◌}
 use mathlib.Core.List.{List, [], ◌∷◌, ◌++◌, map, map-append}
-use mathlib.Core.Bool.{Bool, true, false, ◌||◌}
-use lib.ListN.{length, drop, get_or, set, length-append, length-map, length-set}
+use mathlib.Core.Bool.{Bool, true, false, ◌||◌, or-true}
+use lib.ListN.{length, get_or, set, length-append, length-map, length-set}
 use lib.Seq.{sets, get_or-set_same, set-set, set_comm}
 use lib.Dec.{eqb}
+use Rattle.std.proofs.lemmas.Bool.{true≢false}
+use Rattle.std.proofs.lemmas.List.{set-get_or}
 use Rattle.definitions.specs.declared.table.Follows.{Follows}
 use Rattle.definitions.specs.Table.{pick, entry_of, fields_of, children_of}
 use Rattle.definitions.specs.Form.{word, only, FineEach, Fine}
-use Rattle.pack.proofs.FormLaws.{lawful}
 use Rattle.pack.proofs.EachFollows.{where_true}
 use Rattle.definitions.specs.Tree.{Tree, Forest, node, more, of_forest, heads, last_field, fields, follow, tree, size, sizes}
 use Rattle.definitions.specs.Tree as trees
 use Rattle.reading.specs.Notes.{look_by, look_of, noted, Note, within, context_of, note_code, notes_of, notes_in}
-use Rattle.reading.specs.Noting.{State, losing, push, next_note, in_next, past, child_in, note_tree, note_forest, Came, push_all, NotesLeft}
+use Rattle.reading.specs.Noting.{losing, push, next_note, in_next, past, child_in, note_tree, note_forest, push_all}
 
 -- ---- numbers noted one after the other
 
@@ -46,10 +47,6 @@ all_append [] ys d = refl
 all_append (x ∷ xs) ys d = all_append xs ys (push x d)
 
 -- in one run of stores, and the count
-set_own : (d : List ℕ) → set d 0 (get_or d 0 0) ≡ d
-set_own [] = refl
-set_own (x ∷ d) = refl
-
 sets_first : (xs d : List ℕ) (j a b : ℕ) → 0 < j → set (sets (set d 0 a) j xs) 0 b ≡ set (sets d j xs) 0 b
 sets_first [] d j a b h = set-set d 0 a b
 sets_first (x ∷ xs) d j a b h =
@@ -57,7 +54,7 @@ sets_first (x ∷ xs) d j a b h =
 
 pub all_sets : (xs d : List ℕ) → 0 < length d → get_or d 0 0 + length xs ≤ 8192 → push_all xs d ≡ set (sets d (get_or d 0 0 + 1) xs) 0 (get_or d 0 0 + length xs)
 unfolding push
-all_sets [] d l h = let z : get_or d 0 0 + 0 ≡ get_or d 0 0 = omega arith in sym (rw z (set_own d))
+all_sets [] d l h = let z : get_or d 0 0 + 0 ≡ get_or d 0 0 = omega arith in sym (rw z (set-get_or d 0 0))
 all_sets (x ∷ xs) d l h =
     let g = push-count x d l (omega arith) in
     let i : next_note d ≡ get_or d 0 0 + 1 = omega arith in
@@ -77,13 +74,6 @@ loses inside true true = omega arith
 loses inside true false = refl
 loses inside false true = omega arith
 loses inside false false = refl
-
-or_true : (b : Bool) → b || true ≡ true
-or_true true = refl
-or_true false = refl
-
-no : {A : Type 0} → true ≡ false → A
-no e = let z : ◌≡◌ {A = ℕ} 0 1 = cc in absurd (omega arith)
 
 -- a node inside which its children stand is noted, and they lose the membership
 pub record Opens (w : Follows) : Type 0 where
@@ -106,7 +96,7 @@ unfolding child_in
 child-in w by b i inside lost d n = go (look_by w).opens refl
   where
     go : (o : Bool) → (look_by w).opens ≡ o → pick (look_by w).opens (in_next d + context_of inside lost % 8192) (pick by (losing (context_of inside lost)) (context_of inside lost)) ≡ context_of (pick (look_by w).opens i inside) (lost || by)
-    go true e = rw (e, b e, or_true lost, n e, no_base inside lost) (omega arith)
+    go true e = rw (e, b e, or-true lost, n e, no_base inside lost) (omega arith)
     go false e = rw e (loses inside lost by)
 
 -- ---- trees
@@ -136,7 +126,7 @@ shut : (k : ℕ) → noted k ≡ false → (look_by (entry_of k).follows).opens 
 shut k q = go (look_by (entry_of k).follows).opens refl
   where
     go : (o : Bool) → (look_by (entry_of k).follows).opens ≡ o → o ≡ false
-    go true e = no (sym (or_noted k (opens (entry_of k).follows e).noted) ∙ q)
+    go true e = absurd (true≢false (sym (or_noted k (opens (entry_of k).follows e).noted) ∙ q))
     go false e = refl
 
 noted-node : (b : Bool) (k v : ℕ) → noted k ≡ b → (fs : List (ℕ × ℕ)) (f : Forest) → length fs ≡ length (fields_of (entry_of k).follows) → Noteds f → (i inside : ℕ) (lost : Bool) (at : ℕ) (d : List ℕ)
@@ -164,8 +154,8 @@ noted-node false k v q fs f s deep i inside lost at d l e room =
     let p : at + 1 + length (fields_of w) ≡ at + 1 + length fs = omega (arith, s) in
     let z : at + 1 + length fs + sizes f ≡ at + (1 + length fs + sizes f) = omega arith in
     let o = shut k q in
-    let a : child_in w (look_by w).first (context_of inside lost) d ≡ context_of inside first = child-in w (look_by w).first (λ h. no (sym h ∙ o)) i inside lost d (λ h. no (sym h ∙ o)) ∙ rw o refl in
-    let b : child_in w (look_by w).rest (context_of inside lost) d ≡ context_of inside rest = child-in w (look_by w).rest (λ h. no (sym h ∙ o)) i inside lost d (λ h. no (sym h ∙ o)) ∙ rw o refl in
+    let a : child_in w (look_by w).first (context_of inside lost) d ≡ context_of inside first = child-in w (look_by w).first (λ h. absurd (true≢false (sym h ∙ o))) i inside lost d (λ h. absurd (true≢false (sym h ∙ o))) ∙ rw o refl in
+    let b : child_in w (look_by w).rest (context_of inside lost) d ≡ context_of inside rest = child-in w (look_by w).rest (λ h. absurd (true≢false (sym h ∙ o))) i inside lost d (λ h. absurd (true≢false (sym h ∙ o))) ∙ rw o refl in
     rw (q, p, a, b) (deep i inside first rest (at + 1 + length fs) d l e (rw q at room) ∙ (λ y. (z y, push_all (codes (notes_in i inside first rest (at + 1 + length fs) f)) d)))
 
 mutual
@@ -240,33 +230,3 @@ mutual
   shapes trees.none n d (s ∷ sorts) h = absurd h
   shapes (more t f) n d [] h = absurd h
   shapes (more t f) n d (s ∷ sorts) h = (shaped t n d s h.0, shapes f n d sorts h.1)
-
--- ---- what a reader of a tree leaves
-
-mutual
-  unfolding note_tree size Shaped past
-
-  place-tree : (t : Tree) → Shaped t → (c at : ℕ) (d : List ℕ) → (note_tree c t (at, d)).0 ≡ at + size t
-  place-tree (node k v fs f) s c at d =
-      let w = (entry_of k).follows in
-      place_forest f s.1 (child_in w (look_by w).first c d) (child_in w (look_by w).rest c d) (at + 1 + length (fields_of w)) (pick (noted k) (push (at + 1 + c) d) d) ∙ omega (arith, s.0)
-
-  place_forest : (f : Forest) → Shapes f → (a b at : ℕ) (d : List ℕ) → (note_forest a b f (at, d)).0 ≡ at + sizes f
-  place_forest trees.none s a b at d = omega arith
-  place_forest (more t f) s a b at d =
-      let q = note_tree a t (at, d) in
-      place_forest f s.1 b b q.0 q.1 ∙ omega (arith, place-tree t s.0 a at d)
-
-pub came_left : (n left sort : ℕ) (ws : List ℕ) (at : ℕ) (d : List ℕ) (r : ℕ) (e : List ℕ) (inside : ℕ) (lost : Bool) → r ≤ 8192 → 0 < length d → get_or d 0 0 ≤ at
-    → (c : Came (tree n left sort) (λ t. note_tree (context_of inside lost) t) ws at d r e) → NotesLeft inside lost c.value at d r e
-came_left n left sort ws at d r e inside lost most l few c =
-    let t = c.value in
-    let s = shaped t n left sort ((lawful (tree n left sort)).back at (drop at ws) t r (drop r ws) c.found).fine in
-    let mine = notes_of (get_or d 0 0 + 1) inside lost at t in
-    let ends : r ≡ at + size t = sym (ap (λ (x : State). x.0) c.noted) ∙ place-tree t s (context_of inside lost) at d in
-    let w = few-tree t (get_or d 0 0 + 1) inside lost at in
-    let room : get_or d 0 0 + length mine ≤ 8192 = omega (arith, ends, w, most, few) in
-    let is : e ≡ push_all (map note_code mine) d = sym (ap (λ (x : State). x.1) c.noted) ∙ ap (λ (x : State). x.1) (noted-tree t s (get_or d 0 0 + 1) inside lost at d l refl room) in
-    let m = length-map mine note_code in
-    let g : get_or e 0 0 ≡ get_or d 0 0 + length mine = ap (λ (x : List ℕ). get_or x 0 0) is ∙ all-count (map note_code mine) d l (omega (arith, room, m)) ∙ omega (arith, m) in
-    record { ends = ends; notes = is; counts = g; few = omega (arith, g, ends, w, few); long = ap (λ (x : List ℕ). length x) is ∙ all-long (map note_code mine) d }

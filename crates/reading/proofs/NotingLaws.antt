@@ -6,6 +6,7 @@ use mathlib.Core.List.{List, [], ◌∷◌}
 use mathlib.Core.Bool.{Bool, true, false, ◌&&◌}
 use lib.Dec.{ltb}
 use lib.ListN.{length, drop, get_or, replicate}
+use native.Mathlib.Nat.{add-zero}
 use Rattle.definitions.specs.declared.table.Follows.{Follows}
 use Rattle.definitions.specs.declared.table.Follows.TheVariants.{Aggregate, Exists}
 use Rattle.pack.specs.Readers.{on}
@@ -122,9 +123,6 @@ bare_shut : (w : Follows) → fields_of w ≡ [] → (look_by w).opens ≡ false
 unfolding fields_of look_by
 bare_shut w e = alike (λ w. (look_by w).opens) (λ w. ltb 0 (length (fields_of w)) && (look_by w).opens) refl w ∙ rw e refl
 
-add_none : (a : ℕ) → a + 0 ≡ a
-add_none a = omega arith
-
 -- fields are as many words
 long-each : (n : ℕ) (ks : List (List ℕ)) (l : List (ℕ × ℕ)) → Fine (fields n ks) l → length (words_by (fields n ks) l) ≡ length ks
 unfolding fields words_by Fine
@@ -145,7 +143,7 @@ module _ (n left : ℕ) (ws : List ℕ) (b : Bool) (w : Follows) (v c at : ℕ) 
       let p = bare_shut w f in
       let g : read_by (fields n (fields_of w)) at (drop at ws) ≡ got [] at (drop at ws) = rw f (found_none ws (λ kinds. word (only kinds) n) at) in
       let k : read_by (each (tree n left) (children_of w v 0)) at (drop at ws) ≡ got h.value r (drop r ws) = rw q h.found in
-      record { value = ([], h.value); found = found_then ws (fields n (fields_of w)) _ at at r g k; noted = rw (p, f, add_none at) h.noted }
+      record { value = ([], h.value); found = found_then ws (fields n (fields_of w)) _ at at r g k; noted = rw (p, f, add-zero at) h.noted }
 
   -- fields and no children
   pub fields_came : ((last : ℕ) → children_of w v last ≡ []) → {y : Step} {u : ℕ} {k : Cursor} → y ≡ skip_over (fields n (fields_of w)) ws at → y ≡ on u k → (d : List ℕ) {e : List ℕ}

@@ -22,12 +22,9 @@ use Rattle.reading.proofs.WalkLaws.{no_on}
 use Rattle.pack.proofs.FormLaws.{clash}
 use Rattle.reading.specs.Notes.{look_by, noted}
 use Rattle.reading.specs.Faults.{later}
-use Rattle.reading.specs.Noting.{Based, Context, State, losing, push, in_next, past, child_in, note_tree, note_forest, Came, Sorted, Rows}
+use Rattle.reading.specs.Noting.{Based, State, losing, push, in_next, past, child_in, note_tree, note_forest, Came, Sorted, Rows}
 
 -- ---- bases
-
-pub based_own : (ws : List ℕ) {c : ℕ} → Context c → length ws ≤ 8192 → Based ws c
-based_own ws h l = record { few = omega arith; room = omega arith }
 
 pub based_losing : (ws : List ℕ) {c x : ℕ} → Based ws c → x ≡ losing c → Based ws x
 unfolding losing

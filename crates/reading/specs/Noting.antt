@@ -1,5 +1,5 @@
 -- The nodes that resolving looks at, noted by the readers of trees on their way, in an array whose word 0 is how many there are.
-use Rattle.std.specs.Prelude.{ℕ, ◌+◌, ◌-◌, ◌*◌, ◌/◌, ◌%◌, ◌<◌, ◌≤◌, ◌≡◌, List, [], ◌∷◌, map, Bool, length, get_or, set, drop, replicate}
+use Rattle.std.specs.Prelude.{ℕ, ◌+◌, ◌-◌, ◌*◌, ◌/◌, ◌%◌, ◌<◌, ◌≤◌, ◌≡◌, List, [], ◌∷◌, Bool, length, get_or, set, drop, replicate}
 use Rattle.pack.specs.declared.cursor.Cursor.{Cursor}
 use Rattle.pack.specs.Readers.{Step, on}
 use Rattle.definitions.specs.declared.table.Follows.{Follows}
@@ -8,7 +8,7 @@ use Rattle.definitions.specs.Form.{got, Form, each, read_by}
 use Rattle.definitions.specs.Tree.{Tree, Forest, node, more, to_forest, follow, tree, size}
 use Rattle.definitions.specs.Tree as trees
 use Rattle.pack.specs.Readers.{skip_over}
-use Rattle.reading.specs.Notes.{look_by, noted, notes_of, note_code}
+use Rattle.reading.specs.Notes.{look_by, noted}
 
 -- ---- contexts
 
@@ -114,11 +114,3 @@ After n left c ws at d r e =
 abbrev pub push_all : List ℕ → List ℕ → List ℕ
 push_all [] d = d
 push_all (x ∷ xs) d = push_all xs (push x d)
-
--- What a reader leaves that has read a tree from one place to another in a context: the codes of the tree's notes behind those that were there.
-pub record NotesLeft (inside : ℕ) (lost : Bool) (t : Tree) (at : ℕ) (d : List ℕ) (r : ℕ) (e : List ℕ) : Type 0 where
-  pub ends : r ≡ at + size t
-  pub notes : e ≡ push_all (map note_code (notes_of (get_or d 0 0 + 1) inside lost at t)) d
-  pub counts : get_or e 0 0 ≡ get_or d 0 0 + length (notes_of (get_or d 0 0 + 1) inside lost at t)
-  pub few : get_or e 0 0 ≤ r
-  pub long : length e ≡ length d

@@ -37,7 +37,7 @@ unfolding hop words_by
 hop-words n [] = refl
 hop-words n (h ∷ l) = let e = hop-words n l in omega arith
 
-path-words : (n : ℕ) (p : Option (List Hop)) → length (words_by (path n) p) ≡ 1 + 3 * hops p
+pub path-words : (n : ℕ) (p : Option (List Hop)) → length (words_by (path n) p) ≡ 1 + 3 * hops p
 unfolding path words_by count items
 path-words n none = refl
 path-words n (some l) = let e = hop-words n l in omega arith

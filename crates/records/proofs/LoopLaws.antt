@@ -16,16 +16,13 @@ use Rattle.definitions.specs.Table.{word_of, entry_of}
 use Rattle.definitions.specs.Form.{Read, got, read_field, read_all, Holder, list, count, says, whole, Suits, Form, field, counted_from, one_and_more, words_by, read_by}
 use Rattle.pack.specs.Readers.{step_of, itself, field_step, skip_all}
 use Rattle.pack.proofs.FormLaws.{map-got}
-use Rattle.pack.proofs.StepLaws.{went_same, last-stop, counted_stop, by_left, by-more, all-stop, all_done}
+use Rattle.pack.proofs.StepLaws.{went_same, last-stop, counted_stop, by_left, by-more, all-stop, all_done, pred_of}
 use Rattle.records.specs.Directory.{Noted, notes_all}
-use Rattle.records.proofs.KeptLaws.{There, step_map, there, kept_last, noted_no, noted_err, noted-there}
+use Rattle.records.proofs.KeptLaws.{There, step_map, there, kept_last, noted_err, noted-there}
 
 -- nothing is noted
 abbrev pub nothing : {A : Type 0} → ℕ → ℕ → A → Unit {0} → Unit {0}
 nothing i at a d = tt
-
-pred_of : (m : ℕ) → 0 < m → m ≡ suc (m - 1)
-pred_of m h = omega arith
 
 -- ---- the invariant
 
@@ -101,12 +98,6 @@ module _ {S A D : Type 0} {step : S → A → S} {F : S → Form A} {W : A → L
         let y : [] ≡ b.0 = cc (n) in
         sym (b.2 ∙ rw (← y) refl)
 
--- the turn of a loop that notes nothing, by what the element's reader answers
-pub read-turn : {S A : Type 0} {step : S → A → S} {F : S → Form A} {W : A → List ℕ} {same-words : (s : S) (a : A) → words_by (F s) a ≡ W a} {ws : List ℕ} {m₀ : ℕ} {s₀ : S} {at₀ m : ℕ} {s : S} {at : ℕ}
-    → Left step F W same-words nothing ws m₀ s₀ at₀ tt m s at tt → 0 < m → (f : A → ℕ) {y : Step} → y ≡ step_of f (F s) ws at → {v : ℕ} {k : Cursor} → y ≡ on v k
-    → {s' : S} → ((a : A) → f a ≡ v → step s a ≡ s') → Left step F W same-words nothing ws m₀ s₀ at₀ tt (m - 1) s' k.at tt
-read-turn left h f e o q = left_turn left h (record { answers = e; notes = λ a next rest r. refl }) o q
-
 -- ---- a count, and as many of them: stated for `search`
 
 module _ {S A C : Type 0} (H : Holder A C) (n kind : ℕ) (suits : Suits H (entry_of kind).values) (step : S → A → S) (F : S → Form A) (s : S) (g : C → ℕ) (ws : List ℕ) (at : ℕ) {y : Step} where
@@ -147,12 +138,6 @@ module _ {S A D : Type 0} {n kind : ℕ} {suits : Suits {A = A} list (entry_of k
 -- ---- a count, one, and as many more
 
 module _ {A B D : Type 0} {n kind most : ℕ} {rule : (entry_of kind).values ≡ FromOne most} {F : Form A} {G : Form B} {note : ℕ → ℕ → B → D → D} {ws : List ℕ} {at : ℕ} {y : Step} {v : ℕ} {k : Cursor} {d : D} {x : Step} {d₁ : D} {u : ℕ} {j : Cursor} {m : ℕ} {c : Cursor} {d' : D} where
-  -- a later one refused
-  pub more-refused : y ≡ field_step n kind ws at → y ≡ on v k → {f₁ : A → ℕ} {first : A → D → D} → Noted f₁ F first ws k.at d x d₁ → x ≡ on u j → LeftOf G note ws (v - 1) j.at d₁ m c.at d' → 0 < m
-      → {f : B → ℕ} {here : B → D → D} {z : Step} {e : D} → Noted f G here ws c.at d' z e → {r : Refusal} → z ≡ Err r
-      → {E : Type 0} {all : A × List B → E → E} {a b : E} → Noted (λ t. 0) (one_and_more n kind most rule F G) all ws at a z b
-  more-refused e o {f₁} h p left l {f} i q = noted_no (by-more n kind most rule F G ws at e o f₁ h.answers p (left_stop left l f i.answers q)) q
-
   -- all read
   pub noted_more : (first : ℕ → A → D → D) → y ≡ field_step n kind ws at → y ≡ on v k → Noted (λ a. 0) F (first k.at) ws k.at d x d₁ → x ≡ on u j → LeftOf G note ws (v - 1) j.at d₁ m c.at d' → m ≤ 0
       → Noted (λ t. 0) (one_and_more n kind most rule F G) (λ t d. notes_all (words_by G) note 0 (at + 1 + length (words_by F t.0)) t.1 (first (at + 1) t.0 d)) ws at d (on 0 c) d'

@@ -30,13 +30,13 @@ use Rattle.turning.specs.Notes.{Note, note_code, Held, relations_noted, rules_no
 use Rattle.turning.specs.Asked.{InWords}
 use Rattle.turning.proofs.MarkLaws.{mark_place, mark_inside, some_place}
 use Rattle.turning.proofs.KnownLaws.{notes-inside}
-use Rattle.turning.proofs.PackLaws.{held-parts, notes-few}
+use Rattle.turning.proofs.PackLaws.{held-parts}
 use Rattle.resolve.specs.declared.checked.Figures.{Figures}
 use Rattle.definitions.specs.WrittenRecords.{beginnings, other_pieces, pieces_of}
 use Rattle.resolve.specs.declared.writer.Writer.{Writer}
 use Rattle.resolve.specs.Writing.{HasRoom, Begins, Writes}
 use Rattle.resolve.specs.Finish.{Named, order_in, roots_of, block_places, RulesAsked, RulesCame, ResolveAsked, OrderAsked}
-use Rattle.resolve.proofs.WriteLaws.{nothing_written, writes_then, all_written}
+use Rattle.resolve.proofs.WriteLaws.{writes_then, all_written}
 use Rattle.resolve.proofs.OrderLaws.{others-many, others-few, roots_many, all_begin}
 
 -- ---- rules
@@ -51,9 +51,6 @@ module _ {notes : List ℕ} {from all : ℕ} {w : Writer} (a : RulesAsked notes 
     pub found : List ℕ
     pub writes : Writes w found w'
     pub todo : found ++ roots_of rest ≡ roots_of a.ns
-
-  pub roots_begin : Rooting (from + 0) w
-  roots_begin = let z : from + 0 ≡ from = omega arith in record { rest = a.ns; are = rw z a.are; many = omega (arith, a.many); there = a.there; found = []; writes = nothing_written w; todo = refl }
 
   -- a note of the part that is gone over
   pub note-there : {j : ℕ} → j < length (between from (all + 1) notes) → (from + j ≤ all) × (get_or (between from (all + 1) notes) j 0 ≡ get_or notes (from + j) 0)
@@ -156,9 +153,6 @@ module _ (ws : List ℕ) (first count : ℕ) (w : Writer) where
     pub writes : Writes w found w'
     pub todo : found ++ block_places ws at (count - i) ≡ block_places ws first count
 
-  pub walk_begin : Walking 0 first w
-  walk_begin = let z : count - 0 ≡ count = omega arith in record { within = omega arith; near = omega arith; found = []; many = refl; writes = nothing_written w; todo = ap (block_places ws first) z }
-
   module _ {i at : ℕ} {w' : Writer} (s : Walking i at w') where
     pub walk-room : HasRoom w (block_places ws first count) → i < count → w'.to + 1 ≤ length w'.out.now
     walk-room r h = omega (arith, r, blocks-long ws first count, s.writes.after, s.writes.long, s.many)
@@ -247,9 +241,6 @@ module _ {ws dir notes : List ℕ} {f : Figures} {room : ℕ} (o : OrderAsked ws
   later_in : (l : List ℕ) (ns ms : List Note) → InWords l (ns ++ ms) → InWords l ms
   later_in l [] ms g = g
   later_in l (n ∷ ns) ms g = later_in l ns ms g.2
-
-  pub noted-near : f.layout.noted ≤ 8192
-  noted-near = omega (arith, a.noted.first, notes-few p w, length-append (relations_noted p) (rules_noted p))
 
   -- the names of the relations stand at the front of the directory
   abbrev names : List ℕ

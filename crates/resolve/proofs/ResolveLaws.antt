@@ -1,11 +1,11 @@
 -- What Resolve answers and leaves, from its steps.
-use Prim.Native.Nat.{ℕ, zero, suc, ◌+◌, ◌<◌, ◌≤◌, min}
+use Prim.Native.Nat.{ℕ, ◌+◌, ◌<◌, ◌≤◌, min}
 use native.Mathlib.Omega.{arith}
 use mathlib.Core.Path.{◌≡◌, refl, ap, sym, ◌∙◌, subst}
 use mathlib.Core.List.{List, [], ◌∷◌, ◌++◌, map}
 use mathlib.Core.Bool.{Bool, true, false, ◌&&◌}
 use mathlib.Core.Option.{Option, none, some}
-use lib.ListN.{length, get_or, take, drop, replicate, length-replicate, get_or-replicate}
+use lib.ListN.{length, get_or, take, drop, replicate, length-replicate}
 use lib.Seq.{take-append_seam, take-append-le}
 use lib.Dec.{leb}
 use borrow.Author.Tests.{leb-true, leb-false, le-leb, lt-leb}
@@ -29,7 +29,7 @@ use Rattle.checking.proofs.CheckLaws.{without_notes}
 use Rattle.chains.specs.PackDirectory.{ClearTable, IsPack, IsDirectory}
 use Rattle.filtered.specs.Taking.{Filled}
 use Rattle.chains.proofs.CheckedLaws.{said-names, same-pack, short-checked}
-use Rattle.chains.proofs.EntryLaws.{directed, reaches_one, room_for}
+use Rattle.chains.proofs.EntryLaws.{directed, reaches_one}
 use Rattle.chains.proofs.DeclarationLaws.{a_record}
 use Rattle.turning.proofs.LeftLaws.{noted-there}
 use Rattle.inputs.proofs.BlocksStand.{reads_inputs}
@@ -502,11 +502,6 @@ module _ (ws lent : List ℕ) {room : ℕ} (is : room ≡ min (length lent) 8192
         leaves = e ∙ (λ i. f i ++ drop (c i) lent) ∙ sym (whole-buffer ws lent own same);
       }
 
-pub room_made : (ws : List ℕ) (many : ℕ) {room : ℕ} → room ≡ min many 8192 → RoomFor ws (replicate 8193 0) room
-room_made ws many e =
-    let a = length-replicate {A = ℕ} 8193 0 in
-    record { first = omega arith; blank = get_or-replicate {A = ℕ} 8193 0 0 0 (omega arith); noted = λ m. omega arith; fits = omega arith }
-
 -- ---- with the places of its pieces
 
 module _ {ws acts taken : List ℕ} {asked : List Bool} {places notes : List ℕ} {f : Figures} {work : List ℕ} (a : PlacedAsked ws acts taken asked places notes f work) where
@@ -532,14 +527,3 @@ module _ {ws dir acts taken : List ℕ} {asked : List Bool} {notes : List ℕ} {
 
   pub equal_refused : {name : ℕ} → found ≡ some name → (lent : List ℕ) → Err (record { number = 9; place = get_or (starts_in dir) name 0; name = name; other = 0 }) ≡ resolve_answer ws (length lent)
   equal_refused z lent = (resolve_stopped a.directory.checked lent (trees_equal (trees_asked a refl) first z []) refl).answers
-
-none_at : (k m : ℕ) → get_or (replicate k false) m false ≡ false
-none_at zero m = refl
-none_at (suc k) zero = refl
-none_at (suc k) (suc m) = none_at k m
-
--- cleared tables for so many names
-pub tables_for : (ws : List ℕ) (most : ℕ) → most ≤ 4096 → names_said ws ≤ most → TablesFor ws (replicate (512 + most) 0) (replicate most 0) (replicate most 0) (replicate most false)
-tables_for ws most few h =
-    let r = room_for {ws = ws} {n = names_said ws} most refl h few in
-    record { clear = r.clear; reaches = r.reaches; acts-lent = r.lent; taken-lent = r.lent; asked-lent = record { long = omega (arith, h, length-replicate {A = Bool} most false); clear = none_at most } }

@@ -1,5 +1,5 @@
 -- Laws of writing: what is put, and what is left to write.
-use Prim.Native.Nat.{ℕ, zero, suc, ◌+◌, ◌-◌, ◌<◌, ◌≤◌}
+use Prim.Native.Nat.{ℕ, ◌+◌, ◌-◌, ◌<◌, ◌≤◌}
 use native.Mathlib.Omega.{arith}
 use mathlib.Core.Path.{◌≡◌, refl, ap, sym, ◌∙◌, subst}
 use mathlib.Core.List.{List, [], ◌∷◌, ◌++◌, map, append_assoc, append-nil}
@@ -8,8 +8,7 @@ use lib.Seq.{get_or-drop, drop-cons, drop-drop, drop_at, take_at, take_all}
 use borrow.Author.Tests.{ne_eqb}
 use Rattle.definitions.specs.Table.{value_of, word_of}
 use Rattle.definitions.specs.Places.{names_at}
-use Rattle.definitions.specs.Answers.{table_from}
-use Rattle.chains.specs.Record.{kind_count, slots_place}
+use Rattle.chains.specs.Record.{slots_place}
 use Rattle.stamping.specs.Stamping.{names_or}
 use Rattle.filtered.specs.Taking.{ListFound}
 use Rattle.std.proofs.lemmas.List.{map_more}
@@ -18,10 +17,6 @@ use Rattle.definitions.specs.WrittenRecords.{joined, sums, beginnings}
 use Rattle.resolve.specs.declared.writer.Writer.{Writer}
 use Rattle.resolve.specs.Writing.{written, HasRoom, Begins, Writes}
 use Rattle.resolve.specs.Pieces.{from_to, list_words, put_for, piece_out, Stampable, Written, RecordPut}
-
--- nothing, and words after words
-pub nothing_written : (w : Writer) → Writes w [] w
-nothing_written w = record { same_reference = refl; long = refl; after = omega arith; holds = sym (append-nil (written w)) }
 
 pub writes_then : {w w' w'' : Writer} {a b : List ℕ} → Writes w a w' → Writes w' b w'' → Writes w (a ++ b) w''
 writes_then {w} {w'} {w''} {a} {b} p q =
@@ -38,11 +33,6 @@ room-first w a b r = omega (arith, length-append a b)
 
 pub room_then : {w w' : Writer} {a : List ℕ} (b : List ℕ) → HasRoom w (a ++ b) → Writes w a w' → HasRoom w' b
 room_then {a = a} b r p = omega (arith, length-append a b, p.after, p.long)
-
--- a table, word after word
-table_more : (f : ℕ → ℕ) (n j : ℕ) → table_from f n (suc j) ≡ table_from f n j ++ (f (n + j) ∷ [])
-table_more f n zero = let e : n + 0 ≡ n = omega arith in rw e refl
-table_more f n (suc j) = let e : suc n + j ≡ n + suc j = omega arith in rw (table_more f (suc n) j, e) refl
 
 pub mapped_next : (f : ℕ → ℕ) {w w' w'' : Writer} (names : List ℕ) {i : ℕ} → i < length names → Writes w (map f (take i names)) w' → Writes w' (f (get_or names i 0) ∷ []) w'' → Writes w (map f (take (i + 1) names)) w''
 mapped_next f {w} {w'' = w''} names {i} h p q = subst (λ (l : List ℕ). Writes w l w'') (sym (map_more f names i 0 h)) (writes_then p q)
@@ -64,13 +54,6 @@ pub list_put : (kind : ℕ) (names : List ℕ) → list_words kind (map value_of
 list_put kind names = rw (length-map names value_of, map-map (word_of 10) value_of names) refl
 
 -- ---- a record
-
-module _ (ks w : List ℕ) (place : ℕ) {count : ℕ} (e : count ≡ kind_count w 0) where
-  pub one_list : (count ≡ 0 → ⊥) → put_for ks w place ≡ from_to 0 place w ++ list_words 21 ks
-  one_list z = rw (← e, ne_eqb count 0 z) refl
-
-  pub both_lists : count ≡ 0 → put_for ks w place ≡ (from_to 0 3 w ++ list_words 9 ks) ++ (from_to 4 place w ++ list_words 21 ks)
-  both_lists z = rw (← e, z) refl
 
 pub piece_stays : (ws : List ℕ) {list : ℕ} (w : List ℕ) → list ≡ 0 → piece_out ws list w ≡ w
 unfolding piece_out
@@ -112,9 +95,6 @@ pub data Pieces (ws : List ℕ) : List ℕ → List (List ℕ) → List (List �
   no_piece : Pieces ws [] [] []
   piece : {list : ℕ} {w w' : List ℕ} {lists : List ℕ} {l l' : List (List ℕ)} → Stampable list w → w' ≡ piece_out ws list w → Pieces ws lists l l' → Pieces ws (list ∷ lists) (w ∷ l) (w' ∷ l')
 
-pub same-there : (l : List ℕ) (i d e : ℕ) → i < length l → get_or l i d ≡ get_or l i e
-same-there l i d e h = let x = drop-cons l i d h in let y = drop-cons l i e h in cc
-
 -- the first begins where those before it end, and past the last there is the end
 begins-here : (work B : List ℕ) (l : List (List ℕ)) → work ≡ B ++ joined l → get_or (beginnings (length B) l) 0 (length work) ≡ length B
 unfolding sums
@@ -137,10 +117,6 @@ module _ (ws work places lists : List ℕ) (rs : List (List ℕ)) where
     pub written : Written done out to
     pub all : done ++ l' ≡ rs
     pub size : length out ≡ length (joined rs)
-
-  -- the place is within the slice
-  room : {i start to : ℕ} {out : List ℕ} → Writing i start to out → to ≤ length out
-  room s = omega (arith, s.written.counts, s.size, ap (λ (l : List (List ℕ)). length (joined l)) s.all, ap length (joined-append s.done s.l'), length-append (joined s.done) (joined s.l'))
 
   -- the next piece
   record Facing (i start to : ℕ) (out : List ℕ) : Type 0 where

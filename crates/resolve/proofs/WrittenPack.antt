@@ -233,9 +233,6 @@ module _ {ws places lists work : List ℕ} {room : ℕ} (a : WriteAsked ws place
   pub come_long : length (joined come) ≡ room
   come_long = sym (length-set (joined come) 0 (word_of 1 room)) ∙ ap length (total-set refl) ∙ sym a.size
 
-  pub come_few : length (joined come) ≤ 8192
-  come_few = omega (arith, come_long, a.few)
-
   pub writing_begin : (out : List ℕ) → length out ≡ room → Writing ws work places lists come 0 0 0 out
   writing_begin out l =
       record {

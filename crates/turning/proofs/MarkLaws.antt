@@ -32,9 +32,6 @@ module _ {ws : List ℕ} {code : ℕ} (a : MarkAsked ws code) where
   pub some_place : 1 ≤ field_of code
   some_place = is_note a.n a.is a.near
 
-  pub place_inside : {note : taken.Note} → note ≡ note_in code → note.place < length ws
-  place_inside q = rw (read_is a.n a.is a.near q) a.there
-
 mark_long : (current : Option ℕ) (t : List Bool) → length (mark_if current t) ≡ length t
 mark_long None t = refl
 mark_long (Some name) t = length-set t name true
@@ -124,9 +121,6 @@ module _ (ws notes : List ℕ) (all : ℕ) (t₀ : List Bool) where
   pub record Marking (i : ℕ) (current : Option ℕ) (t : List Bool) : Type 0 where
     pub each : (ns : List Note) → Held notes 1 ns → all ≡ length ns → InWords ws ns → MarksLeft ns i current t
     pub wide : length t ≡ length t₀
-
-  pub marks_begin : Marking 1 None t₀
-  marks_begin = record { each = λ ns are many there. record { rest = ns; are = are; many = omega arith; there = there; left = refl }; wide = refl }
 
   module _ {i : ℕ} {current : Option ℕ} {t : List Bool} (g : Marking i current t) where
     pub record NextMark (ns : List Note) : Type 0 where

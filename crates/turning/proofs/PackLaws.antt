@@ -164,9 +164,6 @@ module _ (k : Known) (words₀ notes₀ : List ℕ) (relations all : ℕ) (a : P
         subst (λ (x : Outcome Work). EndedBy x o words notes) (as_known (relations + 1) rls (work words₀ notes₀ nowhere) ∙ ap (λ (x : ℕ). turn_notes K whole x rls (work words₀ notes₀ nowhere)) first-is)
         (t.each rls rules-held last-is rules_stand)
 
-    all-refused : {x y : Refusal} → ◌≡◌ {A = Ended} (Err x) (Err y) → x ≡ y
-    all-refused {x} {y} e = let z : x ≡ y = cc in z
-
     all_not : {x : Refusal} → ◌≡◌ {A = Ended} (Ok tt) (Err x) → ⊥
     all_not e = let z : ◌≡◌ {A = ℕ} 0 1 = cc in omega arith
 

@@ -27,9 +27,9 @@ use Rattle.directions.proofs.RuleLaws.{bodies_of, head, rule-parts}
 use Rattle.directions.proofs.RelationLaws.{lead, lead_words, lead_long, predicate_kept}
 use Rattle.directions.proofs.TurnedPack.{front, pack-words, front_long, front22, pack_words_22, front22_long, rules_keep, relations_keep}
 use Rattle.turning.specs.Notes.{Note, note, look_by, look_of, noted, within, notes_of, notes_in, notes_run, body_notes, rule_notes, derived_notes, relation_notes, relations_noted, rules_noted, notes_of_pack}
-use Rattle.turning.specs.Turns.{value_in, kind_here}
+use Rattle.turning.specs.Turns.{kind_here}
 use Rattle.turning.specs.TurnPromises.{NodeStands, RootStands, Stands, Placed}
-use Rattle.turning.proofs.FlatLaws.{kind-there, value_there}
+use Rattle.turning.proofs.FlatLaws.{kind-there}
 use Rattle.turning.proofs.RecordFlat.{kind-is, its-derivation}
 
 -- ---- kinds with slots: their first fields are the slots
@@ -69,9 +69,6 @@ module _ (ws : List ℕ) (short : length ws ≤ 8192) (n : ℕ) (most : n ≤ 40
 
     kind : kind_here ws at ≡ k
     kind = ap (λ (l : List ℕ). kind_here l at) apart ∙ kind-there front (forest_words f ++ back) k v fs at here small
-
-    value : value_in ws at ≡ v
-    value = ap (λ (l : List ℕ). value_in l at) apart ∙ value_there front (forest_words f ++ back) k v fs at here small
 
     inside : at + 1 + length fs < length ws
     inside =

@@ -5,8 +5,8 @@ use native.Mathlib.Numerals.{add-one}
 use mathlib.Core.Path.{◌≡◌, refl, ap, sym, ◌∙◌, subst}
 use mathlib.Core.List.{List, [], ◌∷◌}
 use mathlib.Core.Bool.{Bool, true, false}
-use lib.ListN.{length, get_or, set}
-use lib.Seq.{sets, drop-cons}
+use lib.ListN.{length, get_or}
+use lib.Seq.{drop-cons}
 use lib.Dec.{eqb, ltb}
 use borrow.Author.Tests.{eqb-true, eqb-false, ltb-true, ltb-false}
 use Rattle.definitions.specs.declared.table.Follows.{Follows}
@@ -211,6 +211,3 @@ tested-out k n w own keep {d} {c} {r} {x} t e =
     let f : SlotsFit d = member_fits_code ws k.tables.acts.now (value_in ws n.note.place) (member_in ws own) (value_in ws (n.note.place + 1)) (value_in ws (n.note.place + 2)) (omega arith) (omega arith) at in
     let m : d ≡ member_at k n = rw (← keep ws) (at k.tables.taken.now) in
     (ap (tested_by n) (sym q ∙ m), subst SlotsFit q f)
-
-pub two_sets : (l : List ℕ) (at a b : ℕ) → set (set l (at + 1) a) (at + 2) b ≡ sets l (at + 1) (a ∷ b ∷ [])
-two_sets l at a b = let e : at + 2 ≡ suc (at + 1) = omega arith in ap (λ (x : ℕ). set (set l (at + 1) a) x b) e

@@ -1,11 +1,11 @@
 -- Laws of words as bytes: the words of four bytes each, what a turn of storing does, and how long the lists are.
-use Prim.Native.Nat.{ℕ, zero, suc, ◌+◌, ◌*◌, ◌/◌, ◌≤◌, ◌<◌}
+use Prim.Native.Nat.{ℕ, zero, suc, ◌+◌, ◌*◌, ◌/◌, ◌<◌}
 use native.Mathlib.Omega.{arith}
-use native.Mathlib.Numerals.{add-one, towards_suc}
+use native.Mathlib.Numerals.{add-one}
 use mathlib.Core.Path.{◌≡◌, refl, ap, sym, ◌∙◌}
 use mathlib.Core.List.{List, [], ◌∷◌, ◌++◌, map, append_assoc}
 use lib.ListN.{length, take, drop, get_or}
-use lib.Seq.{drop-cons, drop-drop, take-suc, take_at, drop_at, length-take-le}
+use lib.Seq.{drop-drop, take-suc, take_at, drop_at, length-take-le}
 use borrow.Rule.Slice.PartMut.{put_mid}
 use Rattle.std.specs.Int.{w32, to_le_bytes, from_le_bytes}
 use Rattle.std.specs.Simd.{first_chunks}
@@ -18,20 +18,6 @@ words-length (a ∷ []) = refl
 words-length (a ∷ b ∷ []) = refl
 words-length (a ∷ b ∷ c ∷ []) = refl
 words-length (a ∷ b ∷ c ∷ d ∷ bytes) = omega (arith, words-length bytes)
-
--- four bytes from a place on, and the rest
-pub four : (bytes : List ℕ) (at : ℕ) → at + 4 ≤ length bytes
-    → drop at bytes ≡ get_or bytes at 0 ∷ get_or bytes (at + 1) 0 ∷ get_or bytes (at + 2) 0 ∷ get_or bytes (at + 3) 0 ∷ drop (at + 4) bytes
-four bytes at h =
-    let h0 : at < length bytes = omega arith in
-    let h1 : suc at < length bytes = omega arith in
-    let h2 : suc (suc at) < length bytes = omega arith in
-    let h3 : suc (suc (suc at)) < length bytes = omega arith in
-    simp towards_suc (rw (drop-cons bytes at 0, drop-cons bytes (suc at) 0, drop-cons bytes (suc (suc at)) 0, drop-cons bytes (suc (suc (suc at))) 0))
-
-pub words-cons : (a b c d : ℕ) (bytes : List ℕ) → words_of (a ∷ b ∷ c ∷ d ∷ bytes) ≡ word_from a b c d ∷ words_of bytes
-unfolding words_of
-words-cons a b c d bytes = refl
 
 -- the words are those of each four bytes
 pub words-fours : (bytes : List ℕ) (n : ℕ) → n ≡ length bytes / 4 → map (from_le_bytes w32) (first_chunks 4 n bytes) ≡ words_of bytes
