@@ -63,6 +63,11 @@ module _ (f : ℕ → ℕ) where
           ap (λ (l : List ℕ). get_or l j 0) s.holds ∙ table-past 0 j j (drop j out₀) (omega arith) ∙ ap (λ (i : ℕ). get_or (drop j out₀) i 0) z ∙ get_or-drop j out₀ 0 0 ∙ ap (λ (i : ℕ). get_or out₀ i 0) (add-zero j)
 
 
+      pub done : length out₀ ≤ j → out ≡ table_from f 0 (length out₀)
+      done h =
+          let e : j ≡ length out₀ = omega (arith, s.within) in
+          s.holds ∙ rw (drop_of_length-le out₀ h) (append-nil (table_from f 0 j) ∙ rw e refl)
+
 -- ---- a table of what another holds
 
 table-mapped : (f g : ℕ → ℕ) (i k : ℕ) → table_from (λ j. f (g j)) i k ≡ map f (table_from g i k)
