@@ -142,7 +142,7 @@ relaw P P' R R' p q e L =
           record { fine = p a t.fine; same = t.same; on = t.on };
     }
 
-only-kind : (k kind : ℕ) → only (kind ∷ []) k ≡ 0 → k ≡ kind
+pub only-kind : (k kind : ℕ) → only (kind ∷ []) k ≡ 0 → k ≡ kind
 only-kind k kind e = go (eqb k kind) refl e
   where
     go : (b : Bool) → eqb k kind ≡ b → ◌≡◌ {A = ℕ} (pick (b || false) 0 2) 0 → k ≡ kind

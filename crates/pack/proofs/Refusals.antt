@@ -19,7 +19,7 @@ use Rattle.definitions.specs.Records.{Edition}
 use Rattle.definitions.specs.Pack.{defaulted_name, defaulted, name_list, hop, path, chain, member, derivation, optional_derivation, relation_tail, new_name, relation, relations, body, bodies, rule, rules, item, block_items, block, blocks, records, inner, layout, Reading, yes, refuse, complete, edition_of, read, words}
 use Rattle.definitions.specs.Answers.{answer, out_of_room}
 use Rattle.definitions.specs.Checking.{check_answer, rewrite_answer}
-use Rattle.pack.proofs.FormLaws.{lawful}
+use Rattle.pack.proofs.FormLaws.{lawful, clash}
 
 -- A refusal by one of the numbers from 1 to 8, of words that end before the place `end`. By 1 its place is 0, by 3 that end, by 2 and 4 to 8 a word's.
 pub record Within (end : ℕ) (r : Refusal) : Type 0 where
@@ -35,9 +35,6 @@ pub record Within (end : ℕ) (r : Refusal) : Type 0 where
 -- a reader whose refusals are such, where `end` is the place after the last word
 abbrev Bounded : {A : Type 0} → (ℕ → List ℕ → Read A) → Type 0
 Bounded R = (at : ℕ) (ws : List ℕ) (r : Refusal) → R at ws ≡ refused r → Within (at + length ws) r
-
-no_got : {A : Type 0} {r : Refusal} {a : A} {at : ℕ} {ws : List ℕ} → ◌≡◌ {A = Read A} (got a at ws) (refused r) → ⊥
-no_got e = let z : ◌≡◌ {A = ℕ} 0 1 = cc in omega arith
 
 same-refusal : {A : Type 0} {r s : Refusal} → ◌≡◌ {A = Read A} (refused r) (refused s) → r ≡ s
 same-refusal e = cc
@@ -77,7 +74,7 @@ word_bounded rejects n t at [] r e = let z : at + 0 ≡ at = omega arith in rw (
 word_bounded rejects n t at (w ∷ ws) r e = kind (eqb (rejects (kind_of w)) 0) refl e
   where
     value : (b : Bool) → pick {A = Read (ℕ × ℕ)} b (got (kind_of w, value_of w) (at + 1) ws) (because 4 at) ≡ refused r → Within (at + length (w ∷ ws)) r
-    value true e = absurd (no_got e)
+    value true e = absurd (clash (sym e))
     value false e = plain 4 at _ r (omega arith, omega arith, λ e. omega arith) (omega arith) e
 
     kind : (b : Bool) → eqb (rejects (kind_of w)) 0 ≡ b
@@ -109,36 +106,36 @@ heads-turns sort (suc d) k = go (eqb (entry_of k).sort sort)
     go true = turned_0
     go false = turned_2
 
-map_bounded : {A B : Type 0} (f : A → B) (m : Read A) (r : Refusal) → map_read f m ≡ refused r → m ≡ refused r
-map_bounded f (got a at ws) r e = absurd (no_got e)
+pub map_bounded : {A B : Type 0} (f : A → B) (m : Read A) (r : Refusal) → map_read f m ≡ refused r → m ≡ refused r
+map_bounded f (got a at ws) r e = absurd (clash (sym e))
 map_bounded f (refused s) r e = cc
 
 field_bounded : (n kind : ℕ) → Bounded (read_field n kind)
 field_bounded n kind at ws r e = word_bounded (only (kind ∷ [])) n (only-turns (kind ∷ [])) at ws r (map_bounded (λ t. t.1) (read_word (only (kind ∷ [])) n at ws) r e)
 
 -- what is left of the words after a value, with its place, ends where they ended
-ends : {A : Type 0} (F : Form A) (at : ℕ) (ws : List ℕ) (a : A) (at' : ℕ) (rest : List ℕ) → read_by F at ws ≡ got a at' rest → at' + length rest ≡ at + length ws
-ends F at ws a at' rest e = let t = (lawful F).back at ws a at' rest e in rw (t.on, t.same, length-append) (omega arith)
+pub ends : {A : Type 0} (F : Form A) (at : ℕ) (ws : List ℕ) {a : A} {at' : ℕ} {rest : List ℕ} → read_by F at ws ≡ got a at' rest → at' + length rest ≡ at + length ws
+ends F at ws {a} {at'} {rest} e = let t = (lawful F).back at ws a at' rest e in rw (t.on, t.same, length-append) (omega arith)
 
 -- a value and then another
 bind_bounded : {A B : Type 0} (F : Form A) (k : A → ℕ → List ℕ → Read B) → Bounded (read_by F) → ((a : A) → Bounded (k a)) → Bounded (λ at ws. bind (read_by F at ws) k)
 bind_bounded {A} F k h g at ws r e = go (read_by F at ws) refl e
   where
     go : (m : Read A) → read_by F at ws ≡ m → bind m k ≡ refused r → Within (at + length ws) r
-    go (got a at' rest) q e = rw (← ends F at ws a at' rest q) (g a at' rest r e)
+    go (got a at' rest) q e = rw (← ends F at ws q) (g a at' rest r e)
     go (refused s) q e = h at ws r (q ∙ ap refused (same-refusal e))
 
 after_map : {A B : Type 0} (f : A → B) (R : ℕ → List ℕ → Read A) → Bounded R → Bounded (λ at ws. map_read f (R at ws))
 after_map f R h at ws r e = h at ws r (map_bounded f (R at ws) r e)
 
 all_bounded : {S A : Type 0} (step : S → A → S) (F : S → Form A) → ((s : S) → Bounded (read_by (F s))) → (m : ℕ) (s : S) → Bounded (read_all step (λ u b vs. read_by (F u) b vs) m s)
-all_bounded step F h zero s at ws r e = absurd (no_got e)
+all_bounded step F h zero s at ws r e = absurd (clash (sym e))
 all_bounded step F h (suc m) s at ws r e =
     bind_bounded (F s) (λ a at' ws'. map_read (λ l. a ∷ l) (read_all step (λ u b vs. read_by (F u) b vs) m (step s a) at' ws')) (h s)
     (λ a. after_map (λ l. a ∷ l) (read_all step (λ u b vs. read_by (F u) b vs) m (step s a)) (all_bounded step F h m (step s a))) at ws r e
 
 each_bounded : {X A : Type 0} (F : X → Form A) → ((x : X) → Bounded (read_by (F x))) → (xs : List X) → Bounded (read_each (λ x b vs. read_by (F x) b vs) xs)
-each_bounded F h [] at ws r e = absurd (no_got e)
+each_bounded F h [] at ws r e = absurd (clash (sym e))
 each_bounded F h (x ∷ xs) at ws r e =
     bind_bounded (F x) (λ a at' ws'. map_read (λ l. a ∷ l) (read_each (λ x b vs. read_by (F x) b vs) xs at' ws')) (h x)
     (λ a. after_map (λ l. a ∷ l) (read_each (λ x b vs. read_by (F x) b vs) xs) (each_bounded F h xs)) at ws r e
@@ -157,7 +154,7 @@ field_fit n kind = field_bounded n kind
 
 empty_fit : {A : Type 0} (a : A) → Fit (empty a)
 unfolding read_by
-empty_fit a at ws r e = absurd (no_got e)
+empty_fit a at ws r e = absurd (clash (sym e))
 
 each_fit : {X A : Type 0} (F : X → Form A) (xs : List X) → ((x : X) → Fit (F x)) → Fit (each F xs)
 unfolding read_by
@@ -188,7 +185,7 @@ unfolding read_by words_by Fine
 guarded_fit n kind test why h at ws r e = go (read_field n kind at ws) refl e
   where
     tested : (v at' : ℕ) (rest : List ℕ) → at < at + length ws → v < 16777216 → (b : Bool) → pick b (got v at' rest) (refused (why at v)) ≡ refused r → Within (at + length ws) r
-    tested v at' rest k l true e = absurd (no_got e)
+    tested v at' rest k l true e = absurd (clash (sym e))
     tested v at' rest k l false e = rw (← same-refusal e) (h at (at + length ws) v k l)
 
     go : (m : Read ℕ) → read_field n kind at ws ≡ m → bind m (λ a at' ws'. pick (test a) (got a at' ws') (refused (why at a))) ≡ refused r → Within (at + length ws) r
@@ -263,7 +260,7 @@ read_numbers ws r e = size (leb 6 (length ws) && leb (length ws) 8192) refl e
     found (got t at []) q e = let z : ◌≡◌ {A = ℕ} 0 1 = cc in absurd (omega arith)
     found (got t at (w ∷ rest)) q e =
         let s : record { number = 8; place = at; name = 0; other = 0 } ≡ r = cc in
-        rw (← s) (at_word 8 at 0 (length ws) (omega arith, omega arith, λ e. omega arith) (omega (arith, ends (layout (edition_of ws) (length ws)) 0 ws t at (w ∷ rest) q)) (omega arith))
+        rw (← s) (at_word 8 at 0 (length ws) (omega arith, omega arith, λ e. omega arith) (omega (arith, ends (layout (edition_of ws) (length ws)) 0 ws q)) (omega arith))
     found (refused s) q e =
         let u : s ≡ r = cc in
         let z : 0 + length ws ≡ length ws = omega arith in

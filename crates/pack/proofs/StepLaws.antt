@@ -32,7 +32,8 @@ module _ (ws : List ℕ) (at : ℕ) where
   unfolding word_step
   word-there h = sym (rw (drop-cons ws at 0 h))
 
-no_on : {r : Refusal} {v : ℕ} {k : Cursor} → Err r ≡ on v k → ⊥
+-- a step that was refused did not go on
+pub no_on : {r : Refusal} {v : ℕ} {k : Cursor} → Err r ≡ on v k → ⊥
 no_on e = let z : ◌≡◌ {A = ℕ} 0 1 = cc in omega arith
 
 no_refused : {r : Refusal} {v : ℕ} {k : Cursor} → on v k ≡ Err r → ⊥
@@ -66,7 +67,7 @@ pub step_no : {A : Type 0} (f : A → ℕ) (m : Read A) {r : Refusal} → step_b
 step_no f (got a at ws) e = absurd (no_refused e)
 step_no f (refused r) e = cc
 
-step_map : {A B : Type 0} (g : B → ℕ) (h : A → B) (m : Read A) → step_by g (map_read h m) ≡ step_by (λ a. g (h a)) m
+pub step_map : {A B : Type 0} (g : B → ℕ) (h : A → B) (m : Read A) → step_by g (map_read h m) ≡ step_by (λ a. g (h a)) m
 step_map g h (got a at ws) = refl
 step_map g h (refused r) = refl
 

@@ -6,9 +6,9 @@ use mathlib.Core.List.{List, [], ◌∷◌, ◌++◌, map, map-append}
 use mathlib.Core.Bool.{Bool, true, false, ◌||◌, or-true}
 use lib.ListN.{length, get_or, set, length-append, length-map, length-set}
 use lib.Seq.{sets, get_or-set_same, set-set, set_comm}
-use lib.Dec.{eqb}
 use Rattle.std.proofs.lemmas.Bool.{true≢false}
 use Rattle.std.proofs.lemmas.List.{set-get_or}
+use Rattle.reading.proofs.TreeLaws.{turned_away}
 use Rattle.definitions.specs.declared.table.Follows.{Follows}
 use Rattle.definitions.specs.Table.{pick, entry_of, fields_of, children_of}
 use Rattle.definitions.specs.Form.{word, only, FineEach, Fine}
@@ -210,19 +210,11 @@ fields-long n [] (x ∷ l) h = absurd h
 fields-long n (k ∷ ks) [] h = absurd h
 fields-long n (k ∷ ks) (x ∷ l) h = ap suc (fields-long n ks l h.1)
 
-no_level : (sort k : ℕ) → heads sort zero k ≡ 0 → ⊥
-unfolding heads
-no_level sort k e = go (eqb (entry_of k).sort sort) e
-  where
-    go : (b : Bool) → ◌≡◌ {A = ℕ} (pick b 5 2) 0 → ⊥
-    go true e = omega arith
-    go false e = omega arith
-
 mutual
   unfolding tree follow fields Fine Shaped
 
   pub shaped : (t : Tree) (n d sort : ℕ) → Fine (tree n d sort) t → Shaped t
-  shaped (node k v fs f) n zero sort h = absurd (no_level sort k h.0.0)
+  shaped (node k v fs f) n zero sort h = absurd (turned_away sort k h.0.0)
   shaped (node k v fs f) n (suc d) sort h = (fields-long n (fields_of (entry_of k).follows) fs h.1.0, shapes f n d (children_of (entry_of k).follows v (last_field fs)) h.1.1)
 
   pub shapes : (f : Forest) (n d : ℕ) (sorts : List ℕ) → FineEach (λ sort t. Fine (tree n d sort) t) sorts (of_forest f) → Shapes f

@@ -17,8 +17,7 @@ use Rattle.definitions.specs.Tree as trees
 use Rattle.std.specs.Prelude.{Ok, Err}
 use Rattle.pack.specs.declared.cursor.Cursor.{Cursor}
 use Rattle.pack.specs.Readers.{Step, on, step_by, step_of, skip_over}
-use Rattle.pack.proofs.StepLaws.{on_place}
-use Rattle.reading.proofs.WalkLaws.{no_on}
+use Rattle.pack.proofs.StepLaws.{on_place, no_on}
 use Rattle.pack.proofs.FormLaws.{clash}
 use Rattle.reading.specs.Notes.{look_by, noted}
 use Rattle.reading.specs.Faults.{later}

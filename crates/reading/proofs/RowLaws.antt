@@ -13,7 +13,7 @@ use Rattle.definitions.specs.declared.table.Follows.TheVariants.{Aggregate, Exis
 use Rattle.definitions.specs.declared.answer.Refusal.{Refusal}
 use Rattle.pack.specs.declared.cursor.Cursor.{Cursor}
 use Rattle.pack.proofs.FormLaws.{only_same}
-use Rattle.pack.proofs.StepLaws.{each-stop, by-each, each_last, then_stop, by_then, by_kept, many-done}
+use Rattle.pack.proofs.StepLaws.{each-stop, by-each, each_last, then_stop, by_then, by_kept, many-done, no_on}
 use Rattle.pack.specs.Readers.{Step, on, skip_over}
 use Rattle.definitions.specs.Table.{kind_of, value_of, entry_of, table, how_many, fields_of, children_of, scalar, judgment}
 use Rattle.pack.specs.Packed.{Compares}
@@ -23,7 +23,7 @@ use Rattle.reading.specs.Notes.{noted}
 use Rattle.reading.specs.Faults.{refusal_of, walked}
 use Rattle.reading.specs.Noting.{State, push, in_next, note_tree, NotedStep, Sorted, Rows, Shape, After}
 use Rattle.reading.proofs.TreeLaws.{comparison_row, compared, Row, Leaf}
-use Rattle.reading.proofs.WalkLaws.{no_on, handed, Turn, turn, Fielded, stands, step_forward, step_within, test-read, row_stop, row_leaf, row_last, node-stop, node_on, one_row, head_compared, by_compared}
+use Rattle.reading.proofs.WalkLaws.{handed, Turn, turn, Fielded, stands, step_forward, step_within, test-read, row_stop, row_leaf, row_last, node-stop, node_on, one_row, head_compared, by_compared}
 use Rattle.reading.proofs.NotingLaws.{Rowed, rowed_end, rowed_next, rowed_turn, rowed_one, Followed, treed, row_followed, noted_to, leaf_came, where_came, exists_came, Steady, steady_judgment}
 
 -- of a refusal nothing is to be shown but the answer

@@ -7,11 +7,12 @@ use native.Mathlib.Omega.{arith}
 use mathlib.Core.Path.{◌≡◌, refl, ap, sym, ◌∙◌, subst}
 use mathlib.Core.List.{List, [], ◌∷◌, ◌++◌}
 use mathlib.Core.Bool.{Bool, true, false}
-use lib.ListN.{length, drop, get_or, replicate, length-append, length-drop}
+use lib.ListN.{length, drop, get_or, replicate, length-drop}
 use lib.Seq.{drop-cons}
 use Rattle.std.proofs.lemmas.List.{get_or-drop}
 use lib.Dec.{eqb}
 use borrow.Author.Tests.{le-leb, lt-leb}
+use Rattle.pack.proofs.Refusals.{map_bounded, ends}
 use Rattle.definitions.specs.declared.answer.Refusal.{Refusal}
 use Rattle.pack.specs.declared.cursor.Cursor.{Cursor}
 use Rattle.pack.specs.Readers.{Step}
@@ -21,27 +22,16 @@ use Rattle.definitions.specs.declared.table.Follows.TheVariants.{Aggregate}
 use Rattle.definitions.specs.Table.{pick, kind_of, value_of, entry_of, how_many, fields_of, scalar, judgment, table}
 use Rattle.reading.specs.Faults.{refusal_of, walked, Plain}
 use Rattle.pack.specs.Packed.{UpTo, Compares}
-use Rattle.definitions.specs.Form.{Read, got, refused, because, bind, map_read, allowed_here, read_word, among, only, Form, field, word, empty, each, ◌▹◌, via, words_by, Fine, read_by}
+use Rattle.definitions.specs.Form.{Read, got, refused, because, bind, allowed_here, read_word, among, only, Form, field, word, empty, each, ◌▹◌, via, words_by, Fine, read_by}
 use Rattle.definitions.specs.Tree.{Tree, heads, last_field, fields, follow, tree}
 use Rattle.pack.specs.Readers.{step_of, skip_over, whole_word}
-use Rattle.pack.proofs.FormLaws.{lawful}
-use Rattle.pack.proofs.StepLaws.{exit, on_place, went, word-ended, word-there, word-stop, word_rejected, word_value, word_on, step_no, last-stop, each-done, each-stop, by-each, each_last, many-stop, many-next}
+use Rattle.pack.proofs.FormLaws.{lawful, clash}
+use Rattle.pack.proofs.StepLaws.{exit, on_place, went, word-ended, word-there, word-stop, word_rejected, word_value, word_on, step_no, last-stop, each-done, each-stop, by-each, each_last, many-stop, many-next, no_on}
 use Rattle.reading.proofs.TreeLaws.{whole_word_lem, heads_in, comparison_row, compared, head_sort, tree-stop, tree-rest, level_left, Row, by_row, Leaf, by_leaf}
-
--- a step that was refused did not go on
-pub no_on : {r : Refusal} {v : ℕ} {k : Cursor} → Err r ≡ on v k → ⊥
-no_on e = let z : ◌≡◌ {A = ℕ} 0 1 = cc in omega arith
 
 -- what `?` hands on where a call is refused
 pub handed : (r : Result ℕ Fault) (f : Fault) {z : Step} → IsErrAnd r (λ x. x ≡ f) → Err (refusal_of f) ≡ z → walked r ≡ z
 handed r f h q = ap walked (exit h) ∙ q
-
--- what was read stood among the words
-stood_there : {A : Type 0} (F : Form A) (at : ℕ) (ws : List ℕ) {a : A} {at' : ℕ} {rest : List ℕ} → read_by F at ws ≡ got a at' rest → at' + length rest ≡ at + length ws
-stood_there F at ws {a} {at'} {rest} e =
-    let t = (lawful F).back at ws a at' rest e in
-    let l : length ws ≡ length (words_by F a) + length rest = ap (λ (l : List ℕ). length l) t.same ∙ length-append (words_by F a) rest in
-    omega (arith, t.on, l)
 
 left_of : (ws : List ℕ) (at : ℕ) → at ≤ length ws → at + length (drop at ws) ≡ length ws
 left_of ws at l = let d : length (drop at ws) ≡ length ws - at = length-drop at ws in omega arith
@@ -58,7 +48,7 @@ field-within n kind f ws at {k = k} e o =
 pub step_within : {A : Type 0} (f : A → ℕ) (F : Form A) (ws : List ℕ) (at : ℕ) {y : Step} {v : ℕ} {k : Cursor} → at ≤ length ws → y ≡ step_of f F ws at → y ≡ on v k → k.at ≤ length ws
 step_within f F ws at {k = k} l e o =
     let t = went f F ws at e o in
-    omega (arith, stood_there F at (drop at ws) t.found, left_of ws at l)
+    omega (arith, ends F at (drop at ws) t.found, left_of ws at l)
 
 -- a step that went on is not before its place
 pub step_forward : {A : Type 0} (F : Form A) (ws : List ℕ) (at : ℕ) {y : Step} {v : ℕ} {k : Cursor} → y ≡ skip_over F ws at → y ≡ on v k → at ≤ k.at
@@ -279,21 +269,14 @@ plain-because x p most h l r e =
     let q : record { number = x; place = p; name = 0; other = 0 } ≡ r = cc in
     rw (← q) (record { number = h; place = l; bare = refl })
 
-no_got : {A : Type 0} {r : Refusal} {a : A} {at : ℕ} {ws : List ℕ} → ◌≡◌ {A = Read A} (got a at ws) (refused r) → ⊥
-no_got e = let z : ◌≡◌ {A = ℕ} 0 1 = cc in omega arith
-
 plain_word : (turned : ℕ → ℕ) (n : ℕ) → ((k : ℕ) → turned k ≤ 5) → (at : ℕ) (ws : List ℕ) (r : Refusal) → read_word turned n at ws ≡ refused r → Plain (at + length ws) r
 plain_word turned n h at [] r e = plain-because 3 at _ (omega arith) (omega arith) r e
 plain_word turned n h at (w ∷ ws) r e = go (eqb (turned (kind_of w)) 0) (allowed_here n (kind_of w) (value_of w)) e
   where
     go : (b d : Bool) → pick {A = Read (ℕ × ℕ)} b (pick {A = Read (ℕ × ℕ)} d (got (kind_of w, value_of w) (at + 1) ws) (because 4 at)) (because (turned (kind_of w)) at) ≡ refused r → Plain (at + length (w ∷ ws)) r
-    go true true e = absurd (no_got e)
+    go true true e = absurd (clash (sym e))
     go true false e = plain-because 4 at _ (omega arith) (omega arith) r e
     go false d e = plain-because (turned (kind_of w)) at _ (h (kind_of w)) (omega arith) r e
-
-map_no : {A B : Type 0} (f : A → B) (m : Read A) {r : Refusal} → map_read f m ≡ refused r → m ≡ refused r
-map_no f (got a at ws) e = absurd (no_got e)
-map_no f (refused r) e = cc
 
 tidy_bind : {A B : Type 0} (m : Read A) (k : A → ℕ → List ℕ → Read B) (most : ℕ) (r : Refusal) → (m ≡ refused r → Plain most r)
     → ((a : A) (at : ℕ) (ws : List ℕ) → m ≡ got a at ws → k a at ws ≡ refused r → Plain most r) → bind m k ≡ refused r → Plain most r
@@ -306,27 +289,27 @@ tidy_then F G p q =
     record {
       refuses = λ at ws r.
           tidy_bind (read_by F at ws) _ _ r (p.refuses at ws r)
-          (λ a at' ws' g e. rw (stood_there F at ws g) at ((q a).refuses at' ws' r (map_no _ (read_by (G a) at' ws') e)));
+          (λ a at' ws' g e. rw (ends F at ws g) at ((q a).refuses at' ws' r (map_bounded _ (read_by (G a) at' ws') r e)));
     }
 
 tidy_each : {X A : Type 0} (F : X → Form A) → ((x : X) → Tidy (F x)) → (xs : List X) → Tidy (each F xs)
 unfolding read_by
-tidy_each F p [] = record { refuses = λ at ws r e. absurd (no_got e) }
+tidy_each F p [] = record { refuses = λ at ws r e. absurd (clash (sym e)) }
 tidy_each F p (x ∷ xs) =
     let q = tidy_each F p xs in
     record {
       refuses = λ at ws r.
           tidy_bind (read_by (F x) at ws) _ _ r ((p x).refuses at ws r)
-          (λ a at' ws' g e. rw (stood_there (F x) at ws g) at (q.refuses at' ws' r (map_no _ (read_by (each F xs) at' ws') e)));
+          (λ a at' ws' g e. rw (ends (F x) at ws g) at (q.refuses at' ws' r (map_bounded _ (read_by (each F xs) at' ws') r e)));
     }
 
 tidy_via : {A B : Type 0} (to : A → B) (from : B → A) (tf : (b : B) → to (from b) ≡ b) (ft : (a : A) → from (to a) ≡ a) (F : Form A) → Tidy F → Tidy (via to from tf ft F)
 unfolding read_by
-tidy_via to from tf ft F p = record { refuses = λ at ws r e. p.refuses at ws r (map_no to (read_by F at ws) e) }
+tidy_via to from tf ft F p = record { refuses = λ at ws r e. p.refuses at ws r (map_bounded to (read_by F at ws) r e) }
 
 tidy_empty : {A : Type 0} (a : A) → Tidy (empty a)
 unfolding read_by
-tidy_empty a = record { refuses = λ at ws r e. absurd (no_got e) }
+tidy_empty a = record { refuses = λ at ws r e. absurd (clash (sym e)) }
 
 pick_small : (b : Bool) (x y : ℕ) → x ≤ 5 → y ≤ 5 → pick b x y ≤ 5
 pick_small true x y h k = h

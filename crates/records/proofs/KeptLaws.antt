@@ -16,7 +16,7 @@ use Rattle.definitions.specs.Table.{entry_of}
 use Rattle.definitions.specs.Form.{Read, got, refused, bind, map_read, read_field, option, says, whole, Form, field, ◌▹◌, via, counted_from, words_by, Fine, read_by}
 use Rattle.pack.specs.Readers.{step_by, step_of, field_step}
 use Rattle.pack.proofs.FormLaws.{lawful, clash, map-got}
-use Rattle.pack.proofs.StepLaws.{exit, went, went_same, step_no, by-via, field-fine, at_most}
+use Rattle.pack.proofs.StepLaws.{exit, went, went_same, step_no, by-via, field-fine, at_most, step_map}
 use Rattle.reading.specs.Noting.{State, NotedStep}
 use Rattle.records.specs.Directory.{Noted}
 
@@ -29,10 +29,6 @@ pub record There {A : Type 0} (f : A → ℕ) (F : Form A) (ws : List ℕ) (at v
   pub fine : Fine F value
   pub on : k.at ≡ at + length (words_by F value)
   pub stood : drop at ws ≡ words_by F value ++ drop k.at ws
-
-pub step_map : {A B : Type 0} (g : B → ℕ) (h : A → B) (m : Read A) → step_by g (map_read h m) ≡ step_by (λ a. g (h a)) m
-step_map g h (got a at ws) = refl
-step_map g h (refused r) = refl
 
 module _ {A : Type 0} (f : A → ℕ) (F : Form A) (ws : List ℕ) (at : ℕ) {y : Step} (e : y ≡ step_of f F ws at) {v : ℕ} {k : Cursor} (o : y ≡ on v k) where
   pub there : There f F ws at v k

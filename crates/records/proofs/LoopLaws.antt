@@ -16,9 +16,9 @@ use Rattle.definitions.specs.Table.{word_of, entry_of}
 use Rattle.definitions.specs.Form.{Read, got, read_field, read_all, Holder, list, count, says, whole, Suits, Form, field, counted_from, one_and_more, words_by, read_by}
 use Rattle.pack.specs.Readers.{step_of, itself, field_step, skip_all}
 use Rattle.pack.proofs.FormLaws.{map-got}
-use Rattle.pack.proofs.StepLaws.{went_same, last-stop, counted_stop, by_left, by-more, all-stop, all_done, pred_of}
+use Rattle.pack.proofs.StepLaws.{went_same, last-stop, counted_stop, by_left, by-more, all-stop, all_done, pred_of, step_map}
 use Rattle.records.specs.Directory.{Noted, notes_all}
-use Rattle.records.proofs.KeptLaws.{There, step_map, there, kept_last, noted_err, noted-there}
+use Rattle.records.proofs.KeptLaws.{There, there, kept_last, noted_err, noted-there}
 
 -- nothing is noted
 abbrev pub nothing : {A : Type 0} → ℕ → ℕ → A → Unit {0} → Unit {0}

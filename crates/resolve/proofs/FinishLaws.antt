@@ -4,11 +4,13 @@ use native.Mathlib.Omega.{arith}
 use mathlib.Core.Path.{◌≡◌, refl, ap, sym, ◌∙◌, subst}
 use mathlib.Core.List.{List, [], ◌∷◌, ◌++◌, map, map-append}
 use mathlib.Core.Bool.{Bool, true, false, ◌&&◌}
-use lib.ListN.{length, get_or, take, drop, replicate, length-append, length-map, length-replicate, replicate-append-replicate}
-use lib.Seq.{length-take-le, take_at, drop_at, take-append-add}
+use lib.ListN.{length, get_or, take, drop, replicate, length-append, length-map, length-replicate}
+use lib.Seq.{length-take-le, take_at, take-append-add}
 use lib.Dec.{leb}
 use borrow.Author.Tests.{le-leb, lt-leb}
 use borrow.Rule.Slice.PartMut.{mid_of, put_mid, same_len_mid, mid_len}
+use Rattle.std.proofs.lemmas.Bool.{and_right}
+use Rattle.std.proofs.lemmas.List.{drop-replicate, take-replicate}
 use Rattle.definitions.specs.Table.{pick, word_of}
 use Rattle.definitions.specs.Form.{count, items, says, words_by, Fine}
 use Rattle.definitions.specs.Records.{Relation, Rule, Pack}
@@ -173,23 +175,13 @@ done-same : {A : Type 0} {a b : A} → ◌≡◌ {A = Outcome A} (done a) (done 
 done-same e = cc
 
 -- lists in a table of zeros
-zeros-after : (k m : ℕ) → k ≤ m → drop {A = ℕ} k (replicate m 0) ≡ replicate (m - k) 0
-zeros-after k m h =
-    let e : k + (m - k) ≡ m = omega arith in
-    ap (λ (x : ℕ). drop k (replicate {A = ℕ} x 0)) (sym e) ∙ ap (drop k) (sym (replicate-append-replicate k (m - k) 0)) ∙ drop_at (replicate k 0) (replicate (m - k) 0) k (length-replicate k 0)
-
-zeros-up_to : (k m : ℕ) → k ≤ m → take {A = ℕ} k (replicate m 0) ≡ replicate k 0
-zeros-up_to k m h =
-    let e : k + (m - k) ≡ m = omega arith in
-    ap (λ (x : ℕ). take k (replicate {A = ℕ} x 0)) (sym e) ∙ ap (take k) (sym (replicate-append-replicate k (m - k) 0)) ∙ take_at (replicate k 0) (replicate (m - k) 0) k (length-replicate k 0)
-
 in_zeros : (most after all more : ℕ) (lists : List ℕ) → length lists + 1 ≡ after → all ≡ after + more → all ≤ most → mid_of 0 (all - 0) (put_mid 1 (after - 1) (replicate most 0) lists) ≡ 0 ∷ (lists ++ replicate more 0)
 in_zeros zero after all more lists l e h = absurd (omega arith)
 in_zeros (suc m) after all more lists l e h =
     let k : ℕ = length lists in
     let a : after - 1 ≡ k = omega arith in
     let b : all - 0 ≡ suc (k + more) = omega arith in
-    rw (a, b) (ap (λ (x : List ℕ). 0 ∷ x) (ap (λ (x : List ℕ). take (k + more) (lists ++ x)) (zeros-after k m (omega arith)) ∙ take-append-add lists (replicate (m - k) 0) more ∙ ap (λ (x : List ℕ). lists ++ x) (zeros-up_to more (m - k) (omega arith))))
+    rw (a, b) (ap (λ (x : List ℕ). 0 ∷ x) (ap (λ (x : List ℕ). take (k + more) (lists ++ x)) (drop-replicate k m 0) ∙ take-append-add lists (replicate (m - k) 0) more ∙ ap (λ (x : List ℕ). lists ++ x) (take-replicate more (m - k) 0 (omega arith))))
 
 module _ {ws places acts : List ℕ} {asked : List Bool} {work : List ℕ} {relations steps : ℕ} (a : FinishAsked ws places acts asked work relations steps) where
   abbrev p : Pack
@@ -284,10 +276,6 @@ module _ {ws places acts : List ℕ} {asked : List Bool} {work : List ℕ} {rela
       both_no : (b : Bool) → leb len 8192 ≡ false → (leb len 8192 && b) ≡ false
       both_no b e = rw e refl
 
-      either_no : (x : Bool) → leb len (length lent) ≡ false → (x && leb len (length lent)) ≡ false
-      either_no true e = e
-      either_no false e = refl
-
       no_room_came : (leb len 8192 && leb len (length lent)) ≡ false → {answer : Answer} → answer ≡ out_of_room → FinishCame ws lent answer lent
       no_room_came e s =
           of_pack
@@ -298,7 +286,7 @@ module _ {ws places acts : List ℕ} {asked : List Bool} {work : List ℕ} {rela
       too_long k s = no_room_came (both_no (leb len (length lent)) (lt-leb len 8192 k)) s
 
       pub too_short : length lent < len → {answer : Answer} → answer ≡ out_of_room → FinishCame ws lent answer lent
-      too_short k s = no_room_came (either_no (leb len 8192) (lt-leb len (length lent) k)) s
+      too_short k s = no_room_came (and_right (leb len 8192) _ (lt-leb len (length lent) k)) s
 
       module _ (few : len ≤ 8192) (room : len ≤ length lent) where
         lent-long : length (mid_of 0 (len - 0) lent) ≡ len

@@ -7,6 +7,7 @@ use mathlib.Core.Bool.{Bool, true, false, ◌||◌}
 use lib.ListN.{length, get_or, length-append, length-map}
 use lib.Dec.{eqb}
 use borrow.Author.Tests.{eq-eqb, ne_eqb, leb-true}
+use Rattle.std.proofs.lemmas.Bool.{or_parts}
 use Rattle.definitions.specs.Table.{pick, word_of, table, entry_of}
 use Rattle.definitions.specs.Form.{among, allowed_here, list_or_none, count, repeats, words_by, Fine}
 use Rattle.definitions.specs.Records.{Relation, Rule, Block, Pack}
@@ -37,17 +38,13 @@ use Rattle.resolve.proofs.WrittenPack.{joined-map, blocks-joined}
 
 -- ---- relations of which no name comes twice
 
-pub either_no : (a b : Bool) → (a || b) ≡ false → (a ≡ false) × (b ≡ false)
-either_no true b e = let z : ◌≡◌ {A = ℕ} 0 1 = cc in absurd (omega arith)
-either_no false b e = (refl, e)
-
 starts_run : (n : ℕ) (f : ℕ → ℕ) (used : List ℕ) (rs : List Relation) → RelationsFine n used rs → (at : ℕ) → ((m : ℕ) → among m used ≡ false → f m ≡ start_of n m at rs) → map (λ (r : Relation). f r.name) rs ≡ places_from n at rs
 unfolding places_from start_of
 starts_run n f used [] fine at h = refl
 starts_run n f used (r ∷ rs) fine at h =
     let here : f r.name ≡ at = h r.name (kept n (λ v. among v used) r fine.0).fresh ∙ rw (eq-eqb r.name r.name refl) refl in
     let later : (m : ℕ) → (eqb m r.name || among m used) ≡ false → f m ≡ start_of n m (at + length (relation_words n r)) rs =
-    λ m e. (let q = either_no (eqb m r.name) (among m used) e in h m q.1 ∙ rw q.0 refl) in
+    λ m e. (let q = or_parts (eqb m r.name) (among m used) e in h m q.1 ∙ rw q.0 refl) in
     ap (λ (x : ℕ). x ∷ map (λ (s : Relation). f s.name) rs) here ∙ ap (λ (l : List ℕ). at ∷ l) (starts_run n f (r.name ∷ used) rs fine.1 (at + length (relation_words n r)) later)
 
 -- ---- pieces

@@ -8,6 +8,7 @@ use mathlib.Core.Option.{some}
 use lib.ListN.{length, get_or, length-append}
 use lib.Dec.{eqb}
 use borrow.Author.Tests.{eq-eqb}
+use Rattle.std.proofs.lemmas.Bool.{or_parts}
 use Rattle.definitions.specs.Form.{among, Fine}
 use Rattle.definitions.specs.Records.{Relation, Pack}
 use Rattle.definitions.specs.Pack.{WellFormed, yes, read, relation}
@@ -28,7 +29,6 @@ use Rattle.directions.proofs.RunLaws.{RunPairs}
 use Rattle.directions.proofs.RelationLaws.{relation-long}
 use Rattle.directions.proofs.HeldKept.{relation-held, part_kept}
 use Rattle.filtered.specs.Acts.{act_part, act_list, part_at, part_of, ActsOf}
-use Rattle.resolve.proofs.OrderLaws.{either_no}
 use Rattle.stamping.proofs.StampLaws.{stamped-by}
 
 -- ---- relations after their trees are resolved
@@ -62,7 +62,7 @@ module _ (p : Pack) (w : WellFormed p) where
   starting_from at used [] fine h = tt
   starting_from at used (r ∷ l) fine h = (
     h r.name (kept n (λ v. among v used) r fine.0).fresh ∙ rw (eq-eqb r.name r.name refl) refl,
-    starting_from (at + length (relation_words n r)) (r.name ∷ used) l fine.1 (λ m e. let q = either_no (eqb m r.name) (among m used) e in h m q.1 ∙ rw q.0 refl),
+    starting_from (at + length (relation_words n r)) (r.name ∷ used) l fine.1 (λ m e. let q = or_parts (eqb m r.name) (among m used) e in h m q.1 ∙ rw q.0 refl),
   )
 
   pub all_starting : Starting (first_relation p) p.relations

@@ -9,6 +9,7 @@ use mathlib.Core.Logic.{◌⊎◌, inl, inr}
 use mathlib.Core.Option.{Option, none, some, map}
 use lib.Dec.{eqb, leb}
 use borrow.Author.Tests.{eq-eqb, ne_eqb, eqb-true, not-true}
+use Rattle.std.proofs.lemmas.Bool.{or_cases, or_left, or_right}
 use Rattle.definitions.specs.declared.answer.Refusal.{Refusal}
 use Rattle.definitions.specs.Answers.{gives}
 use Rattle.definitions.specs.Table.{pick}
@@ -23,7 +24,7 @@ use Rattle.definitions.specs.Chain.{end, same}
 use Rattle.definitions.specs.Kinds.{list9, declares, find, kind_step, declared, all_kinds, own_answer, names_of, kinds_of}
 use Rattle.definitions.specs.Lean.{any}
 use Rattle.definitions.specs.Places.{first_relation}
-use Rattle.chains.proofs.Names.{apart, or_cases, or_left, or_right, among-append, any_of, of_any}
+use Rattle.chains.proofs.Names.{apart, among-append, any_of, of_any}
 use Rattle.chains.proofs.ChainLaws.{own-end}
 use Rattle.chains.proofs.KindLaws.{kind-leads}
 use Rattle.chains.proofs.PackParts.{parts, find-name, EachFound, all_found}
@@ -100,7 +101,7 @@ single-only (x ∷ l) k e = go (any (λ y. not (eqb y x)) l) refl e
     go true a q = let z : ◌≡◌ {A = ℕ} 0 1 = cc in absurd (omega arith)
     go false a q =
         let s : x ≡ k = cc in
-        (or_left (among k l) (eq-eqb k x (sym s)), λ j h. first j a (or_cases (eqb j x) (among j l) h) ∙ s)
+        (or_left _ (among k l) (eq-eqb k x (sym s)), λ j h. first j a (or_cases (eqb j x) (among j l) h) ∙ s)
 
 -- and a list with no other element has it as its one
 single-is : (l : List ℕ) (k : ℕ) → among k l ≡ true → ((j : ℕ) → among j l ≡ true → j ≡ k) → single l ≡ some k
@@ -108,12 +109,12 @@ single-is [] k h only = let z : ◌≡◌ {A = ℕ} 0 1 = cc in absurd (omega ar
 single-is (x ∷ l) k h only = go (any (λ y. not (eqb y x)) l) refl
   where
     first : x ≡ k
-    first = only x (or_left (among x l) (eq-eqb x x refl))
+    first = only x (or_left _ (among x l) (eq-eqb x x refl))
 
     go : (b : Bool) → any (λ y. not (eqb y x)) l ≡ b → pick b none (some x) ≡ some k
     go true a =
         let o = of_any (λ y. not (eqb y x)) l a in
-        let s : o.0 ≡ x = only o.0 (or_right (eqb o.0 x) o.1) ∙ sym first in
+        let s : o.0 ≡ x = only o.0 (or_right (eqb o.0 x) _ o.1) ∙ sym first in
         apart (eq-eqb o.0 x s) (not-true (eqb o.0 x) o.2)
     go false a = ap some first
 
@@ -175,8 +176,8 @@ module _ (p : Pack) (e : ℕ) where
 
       go : (c : Bool) → eqb b.name r.name ≡ c → pick c (some r) (find b.name l) ≡ some b.bears.relation → (find b.name l ≡ some b.bears.relation → among k (taken_from rs e l) ≡ true)
           → (among k (takes rs e r.name r.derivation) || among k (taken_from rs e l)) ≡ true
-      go true n f rest = let s : r ≡ b.bears.relation = cc in or_left {a = among k (takes rs e r.name r.derivation)} (among k (taken_from rs e l)) (rw (here s n) (or_left false (eq-eqb k k refl)))
-      go false n f rest = or_right (among k (takes rs e r.name r.derivation)) (rest f)
+      go true n f rest = let s : r ≡ b.bears.relation = cc in or_left (among k (takes rs e r.name r.derivation)) (among k (taken_from rs e l)) (rw (here s n) (or_left _ false (eq-eqb k k refl)))
+      go false n f rest = or_right (among k (takes rs e r.name r.derivation)) _ (rest f)
 
   takes_one : WellFormed p → (k : ℕ) → direct rs e ≡ some k → TakesOne p e k
   unfolding direct taken
@@ -233,8 +234,8 @@ equal_among T [] n e = let z : ◌≡◌ {A = ℕ} 0 1 = cc in absurd (omega ari
 equal_among T (d ∷ ds) n e = go (equal_kinds (T.derived d)) e (equal_among T ds n)
   where
     go : (b : Bool) → pick b (some d) (defaulted_equal T ds) ≡ some n → (defaulted_equal T ds ≡ some n → among n ds ≡ true) → among n (d ∷ ds) ≡ true
-    go true e ih = let z : n ≡ d = cc in or_left (among n ds) (eq-eqb n d z)
-    go false e ih = or_right (eqb n d) (ih e)
+    go true e ih = let z : n ≡ d = cc in or_left _ (among n ds) (eq-eqb n d z)
+    go false e ih = or_right (eqb n d) _ (ih e)
 
 some_equal : (T : Tables) (ds : List ℕ) (n : ℕ) → among n ds ≡ true → equal_kinds (T.derived n) ≡ true → (m : ℕ) × (defaulted_equal T ds ≡ some m)
 unfolding defaulted_equal

@@ -7,6 +7,7 @@ use mathlib.Core.Bool.{Bool, true, false, ◌||◌, ◌&&◌}
 use lib.ListN.{length, get_or, set, take, drop, length-append, length-set}
 use lib.Seq.{sets, get_or_at, get_or-set_same, get_or-set_other, set_at, drop-append-add}
 use borrow.Author.Tests.{ne_eqb}
+use Rattle.std.proofs.lemmas.Bool.{true≢false}
 use Rattle.definitions.specs.declared.table.Follows.{Follows}
 use Rattle.definitions.specs.Table.{pick, kind_of, value_of, word_of, entry_of, fields_of}
 use Rattle.definitions.specs.Tree.{Tree, Forest, node, more, Fields, field_words, tree_words, forest_words, size, sizes}
@@ -56,9 +57,6 @@ Leaves entity m lost w fs (goes fs' e first rest) =
     (first ≡ held (lost || (look_by w).first) m) × (rest ≡ held (lost || (look_by w).rest) m) × ((c : ℕ) × (r : ℕ) × (fs' ≡ with_slots c r fs)) × ((look_by w).opens ≡ false → e ≡ entity)
 Leaves entity m lost w fs (stops number other) = Unit {0}
 
-no : {A : Type 0} → true ≡ false → A
-no e = let z : ◌≡◌ {A = ℕ} 0 1 = cc in absurd (omega arith)
-
 held-held : (lost by : Bool) (m : Membership) → held by (held lost m) ≡ held (lost || by) m
 held-held true true m = refl
 held-held true false m = refl
@@ -77,9 +75,9 @@ shut w e = alike (λ w. (look_by w).opens) (λ w. (look_by w).slots && (look_by 
 -- one with slots is noted, and hands on no membership, or the same
 step_leaves : (C : Citing) (entity : ℕ) (m : Membership) (lost : Bool) {v : ℕ} {fs : Fields} {w : Follows} {s : NodeStep} → Way C entity (held lost m) v fs w s → (look_by w).slots ≡ true → Leaves entity m lost w fs s
 unfolding look_by
-step_leaves C entity m lost (slotless w q) e = no (sym e ∙ q)
-step_leaves C entity m lost (aggregates c r kind q) e = (held-held lost true m, held-held lost true m, (c, r, refl), λ e. no e)
-step_leaves C entity m lost (relates c r owner q) e = (held-held lost true m, held-held lost true m, (c, r, refl), λ e. no e)
+step_leaves C entity m lost (slotless w q) e = absurd (true≢false (sym e ∙ q))
+step_leaves C entity m lost (aggregates c r kind q) e = (held-held lost true m, held-held lost true m, (c, r, refl), λ e. absurd (true≢false e))
+step_leaves C entity m lost (relates c r owner q) e = (held-held lost true m, held-held lost true m, (c, r, refl), λ e. absurd (true≢false e))
 step_leaves C entity m lost (tests c r kind q) e = (held-held lost false m, held-held lost false m, (c, r, refl), λ e. refl)
 step_leaves C entity m lost (undirected w kind q) e = tt
 step_leaves C entity m lost (test_undirected kind q) e = tt

@@ -4,7 +4,7 @@ use native.Mathlib.Omega.{arith}
 use mathlib.Core.Path.{◌≡◌, refl, ap, sym, ◌∙◌}
 use Rattle.std.proofs.Math.Bool.{or_assoc, or_comm, and-true, and-false, or-false}
 use mathlib.Core.List.{List, [], ◌∷◌, ◌++◌, append_assoc}
-use mathlib.Core.Bool.{Bool, true, false, ◌||◌, ◌&&◌}
+use mathlib.Core.Bool.{Bool, true, false, ◌||◌, ◌&&◌, and-or_distrib_right, or-true}
 use mathlib.Core.Option.{Option, none, some}
 use Rattle.std.specs.Prelude.{Some, None}
 use Rattle.std.specs.declared.option.Option as own
@@ -257,12 +257,6 @@ or_mid false true false d = refl
 or_mid false false true d = refl
 or_mid false false false d = refl
 
-and_or : (a b c : Bool) → ((a || b) && c) ≡ ((a && c) || (b && c))
-and_or true b true = refl
-and_or true true false = refl
-and_or true false false = refl
-and_or false b c = refl
-
 module _ (m : ℕ) (c : own.Option ℕ) where
   mutual
     unfolding holds
@@ -270,14 +264,14 @@ module _ (m : ℕ) (c : own.Option ℕ) where
     tree-parts : (t : Tree) → holds (marks_as m c) t ≡ (holds (atom_of m) t || (holds role_judgment t && is_name c m))
     tree-parts (node k v fs f) =
         ap (λ (b : Bool). marks_as m c k v || b) (row_parts f) ∙ or_mid (atom_of m k v) (role_judgment k v && is_name c m) (held (atom_of m) f) (held role_judgment f && is_name c m)
-        ∙ ap (λ (b : Bool). (atom_of m k v || held (atom_of m) f) || b) (sym (and_or (role_judgment k v) (held role_judgment f) (is_name c m)))
+        ∙ ap (λ (b : Bool). (atom_of m k v || held (atom_of m) f) || b) (sym (and-or_distrib_right (role_judgment k v) (held role_judgment f) (is_name c m)))
 
     row_parts : (f : Forest) → held (marks_as m c) f ≡ (held (atom_of m) f || (held role_judgment f && is_name c m))
     row_parts trees.none = refl
     row_parts (more t f) =
         ap (λ (b : Bool). holds (marks_as m c) t || b) (row_parts f) ∙ ap (λ (b : Bool). b || (held (atom_of m) f || (held role_judgment f && is_name c m))) (tree-parts t)
         ∙ or_mid (holds (atom_of m) t) (holds role_judgment t && is_name c m) (held (atom_of m) f) (held role_judgment f && is_name c m)
-        ∙ ap (λ (b : Bool). (holds (atom_of m) t || held (atom_of m) f) || b) (sym (and_or (holds role_judgment t) (held role_judgment f) (is_name c m)))
+        ∙ ap (λ (b : Bool). (holds (atom_of m) t || held (atom_of m) f) || b) (sym (and-or_distrib_right (holds role_judgment t) (held role_judgment f) (is_name c m)))
 
   derivation-parts : (o : Option Derivation) → in_derivation (marks_as m c) o ≡ (in_derivation (atom_of m) o || (in_derivation role_judgment o && is_name c m))
   derivation-parts none = refl
@@ -326,13 +320,9 @@ unfolding find
 found_some m [] r e = let z : ◌≡◌ {A = ℕ} 0 1 = cc in absurd (omega arith)
 found_some m (s ∷ l) r e = go (eqb m s.name) refl e (found_some m l r)
   where
-    or_true : (b : Bool) → (b || true) ≡ true
-    or_true true = refl
-    or_true false = refl
-
     go : (b : Bool) → eqb m s.name ≡ b → pick b (some s) (find m l) ≡ some r → (find m l ≡ some r → any (λ (x : Relation). eqb x.name m) l ≡ true) → (eqb s.name m || any (λ (x : Relation). eqb x.name m) l) ≡ true
     go true q e ih = rw (eq-eqb s.name m (sym (eqb-true m s.name q))) refl
-    go false q e ih = rw (ih e) (or_true (eqb s.name m))
+    go false q e ih = rw (ih e) (or-true (eqb s.name m))
 
 -- THE LAW of marks: "that some atom or Exists names, or whose predicate holds kinds 102 to 104"
 pub marks-are : (p : Pack) (w : WellFormed p) (r : Relation) → find r.name p.relations ≡ some r → r.name < 4096 → (t : List Bool) → r.name < length t → get_or t r.name false ≡ false

@@ -2,13 +2,14 @@
 use Prim.Native.Nat.{ℕ, ◌/◌, ◌%◌, ◌≤◌, min}
 use native.Mathlib.Omega.{arith}
 use mathlib.Core.Path.{◌≡◌, refl, ap, sym, ◌∙◌, subst}
-use mathlib.Core.Bool.{Bool, true, false, not, ◌&&◌}
+use mathlib.Core.Bool.{Bool, true, false, not}
 use mathlib.Core.List.{List, [], ◌++◌}
 use lib.ListN.{length, take, drop, length-append}
 use lib.Seq.{take-append-le, length-take-le}
 use lib.Dec.{eqb, leb}
 use borrow.Author.Tests.{leb-true, not-true, not-false}
 use Rattle.std.specs.Prelude.{Ok, Err}
+use Rattle.std.proofs.lemmas.Bool.{and_parts}
 use Rattle.definitions.specs.Answers.{Answer, out_of_room}
 use Rattle.definitions.specs.Table.{pick}
 use Rattle.definitions.specs.Bytes.{words_of, encode, are_words, not_words, over_bytes, out_after, out_bytes, Gives}
@@ -23,13 +24,9 @@ yes-words count e f = sym e ∙ not-false _ f
 no_words : (count : ℕ) {t : Bool} → t ≡ are_words count → not t ≡ true → are_words count ≡ false
 no_words count e f = sym e ∙ not-true _ f
 
-and_right : (a b : Bool) → a && b ≡ true → b ≡ true
-and_right true b e = e
-and_right false b e = cc
-
 -- bytes that are words are not too many
 pub few : (count : ℕ) {t : Bool} → t ≡ are_words count → not t ≡ false → count ≤ 32768
-few count e f = leb-true count 32768 (and_right (eqb (count % 4) 0) (leb count 32768) (yes-words count e f))
+few count e f = leb-true count 32768 (and_parts (eqb (count % 4) 0) (leb count 32768) (yes-words count e f)).1
 
 -- what is loaded of bytes that are no words, and of bytes that are
 pub none_loaded : (bytes : List ℕ) (room : ℕ) {t : Bool} → t ≡ are_words (length bytes) → not t ≡ true → Loaded bytes room []
