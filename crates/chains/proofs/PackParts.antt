@@ -37,7 +37,7 @@ relations-most n v e = leb-true v 512 e
 
 -- ---- a pack's parts
 
-first_kind_lem : (e : Edition) → first_kind e ≡ 1
+pub first_kind_lem : (e : Edition) → first_kind e ≡ 1
 first_kind_lem undated = refl
 
 abbrev pub opening : Pack → List ℕ

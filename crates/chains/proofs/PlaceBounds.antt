@@ -7,19 +7,20 @@ use mathlib.Core.Bool.{Bool, true, false, ◌||◌}
 use mathlib.Core.Option.{Option, none, some}
 use lib.ListN.{length, get_or}
 use lib.Dec.{eqb}
-use borrow.Author.Tests.{ne_eqb, leb-true, ltb-true, lt-ltb, le-ltb}
+use borrow.Author.Tests.{leb-true, ltb-true, lt-ltb, le-ltb}
+use Rattle.records.proofs.DirectoryLaws.{few-hops}
 use Rattle.definitions.specs.Table.{pick, entry_of, table}
 use Rattle.definitions.specs.Table as table
-use Rattle.definitions.specs.Form.{among, allowed_here, says, count, items, Fine}
-use Rattle.definitions.specs.Records.{Hop, Derivation, Relation, Pack}
-use Rattle.definitions.specs.Pack.{WellFormed, name_list, path, chain, derivation, optional_derivation, relation_tail, relation}
+use Rattle.definitions.specs.Form.{among, allowed_here, count, items, Fine}
+use Rattle.definitions.specs.Records.{Derivation, Relation, Pack}
+use Rattle.definitions.specs.Pack.{WellFormed, name_list, chain, derivation, optional_derivation, relation_tail, relation}
 use Rattle.definitions.specs.Chain.{Link, end, next, mapped}
 use Rattle.definitions.specs.Kinds.{Which, list9, list21, KindsFound, from, find, read_at, kind_step}
 use Rattle.definitions.specs.Places.{first_relation, hops, count_place, place_of}
 use Rattle.chains.specs.Declaration.{coded_link}
 use Rattle.chains.specs.Settle.{link_at, Leading}
 use Rattle.chains.proofs.Names.{apart}
-use Rattle.chains.proofs.RelationForm.{RelationsFine, short-path}
+use Rattle.chains.proofs.RelationForm.{RelationsFine}
 use Rattle.chains.proofs.PackParts.{parts, find-name, relations-room, each_way, start_within}
 
 -- ---- what the table allows
@@ -32,18 +33,9 @@ or_not : (a b : Bool) → (a || b) ≡ true → b ≡ false → a ≡ true
 or_not true b e f = refl
 or_not false b e f = apart e f
 
-few-steps : (n v : ℕ) → allowed_here n 13 v ≡ true → eqb v table.none ≡ false → v ≤ 8
-unfolding allowed_here entry_of table
-few-steps n v e f = leb-true v 8 (or_not _ _ e f)
-
 source-below : (n v : ℕ) → allowed_here n 12 v ≡ true → eqb v table.none ≡ false → v < n
 unfolding allowed_here entry_of table
 source-below n v e f = ltb-true v n (or_not _ _ e f)
-
-path-few : (n : ℕ) (p : Option (List Hop)) → Fine (path n) p → hops p ≤ 8
-unfolding path Fine count says items
-path-few n none f = omega arith
-path-few n (some l) f = few-steps n (length l) f.0.1 (let s = short-path n (some l) f l refl in ne_eqb (length l) table.none (λ e. absurd (omega arith)))
 
 -- ---- one relation
 
@@ -65,7 +57,7 @@ place-small r k h list21 = go r.derivation h
 -- what a derivation that keeps to its form has
 derived-small : (n : ℕ) (d : Derivation) → Fine (derivation n) d → (hops d.path ≤ 8) × (eqb d.source table.none ≡ false → d.source < n)
 unfolding derivation chain Fine
-derived-small n d f = (path-few n d.path f.0.1.0, source-below n d.source f.0.0.1)
+derived-small n d f = (few-hops n d.path f.0.1.0, source-below n d.source f.0.0.1)
 
 option-small : (n : ℕ) (o : Option Derivation) → Fine (optional_derivation n) o → (d : Derivation) → o ≡ some d → (hops d.path ≤ 8) × (eqb d.source table.none ≡ false → d.source < n)
 unfolding optional_derivation Fine items

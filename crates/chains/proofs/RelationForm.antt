@@ -1,5 +1,5 @@
 -- What a relation that keeps to its form has, and relations in a row.
-use Prim.Native.Nat.{ℕ, ◌<◌}
+use Prim.Native.Nat.{ℕ, ◌<◌, ◌≤◌}
 use native.Mathlib.Omega.{arith}
 use mathlib.Core.Path.{◌≡◌, refl, sym, subst}
 use mathlib.Core.List.{List, [], ◌∷◌, map}
@@ -7,9 +7,10 @@ use mathlib.Core.Bool.{Bool, true, false, ◌||◌}
 use mathlib.Core.Option.{Option, none, some}
 use lib.ListN.{length}
 use lib.Dec.{eqb}
-use borrow.Author.Tests.{eqb-true, eqb-false, ltb-true, not-true}
-use Rattle.definitions.specs.Table.{pick, entry_of, table}
-use Rattle.definitions.specs.Form.{among, allowed_here, words_all, FineAll, says, count, items, list_or_none, words_by, Fine}
+use borrow.Author.Tests.{eqb-true, ltb-true, not-true}
+use Rattle.records.proofs.DirectoryLaws.{few-hops}
+use Rattle.definitions.specs.Table.{entry_of, table}
+use Rattle.definitions.specs.Form.{among, allowed_here, words_all, FineAll, count, items, list_or_none, words_by, Fine}
 use Rattle.definitions.specs.Records.{Hop, Derivation, Relation}
 use Rattle.definitions.specs.Lean.{step_names}
 use Rattle.definitions.specs.Pack.{new_name, name_list, hop, path, chain, member, derivation, optional_derivation, relation_tail, relation, next_used}
@@ -35,16 +36,7 @@ pub record Kept (n : ℕ) (used : ℕ → Bool) (r : Relation) : Type 0 where
 
 -- a path's length is no none
 pub short-path : (n : ℕ) (p : Option (List Hop)) → Fine (path n) p → (l : List Hop) → p ≡ some l → length l < 16777215
-unfolding path Fine count says items
-short-path n none f l e = let z : ◌≡◌ {A = ℕ} 0 1 = cc in absurd (omega arith)
-short-path n (some m) f l e = go (eqb (length m) 16777215) refl f.1
-  where
-    same : m ≡ l
-    same = cc
-
-    go : (b : Bool) → eqb (length m) 16777215 ≡ b → pick b 0 (length m) ≡ length m → length l < 16777215
-    go true h q = let z = eqb-true (length m) 16777215 h in absurd (omega arith)
-    go false h q = let z = eqb-false (length m) 16777215 h in rw (← same) (omega (arith, f.0.0))
+short-path n p f l e = let few : length l ≤ 8 = rw e at (few-hops n p f) in omega arith
 
 path-counts : (n : ℕ) (p : Option (List Hop)) → Fine (path n) p → count list_or_none p < 16777216
 unfolding path Fine

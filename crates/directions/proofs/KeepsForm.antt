@@ -3,11 +3,12 @@ use Prim.Native.Nat.{ℕ, zero, suc, ◌+◌, ◌<◌, ◌≤◌}
 use native.Mathlib.Omega.{arith}
 use mathlib.Core.Path.{◌≡◌, refl, ap, sym, subst}
 use mathlib.Core.List.{List, [], ◌∷◌}
-use mathlib.Core.Bool.{Bool, true, false, ◌||◌}
+use mathlib.Core.Bool.{Bool, true, false}
 use mathlib.Core.Option.{Option, none, some}
 use lib.ListN.{length}
 use lib.Dec.{eqb}
-use borrow.Author.Tests.{eqb-true}
+use Rattle.reading.proofs.TreeLaws.{turned_away}
+use Rattle.pack.proofs.FormLaws.{only-kind}
 use Rattle.definitions.specs.declared.table.Follows.{Follows}
 use Rattle.definitions.specs.declared.table.Follows.TheVariants.{Aggregate}
 use Rattle.definitions.specs.Table.{pick, table, entry_of, fields_of, children_of}
@@ -116,13 +117,6 @@ module _ (T : Tables) (fit : TablesFit T) where
 
 -- ---- fields
 
-pub only_one : (k kind : ℕ) → only (kind ∷ []) k ≡ 0 → k ≡ kind
-only_one k kind e = go (eqb k kind) refl e
-  where
-    go : (b : Bool) → eqb k kind ≡ b → ◌≡◌ {A = ℕ} (pick (b || false) 0 2) 0 → k ≡ kind
-    go true h e = eqb-true k kind h
-    go false h e = absurd (omega arith)
-
 -- a slot takes any value
 any_slot : (n v : ℕ) → (allowed_here n 80 v ≡ true) × (allowed_here n 81 v ≡ true)
 unfolding allowed_here entry_of table
@@ -136,7 +130,7 @@ FieldsFine n kss fs = FineEach (FieldFine n) kss fs
 
 slot_fine : (n kind : ℕ) (f : ℕ × ℕ) (c : ℕ) → FieldFine n (kind ∷ []) f → Slot c → allowed_here n kind c ≡ true → FieldFine n (kind ∷ []) (f.0, c)
 unfolding Fine
-slot_fine n kind f c h s a = (h.0, (s, subst (λ (k : ℕ). allowed_here n k c ≡ true) (sym (only_one f.0 kind h.0)) a))
+slot_fine n kind f c h s a = (h.0, (s, subst (λ (k : ℕ). allowed_here n k c ≡ true) (sym (only-kind f.0 kind h.0)) a))
 
 abbrev pub slotted : List (List ℕ) → List (List ℕ)
 slotted rest = (80 ∷ []) ∷ (81 ∷ []) ∷ rest
@@ -182,12 +176,8 @@ module _ (n : ℕ) where
   close_node d sort k v fs f h = h
 
   pub no_level : (sort k v : ℕ) (fs : Fields) (f : Forest) → Fine (tree n zero sort) (node k v fs f) → ⊥
-  unfolding tree Fine heads
-  no_level sort k v fs f h = go (eqb (entry_of k).sort sort) h.0.0
-    where
-      go : (b : Bool) → ◌≡◌ {A = ℕ} (pick b 5 2) 0 → ⊥
-      go true e = omega arith
-      go false e = omega arith
+  unfolding tree Fine
+  no_level sort k v fs f h = turned_away sort k h.0.0
 
 module _ (C : Citing) (fit : TablesFit C.tables) (n : ℕ) where
   turned_fits : (v entity : ℕ) (rest : List (List ℕ)) (fs : Fields) → FieldsFine n (slotted rest) fs → DirectionFits (turn C.tables v entity (current_of fs) (related_of fs))

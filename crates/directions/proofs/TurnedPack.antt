@@ -16,11 +16,10 @@ use Rattle.definitions.specs.Pack.{WellFormed, new_name, relation, relations, ru
 use Rattle.definitions.specs.Kinds.{declared}
 use Rattle.definitions.specs.Places.{relation_words, first_relation, relations_end}
 use Rattle.chains.proofs.RelationForm.{relations_words, RelationsFine}
-use Rattle.chains.proofs.PackParts.{parts}
+use Rattle.chains.proofs.PackParts.{parts, first_kind_lem}
 use Rattle.definitions.specs.Answers.{Outcome, and_then, map_done}
 use Rattle.definitions.specs.Resolving.{rule_words, resolve_rule, resolve_rules, resolve_relation, resolve_relations, first_rule}
 use Rattle.directions.specs.RecordRuns.{run_words, run_by, EachKeeps, Many, RelationKeeps, with_records}
-use Rattle.inputs.proofs.BlocksStand.{first_kind_lem}
 
 -- ---- its words
 

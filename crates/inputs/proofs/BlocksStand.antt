@@ -8,11 +8,12 @@ use mathlib.Core.Option.{Option, none, some}
 use lib.ListN.{length, length-append}
 use lib.Dec.{eqb}
 use borrow.Author.Tests.{leb-true, eqb-true, eqb-false}
+use Rattle.chains.proofs.PackParts.{first_kind_lem}
 use Rattle.definitions.specs.Table.{pick, word_of, table, entry_of}
 use Rattle.definitions.specs.Form.{allowed_here, words_all, FineAll, says, count, items, list_or_none, words_by, Fine}
-use Rattle.definitions.specs.Records.{Item, Block, Pack, Edition, undated}
+use Rattle.definitions.specs.Records.{Item, Block, Pack}
 use Rattle.definitions.specs.FieldRows.{to_row}
-use Rattle.definitions.specs.Pack.{WellFormed, yes, read, item, block_items, block, blocks, defaulted, relations, rules, records, inner, layout, total, words, first_kind}
+use Rattle.definitions.specs.Pack.{WellFormed, yes, read, item, block_items, block, blocks, defaulted, relations, rules, records, inner, layout, total, words}
 use Rattle.pack.proofs.PackLaws.{words-read}
 use Rattle.records.specs.Directory.{relations_at, rules_at, blocks_at}
 use Rattle.chains.specs.PackDirectory.{BlocksAt}
@@ -78,14 +79,6 @@ module _ (n : ℕ) where
 
 -- ---- a pack
 
--- the defaulted names begin with their count
-first_word : (n : ℕ) (ds : List ℕ) → 1 ≤ length (words_by (defaulted n) ds)
-unfolding defaulted words_by
-first_word n ds = omega arith
-
-pub first_kind_lem : (e : Edition) → first_kind e ≡ 1
-first_kind_lem undated = refl
-
 -- the words before the blocks
 pub record Stands (p : Pack) : Type 0 where
   pub before : List ℕ
@@ -93,7 +86,6 @@ pub record Stands (p : Pack) : Type 0 where
   pub long : length before ≡ blocks_at p.names 2 (to_row p).1
   pub fits : BlocksFit p.blocks
   pub few : length p.blocks ≤ 64
-  pub three : 3 ≤ length before
 
 few-blocks : (n v : ℕ) → allowed_here n 28 v ≡ true → v ≤ 64
 unfolding allowed_here entry_of table
@@ -117,7 +109,6 @@ blocks_stand p w =
       long = omega (arith, length-append a (b ++ c), length-append b c);
       fits = blocks_fit n p.blocks f.1.1.1.1.2;
       few = few-blocks n (length p.blocks) f.1.1.1.1.0.1;
-      three = (let x = length-append a (b ++ c) in let y = first_word n p.defaulted in omega arith);
     }
 
 -- of the words of a pack: the place of its count of blocks, and what an input is there

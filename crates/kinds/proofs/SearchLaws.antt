@@ -326,7 +326,6 @@ module _ (ws dir : List ℕ) (a b : ℕ) where
     pub room : HasRoom s
     pub first : (m : ℕ) → among m (edges a) ≡ true → Marked s m
     pub entered : (j : ℕ) → j < s.entered → (m : ℕ) → among m (edges (get_or s.queue j 0)) ≡ true → Marked s m
-    pub sofar : s.entered ≤ s.count
     pub reaches : Reaches dir (length s.marks)
     pub to : b < length s.marks
     pub low : (n m : ℕ) → among m (edges n) ≡ true → m < length s.marks
@@ -350,7 +349,6 @@ module _ (ws dir : List ℕ) (a b : ℕ) where
           room = room_kept room-first o;
           first = all-marks (edges a) s₀ all_asked;
           entered = λ j h. absurd (omega (arith, o.entered));
-          sofar = omega (arith, o.entered);
           reaches = subst (Reaches dir) (sym o.marks) asked.reaches;
           to = omega (arith, o.marks, asked.to);
           low = λ n m e. omega (arith, o.marks, asked.edges n m e);
@@ -403,7 +401,6 @@ module _ (ws dir : List ℕ) (a b : ℕ) where
             room = room_kept f.room o;
             first = λ m j. o.marked m (f.first m j);
             entered = λ j k m e. ways o j (omega (arith, o.entered)) m e (eqb j s.entered) refl;
-            sofar = omega (arith, o.more, o.entered);
             reaches = subst (Reaches dir) (sym o.marks) f.reaches;
             to = omega (arith, o.marks, f.to);
             low = λ n m e. omega (arith, o.marks, f.low n m e);

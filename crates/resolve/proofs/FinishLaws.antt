@@ -5,12 +5,13 @@ use mathlib.Core.Path.{◌≡◌, refl, ap, sym, ◌∙◌, subst}
 use mathlib.Core.List.{List, [], ◌∷◌, ◌++◌, map, map-append}
 use mathlib.Core.Bool.{Bool, true, false, ◌&&◌}
 use lib.ListN.{length, get_or, take, drop, replicate, length-append, length-map, length-replicate}
-use lib.Seq.{length-take-le, take_at, take-append-add}
+use lib.Seq.{take_at, take-append-add}
 use lib.Dec.{leb}
 use borrow.Author.Tests.{le-leb, lt-leb}
 use borrow.Rule.Slice.PartMut.{mid_of, put_mid, same_len_mid, mid_len}
 use Rattle.std.proofs.lemmas.Bool.{and_right}
 use Rattle.std.proofs.lemmas.List.{drop-replicate, take-replicate}
+use Rattle.chains.proofs.AnswerLaws.{front_length}
 use Rattle.definitions.specs.Table.{pick, word_of}
 use Rattle.definitions.specs.Form.{count, items, says, words_by, Fine}
 use Rattle.definitions.specs.Records.{Relation, Rule, Pack}
@@ -167,9 +168,6 @@ module _ (p : Pack) (w : WellFormed p) (rels : List Relation) (rls : List Rule) 
       its-words c = c its-asked
 
 -- ---- for the code
-
-pub front_length : (lent : List ℕ) (count : ℕ) → count ≤ length lent → length (mid_of 0 (count - 0) lent) ≡ count
-front_length lent count h = let whole : count - 0 ≡ count = omega arith in rw whole (length-take-le count lent h)
 
 done-same : {A : Type 0} {a b : A} → ◌≡◌ {A = Outcome A} (done a) (done b) → a ≡ b
 done-same e = cc

@@ -348,17 +348,17 @@ module _ {ws d e d' e' : List ℕ} {r : Result Layout Refusal} {l : Layout} (cle
 
 -- ---- what stands at the front
 
+front-words : (q : Pack) (rest : List ℕ) → take (total q) (words q ++ rest) ≡ words q
+front-words q rest = rw (← words-length q) (take-append_seam (words q) rest)
+
 -- what is written does not depend on what was there
 written_alike : (steps : ℕ) (o : Outcome Pack) (lent other : List ℕ) → length lent ≡ length other
     → front_of (given_out steps (length lent) o) (written_out lent o) ≡ front_of (given_out steps (length lent) o) (written_out other o)
 written_alike steps (refused r) lent other e = refl
 written_alike steps (done q) lent other e = rw (← e) (go (leb (total q) 8192 && leb (total q) (length lent)))
   where
-    front : (rest : List ℕ) → take (total q) (words q ++ rest) ≡ words q
-    front rest = rw (← words-length q) (take-append_seam (words q) rest)
-
     go : (b : Bool) → front_of (pick b (words_and_steps (total q) steps) out_of_room) (pick b (words q ++ drop (total q) lent) lent) ≡ front_of (pick b (words_and_steps (total q) steps) out_of_room) (pick b (words q ++ drop (total q) other) other)
-    go true = front (drop (total q) lent) ∙ sym (front (drop (total q) other))
+    go true = front-words q (drop (total q) lent) ∙ sym (front-words q (drop (total q) other))
     go false = refl
 
 pub front_alike : (ws lent other : List ℕ) → length lent ≡ length other
@@ -445,13 +445,10 @@ written-whole : (steps : ℕ) (o : Outcome Pack) (lent own : List ℕ) → lengt
 written-whole steps (refused r) lent own e = refl
 written-whole steps (done q) lent own e = rw (e, both_min (total q) (length lent)) (go (leb (total q) 8192 && leb (total q) (length lent)))
   where
-    front : (rest : List ℕ) → take (total q) (words q ++ rest) ≡ words q
-    front rest = rw (← words-length q) (take-append_seam (words q) rest)
-
     go : (b : Bool)
         → pick b (words q ++ drop (total q) lent) lent
         ≡ take (written_of (pick b (words_and_steps (total q) steps) out_of_room)) (pick b (words q ++ drop (total q) own) own) ++ drop (written_of (pick b (words_and_steps (total q) steps) out_of_room)) lent
-    go true = ap (λ (l : List ℕ). l ++ drop (total q) lent) (sym (front (drop (total q) own)))
+    go true = ap (λ (l : List ℕ). l ++ drop (total q) lent) (sym (front-words q (drop (total q) own)))
     go false = refl
 
 whole-buffer : (ws lent own : List ℕ) → length own ≡ min (length lent) 8192

@@ -6,6 +6,7 @@ use mathlib.Core.List.{List, [], ◌∷◌, ◌++◌, append_assoc}
 use mathlib.Core.Bool.{Bool, true, false, ◌||◌}
 use mathlib.Core.Option.{Option, none, some}
 use lib.ListN.{length, length-append}
+use Rattle.pack.proofs.FormLaws.{only-kind}
 use Rattle.definitions.specs.declared.table.Follows.{Follows}
 use Rattle.definitions.specs.Table.{pick, word_of, judgment, entry_of, fields_of, children_of}
 use Rattle.definitions.specs.Form.{FineEach, allowed_here, Fine, words_by}
@@ -20,7 +21,7 @@ use Rattle.pack.proofs.PackLaws.{words-length}
 use Rattle.definitions.specs.Places.{relation_words, first_relation}
 use Rattle.chains.proofs.PackParts.{parts}
 use Rattle.definitions.specs.Resolving.{rule_words, predicate_place, first_rule}
-use Rattle.directions.proofs.KeepsForm.{FieldsFine, only_one, open_node, no_level, head_fine}
+use Rattle.directions.proofs.KeepsForm.{FieldsFine, open_node, no_level, head_fine}
 use Rattle.directions.proofs.TreeWords.{fields-count, size_is, fields-length}
 use Rattle.directions.specs.RecordRuns.{run_words, EachKeeps, body_words, RelationKeeps}
 use Rattle.directions.proofs.RuleLaws.{bodies_of, head, rule-parts}
@@ -43,7 +44,7 @@ two_slots : (n : ℕ) (rest : List (List ℕ)) (fs : Fields) → FieldsFine n ((
 unfolding Fine
 two_slots n rest [] h = absurd h
 two_slots n rest (a ∷ []) h = absurd h.1
-two_slots n rest (a ∷ b ∷ fs) h = (only_one a.0 80 h.0.0, only_one b.0 81 h.1.0.0)
+two_slots n rest (a ∷ b ∷ fs) h = (only-kind a.0 80 h.0.0, only-kind b.0 81 h.1.0.0)
 
 slot_fields : (n : ℕ) (w : Follows) (fs : Fields) → (look_by w).slots ≡ true → FieldsFine n (fields_of w) fs → SlotFields fs
 unfolding look_by fields_of

@@ -23,6 +23,7 @@ use Rattle.definitions.specs.Tree.{Fields}
 use Rattle.definitions.specs.ResolvingTrees.{with_slots, stops, aggregate, allowed_input, only_related, membership_test, node_step}
 use Rattle.directions.specs.Words.{tables_in, member_in, MemberTurned, SlotsFit}
 use Rattle.std.specs.Prelude.{Result, Ok, Err}
+use Rattle.reading.proofs.TreeLaws.{aggregate-kind}
 use Rattle.definitions.specs.declared.answer.Number.{Number}
 use Rattle.definitions.specs.declared.answer.Number.TheVariants.{DerivedInput}
 use Rattle.inputs.specs.Blocks.{input_in, refused_by}
@@ -60,10 +61,6 @@ test_kind k e = rw e refl
 pub only-kind : (k : ℕ) → k ≡ 78 → (entry_of k).follows ≡ OnlyRelated
 unfolding entry_of table
 only-kind k e = rw e refl
-
-pub aggregates : (k : ℕ) → 74 ≤ k → k < 78 → (entry_of k).follows ≡ Aggregate
-unfolding entry_of table
-aggregates k l h = in_range (λ (x : ℕ). (entry_of x).follows) Aggregate 74 4 refl k l h
 
 slots-few : (k : ℕ) → k < 74 → (look_of k).slots ≡ false
 unfolding look_by entry_of table
@@ -116,7 +113,7 @@ turned_slots k l h = go (eqb k 78) refl
   where
     go : (b : Bool) → eqb k 78 ≡ b → (look_of k).slots ≡ true
     go true e = slots_of (only-kind k (eqb-true k 78 e)) only-slots
-    go false e = slots_of (aggregates k l (let z = eqb-false k 78 e in omega arith)) aggregate-slots
+    go false e = slots_of (aggregate-kind k l (let z = eqb-false k 78 e in omega arith)) aggregate-slots
 
 pub test_slots : (look_by Slots).slots ≡ true
 unfolding look_by
@@ -178,7 +175,7 @@ module _ {k : Known} {n : Node} (s : NodeStands k.tables.pack.now n.note.place) 
     where
       go : (b : Bool) → eqb (kind_here k.tables.pack.now n.note.place) 78 ≡ b → o ≡ pick b (only_in k n (turned_in k n)) (went_by n (turned_in k n)) → StepTaken k n o
       go true e f = only-taken (only-kind _ (eqb-true (kind_here k.tables.pack.now n.note.place) 78 e)) (f, q.1)
-      go false e f = went_taken (aggregates _ l (let z = eqb-false (kind_here k.tables.pack.now n.note.place) 78 e in omega arith)) (f, q.1)
+      go false e f = went_taken (aggregate-kind _ l (let z = eqb-false (kind_here k.tables.pack.now n.note.place) 78 e in omega arith)) (f, q.1)
 
   pub none-taken : (look_of (kind_here k.tables.pack.now n.note.place)).slots ≡ false → StepTaken k n (Ok Passes)
   unfolding out_at

@@ -3,9 +3,9 @@ use native.Mathlib.Omega.{arith}
 use borrow.Author.Rules.{rules}
 use mathlib.Core.Path.{refl, sym, ◌∙◌, ap}
 use lib.ListN.{length}
+use Rattle.chains.proofs.AnswerLaws.{front_length}
 use Rattle.checking.specs.CheckPromises.{answer_in}
 use Rattle.resolve.proofs.ResolveLaws.{resolve-refused, its-directory, its-words, checked-asked, blocks-near, in_asked, into_stopped}
-use Rattle.resolve.proofs.FinishLaws.{front_length}
 use Rattle.resolve.proofs.resolve.resolve_by.Goals as goal
 
 pub check_notes-requires : goal.check_notes-requires

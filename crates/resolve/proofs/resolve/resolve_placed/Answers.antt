@@ -2,7 +2,7 @@
 use native.Mathlib.Omega.{arith}
 use borrow.Author.Rules.{rules}
 use mathlib.Core.Path.{refl, ◌∙◌}
-use Rattle.resolve.proofs.FinishLaws.{front_length}
+use Rattle.chains.proofs.AnswerLaws.{front_length}
 use Rattle.resolve.proofs.ResolveLaws.{turns-asked, placed_finish, placed-all, placed_stopped, into_part, into_stopped}
 use Rattle.resolve.proofs.resolve.resolve_placed.Goals as goal
 
