@@ -11,7 +11,8 @@ pub enum Operation {
     End,
 }
 
-// Any operation: the definitions have those that only answer (`Question`) and those that write (`Writing`), and Resolve apart from both.
+// Any operation, as the list tells it by a number. The definitions have `Question` and `Writing`, and a question there holds its names, which
+// stand in words of their own here.
 #[derive(Clone, Copy)]
 pub enum Call {
     Check,

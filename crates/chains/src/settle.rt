@@ -121,7 +121,7 @@ impl<'a> Walks<'a> {
 }
 
 // The same by a directory and marks that are lent. The answer is a place, 0 for none, and no Option: so a mark and an answer of an
-// operation hold it.
+// operation hold it. No loop over names holds the walks, since whoever lends the marks reads them afterwards.
 pub fn walk(dir: &[u32], marks: &mut [u32], steps: &mut u32, n: usize, fuel: u32) -> u32
     requires { Walkable (declarations_in dir.now) marks.old steps.old n fuel × Reaches dir.now (length marks.old) }
     ensures { WalkedHere (declarations_in dir.now) marks.old steps.old n fuel result marks.new steps.new }

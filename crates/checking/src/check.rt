@@ -57,8 +57,7 @@ pub fn check_directory(pack: &[u32], dir: &mut [u32]) -> Laid
     requires { Clear (names_said pack.now) dir.old }
     ensures { DirectoryChecked pack.now dir.old result dir.new }
 {
-    let mut none = [0u32; 1];
-    check_notes(pack, dir, &mut none[0..0])
+    check_notes(pack, dir, &mut [])
 }
 
 // N as the words say it, 0 where that can't be N. It is no Option: 0 is also the number of names to make room for then.

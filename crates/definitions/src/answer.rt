@@ -51,7 +51,7 @@ pub enum Number {
 }
 
 // What an answer says that is no refusal: a value and a number of steps, each 0 where an operation has none. Of a yes the value is 1, of
-// a no it is 0.
+// a no it is 0: C is handed one number for all of them.
 #[derive(Clone, Copy, PartialEq, Eq)]
 pub struct Given {
     pub value: u32,

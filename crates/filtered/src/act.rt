@@ -20,7 +20,7 @@ pub enum Part {
 impl Part {
     pub const MARKS: u32 = 2 * Declaration::LEADS;
 
-    // As it is packed.
+    // As it is packed. No `From`, since it asks that the number fits.
     pub fn number(self) -> u32
         requires { part_number self < 32768 }
         ensures { result ≡ part_number self }

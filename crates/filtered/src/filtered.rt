@@ -42,8 +42,8 @@ fn say(filter: Filter, x: u32, mark: u32, e: u32) -> u32
     }
 }
 
-// What a table says of each name, in the place of the mark of its walk. What is known of a name is looked up by index: of what is
-// written through a zip a proof knows nothing.
+// What a table says of each name, in the place of the mark of its walk. What is known of a name is looked up by index: of a slice that
+// is written through a zip a proof knows the length alone.
 fn say_all(taken: &[u32], filter: Filter, out: &mut [u32])
     requires { (length out.old ≤ length taken.now) × (length out.old ≤ 4096) }
     ensures { out.new ≡ table_from (said_in filter taken.now out.old) 0 (length out.old) }
@@ -114,7 +114,7 @@ fn fill(
     say_all(taken, filter, out);
 }
 
-// A table, by a directory and tables that are lent.
+// A table, by a directory and tables that are lent: so what they say is asked for here, and by no struct.
 fn filtered_in(
     pack: &[u32],
     filter: Filter,

@@ -35,7 +35,7 @@ impl Taken {
 
     const SEVERAL: u32 = Taken::ONE + Pack::VALUES;
 
-    // As it is packed.
+    // As it is packed. No `From`, since it asks that the number fits.
     fn number(self) -> u32
         requires { number_of self < 2 ^ 32 }
         ensures { result ≡ number_of self }
@@ -138,7 +138,7 @@ pub fn kind_in(names: &[u32], slot: u32) -> Option<u32>
     names.get(slot as usize).map(|word| word % Pack::VALUES)
 }
 
-// The same of that list.
+// The kind at a slot of the list whose count word stands at a place.
 pub fn kind_at(pack: &[u32], place: u32, slot: u32) -> Option<u32>
     ensures { KindFound pack.now place slot result }
 {

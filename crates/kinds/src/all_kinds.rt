@@ -12,8 +12,8 @@ use definitions::answer::{Answer, Given, Number};
 use pack::refusal::refused;
 use records::directory::Directory;
 
-// The place of each relation's list, by the relations' names. These are looked up by index: of what is written through a zip a proof
-// knows nothing.
+// The place of each relation's list, by the relations' names. These are looked up by index: of a slice that is written through a zip a
+// proof knows the length alone.
 fn places(names: &[u32], marks: &[u32], out: &mut [u32])
     requires { (length out.old ≡ length names.now) × Placeable marks.now names.now }
     ensures { out.new ≡ map (place_by marks.now) names.now }

@@ -6,7 +6,7 @@ ghost use Rattle.wire.specs.Loading.{Holds, Tried};
 ghost use Rattle.definitions.specs.Operations.{filter_answer, filter_buffer, resolve_answer, resolve_buffer, answer_to, answer_of, buffer_of};
 ghost use Rattle.definitions.specs.Answers.{Answered};
 ghost use Rattle.definitions.specs.declared.operation.Writing.{Writing};
-ghost use Rattle.over_bytes.specs.BytesPromises.{Runs, RoomIn};
+ghost use Rattle.over_bytes.specs.BytesPromises.{Runs};
 
 use checking::check::check;
 use checking::rewrite::rewrite;

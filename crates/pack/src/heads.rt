@@ -1,5 +1,5 @@
 // Head words: those that may begin a tree, in a pack of N names.
-ghost use Rattle.std.specs.Prelude.{◌≡◌, ℕ, ◌<◌, ◌≤◌};
+ghost use Rattle.std.specs.Prelude.{◌≡◌, ◌<◌, ◌≤◌};
 ghost use Rattle.pack.specs.Packed.{Ended, EndsAt, may_begin};
 
 use crate::kinds::Pack;
@@ -16,7 +16,7 @@ pub struct Heads {
     ghost ended: { Ended names ends },
 }
 
-// One more than the last word of a kind that may begin a tree; 0 where none may.
+// One more than the last word of a kind that may begin a tree; 0 where none may, below which no word is.
 fn end_of(kind: u32, n: u32) -> u32
     requires { (64 ≤ kind) × (kind < 128) × (n ≤ 4096) }
     ensures { EndsAt n kind result }

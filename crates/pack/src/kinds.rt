@@ -4,7 +4,8 @@
 pub struct Pack {}
 
 // A word is its kind, and its value below VALUES. Kinds are numbers and no enum: the format has them inside of words, where they are
-// compared, and a table is looked up by them.
+// compared, and a table is looked up by them. A word is made and taken apart where it stands, by one multiplication, division or
+// remainder, and by no function: so the check sees the bounds of a kind and of a value without being told them.
 impl Pack {
     pub const KINDS: usize = 256;
 

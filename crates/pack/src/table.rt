@@ -534,7 +534,7 @@ static TABLE: [Entry; Pack::KINDS] = [
     UNUSED,
 ];
 
-// The entry of a kind.
+// The entry of a kind: a number below 256, since it is what a word has above its value.
 pub fn entry_of(kind: u32) -> Entry
     requires { kind < 256 }
     ensures { result ≡ entry_of kind }

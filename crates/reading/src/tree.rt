@@ -1,6 +1,7 @@
 // Trees: scalar and judgment walkers, which call each other. With each level the number of levels left falls.
 // They answer the place after the tree, or what is wrong with it. On their way they note the nodes that resolving looks at.
-// Notes are a slice, and no struct round it: every function of the cycle would have to promise that the struct still holds that slice.
+// Notes are a slice, and no struct round it: every function of the cycle would have to promise that the struct still holds that slice. Place,
+// levels and context are numbers by themselves, since from call to call now the one changes and now the other.
 ghost use Rattle.std.specs.Prelude.{◌≡◌, ◌+◌, ◌≤◌, ◌<◌, [], ◌∷◌, true, false, length, get_or, set, replicate};
 ghost use Rattle.definitions.specs.declared.table.Follows.TheVariants.{Aggregate, Exists};
 ghost use Rattle.definitions.specs.Table.{scalar, judgment, kind_of};
@@ -226,7 +227,7 @@ fn exists(
     judgments(part, body, 1, left, context, notes)
 }
 
-// What follows the head word of a scalar at a place.
+// What follows the head word of a scalar at a place. It has a twin for judgments below: 01 asks by name for two walkers that call each other.
 #[cycle(walkers)]
 fn after_scalar(
     part: Words,

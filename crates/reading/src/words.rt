@@ -51,7 +51,7 @@ impl<'a> Words<'a> {
         Err(Fault::new(Number::WrongValue, at))
     }
 
-    // A word of this kind, with any value up to a most: the place after it.
+    // A word of this kind, with any value up to a most: the place after it. As a `Cursor` reads a field, but it answers a fault.
     pub(crate) fn up_to(self, at: usize, kind: u32, most: u32) -> Result<usize, Fault>
         requires { (at ≤ length self.words.now) × UpTo kind most }
         ensures { (n : ℕ) → walked result ≡ skip_over (word (only (kind ∷ [])) n) self.entry.words.now at }

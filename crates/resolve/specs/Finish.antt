@@ -196,6 +196,10 @@ pub record RoomFor (ws out : List ℕ) (room : ℕ) : Type 0 where
   pub noted : length ws ≤ 8192 → length ws < length out
   pub fits : room ≤ length out
 
+-- room for a copy of the words of a slice that may be a pack
+abbrev pub CopyRoom : List ℕ → ℕ → Type 0
+CopyRoom ws room = length ws ≤ 8192 → length ws ≤ room
+
 -- the words that an answer says are written, at the front of a slice
 abbrev pub front_of : Answer → List ℕ → List ℕ
 front_of (Ok g) l = take g.value l

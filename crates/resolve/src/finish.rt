@@ -48,7 +48,7 @@ fn finish_in(
     })
 }
 
-// With room for so many lists: a pack of few pieces has a small table.
+// With room for so many lists: a pack of few pieces has a small table. What is asked of the size, a const parameter, has no place but a clause.
 pub fn finish<const MOST: usize>(
     checked: &Checked,
     asked: &[bool],

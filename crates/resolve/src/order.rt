@@ -1,6 +1,6 @@
 // Where the pieces of a pack begin, in word order: what stands before the relations, each relation, the count of rules, each
 // rule, the count of blocks, each block.
-ghost use Rattle.std.specs.Prelude.{◌≤◌, length};
+ghost use Rattle.std.specs.Prelude.{length};
 ghost use Rattle.resolve.specs.Finish.{Named, order_in, RulesAsked, RulesCame, block_places, OrderAsked, OrderCame};
 ghost use Rattle.resolve.specs.Writing.{HasRoom, Writes};
 
@@ -20,7 +20,7 @@ fn order_relations(dir: &[u32], names: &[u32], places: &mut Writer)
     }
 }
 
-// The rules, from their notes: those that stand inside no other.
+// The rules, from their notes: those that stand inside no other. Notes are told by their number, which is their index, so none are cut off.
 fn order_rules(notes: &[u32], from: usize, all: usize, places: &mut Writer)
     requires { RulesAsked notes.now from all places.old }
     ensures { RulesCame notes.now from all places.old places.new }
@@ -33,7 +33,7 @@ fn order_rules(notes: &[u32], from: usize, all: usize, places: &mut Writer)
 }
 
 // The blocks, one after the other. That each tells where the next one begins is all that this loop shares with the one that looks for an
-// input, which ends early and has no place to write.
+// input: an iterator for both would take a struct, its impl and its laws, which is more than the loops are.
 fn order_blocks(pack: &[u32], blocks: Blocks, places: &mut Writer)
     requires { HasRoom places.old (block_places pack.now blocks.at blocks.count) }
     ensures { Writes places.old (block_places pack.now blocks.at blocks.count) places.new }

@@ -1,10 +1,11 @@
-// Resolve: a pack with its directions settled, written out whole.
+// Resolve: a pack with its directions settled, written out whole. What is asked for, the notes and the copy of the words are slices that are
+// lent and filled one after the other: a struct that held them would have to promise at each call that it still holds the same ones.
 ghost use Rattle.definitions.specs.Answers.{Answered};
 ghost use Rattle.definitions.specs.Operations.{resolve_answer, resolve_buffer};
 ghost use Rattle.std.specs.Prelude.{◌≡◌, ◌+◌, ◌≤◌, length, get_or};
 ghost use Rattle.chains.specs.DirectoryWord.{Reaches, starts_in};
 ghost use Rattle.checking.specs.CheckPromises.{names_said};
-ghost use Rattle.resolve.specs.Finish.{PlacedAsked, PiecesAsked, ResolveAsked, TablesFor, RoomFor, Into};
+ghost use Rattle.resolve.specs.Finish.{PlacedAsked, PiecesAsked, ResolveAsked, TablesFor, RoomFor, CopyRoom, Into};
 
 use crate::checked::{Checked, Figures, Places};
 use crate::finish::finish;
@@ -16,6 +17,7 @@ use definitions::answer::{Answer, Number, Refusal};
 use directions::tables::Tables;
 use filtered::taking::read_tables;
 use pack::kinds::Pack;
+use pack::refusal::refused;
 use records::directory::Directory;
 use turning::asked::ask_notes;
 use turning::known::Known;
@@ -88,10 +90,8 @@ fn equal_kinds(dir: &[u32], name: u32) -> Refusal
     ensures { result ≡ record { number = 9; place = get_or (starts_in dir.now) name 0; name = name; other = 0 } }
 {
     Refusal {
-        number: Number::EqualKinds as u32,
-        place: start(dir, name as usize),
         name,
-        other: 0,
+        ..refused(Number::EqualKinds, start(dir, name as usize))
     }
 }
 
@@ -107,7 +107,7 @@ fn resolve_by(
     room: usize,
     words: &mut [u32],
 ) -> Answer
-    requires { RoomFor pack.now out.old room × TablesFor pack.now dir.old acts.old taken.old asked.old × (length pack.now ≤ 8192 → length pack.now ≤ length words.old) }
+    requires { RoomFor pack.now out.old room × TablesFor pack.now dir.old acts.old taken.old asked.old × CopyRoom pack.now (length words.old) }
     ensures { Into pack.now room result out.new }
 {
     let layout = check_notes(pack, dir, out)?;
@@ -128,7 +128,7 @@ fn resolve_named<const NAMES: usize, const WORDS: usize>(
     room: usize,
     words: &mut [u32],
 ) -> Answer
-    requires { RoomFor pack.now out.old room × (length pack.now ≤ 8192 → length pack.now ≤ length words.old) × (names_said pack.now ≤ NAMES) × (NAMES ≤ 4096) × (WORDS ≡ 512 + NAMES) }
+    requires { RoomFor pack.now out.old room × CopyRoom pack.now (length words.old) × (names_said pack.now ≤ NAMES) × (NAMES ≤ 4096) × (WORDS ≡ 512 + NAMES) }
     ensures { Into pack.now room result out.new }
 {
     let mut dir = [0u32; WORDS];
@@ -142,7 +142,7 @@ fn resolve_named<const NAMES: usize, const WORDS: usize>(
 
 // With a copy of the words in so many.
 fn resolve_copied<const MOST: usize>(pack: &[u32], out: &mut [u32], room: usize) -> Answer
-    requires { RoomFor pack.now out.old room × (length pack.now ≤ 8192 → length pack.now ≤ MOST) × (MOST ≤ 8192) }
+    requires { RoomFor pack.now out.old room × CopyRoom pack.now MOST × (MOST ≤ 8192) }
     ensures { Into pack.now room result out.new }
 {
     let mut words = [0u32; MOST];

@@ -16,7 +16,8 @@ fn place_at(places: &[u32], i: usize, end: usize) -> usize
     }
 }
 
-// All records, in a slice with as many words, each at the place that the one before it hands on: the place after the last.
+// All records, in a slice with as many words, each at the place that the one before it hands on: the place after the last. Places are looked
+// into by index, since a piece ends where the next begins.
 // In the pack's words each ends where the next begins, the last where the words end.
 fn put_records(pack: &[u32], work: &[u32], places: &[u32], lists: &[u32], writer: &mut Writer)
     requires { WriteAsked pack.now places.now lists.now work.now (length writer.old.out.now) × (writer.old.to ≡ 0) }

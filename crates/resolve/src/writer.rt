@@ -47,8 +47,6 @@ impl<'a> Writer<'a> {
 // Records, with the list at a place of the pack.
 impl Writer<'_> {
     ghost use Rattle.definitions.specs.Table.{value_of, word_of};
-    ghost use Rattle.definitions.specs.Places.{names_at};
-    ghost use Rattle.stamping.specs.Stamping.{names_or};
     ghost use Rattle.resolve.specs.Pieces.{list_words, put_for, piece_out, Stampable, RecordPut};
     ghost use Rattle.resolve.specs.Writing.{HasRoom, Writes};
     ghost use Rattle.std.specs.Prelude.{map};
@@ -88,7 +86,7 @@ impl Writer<'_> {
         self.put_list(names, Pack::SLOT_ENTITIES);
     }
 
-    // A record, with the list stamped on it; at place 0 there is none.
+    // A record, with the list stamped on it; at place 0, as the table of lists has it, there is none.
     pub fn put_record(&mut self, pack: &[u32], list: u32, words: &[u32])
         requires { Stampable list words.now × HasRoom self.old (piece_out pack.now list words.now) }
         ensures written { Writes self.old (piece_out pack.now list words.now) self.new }

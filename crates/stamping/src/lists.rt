@@ -61,7 +61,7 @@ impl Resolved<'_> {
         if stamped { Some(list) } else { None }
     }
 
-    // How many words more the relation has with a list stamped on it.
+    // How many words more the relation has with a list stamped on it; none at place 0, as the table of lists has it.
     fn added(&self, list: u32, place: RecordPlace) -> usize
         ensures { (result ≡ added_for self.now.pack.now self.now.work.now list place.at) × (result < 33554432) }
     {
@@ -94,7 +94,7 @@ pub fn lists(
         asked,
     };
     let mut more: usize = 0;
-    // By index: of a table written through `table.iter_mut().zip(order)` a proof knows only the length.
+    // By index: of a slice that is written through a zip a proof knows the length alone.
     for (i, &start) in order.iter().enumerate() {
         let place = RecordPlace { at: start as usize };
         let list = resolved.list_for(place).unwrap_or(0);

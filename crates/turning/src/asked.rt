@@ -9,7 +9,7 @@ use pack::kinds::Pack;
 fn mark(table: &mut [bool], name: u32)
     ensures { table.new ≡ set table.old name true }
 {
-    // No `get_mut`: its contract says nothing of the table once the name is marked.
+    // No `get_mut`: with it the proof that the other entries stay was not found.
     let i = name as usize;
     if i < table.len() {
         table[i] = true;
@@ -52,7 +52,7 @@ fn ask_note(pack: &[u32], code: u32, current: Option<u32>, table: &mut [bool]) -
     current
 }
 
-// All notes, so many of them.
+// All notes, so many of them, which stand behind their count: as everywhere, notes are told by their number, and that is their index.
 pub fn ask_notes(pack: &[u32], notes: &[u32], all: usize, table: &mut [bool])
     requires { MarksAsked pack.now notes.now all }
     ensures { NotesMarked pack.now notes.now all table.old table.new }

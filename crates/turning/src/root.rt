@@ -6,7 +6,8 @@ use filtered::act::act_of;
 use pack::kinds::Pack;
 
 // Its name, its origin, the entity of its trees, and what `acts` has for the relation in whose predicate they stand: for a rule 0, which is
-// the number of `Part::Neither`. By default it is none.
+// the number of `Part::Neither`. By default it is none, and no Option: the first note is that of a rule or relation, so that none is
+// looked at before one is opened.
 #[derive(Clone, Copy, Default)]
 pub struct Root {
     pub name: u32,

@@ -12,6 +12,7 @@ use crate::root::Root;
 use definitions::answer::{Number, Refusal};
 use definitions::direction::Direction;
 use pack::kinds::Pack;
+use pack::refusal::refused;
 
 // Its slots and the entity of what stands inside it; its slots, where nothing stands inside it; or nothing, where it has no slots. The
 // current and the related slot are two numbers here and in directions, as in 01 and so in each definition: a struct of them would be taken
@@ -37,10 +38,9 @@ impl Node {
         ensures { result ≡ refused_at self number other }
     {
         Refusal {
-            number: number as u32,
-            place: self.note.place,
             name: self.root.name,
             other,
+            ..refused(number, self.note.place)
         }
     }
 

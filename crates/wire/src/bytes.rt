@@ -1,5 +1,5 @@
-// Words as bytes: four a word, low byte first. Both loops write by an index: nothing is known of a slice after a loop over a zip of its `iter_mut` or of
-// its chunks.
+// Words as bytes: four a word, low byte first. Both loops write by index: of a slice that is written through a zip, or by chunks, a proof
+// knows the length alone.
 ghost use Rattle.std.specs.Prelude.{◌≡◌, ◌++◌, ◌*◌, ◌/◌, ◌≤◌, min, length, drop};
 ghost use Rattle.definitions.specs.Bytes.{bytes_of, are_words};
 ghost use Rattle.wire.specs.Loading.{Holds, Loaded};
