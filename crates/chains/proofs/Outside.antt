@@ -1,10 +1,9 @@
 -- `outside` lists the undeclared names to which names of a list lead.
-use Prim.Native.Nat.{ℕ, suc, ◌≤◌}
+use Prim.Native.Nat.{ℕ}
 use native.Mathlib.Omega.{arith}
 use mathlib.Core.Path.{◌≡◌, refl, sym, ap, ◌∙◌, subst}
 use mathlib.Core.List.{List, [], ◌∷◌}
 use mathlib.Core.Bool.{Bool, true, false, ◌||◌, ◌&&◌, not}
-use lib.ListN.{length}
 use lib.Dec.{eqb}
 use borrow.Author.Tests.{eqb-true, eq-eqb}
 use Rattle.std.proofs.lemmas.Bool.{or_parts}
@@ -52,14 +51,6 @@ module _ {R : Type 0} (step : ℕ → Link R) (declared : List ℕ) where
       go true false false e f g = rw e
       go false false false e f g = rw e
 
-  with_short : (s : Link R) (ms : List ℕ) → length (with_next declared s ms) ≤ suc (length ms)
-  with_short (end r) ms = omega arith
-  with_short (next m) ms = go (among m declared || among m ms)
-    where
-      go : (b : Bool) → length (pick b ms (m ∷ ms)) ≤ suc (length ms)
-      go true = omega arith
-      go false = omega arith
-
   outside_distinct : (ns : List ℕ) → Distinct (outside step declared ns)
   unfolding outside
   outside_distinct [] = tt
@@ -70,15 +61,9 @@ module _ {R : Type 0} (step : ℕ → Link R) (declared : List ℕ) where
   outside-among m [] = refl
   outside-among m (n ∷ ns) = with_among m (step n) (outside step declared ns) ∙ ap (λ b. leads_out m (step n) || b) (outside-among m ns)
 
-  outside-short : (ns : List ℕ) → length (outside step declared ns) ≤ length ns
-  unfolding outside
-  outside-short [] = omega arith
-  outside-short (n ∷ ns) = omega (arith, with_short (step n) (outside step declared ns), outside-short ns)
-
-  -- each once, no more than the names that lead there, and just those to which one leads that are undeclared
+  -- each once, and just those to which one leads that are undeclared
   pub record Outside (ns : List ℕ) : Type 0 where
     pub distinct : Distinct (outside step declared ns)
-    pub short : length (outside step declared ns) ≤ length ns
     pub led : (m : ℕ) → among m (outside step declared ns) ≡ true → (n : ℕ) × (among n ns ≡ true) × (step n ≡ next m) × (among m declared ≡ false)
     pub has : (n m : ℕ) → among n ns ≡ true → step n ≡ next m → among m declared ≡ false → among m (outside step declared ns) ≡ true
 
@@ -86,7 +71,6 @@ module _ {R : Type 0} (step : ℕ → Link R) (declared : List ℕ) where
   outside-is ns =
       record {
         distinct = outside_distinct ns;
-        short = outside-short ns;
         led = λ m i.
             (let a = of_any (λ k. leads_out m (step k)) ns (sym (outside-among m ns) ∙ i) in
             let o = out-leads m (step a.0) a.2 in

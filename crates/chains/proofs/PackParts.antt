@@ -6,12 +6,13 @@ use mathlib.Core.List.{List, [], ◌∷◌, ◌++◌}
 use mathlib.Core.Bool.{Bool, true, false, ◌||◌}
 use mathlib.Core.Option.{Option, none, some}
 use lib.ListN.{length, length-append}
-use lib.Dec.{eqb, leb}
-use borrow.Author.Tests.{eq-eqb, eqb-true, leb-true}
-use Rattle.std.proofs.lemmas.Bool.{or_parts, or_right, and_parts}
+use lib.Dec.{eqb}
+use borrow.Author.Tests.{eq-eqb, eqb-true}
+use Rattle.std.proofs.lemmas.Bool.{or_parts, or_right}
+use Rattle.pack.proofs.StepLaws.{at_most, from_one}
 use Rattle.definitions.specs.Table.{pick, word_of, entry_of, table}
 use Rattle.definitions.specs.Table as table
-use Rattle.definitions.specs.Form.{among, allowed_here, words_all, FineAll, count, items, words_by, Fine}
+use Rattle.definitions.specs.Form.{among, words_all, FineAll, count, items, words_by, Fine}
 use Rattle.definitions.specs.Records.{Hop, Derivation, Relation, Edition, undated, Pack}
 use Rattle.definitions.specs.Pack.{first_kind, above, new_name, next_used, relation, rule, defaulted_name, defaulted, relations, rules, blocks, records, inner, layout, total, words, WellFormed}
 use Rattle.definitions.specs.Chain.{Link, end, next, mapped}
@@ -26,14 +27,6 @@ defaulted-length : (n : ℕ) (ds : List ℕ) (low : ℕ) → length (words_all a
 unfolding defaulted_name words_by
 defaulted-length n [] low = refl
 defaulted-length n (d ∷ ds) low = ap suc (defaulted-length n ds (above low d))
-
-names_bounds : (v : ℕ) → allowed_here 0 2 v ≡ true → (1 ≤ v) × (v ≤ 4096)
-unfolding allowed_here entry_of table
-names_bounds v e = let h = and_parts (leb 1 v) (leb v 4096) e in (leb-true 1 v h.0, leb-true v 4096 h.1)
-
-relations-most : (n v : ℕ) → allowed_here n 5 v ≡ true → v ≤ 512
-unfolding allowed_here entry_of table
-relations-most n v e = leb-true v 512 e
 
 -- ---- a pack's parts
 
@@ -71,16 +64,16 @@ pub record Parts (p : Pack) : Type 0 where
   pub rule-count : length p.rules < 16777216
 
 pub parts : (p : Pack) → WellFormed p → Parts p
-unfolding inner records defaulted relations rules Fine count items
+unfolding inner records defaulted relations rules Fine count items entry_of table
 parts p w =
     let f = w.parts in
     record {
       names = f.0.0;
-      least = (names_bounds p.names f.0.1).0;
-      most = (names_bounds p.names f.0.1).1;
+      least = (from_one 0 2 4096 refl p.names f.0.1).0;
+      most = (from_one 0 2 4096 refl p.names f.0.1).1;
       defaulted-count = f.1.0.0.0;
       defaulted-fine = f.1.0.2;
-      few-relations = relations-most p.names (length p.relations) f.1.1.0.0.1;
+      few-relations = at_most p.names 5 512 refl (length p.relations) f.1.1.0.0.1;
       relations-fine = f.1.1.0.2;
       rule-count = f.1.1.1.0.0.0;
     }

@@ -7,7 +7,8 @@ use mathlib.Core.Bool.{Bool, true, false, ◌||◌}
 use mathlib.Core.Option.{Option, none, some}
 use lib.ListN.{length, get_or}
 use lib.Dec.{eqb}
-use borrow.Author.Tests.{leb-true, ltb-true, lt-ltb, le-ltb}
+use borrow.Author.Tests.{ltb-true, lt-ltb, le-ltb}
+use Rattle.pack.proofs.StepLaws.{at_most}
 use Rattle.records.proofs.DirectoryLaws.{few-hops}
 use Rattle.definitions.specs.Table.{pick, entry_of, table}
 use Rattle.definitions.specs.Table as table
@@ -24,10 +25,6 @@ use Rattle.chains.proofs.RelationForm.{RelationsFine}
 use Rattle.chains.proofs.PackParts.{parts, find-name, relations-room, each_way, start_within}
 
 -- ---- what the table allows
-
-few : (n v : ℕ) → allowed_here n 9 v ≡ true → v ≤ 8
-unfolding allowed_here entry_of table
-few n v e = leb-true v 8 e
 
 or_not : (a b : Bool) → (a || b) ≡ true → b ≡ false → a ≡ true
 or_not true b e f = refl
@@ -65,10 +62,10 @@ option-small n none f d e = let z : ◌≡◌ {A = ℕ} 0 1 = cc in absurd (omeg
 option-small n (some b) f d e = let s : b ≡ d = cc in rw (← s) (derived-small n b f.2.0)
 
 tail_small : (n : ℕ) (r : Relation) → Fine (relation_tail n) (r.origin, (r.arity, (r.slot_kinds, r.derivation))) → Small n r
-unfolding relation_tail name_list Fine count
+unfolding relation_tail name_list Fine count entry_of table
 tail_small n r f =
     let o = option-small n r.derivation f.1.1.1 in
-    let k = few n (length r.slot_kinds) f.1.1.0.0.1 in
+    let k = at_most n 9 8 refl (length r.slot_kinds) f.1.1.0.0.1 in
     record { place = place-small r k (λ d e. (o d e).0); leads = λ d e. (o d e).1; few = k; short = λ d e. (o d e).0 }
 
 small : (n : ℕ) (used : ℕ → Bool) (r : Relation) → Fine (relation n used) r → Small n r

@@ -7,10 +7,11 @@ use mathlib.Core.Bool.{Bool, true, false, ◌||◌}
 use mathlib.Core.Option.{Option, none, some}
 use lib.ListN.{length}
 use lib.Dec.{eqb}
-use borrow.Author.Tests.{eqb-true, ltb-true, not-true}
+use borrow.Author.Tests.{eqb-true, not-true}
+use Rattle.pack.proofs.StepLaws.{name_below}
 use Rattle.records.proofs.DirectoryLaws.{few-hops}
 use Rattle.definitions.specs.Table.{entry_of, table}
-use Rattle.definitions.specs.Form.{among, allowed_here, words_all, FineAll, count, items, list_or_none, words_by, Fine}
+use Rattle.definitions.specs.Form.{among, words_all, FineAll, count, items, list_or_none, words_by, Fine}
 use Rattle.definitions.specs.Records.{Hop, Derivation, Relation}
 use Rattle.definitions.specs.Lean.{step_names}
 use Rattle.definitions.specs.Pack.{new_name, name_list, hop, path, chain, member, derivation, optional_derivation, relation_tail, relation, next_used}
@@ -43,17 +44,13 @@ unfolding path Fine
 path-counts n p f = f.0.0
 
 -- each relation that a step names is below N
-hop-below : (n v : ℕ) → allowed_here n 14 v ≡ true → v < n
-unfolding allowed_here entry_of table
-hop-below n v e = ltb-true v n e
-
 hops-below : (n : ℕ) (l : List Hop) → FineAll {S = Unit {0}} (λ s a. s) (λ s a. Fine (hop n) a) tt l → (m : ℕ) → among m (map (λ (h : Hop). h.relation) l) ≡ true → m < n
-unfolding hop Fine
+unfolding hop Fine entry_of table
 hops-below n [] f m i = let z : ◌≡◌ {A = ℕ} 0 1 = cc in absurd (omega arith)
 hops-below n (h ∷ l) f m i = go (eqb m h.relation) refl i (hops-below n l f.1 m)
   where
     go : (b : Bool) → eqb m h.relation ≡ b → (b || among m (map (λ (h : Hop). h.relation) l)) ≡ true → (among m (map (λ (h : Hop). h.relation) l) ≡ true → m < n) → m < n
-    go true e j rest = subst (λ (v : ℕ). v < n) (sym (eqb-true m h.relation e)) (hop-below n h.relation f.0.0.1)
+    go true e j rest = subst (λ (v : ℕ). v < n) (sym (eqb-true m h.relation e)) (name_below n 14 refl h.relation f.0.0.1)
     go false e j rest = rest j
 
 path-below : (n : ℕ) (p : Option (List Hop)) → Fine (path n) p → (m : ℕ) → among m (step_names p) ≡ true → m < n
@@ -75,10 +72,6 @@ fitting n d f =
       hops = path-below n d.path f.0.1.0;
     }
 
-name_below : (n v : ℕ) → allowed_here n 6 v ≡ true → v < n
-unfolding allowed_here entry_of table
-name_below n v e = ltb-true v n e
-
 option-fits : (n : ℕ) (o : Option Derivation) → Fine (optional_derivation n) o → (d : Derivation) → o ≡ some d → Fitting n d
 unfolding optional_derivation Fine items
 option-fits n none f d e = let z : ◌≡◌ {A = ℕ} 0 1 = cc in absurd (omega arith)
@@ -90,10 +83,10 @@ unfolding relation_tail name_list Fine count
 tail_fits n r f = (f.1.1.0.0.0, option-fits n r.derivation f.1.1.1)
 
 pub kept : (n : ℕ) (used : ℕ → Bool) (r : Relation) → Fine (relation n used) r → Kept n used r
-unfolding relation new_name Fine
+unfolding relation new_name Fine entry_of table
 kept n used r f =
     let g = tail_fits n r f.1 in
-    record { below = name_below n r.name f.0.0.1; fresh = not-true (used r.name) f.0.1; tail = f.1; kinds = g.0; derived = g.1 }
+    record { below = name_below n 6 refl r.name f.0.0.1; fresh = not-true (used r.name) f.0.1; tail = f.1; kinds = g.0; derived = g.1 }
 
 -- ---- relations in a row
 

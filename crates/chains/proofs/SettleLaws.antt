@@ -187,7 +187,6 @@ module _ (table marks₀ starts : List ℕ) (steps₀ fuel : ℕ) where
   goal = walks_in table fuel starts (settled_in marks₀) steps₀
 
   pub record Settling (marks : List ℕ) (steps j : ℕ) : Type 0 where
-    pub within : j ≤ length starts
     pub marked : Marked marks
     pub long : length marks ≡ length marks₀
     pub idle : OnPath marks []
@@ -220,7 +219,6 @@ module _ (table marks₀ starts : List ℕ) (steps₀ fuel : ℕ) where
         unfolding walks_from OnPath
         walk_on w =
             record {
-              within = omega arith;
               marked = w.marked;
               long = w.long ∙ s.long;
               idle = λ n. s.idle n ∙ sym (w.path n);

@@ -50,11 +50,10 @@ module _ (ws acts : List ℕ) (name : ℕ) where
 module _ (ws acts : List ℕ) where
   -- what is left to look at is what there was
   pub record Looking (count i : ℕ) : Type 0 where
-    pub within : i ≤ count
     pub left : first_equal ws acts (3 + i) (count - i) ≡ first_equal ws acts 3 count
 
   pub look : (count : ℕ) → Looking count 0
-  look count = let z : count - 0 ≡ count = omega arith in record { within = omega arith; left = ap (first_equal ws acts 3) z }
+  look count = let z : count - 0 ≡ count = omega arith in record { left = ap (first_equal ws acts 3) z }
 
   module _ {count i : ℕ} (l : Looking count i) (more : i < count) {equal : Bool} (q : equal ≡ equal_in ws acts (value_at ws (3 + i))) where
     step : pick equal (some (value_at ws (3 + i))) (first_equal ws acts (3 + i + 1) (count - i - 1)) ≡ first_equal ws acts 3 count
@@ -69,7 +68,6 @@ module _ (ws acts : List ℕ) where
     pub look_on : equal ≡ false → Looking count (i + 1)
     look_on f =
         record {
-          within = omega arith;
           left =
               let a : 3 + (i + 1) ≡ 3 + i + 1 = omega arith in
               let b : count - (i + 1) ≡ count - i - 1 = omega arith in

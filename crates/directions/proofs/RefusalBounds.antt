@@ -7,7 +7,8 @@ use mathlib.Core.Bool.{Bool, true, false, ◌||◌}
 use mathlib.Core.Option.{Option, none, some}
 use lib.ListN.{length}
 use lib.Dec.{eqb}
-use borrow.Author.Tests.{eqb-true, ltb-true}
+use borrow.Author.Tests.{eqb-true}
+use Rattle.pack.proofs.StepLaws.{name_below}
 use Rattle.definitions.specs.declared.answer.Refusal.{Refusal}
 use Rattle.definitions.specs.declared.table.Follows.{Follows}
 use Rattle.definitions.specs.Table.{pick, table, entry_of, fields_of, children_of}
@@ -75,20 +76,13 @@ StepFits most (goes fs entity first rest) = (entity < most) × (MemberSmall most
 StepFits most (stops number other) = (number < 16) × (other < most)
 
 -- the value of an OnlyRelated node is a name
-input-allowed : (n v : ℕ) → allowed_here n 82 v ≡ true → v < n
-unfolding allowed_here entry_of table
-input-allowed n v e = ltb-true v n e
-
-derived-allowed : (n v : ℕ) → allowed_here n 84 v ≡ true → v < n
-unfolding allowed_here entry_of table
-derived-allowed n v e = ltb-true v n e
-
 value-allowed : (n k v : ℕ) → only (82 ∷ 84 ∷ []) k ≡ 0 → allowed_here n k v ≡ true → v < n
+unfolding entry_of table
 value-allowed n k v o e = go (eqb k 82) refl (eqb k 84) refl o
   where
     go : (b : Bool) → eqb k 82 ≡ b → (c : Bool) → eqb k 84 ≡ c → ◌≡◌ {A = ℕ} (pick (b || (c || false)) 0 2) 0 → v < n
-    go true g c h q = input-allowed n v (subst (λ (x : ℕ). allowed_here n x v ≡ true) (eqb-true k 82 g) e)
-    go false g true h q = derived-allowed n v (subst (λ (x : ℕ). allowed_here n x v ≡ true) (eqb-true k 84 h) e)
+    go true g c h q = name_below n 82 refl v (subst (λ (x : ℕ). allowed_here n x v ≡ true) (eqb-true k 82 g) e)
+    go false g true h q = name_below n 84 refl v (subst (λ (x : ℕ). allowed_here n x v ≡ true) (eqb-true k 84 h) e)
     go false g false h q = absurd (omega arith)
 
 third_fits : (n : ℕ) (fs : Fields) → FieldsFine n (slotted ((82 ∷ 84 ∷ []) ∷ [])) fs → (value_of_node fs).1 < n

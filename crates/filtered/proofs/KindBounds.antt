@@ -8,8 +8,9 @@ use mathlib.Core.Option.{Option, none, some}
 use lib.ListN.{length, get_or}
 use lib.Dec.{eqb, ltb}
 use borrow.Author.Tests.{ltb-true}
+use Rattle.pack.proofs.StepLaws.{name_below}
 use Rattle.definitions.specs.Table.{pick, entry_of, table}
-use Rattle.definitions.specs.Form.{allowed_here, FineAll, field, Fine, items}
+use Rattle.definitions.specs.Form.{FineAll, field, Fine, items}
 use Rattle.definitions.specs.Records.{Derivation, Relation, Pack}
 use Rattle.definitions.specs.Pack.{WellFormed, name_list, member, derivation, optional_derivation, relation_tail}
 use Rattle.definitions.specs.Kinds.{Which, list9, list21, KindsFound, find, list_of, list_in, names_of, kinds_of, own_answer}
@@ -32,17 +33,13 @@ below_at n (k ∷ ks) (suc i) h l = below_at n ks i h.1 (omega arith)
 
 -- ---- the lists of a relation
 
-allowed-name : (n v : ℕ) → allowed_here n 10 v ≡ true → v < n
-unfolding allowed_here entry_of table
-allowed-name n v e = ltb-true v n e
-
 names-below : (n kind : ℕ) (ks : List ℕ) → Fine (name_list n kind) ks → Below n ks
-unfolding name_list Fine items
+unfolding name_list Fine items entry_of table
 names-below n kind ks f = go ks f.2
   where
     go : (l : List ℕ) → FineAll {S = Unit {0}} (λ u a. u) (λ u a. Fine (field n 10) a) tt l → Below n l
     go [] h = tt
-    go (a ∷ l) h = (allowed-name n a h.0.1, go l h.1)
+    go (a ∷ l) h = (name_below n 10 refl a h.0.1, go l h.1)
 
 entities-below : (n : ℕ) (d : Derivation) → Fine (derivation n) d → Below n d.slot_entities
 unfolding derivation member Fine

@@ -7,10 +7,11 @@ use mathlib.Core.Bool.{Bool, true, false}
 use mathlib.Core.Option.{Option, none, some}
 use lib.ListN.{length, length-append}
 use lib.Dec.{eqb}
-use borrow.Author.Tests.{leb-true, eqb-true, eqb-false}
+use borrow.Author.Tests.{eqb-true, eqb-false}
+use Rattle.pack.proofs.StepLaws.{at_most}
 use Rattle.chains.proofs.PackParts.{first_kind_lem}
 use Rattle.definitions.specs.Table.{pick, word_of, table, entry_of}
-use Rattle.definitions.specs.Form.{allowed_here, words_all, FineAll, says, count, items, list_or_none, words_by, Fine}
+use Rattle.definitions.specs.Form.{words_all, FineAll, says, count, items, list_or_none, words_by, Fine}
 use Rattle.definitions.specs.Records.{Item, Block, Pack}
 use Rattle.definitions.specs.FieldRows.{to_row}
 use Rattle.definitions.specs.Pack.{WellFormed, yes, read, item, block_items, block, blocks, defaulted, relations, rules, records, inner, layout, total, words}
@@ -87,12 +88,8 @@ pub record Stands (p : Pack) : Type 0 where
   pub fits : BlocksFit p.blocks
   pub few : length p.blocks ≤ 64
 
-few-blocks : (n v : ℕ) → allowed_here n 28 v ≡ true → v ≤ 64
-unfolding allowed_here entry_of table
-few-blocks n v e = leb-true v 64 e
-
 pub blocks_stand : (p : Pack) → WellFormed p → Stands p
-unfolding words layout inner records blocks Fine words_by items count blocks_at rules_at relations_at
+unfolding words layout inner records blocks Fine words_by items count blocks_at rules_at relations_at entry_of table
 blocks_stand p w =
     let n : ℕ = p.names in
     let f = w.parts in
@@ -108,7 +105,7 @@ blocks_stand p w =
           (ap (λ (l : List ℕ). a ++ l) (sym (append_assoc b c d)) ∙ sym (append_assoc a (b ++ c) d) ∙ ap (λ (l : List ℕ). (a ++ (b ++ c)) ++ l) (blocks-words n p.blocks)));
       long = omega (arith, length-append a (b ++ c), length-append b c);
       fits = blocks_fit n p.blocks f.1.1.1.1.2;
-      few = few-blocks n (length p.blocks) f.1.1.1.1.0.1;
+      few = at_most n 28 64 refl (length p.blocks) f.1.1.1.1.0.1;
     }
 
 -- of the words of a pack: the place of its count of blocks, and what an input is there

@@ -10,13 +10,13 @@ use mathlib.Core.Bool.{Bool, true, false}
 use lib.ListN.{length, drop, get_or, drop_of_length-le, replicate}
 use lib.Seq.{drop-cons, drop-drop, drop-append_seam}
 use lib.Dec.{leb}
-use borrow.Author.Tests.{ne_eqb, leb-true}
+use borrow.Author.Tests.{ne_eqb, leb-true, ltb-true}
 use Rattle.std.proofs.lemmas.Bool.{and_parts}
 use Rattle.definitions.specs.declared.answer.Refusal.{Refusal}
 use Rattle.pack.specs.declared.cursor.Cursor.{Cursor}
 use Rattle.pack.specs.Readers.{Step}
 use Rattle.pack.specs.Readers.{on}
-use Rattle.definitions.specs.declared.table.Values.TheVariants.{AtMost, FromOne}
+use Rattle.definitions.specs.declared.table.Values.TheVariants.{AtMost, FromOne, Name}
 use Rattle.definitions.specs.Table.{kind_of, value_of, entry_of}
 use Rattle.definitions.specs.Form.{Read, got, refused, bind, map_read, allowed_here, read_word, only, read_field, read_all, read_each, Holder, says, whole, Suits, Form, field, word, each, guarded, ◌▹◌, counted_from, one_and_more, via, words_by, Fine, read_by}
 use Rattle.pack.specs.Readers.{step_by, step_of, skip_over, itself, field_step, next_word, word_step, skip_all}
@@ -282,6 +282,10 @@ field-fine n kind ws at e o = (went_same (field n kind) ws at e o).1
 pub at_most : (n kind m : ℕ) → (entry_of kind).values ≡ AtMost m → (v : ℕ) → allowed_here n kind v ≡ true → v ≤ m
 unfolding allowed_here
 at_most n kind m r v e = leb-true v m (rw r at e)
+
+pub name_below : (n kind : ℕ) → (entry_of kind).values ≡ Name → (v : ℕ) → allowed_here n kind v ≡ true → v < n
+unfolding allowed_here
+name_below n kind r v e = ltb-true v n (rw r at e)
 
 pub from_one : (n kind m : ℕ) → (entry_of kind).values ≡ FromOne m → (v : ℕ) → allowed_here n kind v ≡ true → (1 ≤ v) × (v ≤ m)
 unfolding allowed_here

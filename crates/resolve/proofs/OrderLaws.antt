@@ -6,10 +6,11 @@ use mathlib.Core.List.{List, [], ◌∷◌, ◌++◌, map, append_assoc, append-
 use mathlib.Core.Bool.{Bool, true, false, ◌||◌}
 use lib.ListN.{length, get_or, length-append, length-map}
 use lib.Dec.{eqb}
-use borrow.Author.Tests.{eq-eqb, ne_eqb, leb-true}
+use borrow.Author.Tests.{eq-eqb, ne_eqb}
 use Rattle.std.proofs.lemmas.Bool.{or_parts}
+use Rattle.pack.proofs.StepLaws.{at_most}
 use Rattle.definitions.specs.Table.{pick, word_of, table, entry_of}
-use Rattle.definitions.specs.Form.{among, allowed_here, list_or_none, count, repeats, words_by, Fine}
+use Rattle.definitions.specs.Form.{among, list_or_none, count, repeats, words_by, Fine}
 use Rattle.definitions.specs.Records.{Relation, Rule, Block, Pack}
 use Rattle.definitions.specs.Pack.{WellFormed, yes, read, inner, records, rules}
 use Rattle.definitions.specs.Pack as forms
@@ -93,13 +94,9 @@ others-many p =
     let B : List (List ℕ) = map (block_piece p.names) p.blocks in
     omega (arith, length-append R ((word_of 28 (length p.blocks) ∷ []) ∷ B), length-map p.rules (rule_words p.names), length-map p.blocks (block_piece p.names))
 
-rules-most : (n v : ℕ) → allowed_here n 22 v ≡ true → v ≤ 1024
-unfolding allowed_here entry_of table
-rules-most n v e = leb-true v 1024 e
-
 pub others-few : (p : Pack) → WellFormed p → length (other_pieces p) ≤ 1090
-unfolding inner records rules Fine count
-others-few p w = omega (arith, others-many p, rules-most p.names (length p.rules) w.parts.1.1.1.0.0.1, (blocks_stand p w).few)
+unfolding inner records rules Fine count entry_of table
+others-few p w = omega (arith, others-many p, at_most p.names 22 1024 refl (length p.rules) w.parts.1.1.1.0.0.1, (blocks_stand p w).few)
 
 -- ---- rules, by their notes
 

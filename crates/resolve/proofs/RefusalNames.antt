@@ -3,12 +3,11 @@ use Prim.Native.Nat.{ℕ, ◌+◌, ◌<◌, ◌≤◌}
 use native.Mathlib.Omega.{arith}
 use mathlib.Core.Path.{◌≡◌, refl, ap, sym, ◌∙◌, subst}
 use mathlib.Core.List.{List, [], ◌∷◌, ◌++◌}
-use mathlib.Core.Bool.{true}
 use mathlib.Core.Option.{Option, none, some}
 use lib.ListN.{length, length-append}
-use borrow.Author.Tests.{ltb-true}
+use Rattle.pack.proofs.StepLaws.{name_below}
 use Rattle.definitions.specs.Table.{table, entry_of, judgment, word_of}
-use Rattle.definitions.specs.Form.{allowed_here, words_by, Fine}
+use Rattle.definitions.specs.Form.{words_by, Fine}
 use Rattle.definitions.specs.Tree.{Tree, root, tree, tree_words, size}
 use Rattle.definitions.specs.Records.{Derivation, Relation, Body, Rule, Pack}
 use Rattle.definitions.specs.Pack.{WellFormed, total, relation_tail, body, rule, blocks}
@@ -83,17 +82,9 @@ module _ (n : ℕ) (C : Citing) (named : C.name < n) (fit : CitingFits n C) wher
 
 -- ---- the names of rules
 
-citing-allowed : (n v : ℕ) → allowed_here n 23 v ≡ true → v < n
-unfolding allowed_here entry_of table
-citing-allowed n v e = ltb-true v n e
-
-entity-allowed : (n v : ℕ) → allowed_here n 25 v ≡ true → v < n
-unfolding allowed_here entry_of table
-entity-allowed n v e = ltb-true v n e
-
 rule-names : (n : ℕ) (r : Rule) → Fine (rule n) r → (r.citing < n) × (r.entity < n)
-unfolding rule Fine
-rule-names n r f = (citing-allowed n r.citing f.0.1, entity-allowed n r.entity f.1.1.0.1)
+unfolding rule Fine entry_of table
+rule-names n r f = (name_below n 23 refl r.citing f.0.1, name_below n 25 refl r.entity f.1.1.0.1)
 
 -- ---- a checked pack
 
