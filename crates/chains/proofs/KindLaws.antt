@@ -69,6 +69,7 @@ kinds-steps rs d =
 -- relations in any other order
 pub record KindsAlike (rs rs' : List Relation) : Type 0 where
   pub finds : (n : ℕ) → find n rs ≡ find n rs'
+  pub steps_at : (n : ℕ) → kind_step rs n ≡ kind_step rs' n
   pub own-answers : (n : ℕ) → own_answer rs n ≡ own_answer rs' n
   pub kinds : (n : ℕ) → kinds_of rs n ≡ kinds_of rs' n
   pub settled : (n : ℕ) → (all_kinds rs).settled n ≡ (all_kinds rs').settled n
@@ -95,6 +96,7 @@ kinds_dealt {rs} {rs'} p d =
     let w = walks_shuffled none same refl (kind_step rs) (kind_step rs') (λ n. ap read_at (f n)) (declared rs) (declared rs') (kind-leads rs) q (declared rs) (declared rs') q in
     record {
       finds = f;
+      steps_at = λ n. ap read_at (f n);
       own-answers = w.own_walks;
       kinds = λ n. names_alike f (own_answer rs n) ∙ ap (names_of rs') (w.own_walks n);
       settled = w.settled;

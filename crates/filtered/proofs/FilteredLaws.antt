@@ -55,6 +55,7 @@ module _ (rs rs' : List Relation) (kinds : (n : ℕ) → kinds_of rs n ≡ kinds
   from_alike (r ∷ l) = cc (takes_alike r.name r.derivation, from_alike l)
 
 pub record FilteredAlike (rs rs' : List Relation) : Type 0 where
+  pub kinds-taken : (e : ℕ) → InAnyOrder (taken rs e) (taken rs' e)
   pub directs : (e : ℕ) → direct rs e ≡ direct rs' e
   pub aliases : (e : ℕ) → alias rs e ≡ alias rs' e
   pub unresolveds : (e : ℕ) → unresolved rs e ≡ unresolved rs' e
@@ -64,6 +65,7 @@ pub filtered_dealt : {rs rs' : List Relation} → InAnyOrder rs rs' → Distinct
 unfolding taken direct alias unresolved innermost
 filtered_dealt {rs} {rs'} p d =
     record {
+      kinds-taken = both;
       directs = λ e. single_alike (both e);
       aliases = λ e. shuffled_any (λ k. not (eqb k e)) (both e);
       unresolveds = λ e.
