@@ -62,7 +62,6 @@ module _ (f : ℕ → ℕ) where
           let z : j - j ≡ 0 = omega arith in
           ap (λ (l : List ℕ). get_or l j 0) s.holds ∙ table-past 0 j j (drop j out₀) (omega arith) ∙ ap (λ (i : ℕ). get_or (drop j out₀) i 0) z ∙ get_or-drop j out₀ 0 0 ∙ ap (λ (i : ℕ). get_or out₀ i 0) (add-zero j)
 
-
       pub done : length out₀ ≤ j → out ≡ table_from f 0 (length out₀)
       done h =
           let e : j ≡ length out₀ = omega (arith, s.within) in

@@ -11,8 +11,7 @@ use Rattle.definitions.specs.Answers.{Answer}
 use Rattle.definitions.specs.Answers.{gives}
 use Rattle.definitions.specs.Records.{Pack}
 use Rattle.definitions.specs.Answers.{out_of_room, write_answer, Answered}
-use Rattle.definitions.specs.Checking.{check_answer}
-use Rattle.pack.proofs.Refusals.{CheckRefuses}
+use Rattle.definitions.specs.Checking.{check_answer, CheckRefuses}
 use Rattle.definitions.specs.declared.operation.Filter.{Filter}
 use Rattle.definitions.specs.Filtered.{filter_says, filter_words}
 use Rattle.definitions.specs.Operations.{filter_answer, filter_buffer}
