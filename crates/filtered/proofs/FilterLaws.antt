@@ -39,7 +39,7 @@ module _ (f : Filter) (ws lent : List ℕ) where
 
     pub filter-done : n ≤ length lent → {out : List ℕ} → FilterLeft f ws out → Answered (filter_answer f) (filter_buffer f) ws lent (gives n 0) (put_mid 0 (n - 0) lent out)
     unfolding filter_answer filter_buffer
-    filter-done h l = made_done (filter_words f) no_steps ws lent c one_name h refl (l.holds c.pack c.reads)
+    filter-done h l = made_done (filter_words f) no_steps ws lent c one_name h refl (l c.pack c.reads)
 
 -- they refuse by Check's numbers and 16 alone
 pub filter_numbers : (f : Filter) (ws : List ℕ) (room : ℕ) (r : Refusal) → filter_answer f ws room ≡ Err r → CheckRefuses ws r ⊎ NoRoom r
