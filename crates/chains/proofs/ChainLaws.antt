@@ -15,11 +15,7 @@ use Rattle.definitions.specs.Chain.{Link, end, ChainAnswer, nothing, own, AllWal
 use Rattle.chains.proofs.Names.{shuffled_among, apart, both_ways, among-append, distinct_append, same_number}
 use Rattle.chains.proofs.Outside.{Outside, outside-is}
 use Rattle.chains.proofs.Walks.{answer-end, answer_alike, Entry, Kept, Read, reads, own-answer}
-
--- each start is settled with its own walk's answer, and so is whatever else is settled
-pub record SettledOwn {R : Type 0} (stuck : R) (along : R → R) (step : ℕ → Link R) (declared starts : List ℕ) : Type 0 where
-  pub each : (s : ℕ) → among s starts ≡ true → (walk_all stuck along step declared starts nothing 0).settled s ≡ some (own stuck along step declared s)
-  pub whatever : (n : ℕ) (r : R) → (walk_all stuck along step declared starts nothing 0).settled n ≡ some r → r ≡ own stuck along step declared n
+use Rattle.chains.specs.Settle.{SettledOwn}
 
 module _ {R : Type 0} (stuck : R) (along : R → R) (back : along stuck ≡ stuck) (step : ℕ → Link R) (declared : List ℕ) (leads : OnlyDeclaredLead step declared) where
   abbrev own_of : ℕ → R

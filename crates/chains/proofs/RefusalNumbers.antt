@@ -13,7 +13,8 @@ use Rattle.definitions.specs.Answers.{Answer, gives, answer, out_of_room, write_
 use Rattle.definitions.specs.Table.{pick}
 use Rattle.definitions.specs.Records.{Pack}
 use Rattle.definitions.specs.Pack.{Reading, yes, refuse, read}
-use Rattle.pack.proofs.Refusals.{CheckRefuses, read_numbers}
+use Rattle.pack.proofs.Refusals.{read_numbers}
+use Rattle.definitions.specs.Checking.{CheckRefuses}
 
 pub no_given : {v s : ℕ} {r : Refusal} → ◌≡◌ {A = Answer} (gives v s) (Err r) → ⊥
 no_given e = let z : ◌≡◌ {A = ℕ} 0 1 = cc in omega arith

@@ -1,9 +1,9 @@
 -- The chain walk over a table by name: answers are places, and marks say which names are settled or on the path.
-use Rattle.std.specs.Prelude.{ℕ, zero, suc, ◌+◌, ◌-◌, ◌*◌, ◌<◌, ◌≤◌, ◌≡◌, List, [], length, get_or, set, ltb, eqb}
+use Rattle.std.specs.Prelude.{ℕ, zero, suc, ◌+◌, ◌-◌, ◌*◌, ◌<◌, ◌≤◌, ◌≡◌, List, [], length, get_or, set, ltb, eqb, true}
 use Rattle.std.proofs.Math.Option.{none, some}
 use Rattle.definitions.specs.Table.{pick}
 use Rattle.definitions.specs.Form.{among}
-use Rattle.definitions.specs.Chain.{Link, end, next, Settled, Walked, walk, AllWalked, walks_from, same}
+use Rattle.definitions.specs.Chain.{Link, end, next, Settled, Walked, walk, AllWalked, walks_from, same, nothing, own, walk_all}
 
 -- what one entry of the table says
 unfoldable pub link_at : List ℕ → ℕ → Link ℕ
@@ -89,3 +89,8 @@ pub record SettledAll (table marks starts : List ℕ) (steps fuel : ℕ) (marks'
 pub record Placeable (marks names : List ℕ) : Type 0 where
   pub names-below : (j : ℕ) → get_or names j 0 < length marks
   pub settled : (j : ℕ) → j < length names → 2 ≤ get_or marks (get_or names j 0) 0
+
+-- What the walks from all starts settle for a name is what the walk from that name alone gives, for any type of answers: each start is settled so, and whatever else is settled.
+pub record SettledOwn {R : Type 0} (stuck : R) (along : R → R) (step : ℕ → Link R) (declared starts : List ℕ) : Type 0 where
+  pub each : (s : ℕ) → among s starts ≡ true → (walk_all stuck along step declared starts nothing 0).settled s ≡ some (own stuck along step declared s)
+  pub whatever : (n : ℕ) (r : R) → (walk_all stuck along step declared starts nothing 0).settled n ≡ some r → r ≡ own stuck along step declared n

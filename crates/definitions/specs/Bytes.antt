@@ -1,5 +1,5 @@
 -- Packs and outputs as bytes, each answer as one number, as the host's functions have them.
-use Rattle.std.specs.Prelude.{ℕ, ◌+◌, ◌*◌, ◌/◌, ◌%◌, ◌^◌, ◌≡◌, Bool, ◌&&◌, List, [], ◌∷◌, ◌++◌, length, take, drop, eqb, leb, Ok, Err}
+use Rattle.std.specs.Prelude.{ℕ, ◌+◌, ◌*◌, ◌/◌, ◌%◌, ◌^◌, ◌<◌, ◌≡◌, Bool, ◌&&◌, List, [], ◌∷◌, ◌++◌, length, take, drop, eqb, leb, Ok, Err}
 use Rattle.definitions.specs.Answers.{Answer, gives}
 use Rattle.definitions.specs.Table.{pick}
 
@@ -47,6 +47,11 @@ decode r =
     pick (eqb (number_field r) 0)
     (gives (name_field r) (other_field r))
     (Err (record { number = number_field r; place = place_field r; name = name_field r; other = other_field r }))
+
+-- an answer of which no part is too large for its bits
+abbrev pub FitsBits : Answer → Type 0
+FitsBits (Ok g) = (g.value < 2 ^ 32) × (g.steps < 2 ^ 12)
+FitsBits (Err r) = (0 < r.number) × (r.number < 2 ^ 6) × (r.place < 2 ^ 14) × (r.name < 2 ^ 32) × (r.other < 2 ^ 12)
 
 -- "byte counts not divisible by four, or above 32,768, give that": refused 1 0 0 0
 abbrev pub are_words : ℕ → Bool

@@ -1,7 +1,9 @@
 pub mod Table
 pub mod Form
+pub mod Trees
 pub mod Tree
 pub mod Records
+pub mod TreeRows
 pub mod FieldRows
 pub mod Pack
 pub mod Answers

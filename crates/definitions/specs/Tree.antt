@@ -1,22 +1,10 @@
 -- Trees. 01: "Trees are in prefix order; each node's kind decides what follows it, and a scalar tree may hold judgments and a judgment tree scalars."
-use Rattle.std.specs.Prelude.{ℕ, zero, suc, ◌+◌, ◌≡◌, refl, List, [], ◌∷◌, ◌++◌, eqb, length}
-use Rattle.std.proofs.Common.{ap}
+use Rattle.std.specs.Prelude.{ℕ, zero, suc, ◌+◌, List, [], ◌∷◌, ◌++◌, eqb, length}
 use Rattle.definitions.specs.declared.table.Follows.{Follows}
 use Rattle.definitions.specs.Table.{pick, word_of, entry_of, fields_of, children_of}
+pub use Rattle.definitions.specs.Trees.{Tree, Forest, node, none, more, Fields}
+use Rattle.definitions.specs.TreeRows.{to_tree, of_tree, to_of, of_to}
 use Rattle.definitions.specs.Form.{Form, word, empty, each, ◌▹◌, via, only}
-
--- a node: its kind and value, its fields (kind and value of each), its children
-mutual
-  pub data Tree : Type 0 where
-    node : ℕ → ℕ → List (ℕ × ℕ) → Forest → Tree
-
-  pub data Forest : Type 0 where
-    none : Forest
-    more : Tree → Forest → Forest
-
--- the fields of a node: kind and value of each
-abbrev pub Fields : Type 0
-Fields = List (ℕ × ℕ)
 
 -- the words of a tree: its head, its fields, its children
 abbrev pub field_words : Fields → List ℕ
@@ -39,38 +27,6 @@ unfoldable mutual
   pub sizes : Forest → ℕ
   sizes none = 0
   sizes (more t f) = size t + sizes f
-
-abbrev pub to_forest : List Tree → Forest
-to_forest [] = none
-to_forest (t ∷ l) = more t (to_forest l)
-
-abbrev pub of_forest : Forest → List Tree
-of_forest none = []
-of_forest (more t f) = t ∷ of_forest f
-
-to-of_forest : (f : Forest) → to_forest (of_forest f) ≡ f
-to-of_forest none = refl
-to-of_forest (more t f) = ap (more t) (to-of_forest f)
-
-of_to_forest : (l : List Tree) → of_forest (to_forest l) ≡ l
-of_to_forest [] = refl
-of_to_forest (t ∷ l) = ap (λ m. t ∷ m) (of_to_forest l)
-
--- a tree as a row: its head word, the fields, the children
-abbrev pub Parts : Type 0
-Parts = (ℕ × ℕ) × (List (ℕ × ℕ) × List Tree)
-
-abbrev pub to_tree : Parts → Tree
-to_tree t = node t.0.0 t.0.1 t.1.0 (to_forest t.1.1)
-
-abbrev pub of_tree : Tree → Parts
-of_tree (node k v fs f) = ((k, v), (fs, of_forest f))
-
-pub to_of : (t : Tree) → to_tree (of_tree t) ≡ t
-to_of (node k v fs f) = ap (node k v fs) (to-of_forest f)
-
-pub of_to : (t : Parts) → of_tree (to_tree t) ≡ t
-of_to t = ap (λ (l : List Tree). ((t.0.0, t.0.1), (t.1.0, l))) (of_to_forest t.1.1)
 
 -- the kinds that begin no tree of the sort are rejected by 2; with no level left, the others by 5
 unfoldable pub heads : ℕ → ℕ → ℕ → ℕ

@@ -1,6 +1,6 @@
 -- A refusal of a tree bears the name of the citing rule or relation.
 use Prim.Native.Nat.{ℕ, ◌+◌}
-use mathlib.Core.Path.{◌≡◌, refl}
+use mathlib.Core.Path.{refl}
 use lib.ListN.{length}
 use Rattle.definitions.specs.Table.{entry_of}
 use Rattle.definitions.specs.Tree.{Tree, Forest, node, more, Fields, size}
@@ -8,10 +8,7 @@ use Rattle.definitions.specs.Direction.{Membership}
 use Rattle.definitions.specs.Answers.{Outcome, done, refused, and_then, map_done}
 use Rattle.definitions.specs.ResolvingTrees.{Citing, NodeStep, goes, stops, node_step, at_node, resolve_tree, resolve_forest}
 use Rattle.definitions.specs.Tree as trees
-
-abbrev pub NamedBy : {A : Type 0} → ℕ → Outcome A → Type 0
-NamedBy n (done a) = Unit {0}
-NamedBy n (refused r) = r.name ≡ n
+use Rattle.directions.specs.RecordRuns.{NamedBy}
 
 pub map-named : {A B : Type 0} (n : ℕ) (f : A → B) (o : Outcome A) → NamedBy n o → NamedBy n (map_done f o)
 map-named n f (done a) h = tt

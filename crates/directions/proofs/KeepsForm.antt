@@ -13,7 +13,8 @@ use Rattle.definitions.specs.declared.table.Follows.{Follows}
 use Rattle.definitions.specs.declared.table.Follows.TheVariants.{Aggregate}
 use Rattle.definitions.specs.Table.{pick, table, entry_of, fields_of, children_of}
 use Rattle.definitions.specs.Form.{only, allowed_here, FineEach, word, Fine}
-use Rattle.definitions.specs.Tree.{Tree, Forest, node, more, of_forest, heads, last_field, fields, follow, tree, Fields, size}
+use Rattle.definitions.specs.Tree.{Tree, Forest, node, more, heads, last_field, fields, follow, tree, Fields, size}
+use Rattle.definitions.specs.TreeRows.{of_forest}
 use Rattle.definitions.specs.declared.direction.Direction.{Direction}
 use Rattle.definitions.specs.declared.direction.Direction.TheVariants.{Directed, Open}
 use Rattle.definitions.specs.Tables.{Derived, Tables}

@@ -13,7 +13,8 @@ use Rattle.definitions.specs.declared.answer.Refusal.{Refusal}
 use Rattle.definitions.specs.declared.table.Follows.{Follows}
 use Rattle.definitions.specs.Table.{pick, table, entry_of, fields_of, children_of}
 use Rattle.definitions.specs.Form.{FineEach, only, allowed_here, Fine}
-use Rattle.definitions.specs.Tree.{Tree, Forest, of_forest, node, more, last_field, tree, Fields, size, sizes}
+use Rattle.definitions.specs.Tree.{Tree, Forest, node, more, last_field, tree, Fields, size, sizes}
+use Rattle.definitions.specs.TreeRows.{of_forest}
 use Rattle.definitions.specs.declared.direction.Direction.{Direction}
 use Rattle.definitions.specs.declared.direction.Direction.TheVariants.{Directed, Open}
 use Rattle.definitions.specs.Tables.{Derived, Tables}

@@ -7,7 +7,8 @@ use lib.ListN.{length, length-append}
 use Rattle.definitions.specs.declared.table.Follows.{Follows}
 use Rattle.definitions.specs.Table.{word_of, entry_of, fields_of, children_of}
 use Rattle.definitions.specs.Form.{only, words_each, FineEach, word, words_by, Fine}
-use Rattle.definitions.specs.Tree.{Tree, Forest, node, more, of_forest, last_field, fields, follow, tree, Fields, field_words, tree_words, forest_words, size, sizes}
+use Rattle.definitions.specs.Tree.{Tree, Forest, node, more, last_field, fields, follow, tree, Fields, field_words, tree_words, forest_words, size, sizes}
+use Rattle.definitions.specs.TreeRows.{of_forest}
 use Rattle.definitions.specs.Direction.{Membership}
 use Rattle.definitions.specs.Answers.{map_done}
 use Rattle.definitions.specs.ResolvingTrees.{Citing, with_slots, NodeStep, goes, stops, node_step, at_node, resolve_tree, resolve_forest}

@@ -10,7 +10,7 @@ use Rattle.chains.specs.PackDirectory.{OfPack, IsPack}
 use Rattle.filtered.specs.Acts.{act_list}
 use Rattle.filtered.specs.Taking.{Filled}
 use Rattle.definitions.specs.Tree.{tree_words}
-use Rattle.definitions.specs.Answers.{Outcome, done, and_then, map_done}
+use Rattle.definitions.specs.Answers.{Outcome, done, refused, and_then, map_done}
 use Rattle.definitions.specs.Resolving.{resolve_rules, resolve_relations, first_rule}
 
 -- a run of records, one after the other
@@ -51,6 +51,13 @@ pub record RelationKeeps (p : Pack) (r : Relation) : Type 0 where
 -- the lists of the names that the pack declares are their kinds
 abbrev pub KindsReady : List ℕ → List ℕ → Type 0
 KindsReady ws acts = OfPack ws (λ p. (m : ℕ) → among m (declared p.relations) ≡ true → names_at ws (act_list (get_or acts m 0)) ≡ kinds_of p.relations m)
+
+-- ---- refusals
+
+-- a refusal of a tree bears the name of the rule or relation that cites it
+abbrev pub NamedBy : {A : Type 0} → ℕ → Outcome A → Type 0
+NamedBy n (done a) = Unit {0}
+NamedBy n (refused r) = r.name ≡ n
 
 -- ---- all trees of a pack
 

@@ -11,8 +11,7 @@ use Rattle.definitions.specs.Answers.{Answer}
 use Rattle.definitions.specs.Answers.{gives}
 use Rattle.definitions.specs.Records.{Pack}
 use Rattle.definitions.specs.Answers.{out_of_room, write_answer, Answered}
-use Rattle.definitions.specs.Checking.{check_answer}
-use Rattle.pack.proofs.Refusals.{CheckRefuses}
+use Rattle.definitions.specs.Checking.{check_answer, CheckRefuses}
 use Rattle.definitions.specs.declared.operation.Filter.{Filter}
 use Rattle.definitions.specs.Filtered.{filter_says, filter_words}
 use Rattle.definitions.specs.Operations.{filter_answer, filter_buffer}
@@ -40,7 +39,7 @@ module _ (f : Filter) (ws lent : List ℕ) where
 
     pub filter-done : n ≤ length lent → {out : List ℕ} → FilterLeft f ws out → Answered (filter_answer f) (filter_buffer f) ws lent (gives n 0) (put_mid 0 (n - 0) lent out)
     unfolding filter_answer filter_buffer
-    filter-done h l = made_done (filter_words f) no_steps ws lent c one_name h refl (l.holds c.pack c.reads)
+    filter-done h l = made_done (filter_words f) no_steps ws lent c one_name h refl (l c.pack c.reads)
 
 -- they refuse by Check's numbers and 16 alone
 pub filter_numbers : (f : Filter) (ws : List ℕ) (room : ℕ) (r : Refusal) → filter_answer f ws room ≡ Err r → CheckRefuses ws r ⊎ NoRoom r

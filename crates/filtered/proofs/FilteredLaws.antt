@@ -16,7 +16,8 @@ use Rattle.definitions.specs.Kinds.{kinds_of, declared}
 use Rattle.definitions.specs.Lean.{any}
 use Rattle.definitions.specs.Filtered.{kind_at, listed, entity_is, takes, taken_from, taken, single, direct, alias, names_entity, is_nil, unresolved, inner_at, up_to, inner_step, innermost_by, innermost}
 use Rattle.chains.proofs.Names.{shuffled_after, shuffled_rows, shuffled_any}
-use Rattle.chains.proofs.ChainLaws.{SettledOwn, settled-own}
+use Rattle.chains.proofs.ChainLaws.{settled-own}
+use Rattle.chains.specs.Settle.{SettledOwn}
 use Rattle.chains.proofs.KindLaws.{kinds_dealt}
 
 -- what a list of kinds says, whatever its order

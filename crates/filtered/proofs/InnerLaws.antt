@@ -7,7 +7,6 @@ use mathlib.Core.List.{List, ◌++◌}
 use mathlib.Core.Bool.{Bool, true, false}
 use mathlib.Core.Option.{Option, none, some, map}
 use lib.ListN.{length, get_or, take, set, replicate, length-replicate, get_or-eq_default, get_or-append}
-use Rattle.std.proofs.lemmas.List.{get_or-replicate}
 use lib.Seq.{get_or-set_same, get_or-set_other, get_or-drop, drop_at, length-take-le}
 use borrow.Rule.Slice.PartMut.{mid_of, post_of, put_mid, mid_len, same_len_mid}
 use lib.Dec.{eqb, ltb}

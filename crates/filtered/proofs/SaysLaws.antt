@@ -195,8 +195,6 @@ module _ {ws t : List ℕ} (c : IsPack ws) (k : KnowsEntities ws t) {n : ℕ} (n
 
   pub filter_left : (f : Filter) (marks : List ℕ) {m : ℕ} {left : List ℕ} → InnerFor f t m marks → m ≡ n → left ≡ table_from (said_in f t marks) 0 (length marks) → length marks ≡ n → FilterLeft f ws left
   filter_left f marks i q e s =
-      record {
-        holds = λ p h.
-            let r : n ≡ p.names = named p h in
-            e ∙ ap (table_from (said_in f t marks) 0) (s ∙ r) ∙ table-said p h k f marks (subst (λ (m : ℕ). InnerFor f t m marks) (q ∙ r) i);
-      }
+      λ p h.
+      let r : n ≡ p.names = named p h in
+      e ∙ ap (table_from (said_in f t marks) 0) (s ∙ r) ∙ table-said p h k f marks (subst (λ (m : ℕ). InnerFor f t m marks) (q ∙ r) i)

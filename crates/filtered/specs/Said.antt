@@ -3,13 +3,12 @@ use Rattle.std.specs.Prelude.{ℕ, ◌+◌, ◌-◌, ◌<◌, ◌≤◌, ◌≡�
 use Rattle.std.proofs.Math.Option.{Option, none, some}
 use Rattle.definitions.specs.Table.{pick}
 use Rattle.definitions.specs.Table as table
-use Rattle.definitions.specs.Records.{Pack}
-use Rattle.definitions.specs.Pack.{yes, read}
 use Rattle.definitions.specs.declared.operation.Filter.{Filter}
 use Rattle.definitions.specs.declared.operation.Filter.TheVariants.{Direct, Innermost, Alias, Unresolved}
 use Rattle.definitions.specs.Chain.{own, same}
 use Rattle.definitions.specs.Filtered.{up_to, inner_step, filter_words}
 use Rattle.definitions.specs.Answers.{table_from}
+use Rattle.chains.specs.PackDirectory.{OfPack}
 use Rattle.chains.specs.DirectoryWord.{Reaches, declared_by, declarations_in}
 use Rattle.chains.specs.Settle.{Settleable, SettledAll}
 use Rattle.filtered.specs.Taking.{several}
@@ -93,5 +92,5 @@ InnerFor Alias taken n marks = Unit {0}
 InnerFor Unresolved taken n marks = Unit {0}
 
 -- the words of a filtered table
-pub record FilterLeft (f : Filter) (ws out : List ℕ) : Type 0 where
-  pub holds : (p : Pack) → read ws ≡ yes p → out ≡ filter_words f p
+abbrev pub FilterLeft : Filter → List ℕ → List ℕ → Type 0
+FilterLeft f ws out = OfPack ws (λ p. out ≡ filter_words f p)

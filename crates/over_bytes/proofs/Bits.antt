@@ -31,8 +31,8 @@ use Rattle.chains.proofs.ListAt.{own-holds}
 use Rattle.definitions.specs.Resolving.{resolved}
 use Rattle.directions.proofs.Numbers.{refused_number}
 use Rattle.resolve.proofs.RefusalNames.{Told, resolved_told}
-use Rattle.definitions.specs.Bytes.{encode, decode, in_room}
-use Rattle.wire.proofs.DecodingLaws.{FitsBits, decode_again, over_bytes-fits}
+use Rattle.definitions.specs.Bytes.{encode, decode, in_room, FitsBits}
+use Rattle.wire.proofs.DecodingLaws.{decode_again, over_bytes-fits}
 use Rattle.over_bytes.proofs.Writes.{few_words, few_places, few-names}
 
 -- Check's refusals, and what is answered for a pack

@@ -18,19 +18,8 @@ use Rattle.definitions.specs.Tree.{heads, fields, follow, tree, root}
 use Rattle.definitions.specs.Records.{Edition}
 use Rattle.definitions.specs.Pack.{defaulted_name, defaulted, name_list, hop, path, chain, member, derivation, optional_derivation, relation_tail, new_name, relation, relations, body, bodies, rule, rules, item, block_items, block, blocks, records, inner, layout, Reading, yes, refuse, complete, edition_of, read, words}
 use Rattle.definitions.specs.Answers.{answer, out_of_room}
-use Rattle.definitions.specs.Checking.{check_answer, rewrite_answer}
+use Rattle.definitions.specs.Checking.{check_answer, rewrite_answer, Within, CheckRefuses}
 use Rattle.pack.proofs.FormLaws.{lawful, clash}
-
--- A refusal by one of the numbers from 1 to 8, of words that end before the place `end`. By 1 its place is 0, by 3 that end, by 2 and 4 to 8 a word's.
-pub record Within (end : ℕ) (r : Refusal) : Type 0 where
-  pub least : 1 ≤ r.number
-  pub most : r.number ≤ 8
-  pub place : r.place ≤ end
-  pub size : r.number ≡ 1 → r.place ≡ 0
-  pub ended : r.number ≡ 3 → r.place ≡ end
-  pub word : 2 ≤ r.number → (r.number ≡ 3 → ⊥) → r.place < end
-  pub name : r.name < 16777216
-  pub other : r.other ≡ 0
 
 -- a reader whose refusals are such, where `end` is the place after the last word
 abbrev Bounded : {A : Type 0} → (ℕ → List ℕ → Read A) → Type 0
@@ -242,12 +231,6 @@ unfolding layout inner
 layout_fit e len = fields_fit len _ _ (then_fit _ _ (field_fit 0 2) (λ n. records_fit n e))
 
 -- whole slices
-
--- One of Check's refusals of a slice: its place is within the slice, or the slice's length for 3. A slice of over 8,192 words is refused by 1, at 0.
-pub record CheckRefuses (ws : List ℕ) (r : Refusal) : Type 0 where
-  pub within : Within (length ws) r
-  pub few : r.place ≤ 8192
-  pub many : 8192 < length ws → (r.number ≡ 1) × (r.place ≡ 0)
 
 pub read_numbers : (ws : List ℕ) (r : Refusal) → read ws ≡ refuse r → CheckRefuses ws r
 unfolding read

@@ -13,7 +13,8 @@ use Rattle.definitions.specs.declared.table.Follows.{Follows}
 use Rattle.definitions.specs.Table.{pick, entry_of, fields_of, children_of}
 use Rattle.definitions.specs.Form.{word, only, FineEach, Fine}
 use Rattle.pack.proofs.EachFollows.{where_true}
-use Rattle.definitions.specs.Tree.{Tree, Forest, node, more, of_forest, heads, last_field, fields, follow, tree, size, sizes}
+use Rattle.definitions.specs.Tree.{Tree, Forest, node, more, heads, last_field, fields, follow, tree, size, sizes}
+use Rattle.definitions.specs.TreeRows.{of_forest}
 use Rattle.definitions.specs.Tree as trees
 use Rattle.reading.specs.Notes.{look_by, look_of, noted, Note, within, context_of, note_code, notes_of, notes_in}
 use Rattle.reading.specs.Noting.{losing, push, next_note, in_next, past, child_in, note_tree, note_forest, push_all}

@@ -12,7 +12,8 @@ use Rattle.definitions.specs.declared.table.Follows.TheVariants.{Aggregate, Exis
 use Rattle.pack.specs.Readers.{on}
 use Rattle.definitions.specs.Table.{pick, kind_of, value_of, entry_of, table, fields_of, children_of, how_many, judgment}
 use Rattle.definitions.specs.Form.{Read, got, refused, map_read, Form, word, each, ◌▹◌, via, only, words_by, Fine, read_by}
-use Rattle.definitions.specs.Tree.{Tree, to_forest, to_tree, heads, last_field, fields, follow, tree}
+use Rattle.definitions.specs.Tree.{Tree, heads, last_field, fields, follow, tree}
+use Rattle.definitions.specs.TreeRows.{to_forest, to_tree}
 use Rattle.pack.specs.declared.cursor.Cursor.{Cursor}
 use Rattle.pack.specs.Readers.{Step, step_of, skip_over}
 use Rattle.pack.proofs.FormLaws.{lawful, clash}

@@ -12,7 +12,8 @@ use borrow.Author.Rules.{part_to_end}
 use Rattle.definitions.specs.declared.table.Follows.{Follows}
 use Rattle.definitions.specs.Table.{pick, kind_of, value_of, entry_of, fields_of, children_of}
 use Rattle.definitions.specs.Form.{Read, got, refused, because, bind, map_read, allowed_here, only, Form, word, empty, each, ◌▹◌, via, read_by}
-use Rattle.definitions.specs.Tree.{Tree, Forest, node, more, to_forest, to_tree, of_tree, to_of, of_to, heads, last_field, fields, follow, tree}
+use Rattle.definitions.specs.Tree.{Tree, Forest, node, more, heads, last_field, fields, follow, tree}
+use Rattle.definitions.specs.TreeRows.{to_forest, to_tree, of_tree, to_of, of_to}
 use Rattle.definitions.specs.Tree as trees
 use Rattle.std.specs.Prelude.{Ok, Err}
 use Rattle.pack.specs.declared.cursor.Cursor.{Cursor}

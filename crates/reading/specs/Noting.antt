@@ -5,7 +5,8 @@ use Rattle.pack.specs.Readers.{Step, on}
 use Rattle.definitions.specs.declared.table.Follows.{Follows}
 use Rattle.definitions.specs.Table.{pick, kind_of, value_of, entry_of, fields_of}
 use Rattle.definitions.specs.Form.{got, Form, each, read_by}
-use Rattle.definitions.specs.Tree.{Tree, Forest, node, more, to_forest, follow, tree}
+use Rattle.definitions.specs.Tree.{Tree, Forest, node, more, follow, tree}
+use Rattle.definitions.specs.TreeRows.{to_forest}
 use Rattle.definitions.specs.Tree as trees
 use Rattle.pack.specs.Readers.{skip_over}
 use Rattle.reading.specs.Notes.{look_by, noted}

@@ -24,10 +24,10 @@ use Rattle.definitions.specs.Answers.{Outcome, done, refused, and_then, map_done
 use Rattle.definitions.specs.ResolvingTrees.{Citing, resolve_tree}
 use Rattle.definitions.specs.Inputs.{input}
 use Rattle.definitions.specs.Resolving.{cites, defaulted_equal, equal_refusal, resolve_body, resolve_rule, rule_words, resolve_rules, predicate_place, predicate_by, resolve_predicate, resolve_derivation, resolve_relation, resolve_relations, first_rule, resolve_records, resolved}
-use Rattle.directions.specs.RecordRuns.{run_words, run_by, EachKeeps, body_words, RelationKeeps}
+use Rattle.directions.specs.RecordRuns.{run_words, run_by, EachKeeps, body_words, RelationKeeps, NamedBy}
 use Rattle.directions.proofs.Numbers.{OfInput, input_numbered}
 use Rattle.directions.proofs.TreeWords.{size_is}
-use Rattle.directions.proofs.CitingNames.{NamedBy, tree-named}
+use Rattle.directions.proofs.CitingNames.{tree-named}
 use Rattle.directions.proofs.SmallKinds.{Small, below-small, KindsBelow, turn_below}
 use Rattle.directions.proofs.RefusalBounds.{Fits, Refuses, CitingFits, MemberSmall, tree_refuses}
 use Rattle.directions.proofs.RuleLaws.{bodies_of, head, rule-parts, again, rule_run}

@@ -146,7 +146,7 @@ module _ {ws dir acts taken work notes : List ℕ} {f : Figures} (a : TreesAsked
 
     pub trees_turned : found ≡ none → {o : Ended} {left : List ℕ} → PackTurned ws o left → TreesCame ws o left
     trees_turned z {o} {left} t =
-        record { each = of_pack o left (subst (λ (x : Outcome Pack). TurnedAs x o left) (sym (whole-none (sym found-is ∙ z))) (t.each p h)) }
+        record { each = of_pack o left (subst (λ (x : Outcome Pack). TurnedAs x o left) (sym (whole-none (sym found-is ∙ z))) (t p h)) }
 
     -- one of them
     module _ {name : ℕ} (named : found ≡ some name) where
@@ -511,11 +511,11 @@ module _ {ws acts taken : List ℕ} {asked : List Bool} {places notes : List ℕ
   pub placed_finish : {o : Ended} {left : List ℕ} → PackTurned ws o left → o ≡ Ok tt → FinishAsked ws places acts asked left f.layout.relations f.steps
   placed_finish t e = finish_asked a.resolves a.marked (came t) e a.begins
 
-  pub placed-all : {o : Ended} {left : List ℕ} → PackTurned ws o left → o ≡ Ok tt → {lent : List ℕ} {answer : Answer} {out : List ℕ} → FinishCame ws lent answer out → Answered resolve_answer resolve_buffer ws lent answer out
-  placed-all t e g = resolve-all a.resolves a.marked (came t) e g
+  pub placed-all : {o : Ended} (left : List ℕ) → PackTurned ws o left → o ≡ Ok tt → {lent : List ℕ} {answer : Answer} {out : List ℕ} → FinishCame ws lent answer out → Answered resolve_answer resolve_buffer ws lent answer out
+  placed-all left t e g = resolve-all a.resolves a.marked (came t) e g
 
-  pub placed_stopped : {o : Ended} {left : List ℕ} {r : Refusal} → PackTurned ws o left → o ≡ Err r → (lent : List ℕ) → Err r ≡ resolve_answer ws (length lent)
-  placed_stopped t e lent = (resolve_stopped a.resolves.directory.checked lent (came t) e).answers
+  pub placed_stopped : {o : Ended} (left : List ℕ) {r : Refusal} → PackTurned ws o left → o ≡ Err r → (lent : List ℕ) → Err r ≡ resolve_answer ws (length lent)
+  placed_stopped left t e lent = (resolve_stopped a.resolves.directory.checked lent (came t) e).answers
 
 -- a defaulted name with equal kinds
 module _ {ws dir acts taken : List ℕ} {asked : List Bool} {notes : List ℕ} {f : Figures} {work : List ℕ} (a : ResolveAsked ws dir acts taken asked notes f work) {found : Option ℕ} (first : found ≡ first_equal ws acts 3 (value_at ws 2)) where

@@ -10,7 +10,7 @@ use Rattle.definitions.specs.declared.answer.Refusal.{Refusal}
 use Rattle.definitions.specs.Answers.{Answer}
 use Rattle.definitions.specs.Answers.{gives}
 use Rattle.definitions.specs.Table.{pick}
-use Rattle.pack.proofs.Refusals.{CheckRefuses}
+use Rattle.definitions.specs.Checking.{CheckRefuses}
 use Rattle.definitions.specs.Kinds.{all_kinds, own_answer}
 use Rattle.definitions.specs.Lean.{leans}
 use Rattle.definitions.specs.Places.{place_of, all_kinds_words}

@@ -17,8 +17,8 @@ use Rattle.definitions.specs.Form.{among}
 use Rattle.definitions.specs.Records.{Pack}
 use Rattle.definitions.specs.Pack.{Reading, yes, refuse, read, total, words}
 use Rattle.definitions.specs.Answers.{answer, buffer, out_of_room, write_answer, write_buffer, unknown, Outcome, done, refused}
-use Rattle.definitions.specs.Checking.{rewrite_answer, rewrite_buffer}
-use Rattle.pack.proofs.Refusals.{CheckRefuses, check-numbers, rewrite_numbers}
+use Rattle.definitions.specs.Checking.{rewrite_answer, rewrite_buffer, CheckRefuses}
+use Rattle.pack.proofs.Refusals.{check-numbers, rewrite_numbers}
 use Rattle.definitions.specs.Kinds.{all_kinds}
 use Rattle.definitions.specs.Places.{all_kinds_words}
 use Rattle.chains.proofs.RefusalNumbers.{no_given, NoRoom}

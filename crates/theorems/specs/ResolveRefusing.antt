@@ -5,7 +5,7 @@ use Rattle.definitions.specs.declared.answer.Refusal.{Refusal}
 use Rattle.definitions.specs.Records.{Pack}
 use Rattle.definitions.specs.Pack.{yes, read}
 use Rattle.definitions.specs.Answers.{out_of_room}
-use Rattle.pack.proofs.Refusals.{CheckRefuses}
+use Rattle.definitions.specs.Checking.{CheckRefuses}
 use Rattle.definitions.specs.ResolvingTrees.{InRange}
 
 -- a refusal of a checked pack: its place is a word's, its name and other are names of the pack

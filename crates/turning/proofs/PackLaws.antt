@@ -168,7 +168,7 @@ module _ (k : Known) (words₀ notes₀ : List ℕ) (relations all : ℕ) (a : P
     all_not e = let z : ◌≡◌ {A = ℕ} 0 1 = cc in omega arith
 
     of_pack : (left : List ℕ) (r : Ended) → TurnedAs (trees_resolved p) r left → PackTurned ws r left
-    of_pack left r h = record { each = λ q e. subst (λ (x : Pack). TurnedAs (trees_resolved x) r left) (same-pack ws a.checked e) h }
+    of_pack left r h = λ q e. subst (λ (x : Pack). TurnedAs (trees_resolved x) r left) (same-pack ws a.checked e) h
 
     -- a rule is refused
     module _ {x : Refusal} (stops : o ≡ Err x) where

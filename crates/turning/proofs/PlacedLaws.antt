@@ -10,7 +10,8 @@ use Rattle.pack.proofs.FormLaws.{only-kind}
 use Rattle.definitions.specs.declared.table.Follows.{Follows}
 use Rattle.definitions.specs.Table.{pick, word_of, judgment, entry_of, fields_of, children_of}
 use Rattle.definitions.specs.Form.{FineEach, allowed_here, Fine, words_by}
-use Rattle.definitions.specs.Tree.{Tree, Forest, node, more, of_forest, last_field, root, tree, Fields, field_words, tree_words, forest_words, size}
+use Rattle.definitions.specs.Tree.{Tree, Forest, node, more, last_field, root, tree, Fields, field_words, tree_words, forest_words, size}
+use Rattle.definitions.specs.TreeRows.{of_forest}
 use Rattle.definitions.specs.Tree as trees
 use Rattle.definitions.specs.Records.{Derivation, Relation, Body, Pack}
 use Rattle.definitions.specs.Pack.{WellFormed, words, body, blocks}

@@ -9,7 +9,8 @@ use lib.ListN.{length, get_or, set, length-append, length-set}
 use lib.Seq.{get_or_at, get_or-set_same}
 use Rattle.definitions.specs.Table.{kind_of, value_of, word_of, judgment, entry_of, fields_of, children_of}
 use Rattle.definitions.specs.Form.{FineEach, Fine}
-use Rattle.definitions.specs.Tree.{Tree, Forest, node, more, of_forest, last_field, root, tree, Fields, tree_words, size}
+use Rattle.definitions.specs.Tree.{Tree, Forest, node, more, last_field, root, tree, Fields, tree_words, size}
+use Rattle.definitions.specs.TreeRows.{of_forest}
 use Rattle.definitions.specs.Tree as trees
 use Rattle.definitions.specs.Records.{Derivation, Relation, Body, Rule, Pack}
 use Rattle.definitions.specs.Pack.{WellFormed, body, rule, relation_tail, optional_derivation}

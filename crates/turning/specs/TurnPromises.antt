@@ -13,6 +13,7 @@ use Rattle.definitions.specs.Tables.{Tables}
 use Rattle.definitions.specs.Direction.{turn, Membership, related_kind, member_direction}
 use Rattle.definitions.specs.Answers.{Outcome, done, refused, number_of}
 use Rattle.definitions.specs.ResolvingTrees.{Citing, current_of, related_of, NodeStep, goes, stops}
+use Rattle.chains.specs.PackDirectory.{OfPack}
 use Rattle.directions.specs.Words.{tables_in, member_in}
 use Rattle.directions.specs.RecordRuns.{trees_resolved}
 use Rattle.turning.specs.declared.step.Out.{Out}
@@ -212,5 +213,5 @@ abbrev pub TurnedAs : Outcome Pack → Result (Unit {0}) Refusal → List ℕ �
 TurnedAs (done q) o left = (o ≡ Ok tt) × (left ≡ words q)
 TurnedAs (refused r) o left = o ≡ Err r
 
-pub record PackTurned (ws : List ℕ) (o : Result (Unit {0}) Refusal) (left : List ℕ) : Type 0 where
-  pub each : (p : Pack) → read ws ≡ yes p → TurnedAs (trees_resolved p) o left
+abbrev pub PackTurned : List ℕ → Result (Unit {0}) Refusal → List ℕ → Type 0
+PackTurned ws o left = OfPack ws (λ p. TurnedAs (trees_resolved p) o left)

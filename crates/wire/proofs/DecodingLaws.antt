@@ -10,7 +10,7 @@ use Rattle.definitions.specs.declared.answer.Refusal.{Refusal}
 use Rattle.std.specs.Prelude.{Ok, Err}
 use Rattle.definitions.specs.Answers.{Answer, gives}
 use Rattle.definitions.specs.Table.{pick}
-use Rattle.definitions.specs.Bytes.{words_of, in_bits, encode, number_field, place_field, name_field, other_field, decode, are_words, not_words, over_bytes}
+use Rattle.definitions.specs.Bytes.{words_of, in_bits, encode, number_field, place_field, name_field, other_field, decode, are_words, not_words, over_bytes, FitsBits}
 
 module _ (number place name other : ℕ) (h : number < 2 ^ 6) (k : place < 2 ^ 14) (l : name < 2 ^ 32) (m : other < 2 ^ 12) where
   abbrev bits : ℕ
@@ -39,11 +39,6 @@ refused_again : (r : Refusal) → 0 < r.number → r.number < 2 ^ 6 → r.place 
 unfolding decode
 refused_again r z h k l m =
     rw (number_again r.number r.place r.name r.other h k l m, place_again r.number r.place r.name r.other h k l m, name_again r.number r.place r.name r.other h k l m, other_again r.number r.place r.name r.other h k l m, ne_eqb r.number 0 (λ e. omega arith))
-
--- an answer of which no part is too large for its bits
-abbrev pub FitsBits : Answer → Type 0
-FitsBits (Ok g) = (g.value < 2 ^ 32) × (g.steps < 2 ^ 12)
-FitsBits (Err r) = (0 < r.number) × (r.number < 2 ^ 6) × (r.place < 2 ^ 14) × (r.name < 2 ^ 32) × (r.other < 2 ^ 12)
 
 -- the number gives the answer back
 pub decode_again : (a : Answer) → FitsBits a → decode (encode a) ≡ a

@@ -20,8 +20,8 @@ finish-requires g c = (placed_finish c.requires.0 c.turn_pack.ensures c.in_ok-tu
 pub returns : goal.returns
 returns g c =
     let room = front_length c.turn_pack.new.notes c.args.checked.now.figures.room (omega (arith, c.turn_pack.auto.notes, c.requires.0.resolves.fits)) in
-    into_part _ _ _ room (placed-all c.requires.0 c.turn_pack.ensures c.in_ok-turn_pack.was c.finish.ensures) (c.finish.auto.out ∙ room) refl
+    into_part _ _ _ room (placed-all c.requires.0 _ c.turn_pack.ensures c.in_ok-turn_pack.was c.finish.ensures) (c.finish.auto.out ∙ room) refl
 
 pub returns-in_err-turn_pack : goal.returns-in_err-turn_pack
 returns-in_err-turn_pack g c =
-    into_stopped _ _ (placed_stopped c.requires.0 c.turn_pack.ensures c.in_err-turn_pack.was) (search rules)
+    into_stopped _ _ (placed_stopped c.requires.0 _ c.turn_pack.ensures c.in_err-turn_pack.was) (search rules)
