@@ -1,12 +1,12 @@
 -- The edges of a checked pack, read at its records, are those of its relations.
-use Prim.Native.Nat.{ℕ, ◌+◌, ◌<◌, ◌≤◌}
+use Prim.Native.Nat.{ℕ, zero, suc, ◌+◌, ◌<◌, ◌≤◌}
 use native.Mathlib.Omega.{arith}
 use mathlib.Core.Path.{◌≡◌, refl, ap, sym, ◌∙◌, fun_ext, subst}
 use mathlib.Core.Logic.{inl, inr}
 use mathlib.Core.List.{List, [], ◌∷◌, ◌++◌}
 use mathlib.Core.Bool.{Bool, true, false, or-false}
 use mathlib.Core.Option.{Option, none, some}
-use lib.ListN.{length, get_or}
+use lib.ListN.{length, get_or, replicate, length-replicate}
 use lib.Dec.{eqb}
 use borrow.Author.Tests.{eq-eqb, ne_eqb, eqb-true}
 use Rattle.std.proofs.lemmas.Bool.{or_cases}
@@ -19,15 +19,15 @@ use Rattle.definitions.specs.Kinds.{find}
 use Rattle.definitions.specs.Lean.{source_name, step_names, named_by, edges_at, edges, leans}
 use Rattle.records.specs.declared.directory.Layout.{Layout}
 use Rattle.chains.specs.Record.{value_at, kind_count, flag_at, path_in}
-use Rattle.chains.specs.DirectoryWord.{Reaches, starts_in}
-use Rattle.chains.specs.PackDirectory.{ClearTable, IsDirectory, record_of}
+use Rattle.chains.specs.DirectoryWord.{starts_in}
+use Rattle.chains.specs.PackDirectory.{IsDirectory, Sized, record_of}
 use Rattle.chains.proofs.Names.{apart, among-append, both_ways}
 use Rattle.chains.proofs.PackParts.{parts, find_kept}
 use Rattle.chains.proofs.ListAt.{InWords}
 use Rattle.chains.proofs.RecordLaws.{no_flag, a_flag, source-there, steps-there}
 use Rattle.chains.proofs.DeclarationLaws.{no_record, standing}
 use Rattle.chains.proofs.PlaceBounds.{found-small}
-use Rattle.chains.proofs.CheckedLaws.{its-words, is-fine, same-pack}
+use Rattle.chains.proofs.CheckedLaws.{its-words, is-fine, same-pack, said-names}
 use Rattle.kinds.specs.KindsPromises.{Leaning}
 use Rattle.kinds.specs.Edges.{derived_edges, edges_in, edges_by}
 use Rattle.kinds.specs.Search.{Searchable, Computes}
@@ -98,6 +98,11 @@ edges-low p w n m = go (find n p.relations) refl
 
 -- ---- of words that Check accepts
 
+none_marked : (k m : ℕ) → get_or (replicate k false) m false ≡ false
+none_marked zero m = refl
+none_marked (suc k) zero = refl
+none_marked (suc k) (suc m) = none_marked k m
+
 module _ {ws dir : List ℕ} {l : Layout} (d : IsDirectory ws l dir) where
   abbrev its : Pack
   its = d.checked.pack
@@ -108,17 +113,20 @@ module _ {ws dir : List ℕ} {l : Layout} (d : IsDirectory ws l dir) where
       ap (λ (v : List ℕ). λ (n : ℕ). edges_in v (get_or (starts_in dir) n 0)) (sym (its-words d.checked))
       ∙ fun_ext (edges-at its (is-fine d.checked) (starts_in dir) (d.noted.placed its d.checked.reads))
 
-  pub its_searchable : {marks queue : List ℕ} {a b : ℕ} → Reaches dir (length marks) → ClearTable l.names marks → length marks ≤ length queue → a < l.names → b < l.names → Searchable ws dir a b marks queue
-  its_searchable reaches lent long h k =
+  pub its_searchable : {words most : ℕ} {queue : List ℕ} {a b : ℕ} → Sized ws words most → length dir ≡ words → most ≤ length queue → a < l.names → b < l.names → Searchable ws dir a b (replicate most false) queue
+  its_searchable {most = most} s dir-long room h k =
       let low : (n j : ℕ) → among j (edges_by ws dir n) ≡ true → j < its.names =
       subst (λ (e : ℕ → List ℕ). (n j : ℕ) → among j (e n) ≡ true → j < its.names) (sym edges_are) (edges-low its (is-fine d.checked)) in
+      let marks : length {A = Bool} (replicate most false) ≡ most = length-replicate most false in
+      let named : its.names ≤ most = omega (arith, said-names ws d.checked, s.enough) in
+      let same : l.names ≡ its.names = d.named its d.checked.reads in
       record {
-        reaches = reaches;
-        from = omega (arith, lent.long);
-        to = omega (arith, lent.long);
-        edges = λ n j i. omega (arith, low n j i, d.named its d.checked.reads, lent.long);
-        clear = lent.clear;
-        room = long;
+        reaches = record { most = omega (arith, marks, s.most); long = omega (arith, marks, dir-long, s.both) };
+        from = omega (arith, marks, named, same);
+        to = omega (arith, marks, named, same);
+        edges = λ n j i. omega (arith, low n j i, marks, named);
+        clear = none_marked most;
+        room = omega (arith, marks, room);
       }
 
   pub its_leaning : {a b : ℕ} {r : Bool} → Computes r (edges_by ws dir) a b → Leaning ws a b r

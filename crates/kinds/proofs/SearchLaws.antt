@@ -10,7 +10,6 @@ use lib.Seq.{get_or-set_same, get_or-set_other}
 use lib.Dec.{eqb}
 use borrow.Author.Tests.{eq-eqb, ne_eqb, eqb-true, eqb-false}
 use Rattle.std.proofs.lemmas.Bool.{or_left, or_right}
-use Rattle.definitions.specs.Table.{pick}
 use Rattle.definitions.specs.Form.{among, repeats}
 use Rattle.definitions.specs.Lean.{Leads, straight, onward, source_name}
 use Rattle.chains.specs.Record.{value_at, steps_in, path_in}
@@ -22,35 +21,34 @@ use Rattle.kinds.specs.Search.{Search, searched, reached, reached_all, unmarked,
 
 -- ---- marks that are clear
 
-unmarked-clear : (l : List ℕ) → ((m : ℕ) → get_or l m 0 ≡ 0) → unmarked l ≡ length l
+unmarked-clear : (l : List Bool) → ((m : ℕ) → get_or l m false ≡ false) → unmarked l ≡ length l
 unfolding unmarked
 unmarked-clear [] h = refl
-unmarked-clear (x ∷ l) h = rw (eq-eqb x 0 (h 0)) (ap suc (unmarked-clear l (λ m. h (suc m))))
+unmarked-clear (true ∷ l) h = apart refl (h 0)
+unmarked-clear (false ∷ l) h = ap suc (unmarked-clear l (λ m. h (suc m)))
 
 -- a mark that was clear is one fewer
-unmarked-set : (l : List ℕ) (n : ℕ) → n < length l → get_or l n 0 ≡ 0 → unmarked l ≡ suc (unmarked (set l n 1))
+unmarked-set : (l : List Bool) (n : ℕ) → n < length l → get_or l n false ≡ false → unmarked l ≡ suc (unmarked (set l n true))
 unfolding unmarked
 unmarked-set [] n h z = absurd (omega arith)
-unmarked-set (x ∷ l) zero h z = rw (eq-eqb x 0 z) refl
-unmarked-set (x ∷ l) (suc n) h z = go (eqb x 0) (unmarked-set l n (omega arith) z)
-  where
-    go : (t : Bool) → unmarked l ≡ suc (unmarked (set l n 1)) → pick t (suc (unmarked l)) (unmarked l) ≡ suc (pick t (suc (unmarked (set l n 1))) (unmarked (set l n 1)))
-    go true e = ap suc e
-    go false e = e
+unmarked-set (true ∷ l) zero h z = apart refl z
+unmarked-set (false ∷ l) zero h z = refl
+unmarked-set (true ∷ l) (suc n) h z = unmarked-set l n (omega arith) z
+unmarked-set (false ∷ l) (suc n) h z = ap suc (unmarked-set l n (omega arith) z)
 
 -- ---- a name reached
 
 abbrev pub Marked : Search → ℕ → Type 0
-Marked s m = get_or s.marks m 0 ≡ 0 → ⊥
+Marked s m = get_or s.marks m false ≡ true
 
 module _ (n : ℕ) (s : Search) where
   pub reached-before : Marked s n → reached n s ≡ s
   unfolding reached
-  reached-before h = rw (ne_eqb (get_or s.marks n 0) 0 h) refl
+  reached-before h = rw h refl
 
-  pub reached_now : get_or s.marks n 0 ≡ 0 → reached n s ≡ searched (set s.marks n 1) (set s.queue s.count n) (s.count + 1) s.entered
+  pub reached_now : get_or s.marks n false ≡ false → reached n s ≡ searched (set s.marks n true) (set s.queue s.count n) (s.count + 1) s.entered
   unfolding reached
-  reached_now z = rw (eq-eqb (get_or s.marks n 0) 0 z) refl
+  reached_now z = rw z refl
 
 pub reached-more : (ns ms : List ℕ) (s : Search) → reached_all (ns ++ ms) s ≡ reached_all ms (reached_all ns s)
 unfolding reached_all
@@ -86,52 +84,52 @@ pub room_kept : {s t : Search} → HasRoom s → Onward s t → HasRoom t
 room_kept r o = omega (arith, r, o.room, o.queue)
 
 -- the marks after a store
-module _ (l : List ℕ) (n : ℕ) (inside : n < length l) where
-  set-marks : get_or (set l n 1) n 0 ≡ 0 → ⊥
-  set-marks e = let z = get_or-set_same l n 1 0 inside in omega arith
+module _ (l : List Bool) (n : ℕ) (inside : n < length l) where
+  set-marks : get_or (set l n true) n false ≡ true
+  set-marks = get_or-set_same l n true false inside
 
   -- a mark that is there is the new one, or was there before
-  set-marked : (m : ℕ) → (get_or (set l n 1) m 0 ≡ 0 → ⊥) → (m ≡ n) ⊎ (get_or l m 0 ≡ 0 → ⊥)
+  set-marked : (m : ℕ) → get_or (set l n true) m false ≡ true → (m ≡ n) ⊎ (get_or l m false ≡ true)
   set-marked m h = go (eqb m n) refl
     where
-      go : (t : Bool) → eqb m n ≡ t → (m ≡ n) ⊎ (get_or l m 0 ≡ 0 → ⊥)
+      go : (t : Bool) → eqb m n ≡ t → (m ≡ n) ⊎ (get_or l m false ≡ true)
       go true e = inl (eqb-true m n e)
-      go false e = inr (λ z. h (get_or-set_other l n m 1 0 (eqb-false m n e) ∙ z))
+      go false e = inr (sym (get_or-set_other l n m true false (eqb-false m n e)) ∙ h)
 
-  set_keeps : (m : ℕ) → (get_or l m 0 ≡ 0 → ⊥) → get_or (set l n 1) m 0 ≡ 0 → ⊥
+  set_keeps : (m : ℕ) → get_or l m false ≡ true → get_or (set l n true) m false ≡ true
   set_keeps m h = go (eqb m n) refl
     where
-      go : (t : Bool) → eqb m n ≡ t → get_or (set l n 1) m 0 ≡ 0 → ⊥
-      go true e z = set-marks (ap (λ (k : ℕ). get_or (set l n 1) k 0) (sym (eqb-true m n e)) ∙ z)
-      go false e z = h (sym (get_or-set_other l n m 1 0 (eqb-false m n e)) ∙ z)
+      go : (t : Bool) → eqb m n ≡ t → get_or (set l n true) m false ≡ true
+      go true e = ap (λ (k : ℕ). get_or (set l n true) k false) (eqb-true m n e) ∙ set-marks
+      go false e = get_or-set_other l n m true false (eqb-false m n e) ∙ h
 
 -- what is asked for one name
 module _ (n : ℕ) (s : Search) (asked : Reachable (n ∷ []) s) where
   pub inside : n < length s.marks
   inside = asked.below n (or_left _ false (eq-eqb n n refl))
 
-  pub fits : HasRoom s → get_or s.marks n 0 ≡ 0 → s.count < length s.queue
+  pub fits : HasRoom s → get_or s.marks n false ≡ false → s.count < length s.queue
   fits r z = omega (arith, r, unmarked-set s.marks n inside z)
 
-  pub added : get_or s.marks n 0 ≡ 0 → Onward s (searched (set s.marks n 1) (set s.queue s.count n) (s.count + 1) s.entered)
+  pub added : get_or s.marks n false ≡ false → Onward s (searched (set s.marks n true) (set s.queue s.count n) (s.count + 1) s.entered)
   added z =
       record {
         more = omega arith;
         queued = λ j h. get_or-set_other s.queue s.count j n 0 (λ e. omega arith);
         marked = set_keeps s.marks n inside;
-        marks = length-set s.marks n 1;
+        marks = length-set s.marks n true;
         queue = length-set s.queue s.count n;
         room = omega (arith, unmarked-set s.marks n inside z);
         entered = refl;
       }
 
   -- whether it was reached before or is now
-  either_way : (P : Search → Type 0) → (Marked s n → P s) → (get_or s.marks n 0 ≡ 0 → P (searched (set s.marks n 1) (set s.queue s.count n) (s.count + 1) s.entered)) → P (reached n s)
-  either_way P before now = go (eqb (get_or s.marks n 0) 0) refl
+  either_way : (P : Search → Type 0) → (Marked s n → P s) → (get_or s.marks n false ≡ false → P (searched (set s.marks n true) (set s.queue s.count n) (s.count + 1) s.entered)) → P (reached n s)
+  either_way P before now = go (get_or s.marks n false) refl
     where
-      go : (t : Bool) → eqb (get_or s.marks n 0) 0 ≡ t → P (reached n s)
-      go true e = let z = eqb-true (get_or s.marks n 0) 0 e in subst P (sym (reached_now n s z)) (now z)
-      go false e = let h = eqb-false (get_or s.marks n 0) 0 e in subst P (sym (reached-before n s h)) (before h)
+      go : (t : Bool) → get_or s.marks n false ≡ t → P (reached n s)
+      go true h = subst P (sym (reached-before n s h)) (before h)
+      go false z = subst P (sym (reached_now n s z)) (now z)
 
   pub reach_onward : Onward s (reached n s)
   reach_onward = either_way (λ t. Onward s t) (λ h. stays s) added
@@ -262,12 +260,12 @@ module _ (edges : ℕ → List ℕ) (a : ℕ) where
   reach_sound : (n : ℕ) (s : Search) → HasRoom s → Reachable (n ∷ []) s → Leads edges a n → Sound s → Sound (reached n s)
   reach_sound n s room r l w = either_way n s r Sound (λ h. w) new
     where
-      new : get_or s.marks n 0 ≡ 0 → Sound (searched (set s.marks n 1) (set s.queue s.count n) (s.count + 1) s.entered)
+      new : get_or s.marks n false ≡ false → Sound (searched (set s.marks n true) (set s.queue s.count n) (s.count + 1) s.entered)
       new z =
           let here : get_or (set s.queue s.count n) s.count 0 ≡ n = get_or-set_same s.queue s.count n 0 (fits n s r room z) in
           record { leads = λ m h. led m (old m h); listed = λ m h. place here m (old m h); queued = λ j h. entry here j (eqb j s.count) refl h }
         where
-          old : (m : ℕ) → (get_or (set s.marks n 1) m 0 ≡ 0 → ⊥) → (m ≡ n) ⊎ Marked s m
+          old : (m : ℕ) → get_or (set s.marks n true) m false ≡ true → (m ≡ n) ⊎ Marked s m
           old m h = set-marked s.marks n (inside n s r) m h
 
           led : (m : ℕ) → (m ≡ n) ⊎ Marked s m → Leads edges a m
@@ -330,7 +328,7 @@ module _ (ws dir : List ℕ) (a b : ℕ) where
     pub to : b < length s.marks
     pub low : (n m : ℕ) → among m (edges n) ≡ true → m < length s.marks
 
-  module _ {marks₀ queue₀ : List ℕ} (asked : Searchable ws dir a b marks₀ queue₀) where
+  module _ {marks₀ : List Bool} {queue₀ : List ℕ} (asked : Searchable ws dir a b marks₀ queue₀) where
     abbrev s₀ : Search
     s₀ = searched marks₀ queue₀ 0 0
 
@@ -345,7 +343,7 @@ module _ (ws dir : List ℕ) (a b : ℕ) where
         let o = all-onward (edges a) s₀ all_asked in
         record {
           sound = all_sound edges a (edges a) s₀ room-first all_asked (λ m i. straight i)
-              (record { leads = λ m h. absurd (h (asked.clear m)); listed = λ m h. absurd (h (asked.clear m)); queued = λ j h. absurd (omega arith) });
+              (record { leads = λ m h. apart h (asked.clear m); listed = λ m h. apart h (asked.clear m); queued = λ j h. absurd (omega arith) });
           room = room_kept room-first o;
           first = all-marks (edges a) s₀ all_asked;
           entered = λ j h. absurd (omega (arith, o.entered));
@@ -366,8 +364,8 @@ module _ (ws dir : List ℕ) (a b : ℕ) where
     arrived h = record { sound = λ e. f.sound.leads b h; complete = λ l. refl }
 
     -- where all are entered, all that is led to is marked
-    pub not_there : s.count ≤ s.entered → get_or s.marks b 0 ≡ 0 → Computes false edges a b
-    not_there h z = record { sound = λ e. apart e refl; complete = λ l. absurd (on f.first l z) }
+    pub not_there : s.count ≤ s.entered → get_or s.marks b false ≡ false → Computes false edges a b
+    not_there h z = record { sound = λ e. apart e refl; complete = λ l. apart (on f.first l) z }
       where
         on : {n : ℕ} → ((m : ℕ) → among m (edges n) ≡ true → Marked s m) → Leads edges n b → Marked s b
         on all (straight e) = all b e

@@ -22,7 +22,7 @@ fn lean_sized<const WORDS: usize, const NAMES: usize>(pack: &[u32], a: u32, b: u
     if l.names <= b {
         return Err(unknown_name(b));
     }
-    let mut marks = [0u8; NAMES];
+    let mut marks = [false; NAMES];
     let mut queue = [0u32; NAMES];
     let leans = leads(pack, &dir, a as usize, b as usize, &mut marks, &mut queue);
     Ok(Given {

@@ -1,6 +1,6 @@
 // The search along edges: from a relation to its source (12) and to the relations that the steps of its path name (14), read at its
 // record. Each name that is reached is marked and queued once, and so entered once.
-ghost use Rattle.std.specs.Prelude.{◌≡◌, ◌≢◌, ◌<◌, ◌≤◌, ◌↔◌, IsTrue, length, get_or, [], ◌∷◌};
+ghost use Rattle.std.specs.Prelude.{◌≡◌, ◌<◌, ◌≤◌, false, length, get_or, [], ◌∷◌};
 ghost use Rattle.chains.specs.Record.{path_in};
 ghost use Rattle.kinds.specs.Edges.{edges_in, edges_by};
 ghost use Rattle.kinds.specs.Search.{Search as Searched, HasRoom, NextTaken, Reachable, Searchable, Computes, searched, reached, reached_all};
@@ -12,11 +12,11 @@ use pack::kinds::Pack;
 use std::marker::Model;
 
 // Marks by name say which names are reached. The queue has them in the order in which they were, as many as `count`, and room for all
-// others; the first ones, as many as `entered`, are entered. Marks are numbers, as in every table of names, so that one set of laws of
-// tables serves.
+// others; the first ones, as many as `entered`, are entered.
+// The queue is a slice with a count and no ArrayVec, whose push can fail for want of room: here none can, as the invariant says.
 #[derive(Drop)]
 struct Search<'a> {
-    marks: &'a mut [u8],
+    marks: &'a mut [bool],
     queue: &'a mut [u32],
     count: usize,
     entered: usize,
@@ -33,9 +33,9 @@ impl<'a> Model for Search<'a> {
 impl<'a> Search<'a> {
     fn has_reached(&self, name: usize) -> bool
         requires { name < length self.now.marks }
-        ensures { IsTrue result ↔ (get_or self.now.marks name 0 ≢ 0) }
+        ensures { result ≡ get_or self.now.marks name false }
     {
-        self.marks[name] != 0
+        self.marks[name]
     }
 
     // The next name to enter, if one is left.
@@ -56,8 +56,8 @@ impl<'a> Search<'a> {
         ensures { self.new ≡ reached name self.old }
     {
         let n = name as usize;
-        if self.marks[n] == 0 {
-            self.marks[n] = 1;
+        if !self.marks[n] {
+            self.marks[n] = true;
             self.queue[self.count] = name;
             self.count += 1;
         }
@@ -87,7 +87,8 @@ impl<'a> Search<'a> {
         }
     }
 
-    // All names to which the relation leads whose record starts at a place are reached. At 0 there is none.
+    // All names to which the relation leads whose record starts at a place are reached. At 0 there is none: it is 0 and no Option, as
+    // the directory's table of places has 0 for a name that no relation has.
     fn enter(&mut self, pack: &[u32], place: RecordPlace)
         requires { Reachable (edges_in pack.now place.at) self.old }
         ensures { self.new ≡ reached_all (edges_in pack.now place.at) self.old }
@@ -110,7 +111,7 @@ pub fn leads(
     dir: &[u32],
     a: usize,
     b: usize,
-    marks: &mut [u8],
+    marks: &mut [bool],
     queue: &mut [u32],
 ) -> bool
     requires { Searchable pack.now dir.now a b marks.old queue.old }

@@ -2,7 +2,7 @@
 use native.Mathlib.Omega.{arith}
 use mathlib.Core.Path.{refl, ◌∙◌}
 use Rattle.pack.proofs.StepLaws.{handed}
-use Rattle.chains.proofs.EntryLaws.{directed, lent-said, reaches_kept, room_sized}
+use Rattle.chains.proofs.EntryLaws.{directed, room_sized}
 use Rattle.kinds.proofs.EdgeLaws.{its_searchable, its_leaning}
 use Rattle.kinds.proofs.OperationLaws.{lean-refused, first-unknown, second_unknown, leans-or_not, as_number}
 use Rattle.kinds.proofs.lean.lean_sized.Goals as goal
@@ -22,7 +22,7 @@ returns-then-l-b g c =
 pub leads-leans-requires : goal.leads-leans-requires
 leads-leans-requires g c =
     let d = directed (room_sized c.requires).clear c.check_directory.ensures c.in_ok-l.was in
-    its_searchable d (reaches_kept c.check_directory.auto.dir (room_sized c.requires).reaches) (lent-said d (room_sized c.requires).lent) (omega arith) c.if-l-a.false c.if-l-b.false
+    its_searchable d c.requires (omega arith) (omega arith) c.if-l-a.false c.if-l-b.false
 
 pub returns : goal.returns
 returns g c =

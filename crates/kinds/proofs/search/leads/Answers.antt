@@ -1,5 +1,5 @@
 -- `kinds::search::leads` meets its contract.
-use native.Mathlib.Omega.{arith}
+use mathlib.Core.Path.{sym, ◌∙◌}
 use Rattle.chains.proofs.EntryLaws.{reaches_one}
 use Rattle.kinds.proofs.SearchLaws.{undeclared, room-first, asked-first, begun, not_there, queued_below, asked-next, entered_one, fewer}
 use Rattle.kinds.proofs.search.leads.Goals as goal
@@ -17,7 +17,7 @@ pub loop-search-init : goal.loop-search-init
 loop-search-init c = begun _ _ _ _ c.requires c.start-2.ensures.0 c.enter.ensures
 
 pub returns-in_default : goal.returns-in_default
-returns-in_default c = not_there _ _ _ _ c.loop-search.invariant c.in_default.ensures.0 (grind (arith, c.loop-search-test.ensures))
+returns-in_default c = not_there _ _ _ _ c.loop-search.invariant c.in_default.ensures.0 (sym c.has_reached.ensures ∙ c.loop-search-test.true)
 
 pub start-requires-in-loop-search : goal.start-requires-in-loop-search
 start-requires-in-loop-search c =

@@ -6,17 +6,17 @@ use Rattle.kinds.proofs.search.Search.reach.Goals as goal
 pub bounds-self-inside-n : goal.bounds-self-inside-n
 bounds-self-inside-n c = inside _ _ (rw (← c.self.view_is) at c.requires)
 
-pub bounds-self-inside-n-then-self-n-eq0 : goal.bounds-self-inside-n-then-self-n-eq0
-bounds-self-inside-n-then-self-n-eq0 c = inside _ _ (rw (← c.self.view_is) at c.requires)
+pub bounds-self-inside-n-then-not-self-n : goal.bounds-self-inside-n-then-not-self-n
+bounds-self-inside-n-then-not-self-n c = inside _ _ (rw (← c.self.view_is) at c.requires)
 
 pub bounds-self-inside-self-inside : goal.bounds-self-inside-self-inside
-bounds-self-inside-self-inside c = fits _ _ (rw (← c.self.view_is) at c.requires) c.self.invariant c.if-self-n-eq0.true
+bounds-self-inside-self-inside c = fits _ _ (rw (← c.self.view_is) at c.requires) c.self.invariant c.if-not-self-n.true
 
 pub invariant_of-self : goal.invariant_of-self
-invariant_of-self c = room_kept c.self.invariant (added _ _ (rw (← c.self.view_is) at c.requires) c.if-self-n-eq0.true)
+invariant_of-self c = room_kept c.self.invariant (added _ _ (rw (← c.self.view_is) at c.requires) c.if-not-self-n.true)
 
-pub returns-then-self-n-eq0 : goal.returns-then-self-n-eq0
-returns-then-self-n-eq0 c = rw (← c.self.view_is) (sym (reached_now _ _ c.if-self-n-eq0.true))
+pub returns-then-not-self-n : goal.returns-then-not-self-n
+returns-then-not-self-n c = rw (← c.self.view_is) (sym (reached_now _ _ c.if-not-self-n.true))
 
-pub returns-else-self-n-eq0 : goal.returns-else-self-n-eq0
-returns-else-self-n-eq0 c = rw (← c.self.view_is) (sym (reached-before _ _ c.if-self-n-eq0.false))
+pub returns-else-not-self-n : goal.returns-else-not-self-n
+returns-else-not-self-n c = rw (← c.self.view_is) (sym (reached-before _ _ c.if-not-self-n.false))
