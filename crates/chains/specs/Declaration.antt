@@ -14,10 +14,10 @@ coded_link (end place) = place
 coded_link (next name) = 65536 + name
 
 -- what the code reads, as that number
-abbrev pub number_of : Declaration → ℕ
-number_of NoKinds = 0
-number_of (At place) = place
-number_of (Leads name) = 65536 + name
+abbrev pub number_of_declaration : Declaration → ℕ
+number_of_declaration NoKinds = 0
+number_of_declaration (At place) = place
+number_of_declaration (Leads name) = 65536 + name
 
 -- a place is no name
 abbrev pub Ends : Declaration → Type 0

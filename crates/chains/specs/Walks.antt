@@ -2,7 +2,7 @@
 use Rattle.std.specs.Prelude.{ℕ, ◌<◌, ◌≡◌, List, length}
 use Rattle.chains.specs.declared.entry.Declaration.{Declaration}
 use Rattle.chains.specs.declared.settle.Walks.{Walks}
-use Rattle.chains.specs.Declaration.{Ends, number_of}
+use Rattle.chains.specs.Declaration.{Ends, number_of_declaration}
 use Rattle.chains.specs.DirectoryWord.{declarations_in}
 use Rattle.chains.specs.Settle.{Leading, ReadOne, marked_path, Walkable, WentAhead, WalkedHere}
 
@@ -16,7 +16,7 @@ pub record Keeps (w w' : Walks) : Type 0 where
 
 -- one name read
 pub record ReadBy (w : Walks) (n : ℕ) (d : Declaration) (w' : Walks) : Type 0 where
-  pub reads : ReadOne (table_of w) n w.steps (number_of d) w'.steps
+  pub reads : ReadOne (table_of w) n w.steps (number_of_declaration d) w'.steps
   pub ends : Ends d
   pub marks : w'.marks.now ≡ w.marks.now
 

@@ -1,7 +1,7 @@
 // What the directory of a pack says of a name.
 ghost use Rattle.std.specs.Prelude.{◌≡◌, ◌+◌, ◌-◌, ◌/◌, ◌<◌, get_or, unwrap_or, IfSome};
 ghost use Rattle.chains.specs.DirectoryWord.{Reaches, starts_in, slots_in, declared_in};
-ghost use Rattle.chains.specs.Declaration.{Ends, number_of};
+ghost use Rattle.chains.specs.Declaration.{Ends, number_of_declaration};
 
 use records::directory::Directory;
 
@@ -21,7 +21,7 @@ impl Declaration {
     // for once more and not used.
     pub fn next_name(self) -> usize
         requires { Ends self }
-        ensures { result ≡ number_of self - 65536 }
+        ensures { result ≡ number_of_declaration self - 65536 }
     {
         match self {
             Declaration::NoKinds => 0,
@@ -61,7 +61,7 @@ pub fn slots(dir: &[u32], name: usize) -> Option<usize>
 #[tactic(auto, unfolding(crate::specs::DirectoryWord::declared_in))]
 pub fn declared(dir: &[u32], name: usize) -> Declaration
     requires { Reaches dir.now (name + 1) }
-    ensures says { number_of result ≡ declared_in dir.now name }
+    ensures says { number_of_declaration result ≡ declared_in dir.now name }
     ensures ends { Ends result }
 {
     let word = dir[Directory::NAMES + name];

@@ -50,18 +50,18 @@ known named [] = pick named 1 0
 known named (k ∷ ks) = pick (any (λ x. not (eqb x k)) ks) several (2 + k)
 
 -- what the code knows of an entity, as that number
-abbrev pub number_of : Taken → ℕ
-number_of Nothing = 0
-number_of Named = 1
-number_of (One k) = 2 + k
-number_of Several = several
+abbrev pub number_of_taken : Taken → ℕ
+number_of_taken Nothing = 0
+number_of_taken Named = 1
+number_of_taken (One k) = 2 + k
+number_of_taken Several = several
 
 -- its one kind is not the number of several
-abbrev pub Plain : Taken → Type 0
-Plain Nothing = Unit {0}
-Plain Named = Unit {0}
-Plain (One k) = 2 + k ≡ several → ⊥
-Plain Several = Unit {0}
+abbrev pub Packable : Taken → Type 0
+Packable Nothing = Unit {0}
+Packable Named = Unit {0}
+Packable (One k) = 2 + k ≡ several → ⊥
+Packable Several = Unit {0}
 
 -- after one more derivation that names it, and after one more kind
 unfoldable pub named_after : ℕ → ℕ

@@ -7,7 +7,7 @@ ghost use Rattle.checking.specs.CheckPromises.{names_said};
 ghost use Rattle.definitions.specs.Filtered.{or_none};
 ghost use Rattle.definitions.specs.Operations.{filter_answer, filter_buffer};
 ghost use Rattle.filtered.specs.Said.{inner_entry, inner_of, said, said_in, InnerAsked, InnerWords, InnerMarked, InnerFor, FilterLeft, KnownName};
-ghost use Rattle.filtered.specs.Taking.{option_in, number_of, Plain};
+ghost use Rattle.filtered.specs.Taking.{option_in, number_of_taken, Packable};
 
 use crate::inner::settle_all;
 use crate::taking::{Taken, take_kinds};
@@ -21,8 +21,8 @@ use records::directory::{Directory, Layout};
 
 // Its innermost kind, by the mark of its walk; a name that has no direct kind gets none.
 fn inner_of(taken: Taken, mark: u32) -> Option<u32>
-    requires { Plain taken }
-    ensures { or_none (option_in result) ≡ inner_of (number_of taken) mark }
+    requires { Packable taken }
+    ensures { or_none (option_in result) ≡ inner_of (number_of_taken taken) mark }
 {
     taken.direct()?;
     Mark::from(mark).answer().checked_sub(1)

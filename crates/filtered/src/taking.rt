@@ -7,7 +7,7 @@ ghost use Rattle.chains.specs.DirectoryWord.{Reaches, starts_in, slots_in, names
 ghost use Rattle.chains.specs.PackDirectory.{ClearTable, IsDirectory};
 ghost use Rattle.filtered.specs.Acts.{part_number};
 ghost use Rattle.filtered.specs.Said.{direct_by, alias_of, unresolved_of};
-ghost use Rattle.filtered.specs.Taking.{option_in, ListFound, KindIn, KindFound, number_of, Plain, named_after, taken_after, take_at, RelationRead, RelationsRead, NamesLow, KnowsEntities, Filled};
+ghost use Rattle.filtered.specs.Taking.{option_in, ListFound, KindIn, KindFound, number_of_taken, Packable, named_after, taken_after, take_at, RelationRead, RelationsRead, NamesLow, KnowsEntities, Filled};
 
 use crate::act::{Part, list};
 use chains::entry::{slots, start};
@@ -37,8 +37,8 @@ impl Taken {
 
     // As it is packed. No `From`, since it asks that the number fits.
     fn number(self) -> u32
-        requires { number_of self < 2 ^ 32 }
-        ensures { result ≡ number_of self }
+        requires { number_of_taken self < 2 ^ 32 }
+        ensures { result ≡ number_of_taken self }
     {
         match self {
             Taken::Nothing => 0,
@@ -50,7 +50,7 @@ impl Taken {
 
     // After one more derivation that names it.
     fn named(self) -> Taken
-        ensures { number_of result ≡ named_after (number_of self) }
+        ensures { number_of_taken result ≡ named_after (number_of_taken self) }
     {
         match self {
             Taken::Nothing => Taken::Named,
@@ -61,7 +61,7 @@ impl Taken {
     // With one more kind; where none is known it stays as it is.
     fn with(self, kind: Option<u32>) -> Taken
         requires { IfSome kind (λ k. k < 16777216) }
-        ensures { number_of result ≡ taken_after (number_of self) (option_in kind) }
+        ensures { number_of_taken result ≡ taken_after (number_of_taken self) (option_in kind) }
     {
         let Some(k) = kind else {
             return self;
@@ -75,8 +75,8 @@ impl Taken {
 
     // The one kind that it takes, where it takes one.
     pub fn direct(self) -> Option<u32>
-        requires { Plain self }
-        ensures { option_in result ≡ direct_by (number_of self) }
+        requires { Packable self }
+        ensures { option_in result ≡ direct_by (number_of_taken self) }
     {
         match self {
             Taken::One(k) if k != Pack::NONE => Some(k),
@@ -87,7 +87,7 @@ impl Taken {
     // Whether the entity takes a kind other than itself.
     pub fn is_alias(self, e: u32) -> bool
         requires { e < 4096 }
-        ensures { yes_no result ≡ alias_of (number_of self) e }
+        ensures { yes_no result ≡ alias_of (number_of_taken self) e }
     {
         match self {
             Taken::Nothing | Taken::Named => false,
@@ -98,7 +98,7 @@ impl Taken {
 
     // Whether a derivation names it and it takes no kind.
     pub fn is_unresolved(self) -> bool
-        ensures { yes_no result ≡ unresolved_of (number_of self) }
+        ensures { yes_no result ≡ unresolved_of (number_of_taken self) }
     {
         self == Taken::Named
     }
@@ -106,7 +106,7 @@ impl Taken {
 
 // What a number of a table says.
 impl From<u32> for Taken {
-    ghost from_gives = { λ x taken. (number_of taken ≡ x) × Plain taken };
+    ghost from_gives = { λ x taken. (number_of_taken taken ≡ x) × Packable taken };
 
     fn from(x: u32) -> Taken {
         match x {

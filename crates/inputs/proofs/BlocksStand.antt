@@ -20,7 +20,7 @@ use Rattle.records.specs.Directory.{relations_at, rules_at, blocks_at}
 use Rattle.chains.specs.PackDirectory.{BlocksAt}
 use Rattle.definitions.specs.Inputs.{sequence, input}
 use Rattle.chains.specs.Record.{value_at}
-use Rattle.inputs.specs.Blocks.{input_in, refused_by}
+use Rattle.inputs.specs.Blocks.{input_in, refuses_by}
 use Rattle.chains.proofs.RecordLaws.{value_there}
 use Rattle.inputs.proofs.InputRead.{input-read, items_words, block_words, blocks_words, ItemsFit, BlockFits, BlocksFit}
 
@@ -113,7 +113,7 @@ pub record ReadsInputs (ws : List ℕ) (p : Pack) (at : ℕ) : Type 0 where
   pub counts : value_at ws at ≡ length p.blocks
   pub few : length p.blocks ≤ 64
   pub near : at < length ws
-  pub inputs : (origin owner name : ℕ) → refused_by (input_in ws (at + 1) (value_at ws at) origin owner name) ≡ input p.blocks origin owner name
+  pub inputs : (origin owner name : ℕ) → refuses_by (input_in ws (at + 1) (value_at ws at) origin owner name) ≡ input p.blocks origin owner name
 
 pub reads_inputs : (ws : List ℕ) (p : Pack) → read ws ≡ yes p → {at : ℕ} → BlocksAt ws at → ReadsInputs ws p at
 reads_inputs ws p h {at} e =
@@ -131,5 +131,5 @@ reads_inputs ws p h {at} e =
       counts = c;
       few = s.few;
       near = omega arith;
-      inputs = λ origin owner name. ap (λ (k : ℕ). refused_by (input_in ws (at + 1) k origin owner name)) c ∙ input-read ws (s.before ++ one) [] bs (at + 1) origin owner name opened (length-append s.before one ∙ omega arith) s.fits;
+      inputs = λ origin owner name. ap (λ (k : ℕ). refuses_by (input_in ws (at + 1) k origin owner name)) c ∙ input-read ws (s.before ++ one) [] bs (at + 1) origin owner name opened (length-append s.before one ∙ omega arith) s.fits;
     }

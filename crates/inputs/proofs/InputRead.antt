@@ -21,7 +21,7 @@ use Rattle.inputs.specs.declared.inputs.Seen.{Seen}
 use Rattle.inputs.specs.declared.inputs.Seen.TheVariants.{Never, Once, Several}
 use Rattle.definitions.specs.declared.answer.Number.{Number}
 use Rattle.definitions.specs.declared.answer.Number.TheVariants.{NoSequence, NotBoolean, WrongOwner}
-use Rattle.inputs.specs.Blocks.{declaration_at, seen_after, seen_items, seen_block, then_so, seen_blocks, allowed_as, input_in, refused_by}
+use Rattle.inputs.specs.Blocks.{item_declaration, seen_after, seen_items, seen_block, then_so, seen_blocks, allowed_as, input_in, refuses_by}
 use Rattle.chains.proofs.RecordLaws.{value_there}
 
 -- the words of items and of blocks
@@ -80,7 +80,7 @@ module _ (ws : List ℕ) (name : ℕ) where
       let en : value_at ws (at + 2) ≡ i.entity = value_there ws (pre ++ p2) more 33 i.entity (at + 2) (e ∙ sym (append_assoc pre p2 (word_of 33 i.entity ∷ more))) (length-append pre p2 ∙ omega arith) f.2 in
       let rest_seen : (found : List Item) → seen_items ws name (at + 3) (length l) (seen_of found) ≡ seen_of (found ++ named name l) =
       λ found. items_seen l found (pre ++ p3) rest (at + 3) (e ∙ sym (append_assoc pre p3 more)) (length-append pre p3 ∙ omega arith) f.3 in
-      let step : pick (eqb (value_at ws at) name) (seen_after (seen_of found) (declaration_at ws at)) (seen_of found) ≡ pick (eqb i.name name) (seen_after (seen_of found) (declaration i)) (seen_of found) =
+      let step : pick (eqb (value_at ws at) name) (seen_after (seen_of found) (item_declaration ws at)) (seen_of found) ≡ pick (eqb i.name name) (seen_after (seen_of found) (declaration i)) (seen_of found) =
       rw (nm, bl, en) refl in
       ap (seen_items ws name (at + 3) (length l)) step ∙ go (eqb i.name name) rest_seen
     where
@@ -174,21 +174,21 @@ module _ (ws : List ℕ) (o name : ℕ) where
       go false next h = h (found ++ mine b) ∙ ap (λ (l : List Item). came (lacking bs) l) (append_assoc found (mine b) (declarations name (of_origin o bs)) ∙ ap (λ (l : List Item). found ++ l) (sym (found-cons b bs)))
 
 -- the only declaration, and the owner
-owned_number : (owner : ℕ) (l : List Item) → refused_by (allowed_as (seen_of l) owner) ≡ owned owner l
+owned_number : (owner : ℕ) (l : List Item) → refuses_by (allowed_as (seen_of l) owner) ≡ owned owner l
 owned_number owner [] = refl
 owned_number owner (i ∷ j ∷ l) = refl
 owned_number owner (i ∷ []) = go (eqb i.boolean 1) (eqb owner 0 || not (eqb i.entity owner))
   where
-    go : (a b : Bool) → refused_by (pick a (pick b (Err WrongOwner) (Ok tt)) (Err NotBoolean)) ≡ pick a (pick b (some 15) none) (some 14)
+    go : (a b : Bool) → refuses_by (pick a (pick b (Err WrongOwner) (Ok tt)) (Err NotBoolean)) ≡ pick a (pick b (some 15) none) (some 14)
     go true true = refl
     go true false = refl
     go false b = refl
 
 pub input-read : (ws pre rest : List ℕ) (bs : List Block) (at origin owner name : ℕ) → ws ≡ pre ++ (blocks_words bs ++ rest) → length pre ≡ at → BlocksFit bs
-    → refused_by (input_in ws at (length bs) origin owner name) ≡ input bs origin owner name
+    → refuses_by (input_in ws at (length bs) origin owner name) ≡ input bs origin owner name
 unfolding input_in input
 input-read ws pre rest bs at origin owner name e k f = rw (blocks_seen ws origin name bs [] pre rest at e k f) (go (lacking ws origin name bs) (declarations name (of_origin origin bs)))
   where
-    go : (c : Bool) (l : List Item) → refused_by (then_so (came c l) (λ (s : Seen). allowed_as s owner)) ≡ pick c (some 12) (owned owner l)
+    go : (c : Bool) (l : List Item) → refuses_by (then_so (came c l) (λ (s : Seen). allowed_as s owner)) ≡ pick c (some 12) (owned owner l)
     go true l = refl
     go false l = owned_number owner l

@@ -4,10 +4,10 @@ use Rattle.definitions.specs.Table.{pick}
 use Rattle.definitions.specs.Form.{repeats}
 use Rattle.chains.specs.Record.{value_at}
 use Rattle.inputs.specs.declared.inputs.Seen.{Seen}
-use Rattle.inputs.specs.Blocks.{declaration_at, seen_after, seen_items, seen_block, then_so, seen_blocks}
+use Rattle.inputs.specs.Blocks.{item_declaration, seen_after, seen_items, seen_block, then_so, seen_blocks}
 
 pub items_turn : (ws : List ℕ) (name at count i : ℕ) (seen : Seen) → i < count
-    → seen_items ws name at (count - i) seen ≡ seen_items ws name (at + 3) (count - (i + 1)) (pick (eqb (value_at ws at) name) (seen_after seen (declaration_at ws at)) seen)
+    → seen_items ws name at (count - i) seen ≡ seen_items ws name (at + 3) (count - (i + 1)) (pick (eqb (value_at ws at) name) (seen_after seen (item_declaration ws at)) seen)
 unfolding seen_items
 items_turn ws name at count i seen h = let k : count - i ≡ suc (count - (i + 1)) = omega arith in ap (λ (m : ℕ). seen_items ws name at m seen) k
 

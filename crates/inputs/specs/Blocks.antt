@@ -14,8 +14,8 @@ use Rattle.inputs.specs.declared.inputs.Seen.{Seen}
 use Rattle.inputs.specs.declared.inputs.Seen.TheVariants.{Never, Once, Several}
 
 -- the declaration in an item that starts at a place
-abbrev pub declaration_at : List ℕ → ℕ → Declaration
-declaration_at ws at = record { boolean = eqb (value_at ws (at + 1)) 1; entity = value_at ws (at + 2) }
+abbrev pub item_declaration : List ℕ → ℕ → Declaration
+item_declaration ws at = record { boolean = eqb (value_at ws (at + 1)) 1; entity = value_at ws (at + 2) }
 
 -- the declarations of a name so far, and one more
 abbrev pub seen_after : Seen → Declaration → Seen
@@ -26,7 +26,7 @@ seen_after Several d = Several
 -- after so many items from a place on
 unfoldable pub seen_items : List ℕ → ℕ → ℕ → ℕ → Seen → Seen
 seen_items ws name at zero seen = seen
-seen_items ws name at (suc k) seen = seen_items ws name (at + 3) k (pick (eqb (value_at ws at) name) (seen_after seen (declaration_at ws at)) seen)
+seen_items ws name at (suc k) seen = seen_items ws name (at + 3) k (pick (eqb (value_at ws at) name) (seen_after seen (item_declaration ws at)) seen)
 
 -- how many items a block has, if it has a sequence
 abbrev pub item_count : List ℕ → ℕ → code.Option ℕ
@@ -59,9 +59,9 @@ unfoldable pub input_in : List ℕ → ℕ → ℕ → ℕ → ℕ → ℕ → R
 input_in ws at count origin owner name = then_so (seen_blocks ws origin name at count Never) (λ (s : Seen). allowed_as s owner)
 
 -- the number by which an input is refused, if it is
-abbrev pub refused_by : Result (Unit {0}) Number → Option ℕ
-refused_by (Ok u) = none
-refused_by (Err number) = some (number_of number)
+abbrev pub refuses_by : Result (Unit {0}) Number → Option ℕ
+refuses_by (Ok u) = none
+refuses_by (Err number) = some (number_of number)
 
 -- no place is further than this: the code's sums stay below 2^64
 abbrev pub far : ℕ

@@ -1,6 +1,6 @@
 // The input that an OnlyRelated node names: the blocks of an origin, and the declarations of a name in them.
 ghost use Rattle.std.specs.Prelude.{◌≡◌, ◌+◌, ◌*◌, ◌<◌, ◌≤◌, IfSome};
-ghost use Rattle.inputs.specs.Blocks.{declaration_at, seen_after, seen_items, item_count, seen_block, seen_blocks, allowed_as, input_in, far, AfterBlock};
+ghost use Rattle.inputs.specs.Blocks.{item_declaration, seen_after, seen_items, item_count, seen_block, seen_blocks, allowed_as, input_in, far, AfterBlock};
 
 use chains::record::value_at;
 use definitions::answer::Number;
@@ -50,9 +50,9 @@ impl Seen {
 }
 
 // The declaration in an item that starts at a place.
-fn declaration_at(pack: &[u32], at: usize) -> Declaration
+fn item_declaration(pack: &[u32], at: usize) -> Declaration
     requires { at ≤ far }
-    ensures { result ≡ declaration_at pack.now at }
+    ensures { result ≡ item_declaration pack.now at }
 {
     Declaration {
         boolean: value_at(pack, at + 1) == 1,
@@ -70,7 +70,7 @@ fn seen_items(pack: &[u32], first: usize, count: usize, name: u32, before: Seen)
     for i in 0..count {
         let at = first + 3 * i;
         if value_at(pack, at) == name {
-            seen = seen.and(declaration_at(pack, at));
+            seen = seen.and(item_declaration(pack, at));
         }
     }
     seen

@@ -17,7 +17,7 @@ use Rattle.chains.proofs.Names.{apart, among-append}
 use Rattle.chains.specs.DirectoryWord.{Reaches, starts_in}
 use Rattle.kinds.specs.Edges.{derived_edges, edges_in, edges_by}
 use Rattle.kinds.proofs.EdgeLaws.{at_none}
-use Rattle.kinds.specs.Search.{Search, searched, reached, reached_all, unmarked, HasRoom, Reachable, Searchable, Computes}
+use Rattle.kinds.specs.Search.{Search, searched, reached, reached_all, unmarked, QueueHasRoom, Reachable, Searchable, Computes}
 
 -- ---- marks that are clear
 
@@ -80,7 +80,7 @@ after f g =
       entered = g.entered ∙ f.entered;
     }
 
-pub room_kept : {s t : Search} → HasRoom s → Onward s t → HasRoom t
+pub room_kept : {s t : Search} → QueueHasRoom s → Onward s t → QueueHasRoom t
 room_kept r o = omega (arith, r, o.room, o.queue)
 
 -- the marks after a store
@@ -108,7 +108,7 @@ module _ (n : ℕ) (s : Search) (asked : Reachable (n ∷ []) s) where
   pub inside : n < length s.marks
   inside = asked.below n (or_left _ false (eq-eqb n n refl))
 
-  pub fits : HasRoom s → get_or s.marks n false ≡ false → s.count < length s.queue
+  pub fits : QueueHasRoom s → get_or s.marks n false ≡ false → s.count < length s.queue
   fits r z = omega (arith, r, unmarked-set s.marks n inside z)
 
   pub added : get_or s.marks n false ≡ false → Onward s (searched (set s.marks n true) (set s.queue s.count n) (s.count + 1) s.entered)
@@ -257,7 +257,7 @@ module _ (edges : ℕ → List ℕ) (a : ℕ) where
     pub queued : (j : ℕ) → j < s.count → Leads edges a (get_or s.queue j 0)
 
   -- a name that is led to may be reached
-  reach_sound : (n : ℕ) (s : Search) → HasRoom s → Reachable (n ∷ []) s → Leads edges a n → Sound s → Sound (reached n s)
+  reach_sound : (n : ℕ) (s : Search) → QueueHasRoom s → Reachable (n ∷ []) s → Leads edges a n → Sound s → Sound (reached n s)
   reach_sound n s room r l w = either_way n s r Sound (λ h. w) new
     where
       new : get_or s.marks n false ≡ false → Sound (searched (set s.marks n true) (set s.queue s.count n) (s.count + 1) s.entered)
@@ -286,7 +286,7 @@ module _ (edges : ℕ → List ℕ) (a : ℕ) where
               let v : j < s.count = omega (arith, u) in
               subst (Leads edges a) (sym (kept j v)) (w.queued j v)
 
-  all_sound : (ns : List ℕ) (s : Search) → HasRoom s → Reachable ns s → ((m : ℕ) → among m ns ≡ true → Leads edges a m) → Sound s → Sound (reached_all ns s)
+  all_sound : (ns : List ℕ) (s : Search) → QueueHasRoom s → Reachable ns s → ((m : ℕ) → among m ns ≡ true → Leads edges a m) → Sound s → Sound (reached_all ns s)
   unfolding reached_all
   all_sound [] s room r l w = w
   all_sound (n ∷ ns) s room r l w =
@@ -321,7 +321,7 @@ module _ (ws dir : List ℕ) (a b : ℕ) where
   -- the names of the queue that are entered
   pub record Searching (s : Search) : Type 0 where
     pub sound : Sound edges a s
-    pub room : HasRoom s
+    pub room : QueueHasRoom s
     pub first : (m : ℕ) → among m (edges a) ≡ true → Marked s m
     pub entered : (j : ℕ) → j < s.entered → (m : ℕ) → among m (edges (get_or s.queue j 0)) ≡ true → Marked s m
     pub reaches : Reaches dir (length s.marks)
@@ -332,7 +332,7 @@ module _ (ws dir : List ℕ) (a b : ℕ) where
     abbrev s₀ : Search
     s₀ = searched marks₀ queue₀ 0 0
 
-    pub room-first : HasRoom s₀
+    pub room-first : QueueHasRoom s₀
     room-first = omega (arith, unmarked-clear marks₀ asked.clear, asked.room)
 
     all_asked : Reachable (edges a) s₀

@@ -31,8 +31,8 @@ unmarked [] = 0
 unmarked (m ∷ ms) = pick m (unmarked ms) (suc (unmarked ms))
 
 -- the queue has room for all names that are not reached
-abbrev pub HasRoom : Search → Type 0
-HasRoom s = unmarked s.marks + s.count ≤ length s.queue
+abbrev pub QueueHasRoom : Search → Type 0
+QueueHasRoom s = unmarked s.marks + s.count ≤ length s.queue
 
 -- what reaching some names asks for: each has a mark
 pub record Reachable (names : List ℕ) (s : Search) : Type 0 where

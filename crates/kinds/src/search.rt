@@ -3,7 +3,7 @@
 ghost use Rattle.std.specs.Prelude.{◌≡◌, ◌<◌, ◌≤◌, false, length, get_or, [], ◌∷◌};
 ghost use Rattle.chains.specs.Record.{path_in};
 ghost use Rattle.kinds.specs.Edges.{edges_in, edges_by};
-ghost use Rattle.kinds.specs.Search.{Search as Searched, HasRoom, NextTaken, Reachable, Searchable, Computes, searched, reached, reached_all};
+ghost use Rattle.kinds.specs.Search.{Search as Searched, QueueHasRoom, NextTaken, Reachable, Searchable, Computes, searched, reached, reached_all};
 ghost use Rattle.definitions.specs.Lean.{source_name};
 
 use chains::entry::start;
@@ -27,7 +27,7 @@ impl<'a> Model for Search<'a> {
 
     ghost view = { λ s. searched s.marks.now s.queue.now s.count s.entered };
 
-    ghost invariant = { λ s. HasRoom (searched s.marks.now s.queue.now s.count s.entered) };
+    ghost invariant = { λ s. QueueHasRoom (searched s.marks.now s.queue.now s.count s.entered) };
 }
 
 impl<'a> Search<'a> {

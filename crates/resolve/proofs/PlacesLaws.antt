@@ -35,7 +35,7 @@ use Rattle.resolve.specs.declared.checked.Figures.{Figures}
 use Rattle.definitions.specs.WrittenRecords.{beginnings, other_pieces, pieces_of}
 use Rattle.resolve.specs.declared.writer.Writer.{Writer}
 use Rattle.resolve.specs.Writing.{HasRoom, Begins, Writes}
-use Rattle.resolve.specs.Finish.{Named, order_in, roots_of, block_places, RulesAsked, RulesCame, ResolveAsked, OrderAsked}
+use Rattle.resolve.specs.Finish.{HaveWords, order_in, roots_of, block_places, RulesAsked, RulesCame, ResolveAsked, OrderAsked}
 use Rattle.resolve.proofs.WriteLaws.{writes_then, all_written}
 use Rattle.resolve.proofs.OrderLaws.{others-many, others-few, roots_many, all_begin}
 
@@ -249,7 +249,7 @@ module _ {ws dir notes : List ℕ} {f : Figures} {room : ℕ} (o : OrderAsked ws
   pub as-many-names : f.layout.relations ≡ length names
   as-many-names = sym (names-many a.directory)
 
-  pub relations-asked : Named dir names
+  pub relations-asked : HaveWords dir names
   relations-asked j h = reaches_one a.directory.reaches (its-low a.directory j)
 
   -- the rules

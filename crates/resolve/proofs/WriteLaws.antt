@@ -15,7 +15,7 @@ use Rattle.std.proofs.lemmas.List.{map_more}
 use Rattle.std.proofs.lemmas.Simd.{map-map}
 use Rattle.definitions.specs.WrittenRecords.{joined, sums, beginnings}
 use Rattle.resolve.specs.declared.writer.Writer.{Writer}
-use Rattle.resolve.specs.Writing.{written, HasRoom, Begins, Writes}
+use Rattle.resolve.specs.Writing.{written_so_far, HasRoom, Begins, Writes}
 use Rattle.resolve.specs.Pieces.{from_to, list_words, put_for, piece_out, Stampable, Written, RecordPut}
 
 pub writes_then : {w w' w'' : Writer} {a b : List ℕ} → Writes w a w' → Writes w' b w'' → Writes w (a ++ b) w''
@@ -24,7 +24,7 @@ writes_then {w} {w'} {w''} {a} {b} p q =
       same_reference = q.same_reference ∙ p.same_reference;
       long = q.long ∙ p.long;
       after = q.after ∙ omega (arith, p.after, length-append a b);
-      holds = q.holds ∙ ap (λ (l : List ℕ). l ++ b) p.holds ∙ append_assoc (written w) a b;
+      holds = q.holds ∙ ap (λ (l : List ℕ). l ++ b) p.holds ∙ append_assoc (written_so_far w) a b;
     }
 
 -- room for words and for those after them
@@ -40,7 +40,7 @@ mapped_next f {w} {w'' = w''} names {i} h p q = subst (λ (l : List ℕ). Writes
 -- words that fill a slice
 pub all_written : {w w' : Writer} {out more : List ℕ} → Begins w out → Writes w more w' → length more ≡ length out → w'.out.now ≡ more
 all_written {w} {w'} {out} {more} b p l =
-    let none : written w ≡ [] = ap (λ (n : ℕ). take n w.out.now) b.start in
+    let none : written_so_far w ≡ [] = ap (λ (n : ℕ). take n w.out.now) b.start in
     sym (take_all w'.to w'.out.now (omega (arith, p.after, b.start, l, p.long, ap length b.slice))) ∙ p.holds ∙ ap (λ (x : List ℕ). x ++ more) none
 
 -- ---- the names of a list

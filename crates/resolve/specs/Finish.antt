@@ -90,8 +90,8 @@ pub record NoneAsked (names : ℕ) (t : List Bool) : Type 0 where
   pub clear : (m : ℕ) → get_or t m false ≡ false
 
 -- names that have words in the directory
-abbrev pub Named : List ℕ → List ℕ → Type 0
-Named dir names = (j : ℕ) → j < length names → Reaches dir (get_or names j 0 + 1)
+abbrev pub HaveWords : List ℕ → List ℕ → Type 0
+HaveWords dir names = (j : ℕ) → j < length names → Reaches dir (get_or names j 0 + 1)
 
 -- the words of a pack whose trees are resolved, with the places of its pieces, its tables, and what its notes ask for
 pub record FinishAsked (ws places acts : List ℕ) (asked : List Bool) (work : List ℕ) (relations steps : ℕ) : Type 0 where

@@ -3,8 +3,8 @@ use Rattle.std.specs.Prelude.{ℕ, ◌≡◌, ◌+◌, ◌≤◌, List, ◌++◌
 use Rattle.resolve.specs.declared.writer.Writer.{Writer}
 
 -- the words that are written
-abbrev pub written : Writer → List ℕ
-written w = take w.to w.out.now
+abbrev pub written_so_far : Writer → List ℕ
+written_so_far w = take w.to w.out.now
 
 -- room for more of them: a clause, as what is written next changes from call to call
 abbrev pub HasRoom : Writer → List ℕ → Type 0
@@ -21,4 +21,4 @@ pub record Writes (w : Writer) (more : List ℕ) (w' : Writer) : Type 0 where
   pub same_reference : w'.out.ghost_name ≡ w.out.ghost_name
   pub long : length w'.out.now ≡ length w.out.now
   pub after : w'.to ≡ w.to + length more
-  pub holds : written w' ≡ written w ++ more
+  pub holds : written_so_far w' ≡ written_so_far w ++ more

@@ -1,7 +1,7 @@
 // Where the pieces of a pack begin, in word order: what stands before the relations, each relation, the count of rules, each
 // rule, the count of blocks, each block.
 ghost use Rattle.std.specs.Prelude.{length};
-ghost use Rattle.resolve.specs.Finish.{Named, order_in, RulesAsked, RulesCame, block_places, OrderAsked, OrderCame};
+ghost use Rattle.resolve.specs.Finish.{HaveWords, order_in, RulesAsked, RulesCame, block_places, OrderAsked, OrderCame};
 ghost use Rattle.resolve.specs.Writing.{HasRoom, Writes};
 
 use crate::checked::Checked;
@@ -12,7 +12,7 @@ use pack::kinds::Pack;
 
 // The relations of these names, as the directory says.
 fn order_relations(dir: &[u32], names: &[u32], places: &mut Writer)
-    requires { Named dir.now names.now × HasRoom places.old (order_in dir.now names.now) }
+    requires { HaveWords dir.now names.now × HasRoom places.old (order_in dir.now names.now) }
     ensures { Writes places.old (order_in dir.now names.now) places.new }
 {
     for &name in names {

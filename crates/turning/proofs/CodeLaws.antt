@@ -7,7 +7,7 @@ use lib.Dec.{eqb}
 use Rattle.definitions.specs.Table.{pick}
 use Rattle.turning.specs.declared.note.Note as taken
 use Rattle.turning.specs.Notes.{Note, note_code}
-use Rattle.turning.specs.Turns.{field_of, lost_of, inside_of, note_in}
+use Rattle.turning.specs.Turns.{field_of, lost_of, inside_of, note_of}
 
 pub record CodeParts (n : Note) : Type 0 where
   pub field : field_of (note_code n) ≡ n.place + 1
@@ -41,7 +41,7 @@ module _ {code : ℕ} (n : Note) (is : code ≡ note_code n) (near : n.place + 1
   pub is_note : 1 ≤ field_of code
   is_note = let e : field_of code ≡ n.place + 1 = ap field_of is ∙ (code_parts n near).field in omega arith
 
-  pub read_is : {note : taken.Note} → note ≡ note_in code → note ≡ as_read n
+  pub read_is : {note : taken.Note} → note ≡ note_of code → note ≡ as_read n
   read_is q =
       let parts = code_parts n near in
       let p : field_of code - 1 ≡ n.place = (let e : field_of code ≡ n.place + 1 = ap field_of is ∙ parts.field in omega arith) in

@@ -16,7 +16,7 @@ use Rattle.filtered.specs.Taking as taking
 use Rattle.definitions.specs.Tables.{tables}
 use Rattle.directions.specs.Words.{tables_in}
 use Rattle.definitions.specs.Inputs.{input}
-use Rattle.inputs.specs.Blocks.{input_in, refused_by}
+use Rattle.inputs.specs.Blocks.{input_in, refuses_by}
 use Rattle.inputs.proofs.BlocksStand.{reads_inputs}
 use Rattle.directions.proofs.CheckedTables.{tables-are}
 use Rattle.turning.specs.Notes.{Note, notes_of_pack}
@@ -45,6 +45,6 @@ pub known_is : (ws acts taken : List ℕ) (p : Pack) → read ws ≡ yes p → A
 known_is ws acts taken p h says knows {at} e =
     let t : tables_in ws acts taken ≡ tables p.relations = tables-are ws acts taken p h says knows in
     let r = reads_inputs ws p h e in
-    let i : (λ (origin owner n : ℕ). refused_by (input_in ws (at + 1) (value_at ws at) origin owner n)) ≡ input p.blocks =
+    let i : (λ (origin owner n : ℕ). refuses_by (input_in ws (at + 1) (value_at ws at) origin owner n)) ≡ input p.blocks =
     fun_ext (λ origin. fun_ext (λ owner. fun_ext (λ n. r.inputs origin owner n))) in
     λ j. record { tables = t j; input = i j }

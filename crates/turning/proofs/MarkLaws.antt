@@ -16,7 +16,7 @@ use Rattle.std.specs.Prelude.{Some, None}
 use Rattle.std.specs.declared.option.Option.{Option}
 use Rattle.turning.specs.declared.note.Note as taken
 use Rattle.turning.specs.Notes.{Note, note_code, Held}
-use Rattle.turning.specs.Turns.{field_of, note_in, value_in, kind_here}
+use Rattle.turning.specs.Turns.{field_of, note_of, value_in, kind_here}
 use Rattle.turning.specs.Asked.{relation_after, mark_if, atom_marked, role_marked, mark_note, mark_notes, InWords, MarkAsked, NoteMarked, MarksAsked, NotesMarked}
 use Rattle.turning.proofs.CodeLaws.{as_read, is_note, read_is}
 
@@ -36,7 +36,7 @@ mark_long : (current : Option ℕ) (t : List Bool) → length (mark_if current t
 mark_long None t = refl
 mark_long (Some name) t = length-set t name true
 
-module _ (ws : List ℕ) (code : ℕ) (current : Option ℕ) (t : List Bool) {note : taken.Note} (q : note ≡ note_in code) where
+module _ (ws : List ℕ) (code : ℕ) (current : Option ℕ) (t : List Bool) {note : taken.Note} (q : note ≡ note_of code) where
   same : (n : Note) → code ≡ note_code n → n.place + 1 < 8192 → note ≡ as_read n
   same n is near = read_is n is near q
 

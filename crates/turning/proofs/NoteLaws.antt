@@ -24,7 +24,7 @@ use Rattle.turning.specs.declared.note.Note as taken
 use Rattle.turning.specs.declared.root.Root as code
 use Rattle.std.specs.Prelude.{Result, Ok, Err}
 use Rattle.turning.specs.Notes.{Note, look_of, note_code}
-use Rattle.turning.specs.Turns.{note_in, KnownTables, Root, citing, Work, work, value_in, kind_here, rule_root, relation_root, held, fields_at, step_at, turned_by, open_root, turn_node, turn_note}
+use Rattle.turning.specs.Turns.{note_of, KnownTables, Root, citing, Work, work, value_in, kind_here, rule_root, relation_root, held, fields_at, step_at, turned_by, open_root, turn_node, turn_note}
 use Rattle.turning.specs.TurnPromises.{known_by, NodeStands, Stands, out_by, out_at, told_by, OutFits, StepTaken, root_in, RootOpened, NextBy, NoteAsked, NoteTurned}
 use Rattle.turning.proofs.FlatLaws.{Leaves, look-leaves}
 use Rattle.turning.proofs.CodeLaws.{as_read, read_is}
@@ -82,14 +82,14 @@ node_turned K ws i n s st = go (look_of (kind_here ws n.place)).slots refl
 -- ---- as the code has it
 
 module _ {ws words notes : List ℕ} {i : ℕ} (a : NoteAsked ws words notes i) where
-  module _ {note : taken.Note} (q : note ≡ note_in (get_or notes i 0)) where
+  module _ {note : taken.Note} (q : note ≡ note_of (get_or notes i 0)) where
     same-note : note ≡ as_read a.n
     same-note = read_is a.n a.is a.stands.near q
 
     pub node-stands : (note.inside ≡ 0 → ⊥) → NodeStands ws note.place
     node-stands h = rw same-note (a.stands.node (λ e. h (ap (λ (x : taken.Note). x.inside) same-note ∙ e)))
 
-module _ (k : Known) (words notes : List ℕ) (i : ℕ) (r : code.Root) {note : taken.Note} (q : note ≡ note_in (get_or notes i 0)) where
+module _ (k : Known) (words notes : List ℕ) (i : ℕ) (r : code.Root) {note : taken.Note} (q : note ≡ note_of (get_or notes i 0)) where
   abbrev ws : List ℕ
   ws = k.tables.pack.now
 

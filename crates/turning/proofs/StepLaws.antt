@@ -26,7 +26,7 @@ use Rattle.std.specs.Prelude.{Result, Ok, Err}
 use Rattle.reading.proofs.TreeLaws.{aggregate-kind}
 use Rattle.definitions.specs.declared.answer.Number.{Number}
 use Rattle.definitions.specs.declared.answer.Number.TheVariants.{DerivedInput}
-use Rattle.inputs.specs.Blocks.{input_in, refused_by}
+use Rattle.inputs.specs.Blocks.{input_in, refuses_by}
 use Rattle.directions.proofs.SlotLaws.{turned_fits, member_fits_code}
 use Rattle.turning.specs.declared.step.Out.{Out}
 use Rattle.turning.specs.declared.step.Out.TheVariants.{Sets, Passes}
@@ -130,13 +130,13 @@ test_out n a b fs entity m (Directed c r k) = refl
 test_out n a b fs entity m (Open o) = refl
 
 only_out : (n : Node) (allowed : ℕ → ℕ → Result (Unit {0}) Number) (a b : ℕ × ℕ) (word : ℕ) (fs : Fields) (d : Direction)
-    → only_by allowed word n d ≡ told_by n.root.name n.note.place (out_by true (only_related (λ owner n. refused_by (allowed owner n)) (a ∷ b ∷ (kind_of word, value_of word) ∷ fs) d))
+    → only_by allowed word n d ≡ told_by n.root.name n.note.place (out_by true (only_related (λ owner n. refuses_by (allowed owner n)) (a ∷ b ∷ (kind_of word, value_of word) ∷ fs) d))
 only_out n allowed a b word fs (Open o) = refl
 only_out n allowed a b word fs (Directed c r owner) = go (eqb (kind_of word) 84) (allowed owner (value_of word))
   where
     go : (x : Bool) (v : Result (Unit {0}) Number)
         → opened_by c r (pick x (Err (refused_at n DerivedInput (value_of word))) (told_input n (value_of word) v))
-        ≡ told_by n.root.name n.note.place (out_by true (pick x (stops 11 (value_of word)) (allowed_input (with_slots c r (a ∷ b ∷ (kind_of word, value_of word) ∷ fs)) (value_of word) (refused_by v))))
+        ≡ told_by n.root.name n.note.place (out_by true (pick x (stops 11 (value_of word)) (allowed_input (with_slots c r (a ∷ b ∷ (kind_of word, value_of word) ∷ fs)) (value_of word) (refuses_by v))))
     go true v = refl
     go false (Ok u) = refl
     go false (Err e) = refl

@@ -5,7 +5,7 @@ use Rattle.definitions.specs.Records.{Pack}
 use Rattle.definitions.specs.Pack.{yes, read, words}
 use Rattle.definitions.specs.declared.answer.Number.{Number}
 use Rattle.definitions.specs.declared.answer.Number.TheVariants.{DirectionOpen, DerivedInput}
-use Rattle.inputs.specs.Blocks.{input_in, refused_by}
+use Rattle.inputs.specs.Blocks.{input_in, refuses_by}
 use Rattle.definitions.specs.declared.answer.Refusal.{Refusal}
 use Rattle.definitions.specs.declared.direction.Direction.{Direction}
 use Rattle.definitions.specs.declared.direction.Direction.TheVariants.{Directed, Open}
@@ -26,7 +26,7 @@ use Rattle.turning.specs.Turns.{KnownTables, known_of, held, Root, citing, Work,
 
 -- what is known of the pack, as the code has it
 abbrev pub known_in : List ℕ → List ℕ → List ℕ → ℕ → ℕ → KnownTables
-known_in ws acts taken blocks count = record { tables = tables_in ws acts taken; input = λ origin owner n. refused_by (input_in ws blocks count origin owner n) }
+known_in ws acts taken blocks count = record { tables = tables_in ws acts taken; input = λ origin owner n. refuses_by (input_in ws blocks count origin owner n) }
 
 abbrev pub known_by : Known → KnownTables
 known_by k = known_in k.tables.pack.now k.tables.acts.now k.tables.taken.now k.blocks.at k.blocks.count
@@ -61,21 +61,21 @@ unfoldable pub turn_at : Tables → List ℕ → ℕ → ℕ → Direction
 turn_at T ws at entity = turn T (value_in ws at) entity (value_in ws (at + 1)) (value_in ws (at + 2))
 
 -- what comes of a step, or the number and the other of a refusal
-abbrev pub Came : Type 0
-Came = Result Out (ℕ × ℕ)
+abbrev pub OutCame : Type 0
+OutCame = Result Out (ℕ × ℕ)
 
 -- if its children stand inside the node or not
-abbrev pub out_by : Bool → NodeStep → Came
+abbrev pub out_by : Bool → NodeStep → OutCame
 out_by true (goes fs entity first rest) = Ok (Opens (current_of fs) (related_of fs) entity)
 out_by false (goes fs entity first rest) = Ok (Sets (current_of fs) (related_of fs))
 out_by true (stops number other) = Err (number, other)
 out_by false (stops number other) = Err (number, other)
 
-unfoldable pub out_at : Citing → ℕ → Membership → List ℕ → ℕ → Came
+unfoldable pub out_at : Citing → ℕ → Membership → List ℕ → ℕ → OutCame
 out_at C entity m ws at = pick (look_of (kind_here ws at)).slots (out_by (look_of (kind_here ws at)).opens (step_at C entity m ws at)) (Ok Passes)
 
 -- as a refusal of a node at a place, in the rule or relation of a name
-abbrev pub told_by : ℕ → ℕ → Came → Result Out Refusal
+abbrev pub told_by : ℕ → ℕ → OutCame → Result Out Refusal
 told_by name at (Ok o) = Ok o
 told_by name at (Err (number, other)) = Err (record { number = number; place = at; name = name; other = other })
 

@@ -25,8 +25,8 @@ lost_of code = eqb (code / 8192 % 2) 1
 abbrev pub inside_of : ℕ → ℕ
 inside_of code = code / 16384
 
-abbrev pub note_in : ℕ → taken.Note
-note_in code = record { place = field_of code - 1; inside = inside_of code; lost = lost_of code }
+abbrev pub note_of : ℕ → taken.Note
+note_of code = record { place = field_of code - 1; inside = inside_of code; lost = lost_of code }
 
 -- ---- what is known
 

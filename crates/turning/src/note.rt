@@ -1,7 +1,7 @@
 // A note, taken out of its number.
 ghost use Rattle.std.specs.Prelude.{◌≡◌, ◌≤◌, List, ℕ};
 ghost use Rattle.directions.specs.Words.{member_in};
-ghost use Rattle.turning.specs.Turns.{field_of, held, note_in};
+ghost use Rattle.turning.specs.Turns.{field_of, held, note_of};
 
 use pack::kinds::Pack;
 
@@ -18,7 +18,7 @@ impl Note {
     #[inline]
     pub fn read(code: u32) -> Note
         requires { 1 ≤ field_of code }
-        ensures { result ≡ note_in code }
+        ensures { result ≡ note_of code }
     {
         Note {
             place: (code % Pack::LOST) as usize - 1,

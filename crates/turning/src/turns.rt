@@ -2,7 +2,7 @@
 ghost use Rattle.std.specs.Prelude.{◌≡◌, [], ◌∷◌, ◌+◌, ◌<◌, ◌≤◌, length, get_or};
 ghost use Rattle.std.proofs.lemmas.List.Edits.{sets};
 ghost use Rattle.definitions.specs.Table.{word_of};
-ghost use Rattle.turning.specs.Turns.{note_in};
+ghost use Rattle.turning.specs.Turns.{note_of};
 ghost use Rattle.turning.specs.TurnPromises.{NoteAsked, NoteTurned, TurnsAsked, NotesTurned, PackAsked, PackTurned};
 
 use crate::known::Known;
@@ -34,7 +34,7 @@ impl Known<'_> {
         notes: &mut [u32],
         i: usize,
     ) -> Result<Root, Refusal>
-        requires { NoteAsked self.now.tables.pack.now work.old notes.old i × (note ≡ note_in (get_or notes.old i 0)) × (note.inside ≡ 0 → ⊥) }
+        requires { NoteAsked self.now.tables.pack.now work.old notes.old i × (note ≡ note_of (get_or notes.old i 0)) × (note.inside ≡ 0 → ⊥) }
         ensures { NoteTurned self.now i root work.old notes.old result work.new notes.new }
     {
         let node = Node {
