@@ -145,7 +145,7 @@ module _ (ws acts taken₀ : List ℕ) (p : Pack) (h : read ws ≡ yes p) (says 
   tables-are =
       let typed : T.typed ≡ U.typed = fun_ext typed_alike in
       let derived : T.derived ≡ U.derived = fun_ext derived_alike in
-      let directs : T.direct ≡ U.direct = fun_ext (λ e. direct-in p h knows e) in
+      let directs : T.direct ≡ U.direct = fun_ext (λ e. direct-in ws taken₀ p h knows e) in
       λ i. record { typed = typed i; derived = derived i; direct = directs i }
 
 -- the lists lead to the kinds of each declared name

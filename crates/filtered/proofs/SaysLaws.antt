@@ -85,7 +85,7 @@ module _ (b : Bool) where
 
 -- ---- a checked pack
 
-module _ {ws t : List ℕ} (p : Pack) (h : read ws ≡ yes p) (k : KnowsEntities ws t) where
+module _ (ws t : List ℕ) (p : Pack) (h : read ws ≡ yes p) (k : KnowsEntities ws t) where
   abbrev rs : List Relation
   rs = p.relations
 
@@ -107,7 +107,7 @@ module _ {ws t : List ℕ} (p : Pack) (h : read ws ≡ yes p) (k : KnowsEntities
     named = any (λ (r : Relation). names_entity e r.derivation) rs
 
     it : get_or t e 0 ≡ known named (taken rs e)
-    it = k.holds p h e
+    it = k p h e
 
     directly : direct_of (get_or t e 0) ≡ or_none (direct rs e)
     unfolding direct
@@ -187,14 +187,14 @@ module _ {ws t : List ℕ} (p : Pack) (h : read ws ≡ yes p) (k : KnowsEntities
   table-said : (f : Filter) (marks : List ℕ) → InnerFor f t p.names marks → table_from (said_in f t marks) 0 p.names ≡ filter_words f p
   table-said f marks m = table_alike (said_in f t marks) (filter_says f p) 0 p.names (λ e l u. says-said f marks m e (omega arith))
 
-module _ {ws t : List ℕ} (c : IsPack ws) (k : KnowsEntities ws t) {n : ℕ} (named : Named ws n) where
+module _ (ws t : List ℕ) (c : IsPack ws) (k : KnowsEntities ws t) {n : ℕ} (named : Named ws n) where
   pub inner-asked : n ≤ length t → InnerAsked t n
   inner-asked long =
       let q = named c.pack c.reads in
-      subst (InnerAsked t) (sym q) (asked c.pack c.reads k (omega arith))
+      subst (InnerAsked t) (sym q) (asked ws t c.pack c.reads k (omega arith))
 
   pub filter_left : (f : Filter) (marks : List ℕ) {m : ℕ} {left : List ℕ} → InnerFor f t m marks → m ≡ n → left ≡ table_from (said_in f t marks) 0 (length marks) → length marks ≡ n → FilterLeft f ws left
   filter_left f marks i q e s =
       λ p h.
       let r : n ≡ p.names = named p h in
-      e ∙ ap (table_from (said_in f t marks) 0) (s ∙ r) ∙ table-said p h k f marks (subst (λ (m : ℕ). InnerFor f t m marks) (q ∙ r) i)
+      e ∙ ap (table_from (said_in f t marks) 0) (s ∙ r) ∙ table-said ws t p h k f marks (subst (λ (m : ℕ). InnerFor f t m marks) (q ∙ r) i)

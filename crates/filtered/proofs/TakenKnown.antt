@@ -278,5 +278,5 @@ module _ {ws : List ℕ} {l : Layout} {dir marks : List ℕ} {steps : ℕ} (d : 
               parts = λ p h n. same act_part n ∙ part_is (slots_in dir) d.noted d.slotted m low few p h n;
               lists = λ p h n i. same act_list n ∙ list-is (slots_in dir) d.noted d.slotted m low few p h n i;
             };
-        knows = record { holds = λ p h. entity-known (slots_in dir) d.noted d.slotted m low p h (subst (λ (n : ℕ). ClearTable n t₀) (d.named p h) lent) q.takes };
+        knows = λ p h. entity-known (slots_in dir) d.noted d.slotted m low p h (subst (λ (n : ℕ). ClearTable n t₀) (d.named p h) lent) q.takes;
       }

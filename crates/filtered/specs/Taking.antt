@@ -12,7 +12,7 @@ use Rattle.definitions.specs.Filtered.{kind_at, taken, names_entity}
 use Rattle.definitions.specs.Places.{names_at}
 use Rattle.chains.specs.Record.{value_at}
 use Rattle.definitions.specs.Kinds.{all_kinds}
-use Rattle.chains.specs.PackDirectory.{RelationsNoted}
+use Rattle.chains.specs.PackDirectory.{OfPack, RelationsNoted}
 use Rattle.filtered.specs.Acts.{act_list, act_for, acts_from, ActsOf}
 
 -- the code's option as that of the definitions
@@ -105,8 +105,8 @@ unfoldable pub NamesLow : ℕ → List ℕ → Type 0
 NamesLow most names = (j : ℕ) → get_or names j 0 < most
 
 -- what is known of every entity of a checked pack
-pub record KnowsEntities (ws t : List ℕ) : Type 0 where
-  pub holds : (p : Pack) → read ws ≡ yes p → (e : ℕ) → get_or t e 0 ≡ known (any (λ r. names_entity e r.derivation) p.relations) (taken p.relations e)
+abbrev pub KnowsEntities : List ℕ → List ℕ → Type 0
+KnowsEntities ws t = OfPack ws (λ p. (e : ℕ) → get_or t e 0 ≡ known (any (λ r. names_entity e r.derivation) p.relations) (taken p.relations e))
 
 -- the tables of a checked pack: the relations' names in record order, the places where their records start, what aggregates over them do, and what is known of entities
 pub record Filled (ws names records acts taken : List ℕ) (steps : ℕ) : Type 0 where

@@ -42,7 +42,7 @@ use Rattle.chains.specs.Record.{value_at}
 use Rattle.directions.specs.RecordRuns.{with_records, trees_resolved, TablesFilled}
 use Rattle.resolve.specs.declared.checked.Figures.{Figures}
 use Rattle.definitions.specs.WrittenRecords.{beginnings, pieces_of}
-use Rattle.resolve.specs.Finish.{stamp_all, resolved_trees, AskedOf, NoneAsked, TreesAsked, TreesCame, FiguresSaid, ResolveAsked, PlacedAsked, TablesFor, CheckedAsked, RoomFor, front_of, Into, FinishAsked, FinishCame, given_out, written_out}
+use Rattle.resolve.specs.Finish.{stamp_all, AskedOf, NoneAsked, FiguresSaid, ResolveAsked, PlacedAsked, TablesFor, CheckedAsked, RoomFor, front_of, Into, FinishAsked, FinishCame, given_out, written_out}
 use Rattle.turning.specs.Notes.{notes_of_pack}
 use Rattle.turning.specs.TurnPromises.{known_in, TurnedAs, PackAsked, PackTurned}
 use Rattle.turning.specs.Asked.{mark_notes, InWords, MarksAsked, NotesMarked}
@@ -56,6 +56,23 @@ Ended = Result (Unit {0}) Refusal
 
 ended_either : {r : Refusal} → ◌≡◌ {A = Ended} (Ok tt) (Err r) → ⊥
 ended_either e = let z : ◌≡◌ {A = ℕ} 0 1 = cc in omega arith
+
+-- ---- the first three steps of Resolving
+
+-- defaulted names, then the trees
+unfoldable pub resolved_trees : Pack → Outcome Pack
+resolved_trees p = elim (defaulted_equal (tables p.relations) p.defaulted) [ some n ↦ refused (equal_refusal p n) | none ↦ trees_resolved p ]
+
+-- what comes of them in the words of the pack
+pub record TreesCame (ws : List ℕ) (o : Result (Unit {0}) Refusal) (left : List ℕ) : Type 0 where
+  pub each : (p : Pack) → read ws ≡ yes p → TurnedAs (resolved_trees p) o left
+
+-- the tables of a checked pack, its notes, and a copy of its words
+pub record TreesAsked (ws dir acts taken work notes : List ℕ) (f : Figures) : Type 0 where
+  pub steps : ℕ
+  pub tabled : TablesFilled ws (starts_in dir) acts taken steps
+  pub reaches : Reaches dir tabled.checked.pack.names
+  pub turns : PackAsked ws acts taken work notes f.blocks.at f.blocks.count f.layout.noted f.layout.all
 
 -- ---- Resolving, step by step
 

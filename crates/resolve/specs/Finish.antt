@@ -1,7 +1,6 @@
--- What the parts of Resolve promise each other: the first three steps of Resolving, and the result.
-use Rattle.std.specs.Prelude.{ℕ, zero, suc, ◌+◌, ◌*◌, ◌<◌, ◌≤◌, ◌≡◌, List, [], ◌∷◌, map, Bool, false, ◌||◌, length, get_or, take, replicate, eqb, Result, Ok, Err}
+-- What the parts of Resolve promise each other.
+use Rattle.std.specs.Prelude.{ℕ, zero, suc, ◌+◌, ◌*◌, ◌<◌, ◌≤◌, ◌≡◌, List, [], ◌∷◌, map, Bool, false, ◌||◌, length, get_or, take, replicate, eqb, Ok, Err}
 use Rattle.std.proofs.Math.Option.{none, some}
-use Rattle.definitions.specs.declared.answer.Refusal.{Refusal}
 use Rattle.definitions.specs.Table.{pick}
 use Rattle.definitions.specs.Form.{repeats}
 use Rattle.definitions.specs.Records.{Relation, Pack}
@@ -11,41 +10,22 @@ use Rattle.records.specs.declared.directory.Layout.{Layout}
 use Rattle.records.specs.Directory.{Clear}
 use Rattle.checking.specs.CheckPromises.{names_said}
 use Rattle.chains.specs.PackDirectory.{ClearTable, IsDirectory}
-use Rattle.definitions.specs.Answers.{Answer, Outcome, done, refused, map_done, given, written}
+use Rattle.definitions.specs.Answers.{Answer, Outcome, done, map_done, given, written}
 use Rattle.chains.specs.Record.{value_at}
 use Rattle.chains.specs.DirectoryWord.{Reaches, starts_in, names_in}
 use Rattle.filtered.specs.Taking.{Filled}
-use Rattle.definitions.specs.Tables.{tables}
-use Rattle.definitions.specs.Resolving.{defaulted_equal, equal_refusal, stamp, atom_names, in_derivation, role_judgment}
+use Rattle.definitions.specs.Resolving.{stamp, atom_names, in_derivation, role_judgment}
 use Rattle.definitions.specs.Operations.{whole_pack, resolve_answer, resolve_buffer}
 use Rattle.definitions.specs.WrittenRecords.{beginnings, pieces_of}
 use Rattle.resolve.specs.Pieces.{with_relations}
 use Rattle.directions.specs.RecordRuns.{trees_resolved, TablesFilled}
 use Rattle.turning.specs.Notes.{Note, Held, NotesIn}
 use Rattle.turning.specs.Asked.{InWords}
-use Rattle.turning.specs.TurnPromises.{TurnedAs, PackAsked}
 use Rattle.turning.specs.Asked.{NotesMarked}
 use Rattle.directions.specs.Words.{first_equal}
 use Rattle.resolve.specs.declared.checked.Figures.{Figures}
 use Rattle.resolve.specs.declared.writer.Writer.{Writer}
 use Rattle.resolve.specs.Writing.{HasRoom, Writes}
-
--- ---- the first three steps of Resolving
-
--- defaulted names, then the trees
-unfoldable pub resolved_trees : Pack → Outcome Pack
-resolved_trees p = elim (defaulted_equal (tables p.relations) p.defaulted) [ some n ↦ refused (equal_refusal p n) | none ↦ trees_resolved p ]
-
--- what comes of them in the words of the pack
-pub record TreesCame (ws : List ℕ) (o : Result (Unit {0}) Refusal) (left : List ℕ) : Type 0 where
-  pub each : (p : Pack) → read ws ≡ yes p → TurnedAs (resolved_trees p) o left
-
--- the tables of a checked pack, its notes, and a copy of its words
-pub record TreesAsked (ws dir acts taken work notes : List ℕ) (f : Figures) : Type 0 where
-  pub steps : ℕ
-  pub tabled : TablesFilled ws (starts_in dir) acts taken steps
-  pub reaches : Reaches dir tabled.checked.pack.names
-  pub turns : PackAsked ws acts taken work notes f.blocks.at f.blocks.count f.layout.noted f.layout.all
 
 -- ---- the result
 
