@@ -58,15 +58,24 @@ impl fmt::Display for Difference {
 
 // Marks a buffer before a call.
 pub fn mark(out: &mut [u32]) {
-    for (word, mark) in out.iter_mut().zip(MARK..u32::MAX) {
+    let mut mark = MARK;
+    for word in out.iter_mut() {
         *word = mark;
+        mark = mark.wrapping_add(1);
     }
 }
 
-// The buffer has to hold these words, and after them what it held before.
+// The buffer has to hold these words, and after them what it held before: two loops, so that neither asks at each word which of both
+// it has to be.
 pub fn compare_words(out: &[u32], words: &[u32]) -> Result<(), Difference> {
-    for (place, (came, mark)) in out.iter().copied().zip(MARK..u32::MAX).enumerate() {
-        let expected = words.get(place).copied().unwrap_or(mark);
+    let (written, kept) = out.split_at(words.len().min(out.len()));
+    let mut mark = MARK;
+    for (place, (came, expected)) in written
+        .iter()
+        .copied()
+        .zip(words.iter().copied())
+        .enumerate()
+    {
         if came != expected {
             return Err(Difference::Word {
                 place,
@@ -74,6 +83,17 @@ pub fn compare_words(out: &[u32], words: &[u32]) -> Result<(), Difference> {
                 came,
             });
         }
+        mark = mark.wrapping_add(1);
+    }
+    for (place, came) in kept.iter().copied().enumerate() {
+        if came != mark {
+            return Err(Difference::Word {
+                place: written.len() + place,
+                expected: mark,
+                came,
+            });
+        }
+        mark = mark.wrapping_add(1);
     }
     Ok(())
 }

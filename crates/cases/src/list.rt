@@ -1,9 +1,11 @@
 // Entries of the list, as words of four bytes, low byte first.
 use crate::operation::Operation;
 use definitions::answer::{Answer, Given, Refusal};
-use std::alloc::{AllocError, Global};
 use std::io;
-use std::io::{BufRead, Read};
+use std::io::Read;
+
+// The words that the row has room for.
+pub const ROW: usize = 8448;
 
 // The list cannot be read on, as where it ends before its end.
 #[derive(Clone, Copy)]
@@ -51,27 +53,26 @@ fn answer(number: u32, place: u32, name: u32, other: u32) -> Answer {
     })
 }
 
-// A list as it is read, and the row.
+// A list as it is read, the row, and the bytes of the words that are read at once. Neither asks for memory that there may not be.
 #[derive(Drop)]
-pub struct List<R: BufRead + Drop> {
+pub struct List<R: Read + Drop> {
     reader: R,
-    row: Vec<u32>,
+    bytes: [u8; 4 * ROW],
+    row: [u32; ROW],
 }
 
-impl<R: BufRead + Drop> List<R> {
-    // The words that the row has room for.
-    const ROW: usize = 8448;
-
-    pub fn new(alloc: Global, reader: R) -> Result<Self, AllocError> {
-        Ok(List {
+impl<R: Read + Drop> List<R> {
+    pub fn new(reader: R) -> Self {
+        List {
             reader,
-            row: vec![in alloc; 0; Self::ROW]?,
-        })
+            bytes: [0; 4 * ROW],
+            row: [0; ROW],
+        }
     }
 
     pub fn entry(&mut self) -> Result<Entry, IllFormed> {
         let mut header = [0; 12];
-        read_words(&mut self.reader, &mut header)?;
+        read_words(&mut self.reader, &mut self.bytes, &mut header)?;
         let [
             operation,
             room,
@@ -107,27 +108,35 @@ impl<R: BufRead + Drop> List<R> {
         let kept = part.kept as usize;
         let to = kept + part.count as usize;
         let end = to + part.times as usize;
-        let (words, _) = self.row.split_at_mut_checked(end).ok_or(IllFormed)?;
+        let List { reader, bytes, row } = self;
+        let (words, _) = row.split_at_mut_checked(end).ok_or(IllFormed)?;
         words[to..].fill(part.word);
-        read_words(&mut self.reader, &mut words[kept..to])?;
+        read_words(reader, bytes, &mut words[kept..to])?;
         Ok(words)
     }
 
-    // After the end of the list nothing may stand.
+    // After the end of the list nothing may stand. What cannot be read there does not.
     pub fn end(&mut self) -> Result<(), IllFormed> {
-        if self.reader.fill_buf()?.is_empty() {
-            Ok(())
-        } else {
-            Err(IllFormed)
+        match self.reader.read_exact(&mut [0]) {
+            Ok(()) => Err(IllFormed),
+            Err(_) => Ok(()),
         }
     }
 }
 
-fn read_words<R: Read>(reader: &mut R, words: &mut [u32]) -> Result<(), IllFormed> {
-    for word in words.iter_mut() {
-        let mut bytes = [0; 4];
-        reader.read_exact(&mut bytes)?;
-        *word = u32::from_le_bytes(bytes);
+// Fills the words with the next of the list, by way of `bytes`, so that they are read at once.
+fn read_words<R: Read>(
+    reader: &mut R,
+    bytes: &mut [u8],
+    words: &mut [u32],
+) -> Result<(), IllFormed> {
+    let (bytes, _) = bytes
+        .split_at_mut_checked(4 * words.len())
+        .ok_or(IllFormed)?;
+    reader.read_exact(bytes)?;
+    let (fours, _) = bytes.as_chunks::<4>();
+    for (word, four) in words.iter_mut().zip(fours) {
+        *word = u32::from_le_bytes(*four);
     }
     Ok(())
 }

@@ -1,7 +1,7 @@
 // What was run so far.
 use crate::difference::Difference;
 use crate::operation::Call;
-use std::{fmt, io};
+use std::fmt;
 
 // How many cases, and the calls on the last of them; the calls of all, and those of Rewrite; how many differ; and the words of all
 // packs, with their sum.
@@ -43,9 +43,9 @@ impl Totals {
     }
 
     // Tells what differs at the last call. It is known by the number of its case in the list and its own in the case, both from 1.
-    pub fn tell(&mut self, rt: &impl Print, difference: Difference) -> io::Result<()> {
+    pub fn tell(&mut self, rt: &impl Print, difference: Difference) {
         self.differ = more(self.differ);
-        println!(rt; "case {}, call {}: {difference}", self.cases, self.call)
+        let _ = println!(rt; "case {}, call {}: {difference}", self.cases, self.call);
     }
 }
 

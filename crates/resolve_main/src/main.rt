@@ -6,13 +6,14 @@ mod report;
 
 ghost use Rattle.std.specs.Prelude.{◌≤◌, length};
 
-use pack::kinds::Pack;
+use arrayvec::ArrayVec;
 use report::{Text, resolved_text};
 use std::io;
 use std::io::{Read, Write};
 
-// One byte more than a pack has at most, so that too many are seen and refused.
-const MOST_BYTES: usize = 4 * Pack::MOST_WORDS + 1;
+// More bytes than a pack has at most, so that too many are seen and refused, and as many as a pipe holds, so that who writes them is
+// not cut off.
+const MOST_BYTES: usize = 65536;
 
 // Fills the bytes as far as there are any to read: how many there were. Where reading fails, what was read before is all.
 fn read_full<R: Read>(reader: &mut R, bytes: &mut [u8]) -> usize
@@ -32,6 +33,7 @@ fn read_full<R: Read>(reader: &mut R, bytes: &mut [u8]) -> usize
 fn main(rt: HostRuntime) {
     let mut pack = [0u8; MOST_BYTES];
     let count = read_full(&mut rt.reader(), &mut pack);
-    let text = resolved_text::<{ Text::ALL }>(&pack[..count]);
+    let mut text = ArrayVec::<u8, { Text::ALL }>::new();
+    resolved_text(&pack[..count], &mut text);
     let _ = io::writer(&rt).write_all(text.as_slice());
 }

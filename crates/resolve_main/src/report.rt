@@ -118,29 +118,29 @@ fn put_refused_line<const N: usize>(r: Refusal, text: &mut ArrayVec<u8, N>)
     text.push(b'\n');
 }
 
-// The text of the answer that a number is of, with the words of the output.
+// The text of the answer that a number is of, with the words of the output. The text is lent: handed back by value it would stand on
+// the stack once for each function that it goes through.
 #[tactic(auto, unfolding(definitions::specs::Text::text_of))]
-pub fn report<const N: usize>(answer: u64, out: &[u8]) -> ArrayVec<u8, N>
+pub fn report<const N: usize>(answer: u64, out: &[u8], text: &mut ArrayVec<u8, N>)
     requires { first_line_bytes + word_line_bytes * (length out.now / 4) ≤ N }
-    ensures { result.items ≡ text_of (decode answer) (words_of out.now) }
+    ensures { text.new.items ≡ text_of (decode answer) (words_of out.now) }
 {
-    let mut text = ArrayVec::new();
+    text.clear();
     match decode(answer) {
         Ok(given) => {
-            put_ok_line(given, &mut text);
-            put_lines(out, given.value as usize, &mut text);
+            put_ok_line(given, text);
+            put_lines(out, given.value as usize, text);
         }
-        Err(r) => put_refused_line(r, &mut text),
+        Err(r) => put_refused_line(r, text),
     }
-    text
 }
 
 // The text of what Resolve answers for a pack, and of the words that it writes.
-pub fn resolved_text<const N: usize>(pack: &[u8]) -> ArrayVec<u8, N>
+pub fn resolved_text<const N: usize>(pack: &[u8], text: &mut ArrayVec<u8, N>)
     requires { first_line_bytes + word_line_bytes * 8192 ≤ N }
-    ensures { result.items ≡ printed pack.now }
+    ensures { text.new.items ≡ printed pack.now }
 {
     let mut out = [0u8; 4 * Pack::MOST_WORDS];
     let answer = cogunwa_resolve(pack, &mut out);
-    report(answer, &out)
+    report(answer, &out, text);
 }
