@@ -69,18 +69,15 @@ fn put_line<const N: usize>(word: u32, text: &mut ArrayVec<u8, N>)
     requires { array_vec_len text.old + word_line_bytes ≤ N }
     ensures { text.new.items ≡ text.old.items ++ line_of word }
 {
-    let digits = [
-        digit(word / 0x1000_0000 % 16),
-        digit(word / 0x100_0000 % 16),
-        digit(word / 0x10_0000 % 16),
-        digit(word / 0x1_0000 % 16),
-        digit(word / 0x1000 % 16),
-        digit(word / 0x100 % 16),
-        digit(word / 0x10 % 16),
-        digit(word % 16),
-        b'\n',
-    ];
-    put(&digits, text)
+    text.push(digit(word / 0x1000_0000 % 16));
+    text.push(digit(word / 0x100_0000 % 16));
+    text.push(digit(word / 0x10_0000 % 16));
+    text.push(digit(word / 0x1_0000 % 16));
+    text.push(digit(word / 0x1000 % 16));
+    text.push(digit(word / 0x100 % 16));
+    text.push(digit(word / 0x10 % 16));
+    text.push(digit(word % 16));
+    text.push(b'\n');
 }
 
 // The first words of the output, or all where there are fewer.

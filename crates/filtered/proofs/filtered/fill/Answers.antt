@@ -19,4 +19,4 @@ mark_inner-requires c =
 pub returns : goal.returns
 returns c =
     let p = c.requires in let m = c.mark_inner in filter_left _ _ p.0.checked c.take_kinds.ensures p.0.named _ _ m.ensures p.4
-    c.say_all.ensures (m.auto.marks ∙ p.4)
+    c.say_table.ensures (m.auto.marks ∙ p.4)
