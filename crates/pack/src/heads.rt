@@ -12,13 +12,13 @@ use definitions::table::Values;
 pub struct Heads {
     pub names: u32,
     ends: [u32; Pack::KINDS_OF_TREES],
-    pub ghost few: { names ≤ 4096 },
+    pub ghost few: { names < 8192 },
     ghost ended: { Ended names ends },
 }
 
 // One more than the last word of a kind that may begin a tree; 0 where none may, below which no word is.
 fn end_of(kind: u32, n: u32) -> u32
-    requires { (64 ≤ kind) × (kind < 128) × (n ≤ 4096) }
+    requires { (64 ≤ kind) × (kind < 128) × (n < 8192) }
     ensures { EndsAt n kind result }
 {
     let entry = entry_of(kind);
@@ -39,7 +39,7 @@ impl Heads {
 
     // For so many names.
     pub fn new(names: u32) -> Self
-        requires { names ≤ 4096 }
+        requires { names < 8192 }
         ensures { result.names ≡ names }
     {
         let mut ends = [0u32; Pack::KINDS_OF_TREES];

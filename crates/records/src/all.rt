@@ -1,4 +1,5 @@
 // All the records of a pack, one sort after the other.
+ghost use Rattle.std.specs.Prelude.{◌≤◌};
 ghost use Rattle.records.specs.Directory.{Clear};
 ghost use Rattle.records.specs.Notes.{LaidOut};
 
@@ -13,7 +14,7 @@ use reading::words::Words;
 
 // All the records: where they stand, with the relations in the directory, and the notes.
 pub fn records(from: Cursor, part: Words, dir: &mut [u32], notes: &mut [u32]) -> Laid
-    requires { Clear part.heads.now.names dir.old }
+    requires { (part.heads.now.names ≤ 4096) × Clear part.heads.now.names dir.old }
     ensures { LaidOut part.entry.heads.now.names part.entry.words.now from.at dir.old notes.old result dir.new notes.new }
 {
     let n = part.heads.names;

@@ -134,7 +134,7 @@ fn member(from: Cursor, part: Words, front: Front, context: Context, notes: &mut
 // A derivation of the relation that starts at a place and has so many kinds: what is noted of it. It stands among the notes too. Where it
 // starts and how many kinds it has are two numbers, of which the reader above has the first alone.
 fn derivation(from: Cursor, part: Words, kinds: u32, start: usize, notes: &mut [u32]) -> Step
-    requires { (kinds ≤ 8) × (start ≤ from.at) }
+    requires { (part.heads.now.names ≤ 4096) × (kinds ≤ 8) × (start ≤ from.at) }
     ensures { Noted (λ d. note_in kinds (some d)) (derivation part.entry.heads.now.names) (note_derivation start from.at) part.entry.words.now from.at notes.old result notes.new }
 {
     let first = from.at;
@@ -153,7 +153,7 @@ pub fn optional_derivation(
     start: usize,
     notes: &mut [u32],
 ) -> Step
-    requires { (kinds ≤ 8) × (start ≤ from.at) }
+    requires { (part.heads.now.names ≤ 4096) × (kinds ≤ 8) × (start ≤ from.at) }
     ensures { Noted (note_in kinds) (optional_derivation part.entry.heads.now.names) (note_optional start from.at) part.entry.words.now from.at notes.old result notes.new }
 {
     let (flag, c) = from.field(

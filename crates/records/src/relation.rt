@@ -19,7 +19,7 @@ use reading::words::Words;
 
 // What follows the name of a relation that starts at a place: what is noted of the relation.
 fn relation_tail(from: Cursor, part: Words, start: usize, notes: &mut [u32]) -> Step
-    requires { start ≤ from.at }
+    requires { (part.heads.now.names ≤ 4096) × (start ≤ from.at) }
     ensures { Noted tail_note (relation_tail part.entry.heads.now.names) (note_tail start from.at) part.entry.words.now from.at notes.old result notes.new }
 {
     let n = part.heads.names;
@@ -46,7 +46,7 @@ fn new_name(from: Cursor, s: &[u32], n: u32, dir: &[u32]) -> Step
 
 // A relation: its name. It is noted as the one of a number.
 fn relation(from: Cursor, part: Words, dir: &mut [u32], i: usize, notes: &mut [u32]) -> Step
-    requires { (i < 512) × (512 + part.heads.now.names ≤ length dir.old) }
+    requires { (part.heads.now.names ≤ 4096) × (i < 512) × (512 + part.heads.now.names ≤ length dir.old) }
     ensures { Noted name_of (relation part.entry.heads.now.names (entered dir.old)) (note_both i from.at) part.entry.words.now from.at (dir.old, notes.old) result (dir.new, notes.new) }
 {
     let start = from.at;
@@ -59,7 +59,7 @@ fn relation(from: Cursor, part: Words, dir: &mut [u32], i: usize, notes: &mut [u
 
 // The relations: how many. None is noted at first.
 pub fn relations(from: Cursor, part: Words, dir: &mut [u32], notes: &mut [u32]) -> Step
-    requires { Clear part.heads.now.names dir.old }
+    requires { (part.heads.now.names ≤ 4096) × Clear part.heads.now.names dir.old }
     ensures { Noted (count list) (relations part.entry.heads.now.names) (note_all part.entry.heads.now.names from.at) part.entry.words.now from.at (dir.old, notes.old) result (dir.new, notes.new) }
 {
     let (count, first) = from.field(

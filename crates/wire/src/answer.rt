@@ -8,31 +8,40 @@ use definitions::answer::{Answer, Given, Number, Refusal};
 
 // A field of an answer's number: what one of it counts, and how many values it has.
 #[derive(Clone, Copy)]
-struct Field {
-    one: u64,
-    values: u64,
+pub struct Field {
+    pub one: u64,
+    pub values: u64,
 }
 
 // The number takes 6 bits, the place 14, the name 32 and the other 12.
 impl Field {
-    const NUMBER: Field = Field {
+    // How many values each has.
+    pub const NUMBERS: u32 = 64;
+
+    pub const PLACES: usize = 16384;
+
+    pub const NAMES: u64 = 4294967296;
+
+    pub const OTHERS: u32 = 4096;
+
+    pub const NUMBER: Field = Field {
         one: 1,
-        values: 1 << 6,
+        values: Field::NUMBERS as u64,
     };
 
-    const PLACE: Field = Field {
-        one: 1 << 6,
-        values: 1 << 14,
+    pub const PLACE: Field = Field {
+        one: Field::NUMBER.one * Field::NUMBER.values,
+        values: Field::PLACES as u64,
     };
 
-    const NAME: Field = Field {
-        one: 1 << 20,
-        values: 1 << 32,
+    pub const NAME: Field = Field {
+        one: Field::PLACE.one * Field::PLACE.values,
+        values: Field::NAMES,
     };
 
-    const OTHER: Field = Field {
-        one: 1 << 52,
-        values: 1 << 12,
+    pub const OTHER: Field = Field {
+        one: Field::NAME.one * Field::NAME.values,
+        values: Field::OTHERS as u64,
     };
 
     // A value in its place; what is too large for the field is cut.

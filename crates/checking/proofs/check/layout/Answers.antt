@@ -17,7 +17,11 @@ pub new-heads-requires : goal.new-heads-requires
 new-heads-requires c = omega (arith, names-most _ _ _ c.field.ensures c.in_ok-n.was)
 
 pub records-requires : goal.records-requires
-records-requires c = rw c.new-heads.ensures (clear-read _ _ c.start-c.ensures c.skip.ensures c.in_ok-c1.was c.field.ensures c.in_ok-n.was c.requires.1)
+records-requires c =
+    rw c.new-heads.ensures (
+      names-most _ _ _ c.field.ensures c.in_ok-n.was,
+      clear-read _ _ c.start-c.ensures c.skip.ensures c.in_ok-c1.was c.field.ensures c.in_ok-n.was c.requires.1,
+    )
 
 pub returns : goal.returns
 returns c =

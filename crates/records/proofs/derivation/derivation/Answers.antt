@@ -25,7 +25,7 @@ overflow_add-slots-2 c = let r = chain-read _ _ _ c.chain.ensures c.in_ok-lead.w
 
 pub member-requires : goal.member-requires
 member-requires c =
-    let few = c.args.part.heads.now.few in
+    let few = c.requires.0 in
     let r = chain-read _ _ _ c.chain.ensures c.in_ok-lead.was in (omega arith, omega arith)
 
 pub returns : goal.returns

@@ -18,7 +18,7 @@ unfolding optional_derivation entry_of table note_in
 returns-then-flag-eq0 c = noted-none _ _ _ _ _ _ c.field.ensures c.in_ok-flag.was _ _ _ c.if-flag-eq0.true (sym c.plain.ensures) refl
 
 pub derivation-requires : goal.derivation-requires
-derivation-requires c = let on = flag_on _ _ _ c.field.ensures c.in_ok-flag.was in (c.requires.0, omega (arith, on, c.requires.1))
+derivation-requires c = let on = flag_on _ _ _ c.field.ensures c.in_ok-flag.was in (c.requires.0, c.requires.1, omega (arith, on, c.requires.2))
 
 pub returns : goal.returns
 unfolding optional_derivation entry_of table

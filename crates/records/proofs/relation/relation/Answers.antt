@@ -13,7 +13,7 @@ unfolding relation
 returns-in_err-v c = noted_err (search (walks, c.in_err-v.ensures) depth 16) c.from_residual.ensures.1
 
 pub relation_tail-requires : goal.relation_tail-requires
-relation_tail-requires c = let r = name-read _ _ _ _ c.new_name.ensures c.in_ok-v.was in omega arith
+relation_tail-requires c = let r = name-read _ _ _ _ c.new_name.ensures c.in_ok-v.was in (c.requires.0, omega arith)
 
 pub returns-in_err-note : goal.returns-in_err-note
 unfolding relation
@@ -25,13 +25,13 @@ pub overflow_cast-dir : goal.overflow_cast-dir
 overflow_cast-dir c = let r = name-read _ _ _ _ c.new_name.ensures c.in_ok-v.was in omega arith
 
 pub overflow_mul-dir : goal.overflow_mul-dir
-overflow_mul-dir c = omega (arith, note-fits _ _ _ c.relation_tail.ensures.answers c.in_ok-note.was c.args.part.heads.now.few)
+overflow_mul-dir c = omega (arith, note-fits _ _ _ c.relation_tail.ensures.answers c.in_ok-note.was c.requires.0)
 
 pub overflow_add-dir : goal.overflow_add-dir
-overflow_add-dir c = let r = name-read _ _ _ _ c.new_name.ensures c.in_ok-v.was in omega (arith, note-fits _ _ _ c.relation_tail.ensures.answers c.in_ok-note.was c.args.part.heads.now.few)
+overflow_add-dir c = let r = name-read _ _ _ _ c.new_name.ensures c.in_ok-v.was in omega (arith, note-fits _ _ _ c.relation_tail.ensures.answers c.in_ok-note.was c.requires.0)
 
 pub bounds-dir-v : goal.bounds-dir-v
-bounds-dir-v c = let r = name-read _ _ _ _ c.new_name.ensures c.in_ok-v.was in simp length-set (omega (arith, c.requires.1))
+bounds-dir-v c = let r = name-read _ _ _ _ c.new_name.ensures c.in_ok-v.was in simp length-set (omega (arith, c.requires.2))
 
 pub returns : goal.returns
 unfolding relation

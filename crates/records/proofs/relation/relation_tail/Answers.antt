@@ -24,7 +24,7 @@ optional_derivation-requires c =
     let a = field_on _ _ _ _ c.skip.ensures c.in_ok-c1.was in
     let b = field_on _ _ _ _ c.skip-2.ensures c.in_ok-c2.was in
     let l = list_on _ _ _ c.name_list.ensures c.in_ok-kinds.was in
-    (list-few _ _ _ c.name_list.ensures c.in_ok-kinds.was, omega (arith, a, b, l, c.requires))
+    (c.requires.0, list-few _ _ _ c.name_list.ensures c.in_ok-kinds.was, omega (arith, a, b, l, c.requires.1))
 
 pub returns : goal.returns
 returns c = tail_noted _ _ _ _ _ c.skip.ensures c.in_ok-c1.was c.skip-2.ensures c.in_ok-c2.was c.name_list.ensures c.in_ok-kinds.was c.optional_derivation.ensures

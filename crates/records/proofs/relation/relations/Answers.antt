@@ -12,7 +12,7 @@ unfolding relations
 returns-in_err-count c = noted_err (search (count_err, c.in_err-count.ensures)) c.from_residual.ensures.1
 
 pub loop-i-init : goal.loop-i-init
-loop-i-init c = let r = count-read _ _ _ c.field.ensures c.in_ok-count.was in relating _ _ c.requires r.few r.late
+loop-i-init c = let r = count-read _ _ _ c.field.ensures c.in_ok-count.was in relating _ _ c.requires.1 r.few r.late
 
 pub returns-in_err-next : goal.returns-in_err-next
 unfolding relations says
