@@ -16,7 +16,7 @@ use Rattle.std.proofs.lemmas.Simd.{map-map}
 use Rattle.definitions.specs.WrittenRecords.{joined, sums, beginnings}
 use Rattle.resolve.specs.declared.writer.Writer.{Writer}
 use Rattle.resolve.specs.Writing.{written_so_far, HasRoom, Begins, Writes}
-use Rattle.resolve.specs.Pieces.{from_to, list_words, put_for, piece_out, Stampable, Written, RecordPut}
+use Rattle.resolve.specs.Pieces.{from_to, list_words, put_for, piece_out, Stampable, Put, Written, RecordPut}
 
 pub writes_then : {w w' w'' : Writer} {a b : List ℕ} → Writes w a w' → Writes w' b w'' → Writes w (a ++ b) w''
 writes_then {w} {w'} {w''} {a} {b} p q =
@@ -81,15 +81,19 @@ joined_one : (a : List (List ℕ)) (w : List ℕ) → joined (a ++ (w ∷ [])) �
 joined_one a w = joined-append a (w ∷ []) ∙ ap (λ (l : List ℕ). joined a ++ l) (append-nil w)
 
 -- words put at the running place are one record more
-pub record-put : {w w' : Writer} {r : List ℕ} → Writes w r w' → RecordPut w.out.now w.to r w'.out.now w'.to
-record-put {w} {w'} {r} p =
+pub record-put : {out r left : List ℕ} {to next : ℕ} → Put out to r left next → RecordPut out to r left next
+record-put {out} {r} {left} {to} {next} p =
     record {
-      carried = λ before k. record { given = k.counts; handed_on = p.after };
-      writes = λ before k. record {
-        counts = p.after ∙ ap (λ (n : ℕ). n + length r) k.counts ∙ sym (ap length (joined_one before r) ∙ length-append (joined before) r);
-        holds = p.holds ∙ ap (λ (l : List ℕ). l ++ r) k.holds ∙ sym (joined_one before r);
+      carried = λ before w. record { given = w.counts; handed_on = p.after };
+      writes = λ before w. record {
+        counts = p.after ∙ ap (λ (n : ℕ). n + length r) w.counts ∙ sym (ap length (joined_one before r) ∙ length-append (joined before) r);
+        holds = p.holds ∙ ap (λ (l : List ℕ). l ++ r) w.holds ∙ sym (joined_one before r);
       };
     }
+
+-- so are words that a writer writes
+pub writer-put : {w w' : Writer} {r : List ℕ} → Writes w r w' → RecordPut w.out.now w.to r w'.out.now w'.to
+writer-put p = record-put (record { after = p.after; holds = p.holds })
 
 pub data Pieces (ws : List ℕ) : List ℕ → List (List ℕ) → List (List ℕ) → Type 0 where
   no_piece : Pieces ws [] [] []

@@ -44,6 +44,11 @@ piece_out ws list w = pick (eqb list 0) w (put_for (names_or (names_at ws list))
 unfoldable pub Stampable : ℕ → List ℕ → Type 0
 Stampable list w = (list ≡ 0 → ⊥) → slots_place w 0 + 4 < length w
 
+-- words that are put at a place: before them stand those that stood there
+pub record Put (out : List ℕ) (to : ℕ) (more : List ℕ) (left : List ℕ) (next : ℕ) : Type 0 where
+  pub after : next ≡ to + length more
+  pub holds : take next left ≡ take to out ++ more
+
 -- ---- all of them
 
 -- records written one after the other from the start of a slice on, and the running place: the number of words written

@@ -10,6 +10,7 @@ ghost use Rattle.resolve.specs.Finish.{PlacedAsked, PiecesAsked, ResolveAsked, T
 use crate::checked::{Checked, Figures, Places};
 use crate::finish::finish;
 use crate::order::order;
+use crate::write::copy;
 use chains::entry::start;
 use checking::check::{check_notes, names_said};
 use checking::rewrite::written;
@@ -34,7 +35,7 @@ fn resolve_placed<const MOST: usize>(
     requires { PlacedAsked checked.now.tables.pack.now checked.now.tables.acts.now checked.now.tables.taken.now asked.now places.now out.old checked.now.figures work.old × (length places.now ≤ MOST) × (MOST ≤ 8192) }
     ensures { Into checked.now.tables.pack.now checked.now.figures.room result out.new }
 {
-    work.copy_from_slice(checked.tables.pack);
+    copy(checked.tables.pack, work);
     let figures = checked.figures;
     let known = Known {
         tables: checked.tables,
@@ -182,6 +183,6 @@ pub fn resolve(pack: &[u32], out: &mut [u32]) -> Answer
     let room = out.len().min(Pack::MOST_WORDS);
     let a = resolve_into(pack, &mut made, room);
     let count = written(a);
-    out[0..count].copy_from_slice(&made[0..count]);
+    copy(&made[0..count], &mut out[0..count]);
     a
 }

@@ -6,6 +6,17 @@ ghost use Rattle.resolve.specs.Pieces.{WriteAsked, RecordsPut, WriteCame};
 use crate::writer::Writer;
 use pack::kinds::Pack;
 
+// The words of a slice in another of the same length. By a loop: the library's method calls C's `memmove`, which the archive for C
+// needs for nothing else.
+pub fn copy(from: &[u32], to: &mut [u32])
+    requires { length to.old ≡ length from.now }
+    ensures { to.new ≡ from.now }
+{
+    for (i, word) in from.iter().enumerate() {
+        to[i] = *word;
+    }
+}
+
 // The i-th place of a table, past its end another.
 fn place_at(places: &[u32], i: usize, end: usize) -> usize
     ensures { result ≡ get_or places.now i end }

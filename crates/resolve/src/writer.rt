@@ -1,6 +1,7 @@
 // Words that are written one after the other into a slice. `pack` are the words in which the lists stand.
 ghost use Rattle.std.specs.Prelude.{◌≡◌, [], ◌∷◌, ◌≤◌, ◌<◌, length};
 
+use crate::write::copy;
 use chains::record::RecordPlace;
 use filtered::taking::list_at;
 use pack::kinds::Pack;
@@ -39,7 +40,7 @@ impl<'a> Writer<'a> {
         ensures { Writes self.old words.now self.new }
     {
         let next = self.to + words.len();
-        self.out[self.to..next].copy_from_slice(words);
+        copy(words, &mut self.out[self.to..next]);
         self.to = next;
     }
 }

@@ -8,7 +8,7 @@ use Rattle.resolve.proofs.resolve.resolve_placed.Goals as goal
 
 pub turn_pack-requires : goal.turn_pack-requires
 turn_pack-requires g c =
-    turns-asked c.requires.0 c.copy_from_slice.ensures.after
+    turns-asked c.requires.0 c.copy.ensures
 
 pub slice_bounds-finish-end : goal.slice_bounds-finish-end
 slice_bounds-finish-end g c =
