@@ -83,6 +83,53 @@ after f g =
 pub room_kept : {s t : Search} → QueueHasRoom s → Onward s t → QueueHasRoom t
 room_kept r o = omega (arith, r, o.room, o.queue)
 
+-- there are marks and a queue for so many names: those queued and those unmarked are no more than the marks; so many of those queued are entered
+pub record RoomFor (names long i : ℕ) (s : Search) : Type 0 where
+  pub most : unmarked s.marks + s.count ≤ names
+  pub room : names ≤ long
+  pub marks : length s.marks ≡ names
+  pub queue : length s.queue ≡ long
+  pub now : s.entered ≡ i
+  pub sofar : i ≤ s.count
+
+module _ {names long i : ℕ} {s : Search} (f : RoomFor names long i s) where
+  room-on : {t : Search} → Onward s t → RoomFor names long i t
+  room-on o =
+      record {
+        most = omega (arith, f.most, o.room);
+        room = f.room;
+        marks = o.marks ∙ f.marks;
+        queue = o.queue ∙ f.queue;
+        now = o.entered ∙ f.now;
+        sofar = omega (arith, f.sofar, o.more);
+      }
+
+  room-next : s.entered < s.count → RoomFor names long (i + 1) (searched s.marks s.queue s.count (s.entered + 1))
+  room-next h =
+      record {
+        most = f.most;
+        room = f.room;
+        marks = f.marks;
+        queue = f.queue;
+        now = omega (arith, f.now);
+        sofar = omega (arith, f.now, h);
+      }
+
+  -- by its own numbers
+  own-room : RoomFor (length s.marks) (length s.queue) i s
+  own-room =
+      record {
+        most = omega (arith, f.most, f.marks);
+        room = omega (arith, f.room, f.marks, f.queue);
+        marks = refl;
+        queue = refl;
+        now = f.now;
+        sofar = f.sofar;
+      }
+
+  pub own-entered : RoomFor names long s.entered s
+  own-entered = subst (λ (k : ℕ). RoomFor names long k s) (sym f.now) f
+
 -- the marks after a store
 module _ (l : List Bool) (n : ℕ) (inside : n < length l) where
   set-marks : get_or (set l n true) n false ≡ true
@@ -335,6 +382,17 @@ module _ (ws dir : List ℕ) (a b : ℕ) where
     pub room-first : QueueHasRoom s₀
     room-first = omega (arith, unmarked-clear marks₀ asked.clear, asked.room)
 
+    first-room : RoomFor (length marks₀) (length queue₀) 0 s₀
+    first-room =
+        record {
+          most = omega (arith, unmarked-clear marks₀ asked.clear);
+          room = asked.room;
+          marks = refl;
+          queue = refl;
+          now = refl;
+          sofar = omega arith;
+        }
+
     all_asked : Reachable (edges a) s₀
     all_asked = record { below = λ n i. asked.edges a n i }
 
@@ -356,8 +414,10 @@ module _ (ws dir : List ℕ) (a b : ℕ) where
       pub asked-first : Reachable (edges_in ws start) s₀
       asked-first = subst (λ (ns : List ℕ). Reachable ns s₀) (sym (by_start ws dir a p)) all_asked
 
-      pub begun : {s : Search} → s ≡ reached_all (edges_in ws start) s₀ → Searching s
-      begun {s} q = subst Searching (sym (q ∙ ap (λ (ns : List ℕ). reached_all ns s₀) (by_start ws dir a p))) start_reached
+      pub begun : {s : Search} → s ≡ reached_all (edges_in ws start) s₀ → Searching s × RoomFor (length s.marks) (length s.queue) 0 s
+      begun {s} q =
+          subst (λ (t : Search). Searching t × RoomFor (length t.marks) (length t.queue) 0 t) (sym (q ∙ ap (λ (ns : List ℕ). reached_all ns s₀) (by_start ws dir a p)))
+          (start_reached, own-room (room-on first-room (all-onward (edges a) s₀ all_asked)))
 
   module _ {s : Search} (f : Searching s) where
     pub arrived : Marked s b → Computes true edges a b
@@ -422,8 +482,11 @@ module _ (ws dir : List ℕ) (a b : ℕ) where
           unfolding reached_all
           same = r ∙ ap (reached_all (edges_in ws start)) step ∙ ap (λ (ns : List ℕ). reached_all ns t) (by_start ws dir n p)
 
-          pub entered_one : Searching u
-          entered_one = subst Searching (sym same) next-reached
+          pub entered_one : Searching u × ((names long i : ℕ) → RoomFor names long i s → RoomFor names long (i + 1) u)
+          entered_one = (
+            subst Searching (sym same) next-reached,
+            λ names long i w. subst (RoomFor names long (i + 1)) (sym same) (room-on (room-next w h) (all-onward (edges n) t next-asked)),
+          )
 
           -- one fewer of the queue is left
           pub fewer : length u.queue - u.entered < length s.queue - s.entered

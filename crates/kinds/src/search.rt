@@ -64,6 +64,7 @@ impl<'a> Search<'a> {
     }
 
     // A source is reached, if it is a name.
+    #[tactic(auto, using(crate::proofs::SearchLaws::no_source, crate::proofs::SearchLaws::a_source))]
     fn reach_source(&mut self, source: u32)
         requires { Reachable (source_name source) self.old }
         ensures { self.new ≡ reached_all (source_name source) self.old }
