@@ -125,7 +125,7 @@ impl<R: Read + Drop> List<R> {
 }
 
 // Fills the words with the next of the list, by way of `bytes`, so that they are read at once.
-fn read_words<R: Read>(
+pub fn read_words<R: Read>(
     reader: &mut R,
     bytes: &mut [u8],
     words: &mut [u32],
