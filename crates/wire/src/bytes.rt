@@ -21,7 +21,7 @@ pub fn room(count: usize, most: usize) -> usize
 }
 
 // The words of the bytes, at the front of the slice, and how many there are. Bytes that are no words give none, which every operation refuses by 1.
-pub fn load_front(bytes: &[u8], words: &mut [u32]) -> usize
+pub fn load(bytes: &[u8], words: &mut [u32]) -> usize
     requires { Holds (length bytes.now) (length words.old) }
     ensures { Fronted bytes.now result words.new }
 {
@@ -36,11 +36,11 @@ pub fn load_front(bytes: &[u8], words: &mut [u32]) -> usize
 }
 
 // The same, as a slice of them. Of the slice that was lent its callers know no more afterwards than how long it is.
-pub fn load<'a>(bytes: &[u8], words: &'a mut [u32]) -> &'a [u32]
+pub fn loaded<'a>(bytes: &[u8], words: &'a mut [u32]) -> &'a [u32]
     requires { Holds (length bytes.now) (length words.old) }
     ensures { Loaded bytes.now (length words.old) result.now }
 {
-    let n = load_front(bytes, words);
+    let n = load(bytes, words);
     &words[..n]
 }
 
