@@ -19,7 +19,7 @@ use kinds::lean::lean;
 use pack::kinds::Pack;
 use resolve::resolve::resolve_into;
 use wire::answer::{encode, lacks_room, put};
-use wire::bytes::{load, room};
+use wire::bytes::{loaded, room};
 
 // How many words small packs have, and how many most of what they give has.
 #[derive(Clone, Copy)]
@@ -53,7 +53,7 @@ fn ask_in<const WORDS: usize>(q: Question, pack: &[u8]) -> u64
     ensures { result ≡ encode (over_bytes (answer_to q) pack.now) }
 {
     let mut words = [0u32; WORDS];
-    let words = load(pack, &mut words);
+    let words = loaded(pack, &mut words);
     encode(answer_to(q, words))
 }
 
@@ -76,7 +76,7 @@ fn write_in<F: Fn(&[u32], &mut [u32]) -> Answer, const WORDS: usize, const ROOM:
     ensures { (w : Writing) → Runs (F.post run.now) w → Tried (answer_of w) (buffer_of w) pack.now ROOM out.old result out.new }
 {
     let mut words = [0u32; WORDS];
-    let words = load(pack, &mut words);
+    let words = loaded(pack, &mut words);
     let mut written = [0u32; ROOM];
     let written = &mut written[..];
     let m = room(out.len(), written.len());
@@ -111,7 +111,7 @@ fn resolve_in<const WORDS: usize, const ROOM: usize, const MADE: usize>(
     ensures { Tried resolve_answer resolve_buffer pack.now ROOM out.old result out.new }
 {
     let mut words = [0u32; WORDS];
-    let words = load(pack, &mut words);
+    let words = loaded(pack, &mut words);
     let mut made = [0u32; MADE];
     let made = &mut made[..];
     let m = room(out.len(), ROOM);

@@ -13,7 +13,7 @@ use Rattle.std.proofs.lemmas.Bool.{and_parts}
 use Rattle.definitions.specs.Answers.{Answer, out_of_room}
 use Rattle.definitions.specs.Table.{pick}
 use Rattle.definitions.specs.Bytes.{words_of, encode, are_words, not_words, over_bytes, out_after, out_bytes, Gives}
-use Rattle.wire.specs.Loading.{loaded_of, lacks_room, Loaded, Holds, Tried, FitsOutput}
+use Rattle.wire.specs.Loading.{loaded_of, lacks_room, Loaded, Fronted, Holds, Tried, FitsOutput}
 use Rattle.wire.proofs.ByteLaws.{words-length}
 use Rattle.wire.proofs.Room.{Within, Writes}
 
@@ -36,6 +36,13 @@ none_loaded bytes room e f = record { are = rw (no_words (length bytes) e f); fi
 pub all_loaded : (bytes words : List ℕ) {room : ℕ} {t : Bool} → t ≡ are_words (length bytes) → not t ≡ false → length words ≡ length bytes / 4 → Holds (length bytes) room → words ≡ words_of bytes → Loaded bytes room words
 unfolding loaded_of
 all_loaded bytes words e f l r h = record { are = rw (yes-words (length bytes) e f) h; fits = omega (arith, few (length bytes) e f) }
+
+-- what is loaded, at the front of a slice
+pub at_front : {bytes words : List ℕ} {room n : ℕ} → n ≤ length words → Loaded bytes room (take n words) → Fronted bytes n words
+at_front h l = record { front = l.are; fits = h }
+
+pub of_front : {bytes words : List ℕ} {room n : ℕ} → length words ≡ room → Fronted bytes n words → Loaded bytes room (take n words)
+of_front {words = words} {n = n} e f = record { are = f.front; fits = omega (arith, length-take-le n words f.fits, f.fits) }
 
 -- an operation that refuses no words as the host does bytes that are none
 overs : (answer : List ℕ → Answer) → answer [] ≡ not_words → (bytes : List ℕ) → answer (loaded_of bytes) ≡ over_bytes answer bytes

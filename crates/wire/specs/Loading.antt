@@ -1,5 +1,5 @@
 -- What the parts of the host's functions promise each other.
-use Rattle.std.specs.Prelude.{ℕ, Bool, false, eqb, ◌*◌, ◌/◌, ◌≤◌, min, ◌≡◌, List, [], length, Ok, Err}
+use Rattle.std.specs.Prelude.{ℕ, Bool, false, eqb, ◌*◌, ◌/◌, ◌≤◌, min, ◌≡◌, List, [], length, take, Ok, Err}
 use Rattle.definitions.specs.Answers.{Answer}
 use Rattle.definitions.specs.Table.{pick}
 use Rattle.definitions.specs.Bytes.{words_of, are_words, out_after}
@@ -12,6 +12,11 @@ loaded_of bytes = pick (are_words (length bytes)) (words_of bytes) []
 pub record Loaded (bytes : List ℕ) (room : ℕ) (words : List ℕ) : Type 0 where
   pub are : words ≡ loaded_of bytes
   pub fits : length words ≤ room
+
+-- they stand at the front of a slice
+pub record Fronted (bytes : List ℕ) (n : ℕ) (words : List ℕ) : Type 0 where
+  pub front : take n words ≡ loaded_of bytes
+  pub fits : n ≤ length words
 
 -- a slice that has room for the words of so many bytes; more than 32,768 are none. A clause, as both slices are lent
 abbrev pub Holds : ℕ → ℕ → Type 0

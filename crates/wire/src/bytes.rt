@@ -2,7 +2,7 @@
 // knows the length alone.
 ghost use Rattle.std.specs.Prelude.{◌≡◌, ◌++◌, ◌*◌, ◌/◌, ◌≤◌, min, length, drop};
 ghost use Rattle.definitions.specs.Bytes.{bytes_of, are_words};
-ghost use Rattle.wire.specs.Loading.{Holds, Loaded};
+ghost use Rattle.wire.specs.Loading.{Holds, Loaded, Fronted};
 
 use pack::kinds::Pack;
 
@@ -20,19 +20,28 @@ pub fn room(count: usize, most: usize) -> usize
     (count / 4).min(most)
 }
 
-// The words of the bytes, in a slice that is lent for them. Bytes that are no words give none, which every operation refuses by 1.
-pub fn load<'a>(bytes: &[u8], words: &'a mut [u32]) -> &'a [u32]
+// The words of the bytes, at the front of the slice, and how many there are. Bytes that are no words give none, which every operation refuses by 1.
+pub fn load(bytes: &[u8], words: &mut [u32]) -> usize
     requires { Holds (length bytes.now) (length words.old) }
-    ensures { Loaded bytes.now (length words.old) result.now }
+    ensures { Fronted bytes.now result words.new }
 {
     if !are_words(bytes.len()) {
-        return &[];
+        return 0;
     }
     let (fours, _) = bytes.as_chunks::<4>();
     for (i, four) in fours.iter().enumerate() {
         words[i] = u32::from_le_bytes(*four);
     }
-    &words[..fours.len()]
+    fours.len()
+}
+
+// The same, as a slice of them. Of the slice that was lent its callers know no more afterwards than how long it is.
+pub fn loaded<'a>(bytes: &[u8], words: &'a mut [u32]) -> &'a [u32]
+    requires { Holds (length bytes.now) (length words.old) }
+    ensures { Loaded bytes.now (length words.old) result.now }
+{
+    let n = load(bytes, words);
+    &words[..n]
 }
 
 // The bytes of the words; the bytes past them stay.

@@ -7,4 +7,4 @@ use Rattle.over_bytes.proofs.operations.ask_in.Goals as goal
 pub returns : goal.returns
 returns g c =
     let q = c.args.q in
-    answered (answer_to q) (asks_none q) c.load-words.ensures c.answer_to.ensures c.encode.ensures
+    answered (answer_to q) (asks_none q) c.loaded-words.ensures c.answer_to.ensures c.encode.ensures

@@ -13,4 +13,4 @@ put-requires g c =
 pub returns : goal.returns
 returns g c w r =
     let a = r _ _ _ _ c.run-a.ensures in
-    tried_as (length-replicate {A = ℕ} g.row.ROOM 0) (tried (writes w) _ _ c.load-words.ensures c.room-m.ensures a.answers a.leaves c.run-a.auto.arg3 c.put.ensures)
+    tried_as (length-replicate {A = ℕ} g.row.ROOM 0) (tried (writes w) _ _ c.loaded-words.ensures c.room-m.ensures a.answers a.leaves c.run-a.auto.arg3 c.put.ensures)
