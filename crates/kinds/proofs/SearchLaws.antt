@@ -84,7 +84,7 @@ pub room_kept : {s t : Search} → QueueHasRoom s → Onward s t → QueueHasRoo
 room_kept r o = omega (arith, r, o.room, o.queue)
 
 -- there are marks and a queue for so many names: those queued and those unmarked are no more than the marks; so many of those queued are entered
-pub record RoomFor (names long i : ℕ) (s : Search) : Type 0 where
+pub record SearchRoom (names long i : ℕ) (s : Search) : Type 0 where
   pub most : unmarked s.marks + s.count ≤ names
   pub room : names ≤ long
   pub marks : length s.marks ≡ names
@@ -92,8 +92,8 @@ pub record RoomFor (names long i : ℕ) (s : Search) : Type 0 where
   pub now : s.entered ≡ i
   pub sofar : i ≤ s.count
 
-module _ {names long i : ℕ} {s : Search} (f : RoomFor names long i s) where
-  room-on : {t : Search} → Onward s t → RoomFor names long i t
+module _ {names long i : ℕ} {s : Search} (f : SearchRoom names long i s) where
+  room-on : {t : Search} → Onward s t → SearchRoom names long i t
   room-on o =
       record {
         most = omega (arith, f.most, o.room);
@@ -104,7 +104,7 @@ module _ {names long i : ℕ} {s : Search} (f : RoomFor names long i s) where
         sofar = omega (arith, f.sofar, o.more);
       }
 
-  room-next : s.entered < s.count → RoomFor names long (i + 1) (searched s.marks s.queue s.count (s.entered + 1))
+  room-next : s.entered < s.count → SearchRoom names long (i + 1) (searched s.marks s.queue s.count (s.entered + 1))
   room-next h =
       record {
         most = f.most;
@@ -116,7 +116,7 @@ module _ {names long i : ℕ} {s : Search} (f : RoomFor names long i s) where
       }
 
   -- by its own numbers
-  own-room : RoomFor (length s.marks) (length s.queue) i s
+  own-room : SearchRoom (length s.marks) (length s.queue) i s
   own-room =
       record {
         most = omega (arith, f.most, f.marks);
@@ -127,8 +127,8 @@ module _ {names long i : ℕ} {s : Search} (f : RoomFor names long i s) where
         sofar = f.sofar;
       }
 
-  pub own-entered : RoomFor names long s.entered s
-  own-entered = subst (λ (k : ℕ). RoomFor names long k s) (sym f.now) f
+  pub own-entered : SearchRoom names long s.entered s
+  own-entered = subst (λ (k : ℕ). SearchRoom names long k s) (sym f.now) f
 
 -- the marks after a store
 module _ (l : List Bool) (n : ℕ) (inside : n < length l) where
@@ -382,8 +382,8 @@ module _ (ws dir : List ℕ) (a b : ℕ) where
     pub room-first : QueueHasRoom s₀
     room-first = omega (arith, unmarked-clear marks₀ asked.clear, asked.room)
 
-    first-room : RoomFor (length marks₀) (length queue₀) 0 s₀
-    first-room =
+    begun-room : SearchRoom (length marks₀) (length queue₀) 0 s₀
+    begun-room =
         record {
           most = omega (arith, unmarked-clear marks₀ asked.clear);
           room = asked.room;
@@ -414,10 +414,10 @@ module _ (ws dir : List ℕ) (a b : ℕ) where
       pub asked-first : Reachable (edges_in ws start) s₀
       asked-first = subst (λ (ns : List ℕ). Reachable ns s₀) (sym (by_start ws dir a p)) all_asked
 
-      pub begun : {s : Search} → s ≡ reached_all (edges_in ws start) s₀ → Searching s × RoomFor (length s.marks) (length s.queue) 0 s
+      pub begun : {s : Search} → s ≡ reached_all (edges_in ws start) s₀ → Searching s × SearchRoom (length s.marks) (length s.queue) 0 s
       begun {s} q =
-          subst (λ (t : Search). Searching t × RoomFor (length t.marks) (length t.queue) 0 t) (sym (q ∙ ap (λ (ns : List ℕ). reached_all ns s₀) (by_start ws dir a p)))
-          (start_reached, own-room (room-on first-room (all-onward (edges a) s₀ all_asked)))
+          subst (λ (t : Search). Searching t × SearchRoom (length t.marks) (length t.queue) 0 t) (sym (q ∙ ap (λ (ns : List ℕ). reached_all ns s₀) (by_start ws dir a p)))
+          (start_reached, own-room (room-on begun-room (all-onward (edges a) s₀ all_asked)))
 
   module _ {s : Search} (f : Searching s) where
     pub arrived : Marked s b → Computes true edges a b
@@ -482,10 +482,10 @@ module _ (ws dir : List ℕ) (a b : ℕ) where
           unfolding reached_all
           same = r ∙ ap (reached_all (edges_in ws start)) step ∙ ap (λ (ns : List ℕ). reached_all ns t) (by_start ws dir n p)
 
-          pub entered_one : Searching u × ((names long i : ℕ) → RoomFor names long i s → RoomFor names long (i + 1) u)
+          pub entered_one : Searching u × ((names long i : ℕ) → SearchRoom names long i s → SearchRoom names long (i + 1) u)
           entered_one = (
             subst Searching (sym same) next-reached,
-            λ names long i w. subst (RoomFor names long (i + 1)) (sym same) (room-on (room-next w h) (all-onward (edges n) t next-asked)),
+            λ names long i w. subst (SearchRoom names long (i + 1)) (sym same) (room-on (room-next w h) (all-onward (edges n) t next-asked)),
           )
 
           -- one fewer of the queue is left

@@ -100,17 +100,17 @@ module _ (k : Known) (words notes : List ℕ) (i : ℕ) (r : code.Root) {note : 
   same n is st = read_is n is st.near q
 
   -- a rule or relation
-  pub opens-root : note.inside ≡ 0 → {x : code.Root} → RootOpened k note.place x → NoteTurned k i r words notes (Ok x) words (set notes i x.entity)
+  pub opens-root : note.inside ≡ 0 → {x : code.Root} → RootOpened ws k.tables.acts.now note.place x → NoteTurned k i r words notes (Ok x) words (set notes i x.entity)
   unfolding turn_note open_root
   opens-root h {x} o = record { each = each; long = refl; wide = length-set notes i x.entity; others = λ j z. get_or-set_other notes i j x.entity 0 z }
     where
       each : (n : Note) → get_or notes i 0 ≡ note_code n → Stands ws i n → NextBy ws (turn_note K ws i n (work words notes (root_in ws r))) (Ok x) words (set notes i x.entity)
-      each n is st = rw (eq-eqb n.inside 0 (sym (ap (λ (y : taken.Note). y.inside) (same n is st)) ∙ h)) (go (eqb (kind_here ws n.place) 23) refl (subst (λ (y : taken.Note). RootOpened k y.place x) (same n is st) o))
+      each n is st = rw (eq-eqb n.inside 0 (sym (ap (λ (y : taken.Note). y.inside) (same n is st)) ∙ h)) (go (eqb (kind_here ws n.place) 23) refl (subst (λ (y : taken.Note). RootOpened ws k.tables.acts.now y.place x) (same n is st) o))
         where
-          go : (b : Bool) → eqb (kind_here ws n.place) 23 ≡ b → RootOpened k n.place x
+          go : (b : Bool) → eqb (kind_here ws n.place) 23 ≡ b → RootOpened ws k.tables.acts.now n.place x
               → NextBy ws (done (pick b (work words (set notes i (value_in ws (n.place + 2))) (rule_root ws n.place)) (work words (set notes i (related_kind (K.tables.derived (value_in ws n.place)))) (relation_root K ws n.place)))) (Ok x) words (set notes i x.entity)
           go true e p = let q = p.rule (eqb-true (kind_here ws n.place) 23 e) in (x, refl, q.1, refl, ap (set notes i) q.0)
-          go false e p = let q = p.relation (eqb-false (kind_here ws n.place) 23 e) in (x, refl, q.1, refl, ap (set notes i) q.0)
+          go false e p = let q = p.relation (eqb-false (kind_here ws n.place) 23 e) k.tables.taken.now k.blocks.at k.blocks.count in (x, refl, q.1, refl, ap (set notes i) q.0)
 
   -- a node: what came of its step
   module _ (h : note.inside ≡ 0 → ⊥) {o : Result Out Refusal}

@@ -147,10 +147,10 @@ pub record StepTaken (k : Known) (n : Node) (o : Result Out Refusal) : Type 0 wh
 abbrev pub root_in : List ℕ → code.Root → Root
 root_in ws r = record { name = r.name; origin = r.origin; member = member_in ws r.own }
 
-pub record RootOpened (k : Known) (at : ℕ) (r : code.Root) : Type 0 where
-  pub rule : kind_here k.tables.pack.now at ≡ 23 → (r.entity ≡ value_in k.tables.pack.now (at + 2)) × (root_in k.tables.pack.now r ≡ rule_root k.tables.pack.now at)
-  pub relation : (kind_here k.tables.pack.now at ≡ 23 → ⊥)
-      → (r.entity ≡ related_kind ((known_by k).tables.derived (value_in k.tables.pack.now at))) × (root_in k.tables.pack.now r ≡ relation_root (known_by k) k.tables.pack.now at)
+pub record RootOpened (ws acts : List ℕ) (at : ℕ) (r : code.Root) : Type 0 where
+  pub rule : kind_here ws at ≡ 23 → (r.entity ≡ value_in ws (at + 2)) × (root_in ws r ≡ rule_root ws at)
+  pub relation : (kind_here ws at ≡ 23 → ⊥) → (taken : List ℕ) (blocks count : ℕ)
+      → (r.entity ≡ related_kind ((tables_in ws acts taken).derived (value_in ws at))) × (root_in ws r ≡ relation_root (known_in ws acts taken blocks count) ws at)
 
 -- ---- notes
 

@@ -1,7 +1,9 @@
 // A rule or relation in which turning is.
+ghost use Rattle.std.specs.Prelude.{◌≡◌};
 ghost use Rattle.turning.specs.TurnPromises.{RootStands, RootOpened};
 
 use crate::known::Known;
+use definitions::answer::Refusal;
 use filtered::act::act_of;
 use pack::kinds::Pack;
 
@@ -17,10 +19,22 @@ pub struct Root {
 }
 
 impl Root {
+    // The refusal of a node in it, at a place.
+    pub fn refusal(self, place: usize, number: u32, other: u32) -> Refusal
+        ensures { result ≡ record { number = number; place = place; name = self.name; other = other } }
+    {
+        Refusal {
+            number,
+            place,
+            name: self.name,
+            other,
+        }
+    }
+
     // The one whose record starts at a place.
     pub fn opened(known: &Known, at: usize) -> Root
         requires { RootStands known.now.tables.pack.now at }
-        ensures { RootOpened known.now at result }
+        ensures { RootOpened known.now.tables.pack.now known.now.tables.acts.now at result }
     {
         let pack = known.tables.pack;
         let word = pack[at];

@@ -12,7 +12,6 @@ use crate::root::Root;
 use definitions::answer::{Number, Refusal};
 use definitions::direction::Direction;
 use pack::kinds::Pack;
-use pack::refusal::refused;
 
 // Its slots and the entity of what stands inside it; its slots, where nothing stands inside it; or nothing, where it has no slots. The
 // current and the related slot are two numbers here and in directions, as in 01 and so in each definition: a struct of them would be taken
@@ -34,14 +33,10 @@ pub struct Node {
 
 impl Node {
     // Its refusal.
-    fn refused(self, number: Number, other: u32) -> Refusal
+    pub fn refused(self, number: Number, other: u32) -> Refusal
         ensures { result ≡ refused_at self number other }
     {
-        Refusal {
-            name: self.root.name,
-            other,
-            ..refused(number, self.note.place)
-        }
+        self.root.refusal(self.note.place, number as u32, other)
     }
 
     // The slots and the kind of its direction, unless it is open.

@@ -74,7 +74,7 @@ impl Known<'_> {
     }
 
     // Notes in a row; where something stands inside one, its entity takes the place of the note.
-    fn turns(
+    pub fn turns(
         &self,
         work: &mut [u32],
         notes: &mut [u32],
