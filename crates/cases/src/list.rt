@@ -7,6 +7,9 @@ use std::io::Read;
 // The words that the row has room for.
 pub const ROW: usize = 8448;
 
+// The bytes that are read at once: those of a row, and as many as a pipe holds, so that who writes more than the list is not cut off.
+const MOST_BYTES: usize = 65536;
+
 // The list cannot be read on, as where it ends before its end.
 #[derive(Clone, Copy)]
 pub struct IllFormed;
@@ -29,7 +32,7 @@ struct Part {
 
 #[derive(Clone, Copy)]
 pub struct Entry {
-    pub operation: Operation,
+    pub operation: Result<Operation, IllFormed>,
     pub room: u32,
     pub first: u32,
     pub second: u32,
@@ -53,11 +56,11 @@ fn answer(number: u32, place: u32, name: u32, other: u32) -> Answer {
     })
 }
 
-// A list as it is read, the row, and the bytes of the words that are read at once. Neither asks for memory that there may not be.
+// A list as it is read, the row, and the bytes that are read at once. An entry whose operation there is not is read with its words. Neither asks for memory that there may not be.
 #[derive(Drop)]
 pub struct List<R: Read + Drop> {
     reader: R,
-    bytes: [u8; 4 * ROW],
+    bytes: [u8; MOST_BYTES],
     row: [u32; ROW],
 }
 
@@ -65,7 +68,7 @@ impl<R: Read + Drop> List<R> {
     pub fn new(reader: R) -> Self {
         List {
             reader,
-            bytes: [0; 4 * ROW],
+            bytes: [0; MOST_BYTES],
             row: [0; ROW],
         }
     }
@@ -88,7 +91,7 @@ impl<R: Read + Drop> List<R> {
             word,
         ] = header;
         Ok(Entry {
-            operation: Operation::try_from(operation)?,
+            operation: Operation::try_from(operation),
             room,
             first,
             second,
@@ -117,11 +120,23 @@ impl<R: Read + Drop> List<R> {
 
     // After the end of the list nothing may stand. What cannot be read there does not.
     pub fn end(&mut self) -> Result<(), IllFormed> {
-        match self.reader.read_exact(&mut [0]) {
-            Ok(()) => Err(IllFormed),
-            Err(_) => Ok(()),
+        match read_full(&mut self.reader, &mut self.bytes) {
+            0 => Ok(()),
+            _ => Err(IllFormed),
         }
     }
+}
+
+// Fills the bytes as far as there are any to read: how many there were. Where reading fails, what was read before is all.
+fn read_full<R: Read>(reader: &mut R, bytes: &mut [u8]) -> usize {
+    let mut count = 0;
+    for _ in 0..bytes.len() {
+        match reader.read(&mut bytes[count..]) {
+            Ok(more) if 0 < more => count += more,
+            _ => break,
+        }
+    }
+    count
 }
 
 // Fills the words with the next of the list, by way of `bytes`, so that they are read at once.

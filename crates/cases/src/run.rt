@@ -26,12 +26,12 @@ impl Run {
         list: &mut List<R>,
     ) -> Result<bool, IllFormed> {
         let entry = list.entry()?;
-        if let Operation::End = entry.operation {
+        if let Ok(Operation::End) = entry.operation {
             list.end()?;
             return Ok(false);
         }
         let words = list.words(entry)?;
-        match entry.operation {
+        match entry.operation? {
             Operation::Pack => {
                 self.pack.clear();
                 self.pack

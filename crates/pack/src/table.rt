@@ -568,12 +568,12 @@ pub fn allows(rule: Values, n: u32, v: u32) -> bool
     }
 }
 
-// How many children follow a word of this kind and the value v, where they are of one sort.
-pub fn how_many(kind: u32, v: u32) -> u32
-    requires { (kind < 256) × (v < 16777216) }
-    ensures { result ≡ how_many (entry_of kind).follows v }
+// How many follow a word of the value v, where they are of one sort.
+pub fn how_many(follows: Follows, v: u32) -> u32
+    requires { v < 16777216 }
+    ensures { result ≡ how_many follows v }
 {
-    match entry_of(kind).follows {
+    match follows {
         Follows::OneScalar => 1,
         Follows::TwoScalars => 2,
         Follows::Scalars => v,
@@ -583,4 +583,12 @@ pub fn how_many(kind: u32, v: u32) -> u32
         Follows::Judgments => v,
         _ => 0,
     }
+}
+
+// How many children follow a word of this kind and the value v, where they are of one sort.
+pub fn children(kind: u32, v: u32) -> u32
+    requires { (kind < 256) × (v < 16777216) }
+    ensures { result ≡ how_many (entry_of kind).follows v }
+{
+    how_many(entry_of(kind).follows, v)
 }

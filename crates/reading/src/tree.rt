@@ -14,7 +14,7 @@ use crate::fault::Fault;
 use crate::words::Words;
 use pack::cursor::{Cursor, Step};
 use pack::kinds::Pack;
-use pack::table::how_many;
+use pack::table::children;
 
 // How many notes there are.
 pub fn count(notes: &[u32]) -> u32
@@ -96,7 +96,7 @@ fn scalars(
         if Pack::ONE_CHILD <= kind {
             if k == 0 && kind <= Pack::MAX {
                 at = next;
-                k = how_many(kind, w % Pack::VALUES);
+                k = children(kind, w % Pack::VALUES);
                 left -= 1;
             } else {
                 at = after_scalar(part, at, left - 1, context, notes)?;
@@ -133,7 +133,7 @@ fn judgments(
         if kind <= Pack::SAME_ENTITY {
             if k == 0 && Pack::AND <= kind && kind <= Pack::NOT {
                 at = next;
-                k = how_many(kind, w % Pack::VALUES);
+                k = children(kind, w % Pack::VALUES);
                 left -= 1;
             } else {
                 at = after_judgment(part, at, left - 1, context, notes)?;
@@ -245,7 +245,7 @@ fn after_scalar(
     match kind {
         Pack::COUNT..=Pack::SINGLE => aggregate(part, at + 1, left, context, notes),
         Pack::ONE_CHILD..=Pack::MAX => {
-            let count = how_many(kind, v);
+            let count = children(kind, v);
             scalars(part, at + 1, count, left, context, notes)
         }
         _ => after_other(part, at, left, context, notes),
@@ -270,7 +270,7 @@ fn after_other(
     match kind {
         Pack::NO_MATCH => patterns(part, at + 1, v, left, context, notes),
         Pack::OVER_PERIODS => {
-            let count = how_many(kind, v);
+            let count = children(kind, v);
             scalars(part, at + 1, count, left, lost(context), notes)
         }
         Pack::IF => choice(part, at + 1, left, context, notes),
@@ -301,7 +301,7 @@ fn after_judgment(
         Pack::AND..=Pack::NOT => judgments(
             part,
             at + 1,
-            how_many(kind, w % Pack::VALUES),
+            children(kind, w % Pack::VALUES),
             left,
             context,
             notes,

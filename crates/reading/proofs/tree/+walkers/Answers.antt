@@ -55,7 +55,7 @@ pub after_judgment-returns-in-97-to-100 : goal.after_judgment-returns-in-97-to-1
 after_judgment-returns-in-97-to-100 t c =
     let k : ℕ = kind_of (get_or c.args.part.words.now c.args.at 0) in let lo : 97 ≤ k = omega arith in after_row _ _ _ _ k
     (value_of (get_or c.args.part.words.now c.args.at 0)) _ judgment-sort
-    (judgment_row (value_of (get_or c.args.part.words.now c.args.at 0)) k lo (omega arith)) c.how_many.ensures
+    (judgment_row (value_of (get_or c.args.part.words.now c.args.at 0)) k lo (omega arith)) c.children.ensures
     (steady_judgment k (omega arith) (omega arith)) c.judgments.ensures
 
 pub after_judgment-returns-in_default : goal.after_judgment-returns-in_default
@@ -83,7 +83,7 @@ unfolding entry_of table fields_of children_of noted look_by
 after_other-returns-in-73 t c =
     after_bare _ _ _ _ (kind_of (get_or c.args.part.words.now c.args.at 0)) (value_of (get_or c.args.part.words.now c.args.at 0)) _ Periods
     (ap (λ (k : ℕ). (entry_of k).follows) c.in-73.is) (ap noted c.in-73.is) refl
-    (rows_as _ _ scalar-sort _ (c.how_many-count.ensures ∙ ap (λ (k : ℕ). how_many (entry_of k).follows (value_of (get_or c.args.part.words.now c.args.at 0)))
+    (rows_as _ _ scalar-sort _ (c.children-count.ensures ∙ ap (λ (k : ℕ). how_many (entry_of k).follows (value_of (get_or c.args.part.words.now c.args.at 0)))
     c.in-73.is) c.lost.ensures c.scalars.ensures)
 
 pub after_other-returns-in-71 : goal.after_other-returns-in-71
@@ -109,7 +109,7 @@ pub after_scalar-returns-in-66-to-70 : goal.after_scalar-returns-in-66-to-70
 after_scalar-returns-in-66-to-70 t c =
     let k : ℕ = kind_of (get_or c.args.part.words.now c.args.at 0) in let lo : 66 ≤ k = omega arith in let hi : k < 71 = omega arith in after_row _ _ _ _ k
     (value_of (get_or c.args.part.words.now c.args.at 0)) _ scalar-sort
-    (scalar_row (value_of (get_or c.args.part.words.now c.args.at 0)) k lo (omega (arith, hi)) (λ z. omega (arith, hi))) c.how_many-count.ensures
+    (scalar_row (value_of (get_or c.args.part.words.now c.args.at 0)) k lo (omega (arith, hi)) (λ z. omega (arith, hi))) c.children-count.ensures
     (steady_scalar k lo hi) c.scalars.ensures
 
 pub after_scalar-returns-in-74-to-77 : goal.after_scalar-returns-in-74-to-77
@@ -232,7 +232,7 @@ pub judgments-loop-k-preserved-then-kind-le-NOT : goal.judgments-loop-k-preserve
 judgments-loop-k-preserved-then-kind-le-NOT t c = (
   let k : ℕ = kind_of (get_or c.args.part.words.now c.loop-k.at 0) in
       let one : c.loop-k.k ≡ 1 = omega arith in
-      past-last c.loop-k.invariant.0 (omega arith) c.in_ok-next.ensures refl one (judgment_row (value_of (get_or c.args.part.words.now c.loop-k.at 0)) k (omega arith) (omega arith)) c.how_many-k.ensures (steady_judgment k (omega arith) (omega arith)),
+      past-last c.loop-k.invariant.0 (omega arith) c.in_ok-next.ensures refl one (judgment_row (value_of (get_or c.args.part.words.now c.loop-k.at 0)) k (omega arith) (omega arith)) c.children-k.ensures (steady_judgment k (omega arith) (omega arith)),
   omega (arith, c.loop-k.invariant.1),
 )
 
@@ -302,7 +302,7 @@ pub scalars-loop-k-preserved-then-kind-le-MAX : goal.scalars-loop-k-preserved-th
 scalars-loop-k-preserved-then-kind-le-MAX t c = (
   let k : ℕ = kind_of (get_or c.args.part.words.now c.loop-k.at 0) in
       let one : c.loop-k.k ≡ 1 = omega arith in
-      past-last c.loop-k.invariant.0 (omega arith) c.in_ok-next.ensures refl one (scalar_row (value_of (get_or c.args.part.words.now c.loop-k.at 0)) k (omega arith) (omega arith) (λ z. omega arith)) c.how_many-k.ensures (steady_scalar k (omega arith) (omega arith)),
+      past-last c.loop-k.invariant.0 (omega arith) c.in_ok-next.ensures refl one (scalar_row (value_of (get_or c.args.part.words.now c.loop-k.at 0)) k (omega arith) (omega arith) (λ z. omega arith)) c.children-k.ensures (steady_scalar k (omega arith) (omega arith)),
   omega (arith, c.loop-k.invariant.1),
 )
 
