@@ -7,8 +7,13 @@ use std::io::Read;
 // The words that the row has room for.
 pub const ROW: usize = 8448;
 
-// The bytes that are read at once: those of a row, and as many as a pipe holds, so that who writes more than the list is not cut off.
-const MOST_BYTES: usize = 65536;
+// So many words are read at once, by their bytes.
+const WORDS: usize = 2048;
+
+const BYTES: usize = 4 * WORDS;
+
+// How many bytes are read after the end of a list, at most: as many as a pipe holds, so that who writes them is not cut off.
+const MOST_AFTER: usize = 65536;
 
 // The list cannot be read on, as where it ends before its end.
 #[derive(Clone, Copy)]
@@ -56,11 +61,11 @@ fn answer(number: u32, place: u32, name: u32, other: u32) -> Answer {
     })
 }
 
-// A list as it is read, the row, and the bytes that are read at once. An entry whose operation there is not is read with its words. Neither asks for memory that there may not be.
+// A list as it is read, the row, and the bytes by which its words are read. An entry whose operation there is not is read with its words.
 #[derive(Drop)]
 pub struct List<R: Read + Drop> {
     reader: R,
-    bytes: [u8; MOST_BYTES],
+    bytes: [u8; BYTES],
     row: [u32; ROW],
 }
 
@@ -68,7 +73,7 @@ impl<R: Read + Drop> List<R> {
     pub fn new(reader: R) -> Self {
         List {
             reader,
-            bytes: [0; MOST_BYTES],
+            bytes: [0; BYTES],
             row: [0; ROW],
         }
     }
@@ -120,10 +125,17 @@ impl<R: Read + Drop> List<R> {
 
     // After the end of the list nothing may stand. What cannot be read there does not.
     pub fn end(&mut self) -> Result<(), IllFormed> {
-        match read_full(&mut self.reader, &mut self.bytes) {
-            0 => Ok(()),
-            _ => Err(IllFormed),
+        let mut ended = Ok(());
+        for _ in 0..MOST_AFTER / BYTES {
+            let count = read_full(&mut self.reader, &mut self.bytes);
+            if 0 < count {
+                ended = Err(IllFormed);
+            }
+            if count < BYTES {
+                break;
+            }
         }
+        ended
     }
 }
 
@@ -139,19 +151,19 @@ fn read_full<R: Read>(reader: &mut R, bytes: &mut [u8]) -> usize {
     count
 }
 
-// Fills the words with the next of the list, by way of `bytes`, so that they are read at once.
+// Fills the words with the next of the list, by way of `bytes`.
 pub fn read_words<R: Read>(
     reader: &mut R,
     bytes: &mut [u8],
     words: &mut [u32],
 ) -> Result<(), IllFormed> {
-    let (bytes, _) = bytes
-        .split_at_mut_checked(4 * words.len())
-        .ok_or(IllFormed)?;
-    reader.read_exact(bytes)?;
-    let (fours, _) = bytes.as_chunks::<4>();
-    for (word, four) in words.iter_mut().zip(fours) {
-        *word = u32::from_le_bytes(*four);
+    for part in words.chunks_mut(WORDS) {
+        let (bytes, _) = bytes.split_at_mut_checked(4 * part.len()).ok_or(IllFormed)?;
+        reader.read_exact(bytes)?;
+        let (fours, _) = bytes.as_chunks::<4>();
+        for (word, four) in part.iter_mut().zip(fours) {
+            *word = u32::from_le_bytes(*four);
+        }
     }
     Ok(())
 }

@@ -4,16 +4,17 @@ use crate::difference::Difference;
 use crate::list::{IllFormed, List, ROW};
 use crate::operation::Operation;
 use crate::totals::Totals;
-use arrayvec::ArrayVec;
 use std::io::Read;
 
 // The words that can be lent to a call.
 const ROOM: usize = 10240;
 
-// The pack of the last case, what calls write to, and what was run so far.
+// The pack of the last case, of so many words, what calls write to, and what was run so far. Arrays, so that a run asks for no memory, and
+// no `ArrayVec`, which would stand on the stack a second time while it is made.
 #[derive(Drop)]
 struct Run {
-    pack: ArrayVec<u32, ROW>,
+    pack: [u32; ROW],
+    length: usize,
     out: [u32; ROOM],
     totals: Totals,
 }
@@ -33,14 +34,15 @@ impl Run {
         let words = list.words(entry)?;
         match entry.operation? {
             Operation::Pack => {
-                self.pack.clear();
-                self.pack
-                    .try_extend_from_slice(words)
-                    .map_err(|_| IllFormed)?;
+                for (to, word) in self.pack.iter_mut().zip(words) {
+                    *to = *word;
+                }
+                self.length = words.len();
                 self.totals.case(words);
             }
             Operation::Call(call) => {
-                let found = judge(call, entry, self.pack.as_slice(), words, &mut self.out);
+                let (pack, _) = self.pack.split_at_checked(self.length).ok_or(IllFormed)?;
+                let found = judge(call, entry, pack, words, &mut self.out);
                 self.totals.call(call);
                 if let Err(difference) = found {
                     self.totals.tell(rt, difference);
@@ -70,7 +72,8 @@ impl Run {
 pub fn run_list<R: Read + Drop>(rt: &impl Print, reader: R) {
     let mut list = List::new(reader);
     let mut run = Run {
-        pack: ArrayVec::new(),
+        pack: [0; ROW],
+        length: 0,
         out: [0; ROOM],
         totals: Totals::default(),
     };

@@ -1,5 +1,6 @@
 // The table: for each kind of word what its value may be, whether a tree begins with it, and what follows it.
 ghost use Rattle.std.specs.Prelude.{◌≡◌, ◌<◌};
+ghost use Rattle.definitions.specs.declared.table.Follows.TheVariants.{Patterns};
 ghost use Rattle.definitions.specs.Table.{allowed, how_many, entry_of};
 
 use crate::kinds::Pack;
@@ -570,7 +571,7 @@ pub fn allows(rule: Values, n: u32, v: u32) -> bool
 
 // How many follow a word of the value v, where they are of one sort.
 pub fn how_many(follows: Follows, v: u32) -> u32
-    requires { v < 16777216 }
+    requires { follows ≡ Patterns → v < 16777216 }
     ensures { result ≡ how_many follows v }
 {
     match follows {
@@ -587,7 +588,7 @@ pub fn how_many(follows: Follows, v: u32) -> u32
 
 // How many children follow a word of this kind and the value v, where they are of one sort.
 pub fn children(kind: u32, v: u32) -> u32
-    requires { (kind < 256) × (v < 16777216) }
+    requires { (kind < 256) × ((entry_of kind).follows ≡ Patterns → v < 16777216) }
     ensures { result ≡ how_many (entry_of kind).follows v }
 {
     how_many(entry_of(kind).follows, v)
