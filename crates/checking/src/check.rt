@@ -8,7 +8,7 @@ ghost use Rattle.definitions.specs.Checking.{check_answer};
 
 use definitions::answer::{Answer, Given, Number};
 use definitions::table::Values;
-use pack::heads::Heads;
+use pack::heads::{Heads, PackHeads};
 use pack::kinds::Pack;
 use pack::refusal::refused;
 use reading::words::Words;
@@ -24,9 +24,10 @@ fn layout(s: &[u32], len: u32, dir: &mut [u32], notes: &mut [u32]) -> Laid
     let (_, c1) = c.skip(s, len, Pack::TOTAL, Values::Total)?;
     let (n, c2) = c1.field(s, 0, Pack::NAMES, Values::FromOne(Pack::MOST_NAMES))?;
     let heads = Heads::new(n);
+    let pack = PackHeads { heads };
     let part = Words {
         words: s,
-        heads: &heads,
+        heads: &pack.heads,
     };
     records(c2, part, dir, notes)
 }

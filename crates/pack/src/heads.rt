@@ -16,6 +16,13 @@ pub struct Heads {
     ghost ended: { Ended names ends },
 }
 
+// Heads for the N of a pack, which has no more than 4,096 names: what is noted of its relations then fits in a word.
+#[derive(Drop)]
+pub struct PackHeads {
+    pub heads: Heads,
+    pub ghost few: { heads.names ≤ 4096 },
+}
+
 // One more than the last word of a kind that may begin a tree; 0 where none may, below which no word is.
 fn end_of(kind: u32, n: u32) -> u32
     requires { (64 ≤ kind) × (kind < 128) × (n < 8192) }

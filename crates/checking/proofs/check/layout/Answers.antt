@@ -16,6 +16,9 @@ returns-in_err-n c = whole_no _ _ _ _ (from_start _ _ c.start-c.ensures (search 
 pub new-heads-requires : goal.new-heads-requires
 new-heads-requires c = omega (arith, names-most _ _ _ c.field.ensures c.in_ok-n.was)
 
+pub invariant_of-pack : goal.invariant_of-pack
+invariant_of-pack c = record { few = rw c.new-heads.ensures (names-most _ _ _ c.field.ensures c.in_ok-n.was) }
+
 pub records-requires : goal.records-requires
 records-requires c =
     rw c.new-heads.ensures (
